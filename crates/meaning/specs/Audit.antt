@@ -1,0 +1,68 @@
+-- Document 01, the audit: "The audit answers yes exactly when lengths and ranges hold throughout, each space is in
+-- exactly one of the Free List, the Output List and the time slot queues, each chain ends at its tail, entry T is
+-- empty, each queued header names an open VC, and each open VC's waiting is the number of its queued cells."
+--
+--   Leads l t x xs      == the links l lead from space x through xs; the tail t stands at the end, and nowhere before
+--   Chain l e xs        == xs are the spaces from head to tail of the list that begins and ends at e
+--   count k xs          == how often k stands in xs
+--   joined queues       == the spaces of all the time slot queues, entry after entry
+--   vciIn cells x       == the VCI in the header of the cell in space x
+--   AuditHolds s        == the audit's clauses, one a field
+use Prim.Native.Nat.{ℕ, _+_, _<_, _≤_}
+use mathlib.Core.Path.{_≡_}
+use mathlib.Core.Bool.{Bool, true}
+use mathlib.Core.List.{List, [], _∷_, _++_, map}
+use lib.ListN.{length, getD}
+use Rattle.meaning.specs.Plain.{if_then_else_, _=?_}
+use Rattle.meaning.specs.Numbers.{rangesHold, empty, cellStart}
+use Rattle.meaning.specs.State.{State, Ends, freeList, outputList, lengthsHold}
+use Rattle.meaning.specs.Header.{headerAt, namesOpenVc}
+use Rattle.meaning.specs.Words.{vcAt, vcFits}
+use Rattle.meaning.specs.Lists.{entryAt}
+
+abbrev pub Leads : List ℕ → ℕ → ℕ → List ℕ → Type 0
+Leads l t x [] = x ≡ t
+Leads l t x (y ∷ ys) = (x ≡ t → ⊥) × (getD l x 0 ≡ y) × Leads l t y ys
+
+-- "A link is read only where a list's head and tail differ"; "65,535 marks an empty head or tail"
+abbrev pub Chain : List ℕ → Ends → List ℕ → Type 0
+Chain l e [] = (e .head ≡ empty) × (e .tail ≡ empty)
+Chain l e (x ∷ xs) = (e .head ≡ x) × Leads l (e .tail) x xs
+
+abbrev pub count : ℕ → List ℕ → ℕ
+count k [] = 0
+count k (x ∷ xs) = (if k =? x then 1 else 0) + count k xs
+
+abbrev pub joined : List (List ℕ) → List ℕ
+joined [] = []
+joined (q ∷ qs) = q ++ joined qs
+
+unfoldable pub vciIn : List ℕ → ℕ → ℕ
+vciIn cells x = headerAt cells (cellStart x) .vci
+
+pub record AuditHolds (s : State) : Type 0 where
+  -- "lengths and ranges hold throughout"; "VC 0's words don't matter"
+  pub ranges : rangesHold (s .ctl .n) (s .ctl .v) ≡ true
+  pub lengths : lengthsHold (s .ctl .n) (s .ctl .v) (s .cells) (s .links) (s .calendar) (s .words) ≡ true
+  pub turn-low : s .ctl .turn < s .ctl .n
+  pub rotation-low : s .ctl .rotation < s .ctl .v
+  pub vcs-fit : (vci : ℕ) → 1 ≤ vci → vci < s .ctl .v → vcFits (s .ctl .n) (vcAt (s .words) vci) ≡ true
+  -- the spaces of the Free List, of the Output List and of each time slot queue: "each chain ends at its tail"
+  pub free : List ℕ
+  pub output : List ℕ
+  pub queues : List (List ℕ)
+  pub free-is : Chain (s .links) (freeList s) free
+  pub output-is : Chain (s .links) (outputList s) output
+  pub queues-many : length queues ≡ s .ctl .n
+  pub queues-are : (e : ℕ) → e < s .ctl .n → Chain (s .links) (entryAt (s .calendar) e) (getD queues e [])
+  -- "each space is in exactly one of the Free List, the Output List and the time slot queues", and nothing else is
+  pub once : (x : ℕ) → x < s .ctl .n → count x (free ++ (output ++ joined queues)) ≡ 1
+  pub no-other : (x : ℕ) → s .ctl .n ≤ x → count x (free ++ (output ++ joined queues)) ≡ 0
+  -- "entry T is empty"
+  pub turn-empty : getD queues (s .ctl .turn) [] ≡ []
+  -- "each queued header names an open VC"
+  pub named : (x : ℕ) → 0 < count x (output ++ joined queues)
+      → namesOpenVc (s .ctl .v) (s .words) (headerAt (s .cells) (cellStart x)) ≡ true
+  -- "each open VC's waiting is the number of its queued cells"
+  pub waits : (vci : ℕ) → 1 ≤ vci → vci < s .ctl .v → vcAt (s .words) vci .opened ≡ 1
+      → vcAt (s .words) vci .waiting ≡ count vci (map (vciIn (s .cells)) (output ++ joined queues))

@@ -1,0 +1,101 @@
+-- Document 01: setup, open and close. "Order: setup 1, 2; open 1, 2, 4, 3, 5, 6; close 1, 2, 4, 3, 7, 8. Each leaves
+-- everything as it came."
+use Prim.Native.Nat.{ℕ, zero, suc, _+_, _-_, _*_}
+use mathlib.Core.Bool.{Bool, not, _&&_}
+use mathlib.Core.List.{List, [], _∷_, _++_}
+use lib.ListN.{replicate}
+use Rattle.meaning.specs.declared.Record.{Record}
+use Rattle.meaning.specs.Plain.{if_then_else_, _<?_, _≤?_, _=?_}
+use Rattle.meaning.specs.Numbers.{rangesHold, octets, perEntry, wordsPerVc, empty, slotNumbers}
+use Rattle.meaning.specs.State.{State, stateOf, wordsLong, lengthsHold}
+use Rattle.meaning.specs.Bucket.{Bucket, bucketOf, obeysRules}
+use Rattle.meaning.specs.Words.{Vc, vcAt, writeVc, vcFits, openedVc, closedVc}
+
+-- what setup gives back: the refusal number, and the record and memories afterwards
+pub record SetUp : Type 0 where
+  pub number : ℕ
+  pub state : State
+
+abbrev pub setUpOf : ℕ → State → SetUp
+setUpOf number s = record { number = number; state = s }
+
+-- "a refused one gives back a record of zeros"
+unfoldable pub zeros : Record
+zeros = record { n = 0; v = 0; t = 0; turn = 0; rotation = 0; freehead = 0; freetail = 0; outhead = 0; outtail = 0 }
+
+-- "t is 2^32-1, T is N-1, rotation is V-1"; the Free List from 0 to N-1, the Output List empty
+unfoldable pub freshRecord : ℕ → ℕ → Record
+freshRecord N z =
+    record {
+      n = N;
+      v = z;
+      t = slotNumbers - 1;
+      turn = N - 1;
+      rotation = z - 1;
+      freehead = 0;
+      freetail = N - 1;
+      outhead = empty;
+      outtail = empty;
+    }
+
+-- k numbers, from first on
+unfoldable pub countUp : ℕ → ℕ → List ℕ
+countUp zero first = []
+countUp (suc k) first = first ∷ countUp k (first + 1)
+
+-- "Setup clears all lent memory, then chains spaces 0 to N-1 into the Free List in that order and empties the
+-- calendar"; "the last link of a chain keeps what it held", here a cleared link
+unfoldable pub freshState : ℕ → ℕ → State
+freshState N z =
+    record {
+      ctl = freshRecord N z;
+      cells = replicate (octets * N) 0;
+      links = countUp (N - 1) 1 ++ (0 ∷ []);
+      calendar = replicate (perEntry * N) empty;
+      words = replicate (wordsPerVc * z) 0;
+    }
+
+-- "Setup is handed no record": N, V and the four memories
+unfoldable pub setup : ℕ → ℕ → List ℕ → List ℕ → List ℕ → List ℕ → SetUp
+setup N z cells links calendar words =
+    let asItCame = stateOf zeros cells links calendar words in
+    if not (rangesHold N z) then setUpOf 1 asItCame
+    else if not (lengthsHold N z cells links calendar words) then setUpOf 2 asItCame
+    else setUpOf 0 (freshState N z)
+
+-- what open and close give back: the refusal number, and the VC words afterwards. They are lent no other memory,
+-- and the record stays as it is.
+pub record Called : Type 0 where
+  pub number : ℕ
+  pub words : List ℕ
+
+abbrev pub calledOf : ℕ → List ℕ → Called
+calledOf number words = record { number = number; words = words }
+
+-- refusals 1, 2, 4 and 3, which open and close share, in this order; 0 where none is given
+unfoldable pub sharedRefusal : Record → List ℕ → ℕ → ℕ
+sharedRefusal r words vci =
+    if not (rangesHold (r .n) (r .v)) then 1
+    else if not (wordsLong (r .v) words) then 2
+    else if not (1 ≤? vci && vci <? r .v) then 4
+    else if not (vcFits (r .n) (vcAt words vci)) then 3
+    else 0
+
+-- open: then "5 already open", "6 m, F or C against the rules above"
+unfoldable pub openCall : Record → List ℕ → ℕ → ℕ → ℕ → ℕ → Called
+openCall r words vci m F C =
+    let b = bucketOf m F C 0 in
+    let k = sharedRefusal r words vci in
+    if not (k =? 0) then calledOf k words
+    else if vcAt words vci .opened =? 1 then calledOf 5 words
+    else if not (obeysRules (r .n) b) then calledOf 6 words
+    else calledOf 0 (writeVc words vci (openedVc (r .t) b))
+
+-- close: then "7 not open", "8 waiting isn't 0"
+unfoldable pub closeCall : Record → List ℕ → ℕ → Called
+closeCall r words vci =
+    let k = sharedRefusal r words vci in
+    if not (k =? 0) then calledOf k words
+    else if vcAt words vci .opened =? 0 then calledOf 7 words
+    else if not (vcAt words vci .waiting =? 0) then calledOf 8 words
+    else calledOf 0 (writeVc words vci closedVc)

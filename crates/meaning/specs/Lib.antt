@@ -1,0 +1,14 @@
+pub mod Plain
+pub mod Numbers
+pub mod State
+pub mod Header
+pub mod Bucket
+pub mod Words
+pub mod Lists
+pub mod Calls
+pub mod Work
+pub mod Arrival
+pub mod Slot
+pub mod Line
+pub mod Audit
+pub mod Promises

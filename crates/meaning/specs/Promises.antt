@@ -1,0 +1,48 @@
+-- What each of the six calls promises of its answer and of every lent octet and word afterwards, as its contract cites
+-- it. A primed name is what a lent memory holds afterwards. proofs/Once.antt: two results of a promise coincide.
+use Prim.Native.Nat.{ℕ, _+_}
+use mathlib.Core.Path.{_≡_}
+use mathlib.Core.Bool.{Bool, true}
+use mathlib.Core.List.{List}
+use lib.ListN.{length}
+use Rattle.meaning.specs.declared.Record.{Record}
+use Rattle.meaning.specs.declared.Fresh.{Fresh}
+use Rattle.meaning.specs.declared.Served.{Served}
+use Rattle.meaning.specs.State.{State, stateOf}
+use Rattle.meaning.specs.Calls.{SetUp, setUpOf, setup, Called, calledOf, openCall, closeCall}
+use Rattle.meaning.specs.Work.{Work, workOf}
+use Rattle.meaning.specs.Slot.{slot}
+use Rattle.meaning.specs.Line.{Slice, cellMemory, idleCell, linePart, lineCell}
+use Rattle.meaning.specs.Audit.{AuditHolds}
+
+abbrev pub setupPromise : ℕ → ℕ → List ℕ → List ℕ → List ℕ → List ℕ → Fresh → List ℕ → List ℕ → List ℕ → List ℕ → Type 0
+setupPromise N z cells links calendar words r cells′ links′ calendar′ words′ =
+    setUpOf (r .number) (stateOf (r .ctl) cells′ links′ calendar′ words′) ≡ setup N z cells links calendar words
+
+abbrev pub openPromise : Record → List ℕ → ℕ → ℕ → ℕ → ℕ → ℕ → List ℕ → Type 0
+openPromise r words vci m F C number words′ = calledOf number words′ ≡ openCall r words vci m F C
+
+abbrev pub closePromise : Record → List ℕ → ℕ → ℕ → List ℕ → Type 0
+closePromise r words vci number words′ = calledOf number words′ ≡ closeCall r words vci
+
+abbrev pub slotPromise : State → List ℕ → Served → List ℕ → List ℕ → List ℕ → List ℕ → Type 0
+slotPromise s cell r cells′ links′ calendar′ words′ =
+    workOf (stateOf (r .ctl) cells′ links′ calendar′ words′) (r .answer) ≡ slot s cell
+
+-- where a part starts, given where the two slices do: a block of memory and a place in it
+abbrev pub startOf : ℕ × ℕ → ℕ × ℕ → Slice → ℕ × ℕ
+startOf atCells atIdle cellMemory = atCells
+startOf atCells atIdle idleCell = atIdle
+
+-- The line cell copies nothing: it is octets of one of the two slices, and lies where they lie.
+pub record LinePromise (cells idle : List ℕ) (atCells atIdle : ℕ × ℕ) (number : ℕ) (r : List ℕ) (at : ℕ × ℕ) : Type 0 where
+  pub shows : r ≡ lineCell cells idle number
+  pub block : at .0 ≡ startOf atCells atIdle (linePart (length cells) (length idle) number .slice) .0
+  pub place : at .1
+      ≡ startOf atCells atIdle (linePart (length cells) (length idle) number .slice) .1
+      + linePart (length cells) (length idle) number .start
+
+-- yes exactly when the audit's clauses hold
+pub record AuditPromise (s : State) (r : Bool) : Type 0 where
+  pub yes-holds : r ≡ true → AuditHolds s
+  pub holds-yes : AuditHolds s → r ≡ true

@@ -1,0 +1,106 @@
+-- Document 01, "One slot, in this order". "A slot reads what its five steps name, as earlier steps changed it, and no
+-- other number." A step that would read a number outside its range is refused, with 3.
+use Prim.Native.Nat.{ℕ, _+_, _-_, _%_}
+use mathlib.Core.Bool.{not, _&&_, _||_}
+use mathlib.Core.List.{List}
+use lib.ListN.{length}
+use Rattle.meaning.specs.Plain.{if_then_else_, _<?_, _≤?_, _=?_, Out, refused, next, needs, _andThen_}
+use Rattle.meaning.specs.Numbers.{rangesHold, octets, cellStart, slotNumbers, unknown}
+use Rattle.meaning.specs.State.{State, freeList, outputList, lengthsHold}
+use Rattle.meaning.specs.State.{withLinks, withCalendar, withClock, withFreeList, withOutputList}
+use Rattle.meaning.specs.Header.{headerAt, noUserCell, namesVc, namesOpenVc}
+use Rattle.meaning.specs.Words.{vcAt, withWaiting, openWordFits, upToDate}
+use Rattle.meaning.specs.Lists.{emptyList, isEmpty, endsFit, entryAt, writeEntry, Taken, takeHead, joinTail, addTail}
+use Rattle.meaning.specs.Work.{Work, workOf, bareAnswer, withState, withVc, withArrival, withDeparture}
+use Rattle.meaning.specs.Arrival.{judge}
+
+-- "1. t grows by one modulo 2^32, T by one modulo N, rotation by one modulo V."
+unfoldable pub step1 : Work → Out Work
+step1 w =
+    let s = w .state in
+    let r = s .ctl in
+    let t = (r .t + 1) % slotNumbers in
+    let T = (r .turn + 1) % r .n in
+    let rotation = (r .rotation + 1) % r .v in
+    needs (r .turn <? r .n && r .rotation <? r .v) (next (withState w (withClock s t T rotation)))
+
+-- "2. If the VC that rotation names is open, it is brought up to date .. VC 0 is never open, and its words are not read."
+unfoldable pub step2 : Work → Out Work
+step2 w =
+    let s = w .state in
+    let vci = s .ctl .rotation in
+    let vc = vcAt (s .words) vci in
+    if vci =? 0 then next w
+    else needs (openWordFits vc)
+    (if vc .opened =? 0 then next w
+    else (upToDate (s .ctl .n) (s .ctl .t) vc andThen λ now. next (withVc w vci now)))
+
+-- "3. Arrival at an open VC: it is brought up to date in the same way." "VPI not 0, VCI of V or more, or a VC not
+-- open: unknown."
+unfoldable pub step3 : List ℕ → Work → Out Work
+step3 cell w =
+    let s = w .state in
+    let h = headerAt cell 0 in
+    let vc = vcAt (s .words) (h .vci) in
+    let isUnknown = next (withArrival w unknown (h .vci) 0) in
+    if length cell =? 0 || noUserCell h then next w
+    else if not (namesVc (s .ctl .v) h) then isUnknown
+    else needs (openWordFits vc)
+    (if vc .opened =? 0 then isUnknown
+    else (upToDate (s .ctl .n) (s .ctl .t) vc andThen judge cell (h .vci) w))
+
+-- "4. Entry T, if marked, is joined to the end of the Output List .. The entry is emptied." Steps 4 and 5 read both heads
+-- and tails in every slot; what step 4 leaves of the Output List fits again, so step 5 need not judge it.
+unfoldable pub step4 : Work → Out Work
+step4 w =
+    let s = w .state in
+    let N = s .ctl .n in
+    let T = s .ctl .turn in
+    let entry = entryAt (s .calendar) T in
+    let grown = joinTail (s .links) (outputList s) entry in
+    let s1 = withLinks (withOutputList s (grown .ends)) (grown .links) in
+    let s2 = withCalendar s1 (writeEntry (s .calendar) T emptyList) in
+    needs (endsFit N entry && endsFit N (outputList s))
+    (if isEmpty entry then next w else next (withState w s2))
+
+-- 5, once the head is taken: "Its VC's waiting falls by one. Its space goes to the tail of the Free List." "the
+-- departing header names an open VC"; "waiting at most N .. above 0 when one departs"
+unfoldable pub depart : Work → Taken → Out Work
+depart w taken =
+    let s = w .state in
+    let N = s .ctl .n in
+    let x = taken .space in
+    let h = headerAt (s .cells) (cellStart x) in
+    let vc = vcAt (s .words) (h .vci) in
+    let grown = addTail (s .links) (freeList s) x in
+    let s1 = withOutputList s (taken .left) in
+    let s2 = withLinks (withFreeList s1 (grown .ends)) (grown .links) in
+    let w1 = withVc (withState w s2) (h .vci) (withWaiting vc (vc .waiting - 1)) in
+    needs (namesOpenVc (s .ctl .v) (s .words) h)
+    (needs (1 ≤? vc .waiting && vc .waiting ≤? N)
+    (needs (endsFit N (freeList s)) (next (withDeparture w1 x (h .vci)))))
+
+-- "5. The head of the Output List, if any, departs."
+unfoldable pub step5 : Work → Out Work
+step5 w =
+    let s = w .state in
+    if isEmpty (outputList s) then next w
+    else (takeHead (s .ctl .n) (s .links) (outputList s) andThen depart w)
+
+unfoldable pub fiveSteps : List ℕ → Work → Out Work
+fiveSteps cell w = step1 w andThen step2 andThen step3 cell andThen step4 andThen step5
+
+-- "Each leaves everything as it came."
+unfoldable pub finish : State → Out Work → Work
+finish s refused = workOf s (bareAnswer 3)
+finish s (next w) = w
+
+-- "slot 1, 2, 9, 3": the state and the answer after one slot; cell is the octets lent, none or 53
+unfoldable pub slot : State → List ℕ → Work
+slot s cell =
+    let N = s .ctl .n in
+    let z = s .ctl .v in
+    if not (rangesHold N z) then workOf s (bareAnswer 1)
+    else if not (lengthsHold N z (s .cells) (s .links) (s .calendar) (s .words)) then workOf s (bareAnswer 2)
+    else if not (length cell =? 0 || length cell =? octets) then workOf s (bareAnswer 9)
+    else finish s (fiveSteps cell (workOf s (bareAnswer 0)))

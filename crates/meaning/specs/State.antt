@@ -1,0 +1,89 @@
+-- Document 01, "Numbers": the control record and the four lent memories, and how each group of fields is changed.
+use Prim.Native.Nat.{ℕ, _+_, _*_}
+use mathlib.Core.Bool.{Bool, _&&_}
+use mathlib.Core.List.{List, _++_}
+use lib.ListN.{length, take, drop}
+use Rattle.meaning.specs.declared.Record.{Record}
+use Rattle.meaning.specs.Plain.{_=?_}
+use Rattle.meaning.specs.Numbers.{octets, perEntry, wordsPerVc, cellStart}
+
+-- "Lent memory: 53 × N octets of cells; N links; 2 × N calendar numbers; 7 × V words. The control record
+-- goes in and out by value"
+pub record State : Type 0 where
+  pub ctl : Record
+  pub cells : List ℕ
+  pub links : List ℕ
+  pub calendar : List ℕ
+  pub words : List ℕ
+
+abbrev pub stateOf : Record → List ℕ → List ℕ → List ℕ → List ℕ → State
+stateOf r cells links calendar words =
+    record { ctl = r; cells = cells; links = links; calendar = calendar; words = words }
+
+-- "head and tail" of one list of spaces
+pub record Ends : Type 0 where
+  pub head : ℕ
+  pub tail : ℕ
+
+abbrev pub freeList : State → Ends
+freeList s = record { head = s .ctl .freehead; tail = s .ctl .freetail }
+
+abbrev pub outputList : State → Ends
+outputList s = record { head = s .ctl .outhead; tail = s .ctl .outtail }
+
+-- refusal 2: "a lent buffer has another length than above"
+unfoldable pub wordsLong : ℕ → List ℕ → Bool
+wordsLong z words = length words =? wordsPerVc * z
+
+unfoldable pub lengthsHold : ℕ → ℕ → List ℕ → List ℕ → List ℕ → List ℕ → Bool
+lengthsHold N z cells links calendar words =
+    length cells =? octets * N && length links =? N && length calendar =? perEntry * N && wordsLong z words
+
+-- one group of fields changed, all others kept
+unfoldable pub withRecord : State → Record → State
+withRecord s r = stateOf r (s .cells) (s .links) (s .calendar) (s .words)
+
+unfoldable pub withCells : State → List ℕ → State
+withCells s l = stateOf (s .ctl) l (s .links) (s .calendar) (s .words)
+
+unfoldable pub withLinks : State → List ℕ → State
+withLinks s l = stateOf (s .ctl) (s .cells) l (s .calendar) (s .words)
+
+unfoldable pub withCalendar : State → List ℕ → State
+withCalendar s l = stateOf (s .ctl) (s .cells) (s .links) l (s .words)
+
+unfoldable pub withWords : State → List ℕ → State
+withWords s l = stateOf (s .ctl) (s .cells) (s .links) (s .calendar) l
+
+-- the record with another clock and other lists; whatever else it holds is kept here, in one place
+unfoldable pub recordWith : Record → ℕ → ℕ → ℕ → Ends → Ends → Record
+recordWith r t T rotation free output =
+    record {
+      n = r .n;
+      v = r .v;
+      t = t;
+      turn = T;
+      rotation = rotation;
+      freehead = free .head;
+      freetail = free .tail;
+      outhead = output .head;
+      outtail = output .tail;
+    }
+
+-- t, T and rotation changed
+unfoldable pub withClock : State → ℕ → ℕ → ℕ → State
+withClock s t T rotation = withRecord s (recordWith (s .ctl) t T rotation (freeList s) (outputList s))
+
+unfoldable pub withFreeList : State → Ends → State
+withFreeList s e =
+    let r = s .ctl in
+    withRecord s (recordWith r (r .t) (r .turn) (r .rotation) e (outputList s))
+
+unfoldable pub withOutputList : State → Ends → State
+withOutputList s e =
+    let r = s .ctl in
+    withRecord s (recordWith r (r .t) (r .turn) (r .rotation) (freeList s) e)
+
+-- "The cell is written into its own 53 octets of the cell memory, and every other octet keeps its value."
+unfoldable pub writeCell : List ℕ → ℕ → List ℕ → List ℕ
+writeCell cells x cell = take (cellStart x) cells ++ (cell ++ drop (cellStart x + octets) cells)
