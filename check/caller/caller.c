@@ -1,0 +1,290 @@
+/*
+ * A caller's view of the archive: sizes and offsets of every struct, every
+ * function called, each refusal number got by a caller's mistake, NULL for every
+ * slice of length 0. The same file is compiled as C99 and as C++.
+ */
+#include <stddef.h>
+#include <stdint.h>
+#include <stdio.h>
+#include <string.h>
+
+#include "clurimoon.h"
+
+static unsigned long checks, failures;
+
+static void check(int holds, const char *what, int line) {
+  ++checks;
+  if (holds) return;
+  ++failures;
+  printf("caller: FAILED, line %d: %s\n", line, what);
+}
+#define CHECK(holds) check((holds) ? 1 : 0, #holds, __LINE__)
+
+/* Natural alignment, fields in the header's order: held here against the text of
+   the interface, so that a compiler or a header that lays them otherwise is seen. */
+#define LAID(type, field, offset, size)                                                                      \
+  CHECK(offsetof(type, field) == (offset));                                                                  \
+  CHECK(sizeof(((type *)0)->field) == (size))
+
+static void structs(void) {
+  CHECK(sizeof(clurimoon_record) == 20);
+  LAID(clurimoon_record, n, 0, 2);
+  LAID(clurimoon_record, v, 2, 2);
+  LAID(clurimoon_record, t, 4, 4);
+  LAID(clurimoon_record, T, 8, 2);
+  LAID(clurimoon_record, rotation, 10, 2);
+  LAID(clurimoon_record, free_head, 12, 2);
+  LAID(clurimoon_record, free_tail, 14, 2);
+  LAID(clurimoon_record, out_head, 16, 2);
+  LAID(clurimoon_record, out_tail, 18, 2);
+  CHECK(sizeof(clurimoon_answer) == 12);
+  LAID(clurimoon_answer, number, 0, 2);
+  LAID(clurimoon_answer, verdict, 2, 2);
+  LAID(clurimoon_answer, vci, 4, 2);
+  LAID(clurimoon_answer, d, 6, 2);
+  LAID(clurimoon_answer, space, 8, 2);
+  LAID(clurimoon_answer, out_vci, 10, 2);
+  CHECK(sizeof(clurimoon_set) == 24);
+  LAID(clurimoon_set, number, 0, 2);
+  LAID(clurimoon_set, record, 4, 20);
+  CHECK(sizeof(clurimoon_served) == 32);
+  LAID(clurimoon_served, record, 0, 20);
+  LAID(clurimoon_served, answer, 20, 12);
+  CHECK(sizeof(clurimoon_part) == 3 * sizeof(size_t));
+  LAID(clurimoon_part, from_idle, 0, 2);
+  LAID(clurimoon_part, start, sizeof(size_t), sizeof(size_t));
+  LAID(clurimoon_part, length, 2 * sizeof(size_t), sizeof(size_t));
+  CHECK(sizeof(clurimoon_burst_end) == 24 + sizeof(size_t));
+  LAID(clurimoon_burst_end, record, 0, 20);
+  LAID(clurimoon_burst_end, number, 20, 2);
+  LAID(clurimoon_burst_end, done, 24, sizeof(size_t));
+}
+
+static void macros(void) {
+  CHECK(CLURIMOON_CELLS(1024) == 54272 && CLURIMOON_LINKS(76) == 76);
+  CHECK(CLURIMOON_CALENDAR(76) == 152 && CLURIMOON_VCS(64) == 448);
+  CHECK(CLURIMOON_OCTETS(76, 64) == 6276);
+  CHECK(CLURIMOON_OCTETS(76, 64) ==
+        CLURIMOON_CELLS(76) + 2 * CLURIMOON_LINKS(76) + 2 * CLURIMOON_CALENDAR(76) + 4 * CLURIMOON_VCS(64));
+  CHECK(CLURIMOON_DONE == 0 && CLURIMOON_RANGE == 1 && CLURIMOON_LENGTH == 2 && CLURIMOON_STORED == 3);
+  CHECK(CLURIMOON_VCI == 4 && CLURIMOON_ALREADY_OPEN == 5 && CLURIMOON_RULES == 6 && CLURIMOON_NOT_OPEN == 7);
+  CHECK(CLURIMOON_WAITING == 8 && CLURIMOON_CELL_LENGTH == 9 && CLURIMOON_UNREADABLE == 10);
+  CHECK(CLURIMOON_NOTHING == 0 && CLURIMOON_ACCEPTED == 1 && CLURIMOON_EXCESS == 2 && CLURIMOON_UNKNOWN == 3);
+}
+
+enum { N = 5, V = 8 };
+static uint8_t cells[53 * N], idle[53];
+static uint16_t links[N], calendar[2 * N];
+static uint32_t vcs[7 * V];
+
+#define MEMORY cells, sizeof cells, links, N, calendar, 2 * N, vcs, 7 * V
+
+static int same_record(clurimoon_record a, clurimoon_record b) { return memcmp(&a, &b, sizeof a) == 0; }
+
+static int refused(clurimoon_answer a, unsigned number) {
+  return a.number == number && a.verdict == 0 && a.vci == 0 && a.d == 0 && a.space == CLURIMOON_NONE &&
+         a.out_vci == 0;
+}
+
+static void put_cell(uint8_t *cell, unsigned vci, unsigned fill) {
+  memset(cell, (int)fill, 53);
+  cell[0] = 0, cell[1] = (uint8_t)(vci >> 12), cell[2] = (uint8_t)(vci >> 4),
+  cell[3] = (uint8_t)((vci & 15) << 4);
+}
+
+static void setup_fields(void) {
+  unsigned k;
+  clurimoon_set set;
+  memset(cells, 7, sizeof cells), memset(links, 7, sizeof links), memset(vcs, 7, sizeof vcs);
+  set = clurimoon_setup(N, V, MEMORY);
+  CHECK(set.number == CLURIMOON_DONE);
+  CHECK(set.record.n == N && set.record.v == V && set.record.t == 4294967295u);
+  CHECK(set.record.T == N - 1 && set.record.rotation == V - 1);
+  CHECK(set.record.free_head == 0 && set.record.free_tail == N - 1);
+  CHECK(set.record.out_head == CLURIMOON_NONE && set.record.out_tail == CLURIMOON_NONE);
+  for (k = 0; k < sizeof cells; ++k) CHECK(cells[k] == 0);
+  for (k = 0; k < N; ++k) CHECK(links[k] == (k + 1 < N ? k + 1 : 0));
+  for (k = 0; k < 2 * N; ++k) CHECK(calendar[k] == CLURIMOON_NONE);
+  for (k = 0; k < 7 * V; ++k) CHECK(vcs[k] == 0);
+}
+
+/* Each field of a record by value must arrive in its own place and come back so. */
+static void record_fields(void) {
+  clurimoon_record r = {1111, 2222, 3333333333u, 4444, 5555, 6666, 7777, 8888, 9999};
+  clurimoon_served s = clurimoon_slot(r, MEMORY, NULL, 0);
+  clurimoon_burst_end e;
+  CHECK(refused(s.answer, CLURIMOON_RANGE) && same_record(s.record, r));
+  e = clurimoon_burst(r, MEMORY, NULL, 0, NULL, 0, NULL, 0, NULL, 0);
+  CHECK(e.number == CLURIMOON_RANGE && e.done == 0 && same_record(e.record, r));
+  /* N and V right: then it is T, rotation, the Output List's tail that are wrong. */
+  r.n = N, r.v = V;
+  s = clurimoon_slot(r, MEMORY, NULL, 0);
+  CHECK(refused(s.answer, CLURIMOON_STORED) && same_record(s.record, r));
+  r.T = 2, r.rotation = 3;
+  s = clurimoon_slot(r, MEMORY, NULL, 0);
+  CHECK(refused(s.answer, CLURIMOON_STORED) && same_record(s.record, r));
+  r.out_head = r.out_tail = CLURIMOON_NONE;
+  s = clurimoon_slot(r, MEMORY, NULL, 0);
+  /* The Free List is not read in a slot that neither accepts nor sends. */
+  CHECK(s.answer.number == CLURIMOON_DONE && s.record.t == 3333333334u && s.record.T == 3 &&
+        s.record.rotation == 4);
+  CHECK(s.record.n == N && s.record.v == V && s.record.free_head == 6666 && s.record.free_tail == 7777);
+  CHECK(s.record.out_head == CLURIMOON_NONE && s.record.out_tail == CLURIMOON_NONE);
+  CHECK(clurimoon_audit(s.record, MEMORY) == false);
+}
+
+static void every_number(void) {
+  uint8_t cell[54];
+  clurimoon_set set = clurimoon_setup(0, V, MEMORY);
+  clurimoon_record zeros, r;
+  clurimoon_served s;
+  memset(&zeros, 0, sizeof zeros), memset(cell, 0, sizeof cell);
+  CHECK(set.number == CLURIMOON_RANGE && same_record(set.record, zeros));
+  set = clurimoon_setup(N, V, cells, sizeof cells - 1, links, N, calendar, 2 * N, vcs, 7 * V);
+  CHECK(set.number == CLURIMOON_LENGTH && same_record(set.record, zeros));
+  set = clurimoon_setup(N, V, MEMORY);
+  r = set.record;
+  CHECK(clurimoon_open(r, vcs, 7 * V - 1, 1, 2, 10, 26) == CLURIMOON_LENGTH);
+  CHECK(clurimoon_open(r, vcs, 7 * V, V, 2, 10, 26) == CLURIMOON_VCI);
+  CHECK(clurimoon_open(r, vcs, 7 * V, 1, 2, 10, 30) == CLURIMOON_RULES);
+  CHECK(clurimoon_open(r, vcs, 7 * V, 1, 2, 10, 29) == CLURIMOON_DONE);
+  CHECK(vcs[7 + CLURIMOON_WORD_OPEN] == 1 && vcs[7 + CLURIMOON_WORD_M] == 2 &&
+        vcs[7 + CLURIMOON_WORD_F] == 10);
+  CHECK(vcs[7 + CLURIMOON_WORD_C] == 29 && vcs[7 + CLURIMOON_WORD_S] == 0);
+  CHECK(vcs[7 + CLURIMOON_WORD_LAST] == 4294967295u && vcs[7 + CLURIMOON_WORD_WAITING] == 0);
+  CHECK(clurimoon_open(r, vcs, 7 * V, 1, 2, 10, 26) == CLURIMOON_ALREADY_OPEN);
+  CHECK(clurimoon_close(r, vcs, 7 * V, 2) == CLURIMOON_NOT_OPEN);
+  CHECK(clurimoon_close(r, vcs, 7 * V, 0) == CLURIMOON_VCI);
+  put_cell(cell, 1, 0x11);
+  CHECK(refused(clurimoon_slot(r, MEMORY, cell, 54).answer, CLURIMOON_CELL_LENGTH));
+  r = clurimoon_slot(r, MEMORY, cell, 53).record;
+  s = clurimoon_slot(r, MEMORY, cell, 53);
+  CHECK(s.answer.verdict == CLURIMOON_ACCEPTED && s.answer.vci == 1 && s.answer.d == 1 &&
+        s.answer.space == CLURIMOON_NONE);
+  r = s.record;
+  CHECK(clurimoon_close(r, vcs, 7 * V, 1) == CLURIMOON_WAITING);
+  r = clurimoon_slot(r, MEMORY, NULL, 0).record;
+  CHECK(clurimoon_close(r, vcs, 7 * V, 1) == CLURIMOON_DONE);
+  vcs[14] = 2;
+  CHECK(clurimoon_open(r, vcs, 7 * V, 2, 2, 10, 26) == CLURIMOON_STORED);
+  CHECK(clurimoon_close(r, vcs, 7 * V, 2) == CLURIMOON_STORED);
+  CHECK(!clurimoon_audit(r, MEMORY));
+  vcs[14] = 0;
+  CHECK(clurimoon_audit(r, MEMORY));
+}
+
+/* The four verdicts, and all six numbers of each answer. */
+static int answers_with(clurimoon_answer a, unsigned verdict, unsigned vci, unsigned d, unsigned space,
+                        unsigned out_vci) {
+  return a.number == 0 && a.verdict == verdict && a.vci == vci && a.d == d && a.space == space &&
+         a.out_vci == out_vci;
+}
+
+static void verdicts(void) {
+  uint8_t cell[53];
+  clurimoon_record r = clurimoon_setup(N, V, MEMORY).record;
+  clurimoon_served s;
+  CHECK(clurimoon_open(r, vcs, 7 * V, 3, 0, 2, 5) == CLURIMOON_DONE);
+  put_cell(cell, 3, 0x33);
+  s = clurimoon_slot(r, MEMORY, cell, 53);
+  CHECK(answers_with(s.answer, 1, 3, 0, 0, 3));
+  s = clurimoon_slot(s.record, MEMORY, cell, 53);
+  CHECK(answers_with(s.answer, 1, 3, 1, CLURIMOON_NONE, 0));
+  s = clurimoon_slot(s.record, MEMORY, cell, 53);
+  CHECK(answers_with(s.answer, 1, 3, 2, 1, 3));
+  s = clurimoon_slot(s.record, MEMORY, cell, 53);
+  CHECK(answers_with(s.answer, 1, 3, 3, CLURIMOON_NONE, 0));
+  s = clurimoon_slot(s.record, MEMORY, cell, 53);
+  CHECK(answers_with(s.answer, 2, 3, 0, 2, 3));
+  put_cell(cell, 4, 0x44);
+  s = clurimoon_slot(s.record, MEMORY, cell, 53);
+  CHECK(answers_with(s.answer, 3, 4, 0, CLURIMOON_NONE, 0));
+  put_cell(cell, 0, 0);
+  s = clurimoon_slot(s.record, MEMORY, cell, 53);
+  CHECK(answers_with(s.answer, 0, 0, 0, 3, 3));
+}
+
+static void line_parts(void) {
+  clurimoon_part part = clurimoon_line(cells, sizeof cells, idle, 53, 4);
+  CHECK(part.from_idle == 0 && part.start == 4 * 53 && part.length == 53);
+  part = clurimoon_line(cells, sizeof cells, idle, 53, CLURIMOON_NONE);
+  CHECK(part.from_idle == 1 && part.start == 0 && part.length == 53);
+  part = clurimoon_line(cells, sizeof cells, idle, 53, 5);
+  CHECK(part.from_idle == 1 && part.start == 0 && part.length == 0);
+  part = clurimoon_line(cells, sizeof cells - 53 + 1, idle, 53, 0);
+  CHECK(part.from_idle == 1 && part.start == 0 && part.length == 0);
+}
+
+/* Every slice, of length 0, as NULL. */
+static void nulls(void) {
+  clurimoon_set set = clurimoon_setup(N, V, NULL, 0, NULL, 0, NULL, 0, NULL, 0);
+  clurimoon_record r;
+  clurimoon_part part;
+  clurimoon_burst_end e;
+  CHECK(set.number == CLURIMOON_LENGTH);
+  set = clurimoon_setup(N, V, MEMORY);
+  r = set.record;
+  CHECK(clurimoon_open(r, NULL, 0, 1, 2, 10, 26) == CLURIMOON_LENGTH);
+  CHECK(clurimoon_close(r, NULL, 0, 1) == CLURIMOON_LENGTH);
+  CHECK(refused(clurimoon_slot(r, NULL, 0, NULL, 0, NULL, 0, NULL, 0, NULL, 0).answer, CLURIMOON_LENGTH));
+  CHECK(clurimoon_slot(r, MEMORY, NULL, 0).answer.number == CLURIMOON_DONE);
+  part = clurimoon_line(NULL, 0, NULL, 0, 0);
+  CHECK(part.from_idle == 1 && part.start == 0 && part.length == 0);
+  CHECK(!clurimoon_audit(r, NULL, 0, NULL, 0, NULL, 0, NULL, 0));
+  e = clurimoon_burst(r, MEMORY, NULL, 0, NULL, 0, NULL, 0, NULL, 0);
+  CHECK(e.number == CLURIMOON_DONE && e.done == 0 && same_record(e.record, r));
+  e = clurimoon_burst(r, NULL, 0, NULL, 0, NULL, 0, NULL, 0, NULL, 0, NULL, 0, NULL, 0, NULL, 0);
+  CHECK(e.number == CLURIMOON_LENGTH && e.done == 0 && same_record(e.record, r));
+}
+
+/* A burst whose space is used again: each departing cell keeps its own octets. */
+static void bursts(void) {
+  enum { K = 9 };
+  static uint8_t arrivals[53 * K], sizes[K], departures[53 * K];
+  static uint16_t answers[6 * K];
+  unsigned k;
+  clurimoon_record r = clurimoon_setup(1, 2, cells, 53, links, 1, calendar, 2, vcs, 14).record;
+  clurimoon_burst_end e;
+  CHECK(clurimoon_open(r, vcs, 14, 1, 0, 1, 1) == CLURIMOON_DONE);
+  memset(departures, 0xee, sizeof departures), memset(answers, 0xee, sizeof answers);
+  for (k = 0; k < K; ++k) put_cell(arrivals + 53 * k, 1, 100 + k), sizes[k] = k == 4 ? 0 : 53;
+  sizes[7] = 52;
+  e = clurimoon_burst(r, cells, 53, links, 1, calendar, 2, vcs, 14, arrivals, sizeof arrivals, sizes, K,
+                      departures, sizeof departures, answers, 6 * K);
+  CHECK(e.number == CLURIMOON_CELL_LENGTH && e.done == 7 && e.record.t == 6);
+  for (k = 0; k < K; ++k) {
+    const int served = k < 7, left = served && k != 4;
+    CHECK(answers[6 * k + CLURIMOON_ANSWER_NUMBER] == (served ? 0 : 0xeeee));
+    CHECK(answers[6 * k + CLURIMOON_ANSWER_VERDICT] == (left ? CLURIMOON_ACCEPTED : served ? 0 : 0xeeee));
+    CHECK(answers[6 * k + CLURIMOON_ANSWER_VCI] == (left ? 1 : served ? 0 : 0xeeee));
+    CHECK(answers[6 * k + CLURIMOON_ANSWER_D] == (served ? 0 : 0xeeee));
+    CHECK(answers[6 * k + CLURIMOON_ANSWER_SPACE] == (left ? 0 : served ? CLURIMOON_NONE : 0xeeee));
+    CHECK(answers[6 * k + CLURIMOON_ANSWER_OUT_VCI] == (left ? 1 : served ? 0 : 0xeeee));
+    if (left) CHECK(memcmp(departures + 53 * k, arrivals + 53 * k, 53) == 0);
+    else CHECK(departures[53 * k] == 0xee && departures[53 * k + 52] == 0xee);
+  }
+  e = clurimoon_burst(r, cells, 53, links, 1, calendar, 2, vcs, 14, arrivals, sizeof arrivals, sizes, K,
+                      departures, sizeof departures - 1, answers, 6 * K);
+  CHECK(e.number == CLURIMOON_LENGTH && e.done == 0 && same_record(e.record, r));
+}
+
+int main(void) {
+  structs();
+  macros();
+  setup_fields();
+  record_fields();
+  every_number();
+  verdicts();
+  line_parts();
+  nulls();
+  bursts();
+  if (failures == 0)
+    printf("caller (%s): %lu checks hold\n",
+#ifdef __cplusplus
+           "C++",
+#else
+           "C99",
+#endif
+           checks);
+  return failures != 0;
+}

@@ -1,0 +1,342 @@
+/*
+ * The incident: a routine that loaded the last row of a table whole read past the
+ * end of its buffer, and took the cards down where no memory followed. Here every
+ * lent buffer ends exactly at an unreadable page, and then begins exactly after
+ * one, for every N from 1 to 1,024, while setup, opens, slots at full load, burst,
+ * line and audit run. An octet read outside a buffer ends the program; an octet
+ * written on its free side is found by comparing what was put there.
+ *
+ * A routine like that one is run in a child process on the same buffers and must
+ * fault, so that the test is known to bite.
+ */
+#define _DEFAULT_SOURCE
+#include <signal.h>
+#include <stdbool.h>
+#include <stdint.h>
+#include <stdio.h>
+#include <stdlib.h>
+#include <string.h>
+#include <sys/mman.h>
+#include <sys/wait.h>
+#include <unistd.h>
+
+#include "clurimoon.h"
+
+enum { slots_in_burst = 24, filler = 0xa5 };
+
+/* Pages that may be touched, between two that may not. */
+struct fence {
+  uint8_t *start;
+  size_t room;
+  uint8_t *lent;
+  size_t octets;
+};
+
+static size_t page;
+static bool at_end; /* buffers end at an unreadable page, or begin after one */
+static unsigned now_n, now_v;
+static const char *now_doing = "nothing";
+
+static void fail(const char *what) {
+  printf("guard: FAILED: N %u, V %u, %s, in %s: %s\n", now_n, now_v,
+         at_end ? "buffers end at a guard page" : "buffers begin after a guard page", now_doing, what);
+  exit(1);
+}
+
+static void on_fault(int number) {
+  static char text[200];
+  int length = snprintf(
+      text, sizeof text,
+      "guard: FAILED: N %u, V %u, %s, in %s: signal %d (touched memory that was not lent)\n", now_n, now_v,
+      at_end ? "buffers end at a guard page" : "buffers begin after a guard page", now_doing, number);
+  if (write(1, text, (size_t)length) < 0) _exit(3);
+  _exit(2);
+}
+
+static struct fence make_fence(size_t most) {
+  struct fence f;
+  f.room = (most + page - 1) / page * page;
+  if (f.room == 0) f.room = page;
+  uint8_t *all = mmap(NULL, f.room + 2 * page, PROT_NONE, MAP_PRIVATE | MAP_ANONYMOUS, -1, 0);
+  if (all == MAP_FAILED || mprotect(all + page, f.room, PROT_READ | PROT_WRITE) != 0) {
+    perror("mmap");
+    exit(2);
+  }
+  f.start = all + page;
+  f.lent = f.start, f.octets = 0;
+  memset(f.start, filler, f.room);
+  return f;
+}
+
+/* Lends so many octets of it. None at all: the pointer is to the unreadable page. */
+static void *lend(struct fence *f, size_t octets) {
+  f->octets = octets;
+  f->lent = at_end ? f->start + f->room - octets : f->start;
+  if (octets == 0) f->lent = at_end ? f->start + f->room : f->start - page;
+  memset(f->start, filler, f->room);
+  return f->lent;
+}
+
+/* What lies on the other side of the buffer must be as it was. */
+static void untouched(const struct fence *f, const char *name) {
+  const uint8_t *from = at_end ? f->start : f->start + f->octets;
+  const uint8_t *to = at_end ? f->start + f->room - f->octets : f->start + f->room;
+  for (; from < to; ++from)
+    if (*from != filler) fail(name);
+}
+
+static struct fence cells_fence, links_fence, calendar_fence, vcs_fence, cell_fence, idle_fence;
+static struct fence arrivals_fence, sizes_fence, departures_fence, answers_fence;
+
+static uint8_t *cells, *cell, *idle, *arrivals, *sizes, *departures;
+static uint16_t *links, *calendar, *answers;
+static uint32_t *vcs;
+static unsigned long long slots_served, cells_sent, calls_made, refused;
+static unsigned greatest_space, greatest_d;
+
+static void make_fences(void) {
+  cells_fence = make_fence(CLURIMOON_CELLS(1024)), links_fence = make_fence(2 * 1024);
+  calendar_fence = make_fence(4 * 1024), vcs_fence = make_fence(28 * 1024);
+  cell_fence = make_fence(53), idle_fence = make_fence(53);
+  arrivals_fence = make_fence(53 * slots_in_burst), sizes_fence = make_fence(slots_in_burst);
+  departures_fence = make_fence(53 * slots_in_burst), answers_fence = make_fence(12 * slots_in_burst);
+}
+
+static void lend_all(unsigned n, unsigned v) {
+  cells = lend(&cells_fence, CLURIMOON_CELLS(n));
+  links = lend(&links_fence, 2 * CLURIMOON_LINKS(n));
+  calendar = lend(&calendar_fence, 2 * CLURIMOON_CALENDAR(n));
+  vcs = lend(&vcs_fence, 4 * CLURIMOON_VCS(v));
+  cell = lend(&cell_fence, 53), idle = lend(&idle_fence, 53);
+  arrivals = lend(&arrivals_fence, 53 * slots_in_burst), sizes = lend(&sizes_fence, slots_in_burst);
+  departures = lend(&departures_fence, 53 * slots_in_burst);
+  answers = lend(&answers_fence, 12 * slots_in_burst);
+}
+
+static void all_untouched(void) {
+  untouched(&cells_fence, "written beside the cell memory"),
+      untouched(&links_fence, "written beside the links");
+  untouched(&calendar_fence, "written beside the calendar"),
+      untouched(&vcs_fence, "written beside the VC words");
+  untouched(&cell_fence, "written beside the cell"), untouched(&idle_fence, "written beside the idle cell");
+  untouched(&arrivals_fence, "written beside the arrivals"),
+      untouched(&sizes_fence, "written beside the sizes");
+  untouched(&departures_fence, "written beside the departures"),
+      untouched(&answers_fence, "written beside the answers");
+}
+
+static void write_cell(uint8_t *to, unsigned vci, unsigned mark) {
+  memset(to, (int)(mark & 255), 53);
+  to[0] = 0, to[1] = (uint8_t)(vci >> 12), to[2] = (uint8_t)(vci >> 4), to[3] = (uint8_t)((vci & 15) << 4);
+}
+
+#define MEMORY                                                                                               \
+  cells, CLURIMOON_CELLS(n), links, CLURIMOON_LINKS(n), calendar, CLURIMOON_CALENDAR(n), vcs, CLURIMOON_VCS(v)
+
+static clurimoon_record one_slot(clurimoon_record r, unsigned n, unsigned v, size_t length) {
+  /* An empty cell is lent as a pointer to unreadable memory. */
+  const uint8_t *lent = length == 0 ? cell_fence.start + cell_fence.room : cell;
+  now_doing = "slot";
+  clurimoon_served s = clurimoon_slot(r, MEMORY, lent, length);
+  if (s.answer.number != 0) fail("a slot was refused");
+  ++slots_served, ++calls_made;
+  now_doing = "line";
+  clurimoon_part part = clurimoon_line(cells, CLURIMOON_CELLS(n), idle, 53, s.answer.space);
+  ++calls_made;
+  if (part.length != 53) fail("the line's part is not a cell");
+  if (part.from_idle != (s.answer.space == CLURIMOON_NONE)) fail("the line's part lies in the wrong buffer");
+  volatile uint8_t seen = 0;
+  for (size_t k = 0; k < part.length; ++k) seen = (part.from_idle ? idle : cells)[part.start + k];
+  (void)seen;
+  if (s.answer.space != CLURIMOON_NONE) {
+    ++cells_sent;
+    if (s.answer.space > greatest_space) greatest_space = s.answer.space;
+  }
+  if (s.answer.d > greatest_d) greatest_d = s.answer.d;
+  return s.record;
+}
+
+static clurimoon_record one_burst(clurimoon_record r, unsigned n, unsigned v, unsigned seed) {
+  for (unsigned k = 0; k < slots_in_burst; ++k) {
+    sizes[k] = (k + seed) % 7 == 0 ? 0 : 53;
+    write_cell(arrivals + 53 * k, 1 + (k + seed) % (v - 1), k);
+  }
+  now_doing = "burst";
+  clurimoon_burst_end e = clurimoon_burst(r, MEMORY, arrivals, 53 * slots_in_burst, sizes, slots_in_burst,
+                                          departures, 53 * slots_in_burst, answers, 6 * slots_in_burst);
+  if (e.number != 0 || e.done != slots_in_burst) fail("a burst was refused");
+  slots_served += e.done, ++calls_made;
+  const uint8_t *nowhere = cells_fence.start + cells_fence.room;
+  e = clurimoon_burst(e.record, MEMORY, nowhere, 0, nowhere, 0, (uint8_t *)(uintptr_t)nowhere, 0,
+                      (uint16_t *)(uintptr_t)nowhere, 0);
+  if (e.number != 0 || e.done != 0) fail("an empty burst was refused");
+  ++calls_made;
+  return e.record;
+}
+
+/* Numbers out of range, right where a careless call would follow them. */
+static void run_damaged(clurimoon_record good, unsigned n, unsigned v) {
+  now_doing = "slot or audit in a damaged state";
+  for (unsigned kind = 0; kind < 10; ++kind) {
+    clurimoon_record r = good;
+    const uint16_t bad = (uint16_t)(kind % 2 == 0 ? n : 65534);
+    if (kind / 2 == 0) r.T = bad;
+    if (kind / 2 == 1) r.rotation = kind % 2 == 0 ? (uint16_t)v : bad;
+    if (kind / 2 == 2) r.free_head = bad, r.free_tail = 0;
+    if (kind / 2 == 3) r.out_head = 0, r.out_tail = bad;
+    if (kind / 2 == 4) r.out_head = r.out_tail = bad;
+    write_cell(cell, v - 1, kind);
+    refused += clurimoon_slot(r, MEMORY, cell, 53).answer.number == CLURIMOON_STORED;
+    if (clurimoon_audit(r, MEMORY)) fail("the audit says yes in a damaged state");
+    calls_made += 2;
+  }
+  for (unsigned k = 0; k < 2 * n; ++k) calendar[k] = (uint16_t)(k % 4 < 2 ? n : 65534);
+  for (unsigned k = 0; k < n; ++k) links[k] = (uint16_t)(k % 2 ? n : 65534);
+  refused += clurimoon_slot(good, MEMORY, cell, 53).answer.number == CLURIMOON_STORED;
+  if (clurimoon_audit(good, MEMORY)) fail("the audit says yes in a damaged state");
+  memset(vcs, 255, 4 * CLURIMOON_VCS(v));
+  refused += clurimoon_slot(good, MEMORY, cell, 53).answer.number == CLURIMOON_STORED;
+  calls_made += 3;
+}
+
+/* A record that claims more than was lent: refused before anything is read. */
+static void run_too_small(clurimoon_record good, unsigned n, unsigned v) {
+  now_doing = "a call whose record claims more than was lent";
+  for (unsigned kind = 0; kind < 2; ++kind) {
+    clurimoon_record r = good;
+    if (kind == 0) r.n = (uint16_t)(n < 1024 ? n + 1 : n - 1);
+    else r.v = (uint16_t)(v < 1024 ? v + 1 : v - 1);
+    if (clurimoon_slot(r, MEMORY, cell, 53).answer.number != CLURIMOON_LENGTH)
+      fail("wrong lengths were not refused");
+    if (clurimoon_burst(r, MEMORY, arrivals, 53 * slots_in_burst, sizes, slots_in_burst, departures,
+                        53 * slots_in_burst, answers, 6 * slots_in_burst)
+            .number != CLURIMOON_LENGTH)
+      fail("wrong lengths were not refused");
+    if (clurimoon_audit(r, MEMORY)) fail("the audit says yes to wrong lengths");
+    calls_made += 3, refused += 2;
+  }
+  clurimoon_record wide = good;
+  wide.v = (uint16_t)(v < 1024 ? v + 1 : v - 1);
+  if (clurimoon_open(wide, vcs, CLURIMOON_VCS(v), (uint16_t)(wide.v - 1), 0, 1, 1) != CLURIMOON_LENGTH)
+    fail("open was not refused");
+  if (clurimoon_close(wide, vcs, CLURIMOON_VCS(v), (uint16_t)(wide.v - 1)) != CLURIMOON_LENGTH)
+    fail("close was not refused");
+  if (clurimoon_line(cells, CLURIMOON_CELLS(n), idle, 53, (uint16_t)n).length != 0)
+    fail("the line shows a space past the last");
+  calls_made += 3, refused += 3;
+}
+
+/* One policer from setup on, under full load until every space was used. */
+static void run_policer(unsigned n, unsigned v) {
+  now_n = n, now_v = v;
+  lend_all(n, v);
+  now_doing = "setup";
+  clurimoon_set set = clurimoon_setup((uint16_t)n, (uint16_t)v, MEMORY);
+  if (set.number != 0) fail("setup was refused");
+  clurimoon_record r = set.record;
+  now_doing = "open";
+  /* Two bursty VCs and the last, with the greatest tolerance: they fill the memory. */
+  for (unsigned vci = 1; vci < v; vci = vci < 3 ? vci + 1 : vci < v - 1 ? v - 1 : v) {
+    if (clurimoon_open(r, vcs, CLURIMOON_VCS(v), (uint16_t)vci, 4, 48, 48 + 16 * n - 1) != 0)
+      fail("an open was refused");
+    ++calls_made;
+  }
+  greatest_space = greatest_d = 0;
+  /* Long enough to use every space, and for rotation to name every VC. */
+  for (unsigned k = 0; k < 3 * n + 40 || k < v + 2; ++k) {
+    /* One VC alone first: its delays climb to N-1. */
+    write_cell(cell, k % 3 == 0 || k < 5 * n / 8 + 8 ? v - 1 : 1 + k % (v > 2 ? 2 : 1), k);
+    r = one_slot(r, n, v, k % 11 == 10 ? 0 : 53);
+  }
+  r = one_burst(r, n, v, n);
+  now_doing = "audit";
+  if (!clurimoon_audit(r, MEMORY)) fail("the audit says no");
+  now_doing = "close";
+  const uint16_t closed = clurimoon_close(r, vcs, CLURIMOON_VCS(v), 1);
+  if (closed != 0 && closed != CLURIMOON_WAITING) fail("a close was refused");
+  calls_made += 3;
+  if (greatest_space != n - 1 || greatest_d != n - 1) fail("the last space or the last entry was never used");
+  all_untouched();
+  run_too_small(r, n, v);
+  run_damaged(r, n, v);
+  all_untouched();
+}
+
+/* Counts marked entries by rows of four, the last row loaded whole. */
+static unsigned marked_by_rows(const uint16_t *from, unsigned n) {
+  unsigned marked = 0;
+  for (unsigned row = 0; row < (n + 3) / 4; ++row) {
+    volatile uint16_t loaded[8];
+    for (unsigned k = 0; k < 8; ++k) loaded[k] = from[8 * row + k];
+    for (unsigned k = 0; k < 4 && 4 * row + k < n; ++k) marked += loaded[2 * k] != CLURIMOON_NONE;
+  }
+  return marked;
+}
+
+/* Looks at the entry before, without turning round at entry 0. */
+static unsigned marked_before(const uint16_t *from, unsigned n) {
+  unsigned marked = 0;
+  for (unsigned entry = 0; entry < n; ++entry) {
+    const volatile uint16_t *head = from + 2 * entry;
+    marked += *(head - 2) != CLURIMOON_NONE;
+  }
+  return marked;
+}
+
+/* Whether the routine, on the calendar for n entries, faults in a child process. */
+static bool faults(unsigned (*routine)(const uint16_t *, unsigned), unsigned n) {
+  uint16_t *lent = lend(&calendar_fence, 4 * (size_t)n);
+  fflush(stdout);
+  pid_t child = fork();
+  if (child < 0) perror("fork"), exit(2);
+  if (child == 0) {
+    signal(SIGSEGV, SIG_DFL), signal(SIGBUS, SIG_DFL);
+    _exit(routine(lent, n) > n ? 1 : 0);
+  }
+  int status;
+  waitpid(child, &status, 0);
+  return WIFSIGNALED(status) && (WTERMSIG(status) == SIGSEGV || WTERMSIG(status) == SIGBUS);
+}
+
+/* The careless routines must fault exactly where they leave the buffer. */
+static unsigned bite(void) {
+  unsigned bitten = 0;
+  now_doing = "the routine that loads the last row whole";
+  for (unsigned n = 1; n <= 1024; ++n) {
+    now_n = n, now_v = 0;
+    at_end = true;
+    if (faults(marked_by_rows, n) != (n % 4 != 0))
+      fail("the fault was not seen, or seen where there is none");
+    bitten += n % 4 != 0;
+    at_end = false;
+    if (!faults(marked_before, n)) fail("the read before the buffer was not seen");
+    ++bitten;
+  }
+  at_end = true, now_n = 37;
+  if (!faults(marked_by_rows, 37)) fail("N 37 did not fault");
+  return bitten;
+}
+
+int main(void) {
+  page = (size_t)sysconf(_SC_PAGESIZE);
+  make_fences();
+  const unsigned bitten = bite();
+  printf("guard: careless routines faulted %u times of %u, N 37 among them\n", bitten, bitten);
+  signal(SIGSEGV, on_fault), signal(SIGBUS, on_fault);
+  for (int side = 0; side < 2; ++side) {
+    at_end = side == 0;
+    for (unsigned n = 1; n <= 1024; ++n) {
+      static const unsigned edges[] = {2, 3, 64, 1023, 1024};
+      run_policer(n, n % 8 == 0 ? edges[n / 8 % 5] : 2 + n * 7 % 121);
+    }
+    for (unsigned v = 2; v <= 1024; ++v) run_policer(1 + v % 9, v);
+    printf("  every N and every V with buffers %s\n",
+           at_end ? "ending at an unreadable page" : "beginning after one");
+    fflush(stdout);
+  }
+  printf("guard: N 1 to 1,024 and V 2 to 1,024, twice: %llu calls (%llu refused), %llu slots, %llu cells "
+         "sent, no octet "
+         "touched outside\n",
+         calls_made, refused, slots_served, cells_sent);
+  return 0;
+}

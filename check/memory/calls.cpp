@@ -1,0 +1,428 @@
+#include "calls.hpp"
+
+#include <algorithm>
+
+namespace calls {
+
+const char *const clause_name[clause_count] = {
+#define X(name) #name,
+    CALLS_CLAUSES(X)
+#undef X
+};
+const char *const fault_name[fault_count] = {
+#define X(name) #name,
+    CALLS_FAULTS(X)
+#undef X
+};
+Tally tally;
+
+namespace {
+
+constexpr uint16_t empty = 65535;
+
+// Thrown where a call reads a stored number outside its range.
+struct Unfit {
+  Clause clause;
+};
+void need(bool fit, Clause clause) {
+  if (!fit) throw Unfit{clause};
+}
+
+// The words of a VC, by name.
+enum Word { w_open, w_m, w_F, w_C, w_S, w_last, w_waiting };
+
+// What was written, with the value before: undone from the last to the first.
+struct Journal {
+  struct Halfword {
+    uint16_t *at, before;
+  };
+  struct Fullword {
+    uint32_t *at, before;
+  };
+  std::vector<Halfword> halves;
+  std::vector<Fullword> fulls;
+  uint8_t *cell = nullptr;
+  std::array<uint8_t, 53> cell_before{};
+
+  void clear() { halves.clear(), fulls.clear(), cell = nullptr; }
+  void put(uint16_t &at, uint16_t value) { halves.push_back({&at, at}), at = value; }
+  void put(uint32_t &at, uint32_t value) { fulls.push_back({&at, at}), at = value; }
+  void put_cell(uint8_t *at, const uint8_t *from) {
+    std::copy(at, at + 53, cell_before.begin());
+    cell = at;
+    std::copy(from, from + 53, at);
+  }
+  void undo() {
+    for (auto i = halves.rbegin(); i != halves.rend(); ++i) *i->at = i->before;
+    for (auto i = fulls.rbegin(); i != fulls.rend(); ++i) *i->at = i->before;
+    if (cell) std::copy(cell_before.begin(), cell_before.end(), cell);
+  }
+};
+
+bool sizes_in_range(uint16_t n, uint16_t v) { return 1 <= n && n <= 1024 && 2 <= v && v <= 1024; }
+
+bool lengths_fit(uint16_t n, uint16_t v, const Memory &lent) {
+  return lent.cells.length == size_t{53} * n && lent.links.length == n &&
+         lent.calendar.length == size_t{2} * n && lent.vcs.length == size_t{7} * v;
+}
+
+// The rules on m, F and C; `first` is the clause for m, the others follow it.
+constexpr int rules_kept = -1;
+int rule_broken(uint64_t n, uint64_t m, uint64_t f, uint64_t c) {
+  if (m > 15) return 0;
+  const uint64_t leak = uint64_t{1} << m;
+  if (f < leak) return 1;
+  if (f > 16777216) return 2;
+  if (c < f) return 3;
+  if ((c - f) / leak > n - 1) return 4;
+  return rules_kept;
+}
+
+void need_rules(uint16_t n, const uint32_t *vc, Clause m_clause) {
+  const int rule = rule_broken(n, vc[w_m], vc[w_F], vc[w_C]);
+  need(rule == rules_kept, static_cast<Clause>(m_clause + rule));
+  need(vc[w_S] <= vc[w_C], static_cast<Clause>(m_clause + 5));
+}
+
+// "A head and tail are both below N or both 65,535"; three clauses from `first`.
+void need_pair(uint16_t n, uint16_t head, uint16_t tail, Clause first) {
+  need(head < n || head == empty, first);
+  need(tail < n || tail == empty, static_cast<Clause>(first + 1));
+  need((head == empty) == (tail == empty), static_cast<Clause>(first + 2));
+}
+
+struct Header {
+  unsigned vpi, vci;
+};
+Header read_header(const uint8_t *octet) {
+  const uint32_t word =
+      uint32_t{octet[0]} << 24 | uint32_t{octet[1]} << 16 | uint32_t{octet[2]} << 8 | uint32_t{octet[3]};
+  return {word >> 20 & 0xff, word >> 4 & 0xffff};
+}
+
+// One slot, step by step, on the lent memory itself.
+class Slot {
+public:
+  Slot(const clurimoon_record &record, const Memory &lent, Journal &journal)
+      : r(record), lent(lent), journal(journal), n(record.n), v(record.v) {}
+
+  clurimoon_served serve(Lent<const uint8_t> cell) {
+    tick();
+    if (r.rotation != 0) update_named_by_rotation();
+    if (cell.length == 53) arrive(cell.at);
+    transfer();
+    if (r.out_head != empty) depart();
+    return {r, answer};
+  }
+
+private:
+  clurimoon_record r;
+  clurimoon_answer answer{0, 0, 0, 0, empty, 0};
+  const Memory &lent;
+  Journal &journal;
+  const uint16_t n, v;
+
+  uint32_t *vc(unsigned vci) const { return lent.vcs.at + size_t{7} * vci; }
+
+  void tick() {
+    need(r.T < n, slot_T);
+    need(r.rotation < v, slot_rotation);
+    r.t += 1;
+    r.T = static_cast<uint16_t>((r.T + 1) % n);
+    r.rotation = static_cast<uint16_t>((r.rotation + 1) % v);
+  }
+
+  void bring_up_to_date(uint32_t *words, Clause m_clause) {
+    need_rules(n, words, m_clause);
+    const uint64_t elapsed = static_cast<uint32_t>(r.t - words[w_last]);
+    const uint64_t leaked = elapsed << words[w_m];
+    const uint64_t s = words[w_S];
+    journal.put(words[w_S], static_cast<uint32_t>(s > leaked ? s - leaked : 0));
+    journal.put(words[w_last], r.t);
+  }
+
+  void update_named_by_rotation() {
+    uint32_t *words = vc(r.rotation);
+    need(words[w_open] <= 1, rotation_open);
+    if (words[w_open] == 1) bring_up_to_date(words, rotation_m);
+  }
+
+  void arrive(const uint8_t *cell) {
+    const Header header = read_header(cell);
+    if (header.vpi == 0 && header.vci == 0) return;
+    answer.vci = static_cast<uint16_t>(header.vci);
+    answer.verdict = CLURIMOON_UNKNOWN;
+    if (header.vpi != 0 || header.vci >= v) return;
+    uint32_t *words = vc(header.vci);
+    need(words[w_open] <= 1, arrival_open);
+    if (words[w_open] == 0) return;
+    bring_up_to_date(words, arrival_m);
+    answer.verdict = CLURIMOON_EXCESS;
+    if (words[w_S] > words[w_C] - words[w_F]) return;
+    answer.verdict = CLURIMOON_ACCEPTED;
+    answer.d = static_cast<uint16_t>(words[w_S] >> words[w_m]);
+    need(words[w_waiting] < n, arrival_waiting);
+    journal.put(words[w_S], words[w_S] + words[w_F]);
+    journal.put(words[w_waiting], words[w_waiting] + 1);
+    const uint16_t space = take_free();
+    journal.put_cell(lent.cells.at + size_t{53} * space, cell);
+    join(static_cast<unsigned>((r.T + answer.d) % n), space);
+  }
+
+  uint16_t take_free() {
+    need_pair(n, r.free_head, r.free_tail, take_pair_head);
+    need(r.free_head != empty, take_empty);
+    const uint16_t space = r.free_head;
+    if (r.free_head == r.free_tail) {
+      r.free_head = r.free_tail = empty;
+    } else {
+      need(lent.links.at[space] < n, take_link);
+      r.free_head = lent.links.at[space];
+    }
+    return space;
+  }
+
+  void join(unsigned entry, uint16_t space) {
+    uint16_t &head = lent.calendar.at[2 * entry], &tail = lent.calendar.at[2 * entry + 1];
+    need_pair(n, head, tail, join_pair_head);
+    if (head == empty) journal.put(tail, space);
+    else journal.put(lent.links.at[space], head);
+    journal.put(head, space);
+  }
+
+  void transfer() {
+    uint16_t &head = lent.calendar.at[2 * r.T], &tail = lent.calendar.at[2 * r.T + 1];
+    need_pair(n, head, tail, entry_pair_head);
+    need_pair(n, r.out_head, r.out_tail, output_pair_head);
+    if (head == empty) return;
+    if (r.out_head == empty) r.out_head = head;
+    else journal.put(lent.links.at[r.out_tail], head);
+    r.out_tail = tail;
+    journal.put(head, empty);
+    journal.put(tail, empty);
+  }
+
+  void depart() {
+    const uint16_t space = r.out_head;
+    if (r.out_head == r.out_tail) {
+      r.out_head = r.out_tail = empty;
+    } else {
+      need(lent.links.at[space] < n, output_link);
+      r.out_head = lent.links.at[space];
+    }
+    const Header header = read_header(lent.cells.at + size_t{53} * space);
+    need(header.vpi == 0, departing_vpi);
+    need(header.vci != 0, departing_vci_0);
+    need(header.vci < v, departing_vci_high);
+    uint32_t *words = vc(header.vci);
+    need(words[w_open] != 0, departing_closed);
+    need(words[w_open] == 1, departing_open);
+    need(words[w_waiting] != 0, departing_waiting_0);
+    need(words[w_waiting] <= n, departing_waiting_high);
+    journal.put(words[w_waiting], words[w_waiting] - 1);
+    give_back(space);
+    answer.space = space;
+    answer.out_vci = static_cast<uint16_t>(header.vci);
+  }
+
+  void give_back(uint16_t space) {
+    need_pair(n, r.free_head, r.free_tail, give_pair_head);
+    if (r.free_head == empty) r.free_head = space;
+    else journal.put(lent.links.at[r.free_tail], space);
+    r.free_tail = space;
+  }
+};
+
+// What open and close read of a VC: of a closed one only the open word.
+void need_vc(uint16_t n, const uint32_t *words, Clause open_clause) {
+  need(words[w_open] <= 1, open_clause);
+  if (words[w_open] == 0) return;
+  need_rules(n, words, static_cast<Clause>(open_clause + 1));
+  need(words[w_waiting] <= n, static_cast<Clause>(open_clause + 7));
+}
+
+// The refusals that open and close share, up to 3; 0 if there is none.
+uint16_t refuse_vc(const clurimoon_record &record, Lent<uint32_t> vcs, uint16_t vci, Clause open_clause) {
+  if (!sizes_in_range(record.n, record.v)) return 1;
+  if (vcs.length != size_t{7} * record.v) return 2;
+  if (vci < 1 || vci >= record.v) return 4;
+  try {
+    need_vc(record.n, vcs.at + size_t{7} * vci, open_clause);
+  } catch (const Unfit &unfit) {
+    tally.clause[unfit.clause] += 1;
+    return 3;
+  }
+  return 0;
+}
+
+clurimoon_served refused(const clurimoon_record &record, uint16_t number) {
+  return {record, {number, 0, 0, 0, empty, 0}};
+}
+
+} // namespace
+
+clurimoon_set setup(uint16_t n, uint16_t v, Memory lent) {
+  if (!sizes_in_range(n, v)) return {1, {}};
+  if (!lengths_fit(n, v, lent)) return {2, {}};
+  std::fill_n(lent.cells.at, lent.cells.length, uint8_t{0});
+  std::fill_n(lent.links.at, lent.links.length, uint16_t{0});
+  std::fill_n(lent.vcs.at, lent.vcs.length, uint32_t{0});
+  for (uint16_t space = 0; space + 1 < n; ++space) lent.links.at[space] = static_cast<uint16_t>(space + 1);
+  std::fill_n(lent.calendar.at, lent.calendar.length, empty);
+  clurimoon_record record{};
+  record.n = n, record.v = v;
+  record.t = UINT32_MAX;
+  record.T = static_cast<uint16_t>(n - 1);
+  record.rotation = static_cast<uint16_t>(v - 1);
+  record.free_head = 0, record.free_tail = static_cast<uint16_t>(n - 1);
+  record.out_head = record.out_tail = empty;
+  return {0, record};
+}
+
+uint16_t open(const clurimoon_record &record, Lent<uint32_t> vcs, uint16_t vci, uint8_t m, uint32_t f,
+              uint32_t c) {
+  if (const uint16_t number = refuse_vc(record, vcs, vci, open_open)) return number;
+  uint32_t *words = vcs.at + size_t{7} * vci;
+  if (words[w_open] == 1) return 5;
+  if (rule_broken(record.n, m, f, c) != rules_kept) return 6;
+  const uint32_t fresh[7] = {1, m, f, c, 0, record.t, 0};
+  std::copy(fresh, fresh + 7, words);
+  return 0;
+}
+
+uint16_t close(const clurimoon_record &record, Lent<uint32_t> vcs, uint16_t vci) {
+  if (const uint16_t number = refuse_vc(record, vcs, vci, close_open)) return number;
+  uint32_t *words = vcs.at + size_t{7} * vci;
+  if (words[w_open] == 0) return 7;
+  if (words[w_waiting] != 0) return 8;
+  std::fill_n(words, 7, 0u);
+  return 0;
+}
+
+clurimoon_served slot(const clurimoon_record &record, Memory lent, Lent<const uint8_t> cell) {
+  if (!sizes_in_range(record.n, record.v)) return refused(record, 1);
+  if (!lengths_fit(record.n, record.v, lent)) return refused(record, 2);
+  if (cell.length != 0 && cell.length != 53) return refused(record, 9);
+  static thread_local Journal journal;
+  journal.clear();
+  try {
+    return Slot(record, lent, journal).serve(cell);
+  } catch (const Unfit &unfit) {
+    tally.clause[unfit.clause] += 1;
+    journal.undo();
+    return refused(record, 3);
+  }
+}
+
+clurimoon_part line(size_t cells_length, size_t idle_length, uint16_t number) {
+  const size_t n = cells_length / 53;
+  if (cells_length % 53 != 0 || n < 1 || n > 1024 || idle_length != 53) return {1, 0, 0};
+  if (number == empty) return {1, 0, 53};
+  if (number >= n) return {1, 0, 0};
+  return {0, size_t{53} * number, 53};
+}
+
+namespace {
+
+// Thrown by the audit at the first clause that fails.
+struct No {
+  Fault fault;
+};
+void must(bool holds, Fault fault) {
+  if (!holds) throw No{fault};
+}
+
+// The audit: it collects which list each space is in, and counts queued cells.
+class Audit {
+public:
+  Audit(const clurimoon_record &record, const Memory &lent)
+      : r(record), lent(lent), seen(record.n, false), queued(record.v, 0) {}
+
+  void run() {
+    must(r.T < r.n, no_T);
+    must(r.rotation < r.v, no_rotation);
+    for (unsigned vci = 1; vci < r.v; ++vci) judge_vc(lent.vcs.at + size_t{7} * vci);
+    walk(r.free_head, r.free_tail, false);
+    walk(r.out_head, r.out_tail, true);
+    for (unsigned entry = 0; entry < r.n; ++entry)
+      walk(lent.calendar.at[2 * entry], lent.calendar.at[2 * entry + 1], true);
+    must(std::find(seen.begin(), seen.end(), false) == seen.end(), no_space_missing);
+    must(lent.calendar.at[2 * r.T] == empty, no_entry_T);
+    for (unsigned vci = 1; vci < r.v; ++vci) {
+      const uint32_t *words = lent.vcs.at + size_t{7} * vci;
+      must(words[w_open] == 0 || words[w_waiting] == queued[vci], no_waiting_count);
+    }
+  }
+
+private:
+  const clurimoon_record &r;
+  const Memory &lent;
+  std::vector<bool> seen;
+  std::vector<uint32_t> queued;
+
+  void judge_vc(const uint32_t *words) const {
+    must(words[w_open] <= 1, no_open_word);
+    if (words[w_open] == 0) return;
+    must(rule_broken(r.n, words[w_m], words[w_F], words[w_C]) == rules_kept, no_rules);
+    must(words[w_S] <= words[w_C], no_S);
+    must(words[w_waiting] <= r.n, no_waiting_range);
+  }
+
+  void walk(uint16_t head, uint16_t tail, bool queue) {
+    must((head == empty && tail == empty) || (head < r.n && tail < r.n), no_pair);
+    if (head == empty) return;
+    // A chain that misses its tail comes back to one of its own spaces.
+    std::vector<bool> here(r.n, false);
+    for (uint16_t space = head;; space = lent.links.at[space]) {
+      must(space < r.n, no_link);
+      must(!here[space], no_chain_end);
+      must(!seen[space], no_space_twice);
+      seen[space] = here[space] = true;
+      if (queue) count(space);
+      if (space == tail) return;
+    }
+  }
+
+  void count(uint16_t space) {
+    const Header header = read_header(lent.cells.at + size_t{53} * space);
+    must(header.vpi == 0 && header.vci != 0 && header.vci < r.v, no_header);
+    must(lent.vcs.at[size_t{7} * header.vci + w_open] == 1, no_header);
+    queued[header.vci] += 1;
+  }
+};
+
+} // namespace
+
+bool audit(const clurimoon_record &record, Memory lent) {
+  try {
+    must(sizes_in_range(record.n, record.v), no_range);
+    must(lengths_fit(record.n, record.v, lent), no_length);
+    Audit(record, lent).run();
+  } catch (const No &no) {
+    tally.fault[no.fault] += 1;
+    return false;
+  }
+  return true;
+}
+
+clurimoon_burst_end burst(const clurimoon_record &record, Memory lent, Lent<const uint8_t> arrivals,
+                          Lent<const uint8_t> sizes, Lent<uint8_t> departures, Lent<uint16_t> answers) {
+  if (!sizes_in_range(record.n, record.v)) return {record, 1, 0};
+  const size_t slots = sizes.length;
+  if (!lengths_fit(record.n, record.v, lent) || arrivals.length != 53 * slots ||
+      departures.length != 53 * slots || answers.length != 6 * slots)
+    return {record, 2, 0};
+  clurimoon_record now = record;
+  for (size_t k = 0; k < slots; ++k) {
+    const clurimoon_served served = slot(now, lent, {arrivals.at + 53 * k, sizes.at[k]});
+    const clurimoon_answer &a = served.answer;
+    if (a.number != 0) return {now, a.number, k};
+    now = served.record;
+    const uint16_t numbers[6] = {a.number, a.verdict, a.vci, a.d, a.space, a.out_vci};
+    std::copy(numbers, numbers + 6, answers.at + 6 * k);
+    if (a.space != empty) std::copy_n(lent.cells.at + size_t{53} * a.space, 53, departures.at + 53 * k);
+  }
+  return {now, 0, slots};
+}
+
+} // namespace calls

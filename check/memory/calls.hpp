@@ -1,0 +1,90 @@
+// A second implementation of the calls on lent memory, from document 01's words
+// on links, heads and tails. Each step writes at once, through a journal; where a
+// number that is read is out of its range, the journal is undone. So nothing here
+// plans ahead, and a refusal is known by the clause of refusal 3 that gave it.
+#pragma once
+#include <array>
+#include <cstddef>
+#include <cstdint>
+#include <string>
+#include <vector>
+
+#include "clurimoon.h"
+
+namespace calls {
+
+// Every clause of refusal 3, by the place in a call that reads the number.
+#define CALLS_CLAUSES(X)                                                                                     \
+  X(slot_T)                                                                                                  \
+  X(slot_rotation)                                                                                           \
+  X(rotation_open)                                                                                           \
+  X(rotation_m)                                                                                              \
+  X(rotation_F_low)                                                                                          \
+  X(rotation_F_high) X(rotation_C_low) X(rotation_C_high) X(rotation_S) X(arrival_open) X(arrival_m)         \
+      X(arrival_F_low) X(arrival_F_high) X(arrival_C_low) X(arrival_C_high) X(arrival_S) X(arrival_waiting)  \
+          X(take_pair_head) X(take_pair_tail) X(take_pair_half_empty) X(take_empty) X(take_link)             \
+              X(join_pair_head) X(join_pair_tail) X(join_pair_half_empty) X(entry_pair_head)                 \
+                  X(entry_pair_tail) X(entry_pair_half_empty) X(output_pair_head) X(output_pair_tail)        \
+                      X(output_pair_half_empty) X(output_link) X(departing_vpi) X(departing_vci_0)           \
+                          X(departing_vci_high) X(departing_closed) X(departing_open) X(departing_waiting_0) \
+                              X(departing_waiting_high) X(give_pair_head) X(give_pair_tail)                  \
+                                  X(give_pair_half_empty) X(open_open) X(open_m) X(open_F_low)               \
+                                      X(open_F_high) X(open_C_low) X(open_C_high) X(open_S) X(open_waiting)  \
+                                          X(close_open) X(close_m) X(close_F_low) X(close_F_high)            \
+                                              X(close_C_low) X(close_C_high) X(close_S) X(close_waiting)
+
+enum Clause {
+#define X(name) name,
+  CALLS_CLAUSES(X)
+#undef X
+      clause_count
+};
+extern const char *const clause_name[clause_count];
+
+// Every reason for which the audit says no, by its clause of document 01.
+#define CALLS_FAULTS(X)                                                                                      \
+  X(no_range)                                                                                                \
+  X(no_length)                                                                                               \
+  X(no_T)                                                                                                    \
+  X(no_rotation)                                                                                             \
+  X(no_open_word)                                                                                            \
+  X(no_rules) X(no_S) X(no_waiting_range) X(no_pair) X(no_link) X(no_space_twice) X(no_space_missing)        \
+      X(no_chain_end) X(no_entry_T) X(no_header) X(no_waiting_count)
+
+enum Fault {
+#define X(name) name,
+  CALLS_FAULTS(X)
+#undef X
+      fault_count
+};
+extern const char *const fault_name[fault_count];
+
+// What was met, for the summary of a run.
+struct Tally {
+  std::array<uint64_t, clause_count> clause{};
+  std::array<uint64_t, fault_count> fault{};
+};
+extern Tally tally;
+
+// A lent buffer: where it starts and how many elements were lent.
+template <class Word> struct Lent {
+  Word *at;
+  size_t length;
+};
+
+struct Memory {
+  Lent<uint8_t> cells;
+  Lent<uint16_t> links, calendar;
+  Lent<uint32_t> vcs;
+};
+
+clurimoon_set setup(uint16_t n, uint16_t v, Memory);
+uint16_t open(const clurimoon_record &, Lent<uint32_t> vcs, uint16_t vci, uint8_t m, uint32_t f, uint32_t c);
+uint16_t close(const clurimoon_record &, Lent<uint32_t> vcs, uint16_t vci);
+clurimoon_served slot(const clurimoon_record &, Memory, Lent<const uint8_t> cell);
+clurimoon_part line(size_t cells_length, size_t idle_length, uint16_t number);
+bool audit(const clurimoon_record &, Memory);
+clurimoon_burst_end burst(const clurimoon_record &, Memory, Lent<const uint8_t> arrivals,
+                          Lent<const uint8_t> sizes, Lent<uint8_t> departures, Lent<uint16_t> answers);
+
+} // namespace calls

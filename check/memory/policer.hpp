@@ -1,0 +1,366 @@
+// One policer twice, in the archive and in the second implementation: each call is
+// made of both with the same arguments, and everything is compared after it.
+#pragma once
+#include "../random.hpp"
+#include "twin.hpp"
+
+namespace memories {
+
+class Policer {
+protected:
+  explicit Policer(uint64_t seed) : random(seed) {}
+
+  struct Memories {
+    Twin<uint8_t> cells;
+    Twin<uint16_t> links, calendar;
+    Twin<uint32_t> vcs;
+  };
+  Random random;
+  uint16_t n = 1, v = 2;
+  clurimoon_record record{};
+  Memories memory;
+  bool fresh = true; // since setup each call got what the call before left
+  unsigned load = 90;
+  std::vector<uint16_t> favourites;
+
+  void choose_sizes() {
+    const uint64_t kind = random.below(100);
+    if (kind < 50) n = static_cast<uint16_t>(random.between(1, 8));
+    else if (kind < 80) n = static_cast<uint16_t>(random.between(1, 80));
+    else if (kind < 94) n = random.pick<uint16_t>({1, 2, 5, 31, 32, 33, 37, 63, 64, 65, 75, 76});
+    else n = random.pick<uint16_t>({512, 1000, 1023, 1024});
+    if (kind % 10 < 7) v = static_cast<uint16_t>(random.between(2, 9));
+    else if (kind % 10 < 9) v = static_cast<uint16_t>(random.between(2, 70));
+    else v = random.pick<uint16_t>({2, 3, 64, 255, 256, 1023, 1024});
+    load = random.pick({20u, 60u, 90u, 100u, 100u});
+    for (uint64_t k = random.between(1, 5); k > 0; --k)
+      favourites.push_back(static_cast<uint16_t>(random.between(1, v - 1u)));
+  }
+
+  // Buffers of the lengths that n and v ask for, with old content in them.
+  void make_buffers() {
+    std::vector<uint8_t> cell_of_vc_1(53, 0);
+    put_header(cell_of_vc_1.data(), 0, 1);
+    memory.cells.resize(size_t{53} * n, cell_of_vc_1);
+    memory.links.resize(n, {0});
+    memory.calendar.resize(size_t{2} * n, {none});
+    memory.vcs.resize(size_t{7} * v, {1, 2, 10, 10, 0, 0, 1});
+    for (size_t k = 0; k < memory.cells.size(); k += random.between(1, 60))
+      memory.cells.set(k, static_cast<uint8_t>(random.next()));
+    for (size_t k = 0; k < memory.vcs.size(); k += random.between(1, 20))
+      memory.vcs.set(k, static_cast<uint32_t>(random.next()));
+  }
+
+  // Setup over old content; where sizes or lengths are wrong it must refuse.
+  bool begin() {
+    make_buffers();
+    uint16_t asked_n = n, asked_v = v;
+    if (random.once_in(12)) asked_n = random.pick<uint16_t>({0, 1025, 65535, 1024, 1});
+    if (random.once_in(12)) asked_v = random.pick<uint16_t>({0, 1, 1025, 65535, 1024, 2});
+    const Lengths lent = random.once_in(12) ? wrong_lengths() : lengths();
+    const clurimoon_set got = setup(asked_n, asked_v, lent);
+    record = got.record;
+    if (got.number != 0) return false;
+    if (random.once_in(2)) disguise_vc_0();
+    for (uint64_t k = random.between(1, 12); k > 0; --k) open();
+    return true;
+  }
+
+  // VC 0's words don't matter: here they look like those of an open VC, or like none.
+  void disguise_vc_0() {
+    const uint32_t open = random.pick<uint32_t>({1, 1, 2, UINT32_MAX});
+    const uint32_t words[7] = {
+        open, 2, 10, 10, random.pick<uint32_t>({0, 10, 11}), 0, random.pick<uint32_t>({0, 1, n, n + 1u})};
+    for (size_t k = 0; k < 7; ++k) memory.vcs.set(k, words[k]);
+  }
+
+  // A state that is as sound as can be, but for an N or V just outside its range.
+  void begin_beyond() {
+    n = random.pick<uint16_t>({1, 5, 1024, 1025, 1025});
+    v = random.pick<uint16_t>({1, 1, 2, 1025});
+    if (n <= 1024 && v == 2) v = 1025;
+    favourites = {1};
+    make_buffers();
+    setup(n, v, lengths());
+    for (uint16_t space = 0; space < n; ++space) memory.links.set(space, static_cast<uint16_t>(space + 1));
+    for (size_t k = 0; k < memory.calendar.size(); ++k) memory.calendar.set(k, none);
+    for (size_t k = 0; k < memory.vcs.size(); ++k) memory.vcs.set(k, 0);
+    record = {n,
+              v,
+              UINT32_MAX,
+              static_cast<uint16_t>(n - 1),
+              static_cast<uint16_t>(v - 1),
+              0,
+              static_cast<uint16_t>(n - 1),
+              none,
+              none};
+    fresh = false;
+  }
+
+  struct Lengths {
+    size_t cells, links, calendar, vcs;
+    bool null;
+  };
+  Lengths lengths() {
+    return {memory.cells.size(), memory.links.size(), memory.calendar.size(), memory.vcs.size(),
+            random.once_in(2)};
+  }
+  size_t wrong_length(size_t length, size_t unit) {
+    return random.pick<size_t>({0, length - 1, length + 1, length - unit, length + unit, length});
+  }
+  Lengths wrong_lengths() {
+    Lengths lent = lengths();
+    const uint64_t which = random.below(5);
+    if (which == 0 || which == 4) lent.cells = wrong_length(lent.cells, 53);
+    if (which == 1 || which == 4) lent.links = wrong_length(lent.links, 1);
+    if (which == 2 || which == 4) lent.calendar = wrong_length(lent.calendar, 2);
+    if (which == 3 || which == 4) lent.vcs = wrong_length(lent.vcs, 7);
+    return lent;
+  }
+  Lengths usual_lengths() { return random.once_in(60) ? wrong_lengths() : lengths(); }
+
+  calls::Memory lend_ours(const Lengths &lent) {
+    return {memory.cells.lend_ours(lent.cells), memory.links.lend_ours(lent.links),
+            memory.calendar.lend_ours(lent.calendar), memory.vcs.lend_ours(lent.vcs)};
+  }
+  void compare_memories() const {
+    memory.cells.compare("cells");
+    memory.links.compare("links");
+    memory.calendar.compare("calendar");
+    memory.vcs.compare("VC words");
+  }
+  void begin_call(const char *name) {
+    call_name = name;
+    made += 1;
+  }
+
+  clurimoon_set setup(uint16_t asked_n, uint16_t asked_v, const Lengths &lent) {
+    begin_call("setup");
+    const clurimoon_set expected = calls::setup(asked_n, asked_v, lend_ours(lent));
+    const clurimoon_set got =
+        clurimoon_setup(asked_n, asked_v, memory.cells.lend_theirs(lent.cells, lent.null), lent.cells,
+                        memory.links.lend_theirs(lent.links, lent.null), lent.links,
+                        memory.calendar.lend_theirs(lent.calendar, lent.null), lent.calendar,
+                        memory.vcs.lend_theirs(lent.vcs, lent.null), lent.vcs);
+    same<uint64_t>("number", expected.number, got.number);
+    same_record(expected.record, got.record);
+    compare_memories();
+    count("setup", got.number);
+    return got;
+  }
+
+  // Parameters within the rules, often at their edges.
+  void choose_rules(uint8_t &m, uint32_t &f, uint32_t &c) {
+    m = static_cast<uint8_t>(random.percent(60) ? random.below(4) : random.below(16));
+    const uint32_t leak = uint32_t{1} << m;
+    const uint32_t most = 16777216 / leak;
+    const uint64_t kind = random.below(10);
+    if (kind < 2) f = leak;
+    else if (kind < 8) f = leak + static_cast<uint32_t>(random.below(leak * (most > 8 ? 4 : 1) + 1));
+    else if (kind < 9) f = static_cast<uint32_t>(random.between(leak, 16777216));
+    else f = 16777216;
+    const uint64_t delay = random.percent(60) ? n - 1u : random.below(n);
+    c = f + static_cast<uint32_t>(delay * leak + (random.once_in(3) ? 0 : random.below(leak)));
+  }
+  void break_rules(uint8_t &m, uint32_t &f, uint32_t &c) {
+    const uint32_t leak = uint32_t{1} << m;
+    switch (random.below(7)) {
+    case 0: m = random.pick<uint8_t>({16, 17, 31, 32, 33, 63, 64, 255}); break;
+    case 1: f = leak - 1; break;
+    case 2: c = f - 1; break;
+    case 3: c = f + leak * n; break;
+    case 4: f = 16777217, c = f; break;
+    case 5: f = 0, c = random.pick<uint32_t>({0, 1, UINT32_MAX}); break;
+    case 6: c = UINT32_MAX; break;
+    }
+  }
+  uint16_t any_vci() {
+    if (random.percent(80)) return random.pick(favourites);
+    return random.pick<uint16_t>({0, 1, static_cast<uint16_t>(v - 1), v, static_cast<uint16_t>(v + 1), 65535,
+                                  static_cast<uint16_t>(random.below(v))});
+  }
+
+  void open() {
+    begin_call("open");
+    uint8_t m;
+    uint32_t f, c;
+    choose_rules(m, f, c);
+    if (random.percent(15)) break_rules(m, f, c);
+    const uint16_t vci = any_vci();
+    const size_t lent = usual_lengths().vcs;
+    const uint16_t expected = calls::open(record, memory.vcs.lend_ours(lent), vci, m, f, c);
+    const uint16_t got =
+        clurimoon_open(record, memory.vcs.lend_theirs(lent, random.once_in(2)), lent, vci, m, f, c);
+    same<uint64_t>("number", expected, got);
+    compare_memories();
+    count("open", got);
+    never_3(got);
+  }
+  void close() {
+    begin_call("close");
+    const uint16_t vci = any_vci();
+    const size_t lent = usual_lengths().vcs;
+    const uint16_t expected = calls::close(record, memory.vcs.lend_ours(lent), vci);
+    const uint16_t got = clurimoon_close(record, memory.vcs.lend_theirs(lent, random.once_in(2)), lent, vci);
+    same<uint64_t>("number", expected, got);
+    compare_memories();
+    count("close", got);
+    never_3(got);
+  }
+  void never_3(unsigned number) const {
+    if (fresh && number == 3) fail("refusal 3 from a fresh state");
+  }
+
+  // A cell: mostly of a favourite VC, with any GFC, PTI, CLP, HEC and payload.
+  void write_cell(uint8_t *cell) {
+    for (size_t k = 0; k < 53; k += 8) {
+      const uint64_t octets = random.next();
+      std::memcpy(cell + k, &octets, 53 - k < 8 ? 53 - k : 8);
+    }
+    uint32_t vpi = 0, vci = random.pick(favourites);
+    const uint64_t kind = random.below(100);
+    if (kind < 4) vpi = random.pick<uint32_t>({1, 15, 16, 128, 240, 255});
+    if (kind >= 4 && kind < 8) vci = any_vci();
+    if (kind == 8) vci = 0;
+    if (kind == 9)
+      vpi = static_cast<uint32_t>(random.below(256)), vci = static_cast<uint32_t>(random.below(65536));
+    put_header(cell, vpi, vci);
+  }
+  static void put_header(uint8_t *cell, uint32_t vpi, uint32_t vci) {
+    cell[0] = static_cast<uint8_t>((cell[0] & 0xf0) | vpi >> 4);
+    cell[1] = static_cast<uint8_t>((vpi & 15) << 4 | vci >> 12);
+    cell[2] = static_cast<uint8_t>(vci >> 4);
+    cell[3] = static_cast<uint8_t>((vci & 15) << 4 | (cell[3] & 15));
+  }
+
+  void slot() {
+    begin_call("slot");
+    uint8_t cell[64];
+    write_cell(cell);
+    uint8_t before[64];
+    std::memcpy(before, cell, sizeof cell);
+    size_t length = random.percent(load) ? 53 : 0;
+    if (random.once_in(80)) length = random.pick<size_t>({1, 5, 52, 54, 64});
+    const Lengths lent = usual_lengths();
+    const clurimoon_served expected = calls::slot(record, lend_ours(lent), {cell, length});
+    const clurimoon_served got =
+        clurimoon_slot(record, memory.cells.lend_theirs(lent.cells, lent.null), lent.cells,
+                       memory.links.lend_theirs(lent.links, lent.null), lent.links,
+                       memory.calendar.lend_theirs(lent.calendar, lent.null), lent.calendar,
+                       memory.vcs.lend_theirs(lent.vcs, lent.null), lent.vcs,
+                       length == 0 && lent.null ? nullptr : cell, length);
+    same("answer", expected.answer, got.answer);
+    same_record(expected.record, got.record);
+    compare_memories();
+    if (std::memcmp(cell, before, sizeof cell) != 0) fail("the arriving cell was written");
+    record = got.record;
+    count("slot", got.answer.number);
+    never_3(got.answer.number);
+    if (got.answer.number == 0) tally(got.answer.verdict, got.answer.space);
+  }
+  void tally(uint16_t verdict, uint16_t space) {
+    verdicts[verdict & 3] += 1;
+    sent += space != none;
+  }
+
+  void burst() {
+    begin_call("burst");
+    const size_t slots = random.pick<size_t>({0, 1, 2, 3, 7, 16, 40});
+    Twin<uint8_t> arrivals, sizes, departures;
+    Twin<uint16_t> answers;
+    arrivals.resize(53 * slots, {0xa5}), sizes.resize(slots, {53});
+    departures.resize(53 * slots, {0xa5}), answers.resize(6 * slots, {0xa5a5});
+    const bool odd_sizes = random.once_in(8);
+    for (size_t k = 0; k < slots; ++k) {
+      uint8_t cell[53];
+      write_cell(cell);
+      for (size_t octet = 0; octet < 53; ++octet) arrivals.set(53 * k + octet, cell[octet]);
+      sizes.set(k, random.percent(load) ? 53 : 0);
+      if (odd_sizes && random.once_in(6)) sizes.set(k, random.pick<uint8_t>({1, 52, 54, 255}));
+    }
+    size_t lent_arrivals = 53 * slots, lent_departures = 53 * slots, lent_answers = 6 * slots;
+    size_t lent_sizes = slots;
+    if (random.once_in(15)) {
+      size_t *const which =
+          random.pick<size_t *>({&lent_arrivals, &lent_departures, &lent_answers, &lent_sizes});
+      *which = *which == 0 || random.once_in(2) ? *which + 1 : *which - 1;
+    }
+    const Lengths lent = usual_lengths();
+    const auto our_arrivals = arrivals.lend_ours(lent_arrivals), our_sizes = sizes.lend_ours(lent_sizes);
+    const clurimoon_burst_end expected = calls::burst(
+        record, lend_ours(lent), {our_arrivals.at, our_arrivals.length}, {our_sizes.at, our_sizes.length},
+        departures.lend_ours(lent_departures), answers.lend_ours(lent_answers));
+    const clurimoon_burst_end got = clurimoon_burst(
+        record, memory.cells.lend_theirs(lent.cells, lent.null), lent.cells,
+        memory.links.lend_theirs(lent.links, lent.null), lent.links,
+        memory.calendar.lend_theirs(lent.calendar, lent.null), lent.calendar,
+        memory.vcs.lend_theirs(lent.vcs, lent.null), lent.vcs, arrivals.lend_theirs(lent_arrivals, lent.null),
+        lent_arrivals, sizes.lend_theirs(lent_sizes, lent.null), lent_sizes,
+        departures.lend_theirs(lent_departures, lent.null), lent_departures,
+        answers.lend_theirs(lent_answers, lent.null), lent_answers);
+    same<uint64_t>("number", expected.number, got.number);
+    same<uint64_t>("done", expected.done, got.done);
+    same_record(expected.record, got.record);
+    compare_memories();
+    arrivals.compare("arrivals"), sizes.compare("sizes");
+    departures.compare("departures"), answers.compare("answers");
+    record = got.record;
+    count("burst", got.number);
+    never_3(got.number);
+    burst_slots += got.done;
+    for (size_t k = 0; k < got.done; ++k) tally(answers.get(6 * k + 1), answers.get(6 * k + 4));
+  }
+
+  void line() {
+    begin_call("line");
+    const size_t lent_cells = random.percent(70)
+                                  ? memory.cells.size()
+                                  : random.pick<size_t>({0, 52, 53, 54, 106, 53 * 1024, 53 * 1025,
+                                                         memory.cells.size() - 1, memory.cells.size() + 1});
+    const size_t lent_idle = random.percent(85) ? 53 : random.pick<size_t>({0, 1, 52, 54});
+    const uint16_t number =
+        random.pick<uint16_t>({none, 0, static_cast<uint16_t>(n - 1), n, 65534, record.out_head,
+                               static_cast<uint16_t>(random.below(n)), static_cast<uint16_t>(random.next())});
+    const clurimoon_part expected = calls::line(lent_cells, lent_idle, number);
+    // Lengths alone decide, so any cells will do, as many as are lent.
+    static const std::vector<uint8_t> any_cells(53 * 1025 + 1);
+    const clurimoon_part got = clurimoon_line(lent_cells == 0 ? nullptr : any_cells.data(), lent_cells,
+                                              lent_idle == 0 ? nullptr : any_cells.data(), lent_idle, number);
+    same<uint64_t>("from_idle", expected.from_idle, got.from_idle);
+    same<uint64_t>("start", expected.start, got.start);
+    same<uint64_t>("length", expected.length, got.length);
+    (got.length == 0 ? parts_empty : got.from_idle ? parts_idle : parts_cell) += 1;
+    met["line"][0] += 1;
+  }
+
+  void audit() {
+    begin_call("audit");
+    const Lengths lent = usual_lengths();
+    const bool expected = calls::audit(record, lend_ours(lent));
+    const bool got = clurimoon_audit(record, memory.cells.lend_theirs(lent.cells, lent.null), lent.cells,
+                                     memory.links.lend_theirs(lent.links, lent.null), lent.links,
+                                     memory.calendar.lend_theirs(lent.calendar, lent.null), lent.calendar,
+                                     memory.vcs.lend_theirs(lent.vcs, lent.null), lent.vcs);
+    same<uint64_t>("yes", expected, got);
+    compare_memories();
+    const bool right = lent.cells == memory.cells.size() && lent.links == memory.links.size() &&
+                       lent.calendar == memory.calendar.size() && lent.vcs == memory.vcs.size();
+    if (fresh && right && !got) fail("the audit says no in a fresh state");
+    (got ? audits_yes : audits_no) += 1;
+    met["audit"][0] += 1;
+  }
+
+  void calls_for(uint64_t count) {
+    for (; count > 0; --count) {
+      const uint64_t kind = random.below(100);
+      if (kind < 66) slot();
+      else if (kind < 72) open();
+      else if (kind < 78) close();
+      else if (kind < 82) line();
+      else if (kind < 94) audit();
+      else burst();
+    }
+  }
+};
+
+} // namespace memories

@@ -1,0 +1,204 @@
+// A scenario: a fresh policer under traffic, and mostly damage to what it stores,
+// aimed at what the next slots are likely to read.
+#pragma once
+#include "policer.hpp"
+
+namespace memories {
+
+class Scenario : private Policer {
+public:
+  explicit Scenario(uint64_t seed) : Policer(seed) {}
+
+  void run() {
+    if (random.once_in(25)) return begin_beyond(), calls_for(30);
+    choose_sizes();
+    if (!begin()) return;
+    const bool damage_it = random.percent(70);
+    calls_for(random.between(4, damage_it ? 60 : random.once_in(15) ? 3000 : 250));
+    for (uint64_t round = damage_it ? random.between(2, 12) : 0; round > 0; --round) {
+      keep();
+      for (uint64_t k = random.pick<uint64_t>({1, 1, 1, 2, 3, 8}); k > 0; --k) damage();
+      if (random.once_in(3)) audit();
+      calls_for(random.between(1, 14));
+      // Going on in a damaged state now and then shows how it develops.
+      if (random.percent(80)) restore();
+      calls_for(random.between(0, 25));
+    }
+  }
+
+private:
+  Memories kept;
+  clurimoon_record kept_record{};
+  bool kept_fresh = true;
+
+  void keep() { kept = memory, kept_record = record, kept_fresh = fresh; }
+  void restore() { memory = kept, record = kept_record, fresh = kept_fresh; }
+
+  // A 16-bit number at an edge of something.
+  uint16_t edge_number() {
+    return random.pick<uint16_t>({0, 1, static_cast<uint16_t>(n - 1), n, static_cast<uint16_t>(n + 1), 65534,
+                                  none, static_cast<uint16_t>(random.below(n)),
+                                  static_cast<uint16_t>(random.below(n)),
+                                  static_cast<uint16_t>(random.next()), static_cast<uint16_t>(v - 1), v});
+  }
+  // The VC that the next slots are likely to read.
+  uint16_t likely_vc() {
+    if (random.percent(40)) return static_cast<uint16_t>((record.rotation + 1u) % v);
+    return static_cast<uint16_t>(random.percent(80) ? random.pick(favourites) : random.below(v));
+  }
+  // The space that the next slots are likely to read.
+  uint16_t likely_space() {
+    const uint16_t space = random.pick<uint16_t>({record.free_head, record.free_tail, record.out_head,
+                                                  record.out_head, record.out_tail, next_due_space(),
+                                                  next_due_space(), static_cast<uint16_t>(random.below(n))});
+    return space < n ? space : static_cast<uint16_t>(random.below(n));
+  }
+  size_t likely_entry() {
+    return random.percent(50) ? size_t{(record.T + 1u) % n} : (record.T + random.below(n)) % n;
+  }
+  uint16_t next_due_space() const { return memory.calendar.get(2 * ((record.T + 1u) % n)); }
+
+  void damage() {
+    fresh = false;
+    damages += 1;
+    switch (random.below(15)) {
+    case 0: damage_record(); break;
+    case 1: memory.links.set(likely_space(), edge_number()); break;
+    case 2: memory.calendar.set(2 * likely_entry() + random.below(2), edge_number()); break;
+    case 3:
+    case 4:
+    case 5: damage_vc(); break;
+    case 6: damage_pair(); break;
+    case 7: alias_pairs(); break;
+    case 8: memory.links.set(likely_space(), likely_space()); break;
+    case 9: damage_header(); break;
+    case 10: memory.links.set(likely_space(), random.pick<uint16_t>({n, none})); break;
+    case 11: shift_clock(); break;
+    case 12: hide_space(); break;
+    case 13: mark_entry_T(); break;
+    case 14:
+      (random.once_in(2) ? record.free_tail : record.free_head) = random.pick<uint16_t>({n, 65534});
+      break;
+    }
+  }
+  void damage_record() {
+    switch (random.below(10)) {
+    case 0: record.n = random.pick<uint16_t>({0, 1025, 65535, static_cast<uint16_t>(n + 1)}); break;
+    case 1: record.v = random.pick<uint16_t>({0, 1, 1025, 65535, static_cast<uint16_t>(v + 1)}); break;
+    case 2: record.t = random.pick<uint32_t>({0, UINT32_MAX, static_cast<uint32_t>(random.next())}); break;
+    case 3: record.T = edge_number(); break;
+    case 4: record.rotation = edge_number(); break;
+    case 5: record.free_head = edge_number(); break;
+    case 6: record.free_tail = edge_number(); break;
+    case 7: record.out_head = edge_number(); break;
+    case 8: record.out_tail = edge_number(); break;
+    case 9: record.T = static_cast<uint16_t>(random.below(n)); break;
+    }
+  }
+  void damage_vc() {
+    const size_t at = size_t{7} * likely_vc();
+    const uint32_t m = memory.vcs.get(at + 1), f = memory.vcs.get(at + 2), c = memory.vcs.get(at + 3);
+    const uint32_t leak = m < 16 ? uint32_t{1} << m : 1;
+    const uint32_t any = static_cast<uint32_t>(random.next());
+    switch (random.below(8)) {
+    case 0: memory.vcs.set(at, random.pick<uint32_t>({0, 1, 2, 256, 65536, UINT32_MAX, any})); break;
+    case 1:
+      memory.vcs.set(at + 1, random.pick<uint32_t>({0, 15, 16, 31, 32, 64, 256, 65536, UINT32_MAX}));
+      break;
+    case 2:
+      memory.vcs.set(at + 2,
+                     random.pick<uint32_t>({0, leak - 1, leak, 16777216, 16777217, 16777217, c, c + 1, any}));
+      break;
+    case 3:
+      memory.vcs.set(at + 3,
+                     random.pick<uint32_t>({0, f - 1, f, f + n * leak - 1, f + n * leak, UINT32_MAX, any}));
+      break;
+    case 4: memory.vcs.set(at + 4, random.pick<uint32_t>({0, c, c + 1, c - f, UINT32_MAX, any})); break;
+    // An elapsed time whose product with L is a multiple of 2^32, or one slot more.
+    case 5:
+      memory.vcs.set(
+          at + 5, random.pick<uint32_t>({0, record.t, record.t + 1, record.t + 2, UINT32_MAX, any,
+                                         record.t - static_cast<uint32_t>((uint64_t{1} << 32) / leak),
+                                         record.t + 1 - static_cast<uint32_t>((uint64_t{1} << 32) / leak)}));
+      break;
+    case 6:
+      memory.vcs.set(at + 6, random.pick<uint32_t>({0, 1, n - 1u, n, n + 1u, 65536u + n, UINT32_MAX}));
+      break;
+    case 7: memory.vcs.set(at + 6, random.pick<uint32_t>({0, n, n + 1u})), memory.vcs.set(at + 4, 0); break;
+    }
+  }
+  // The head and tail of the Free List, the Output List or an entry.
+  struct Pair {
+    uint16_t head, tail;
+  };
+  Pair get_pair(uint64_t list, size_t entry) const {
+    if (list == 0) return {record.free_head, record.free_tail};
+    if (list == 1) return {record.out_head, record.out_tail};
+    return {memory.calendar.get(2 * entry), memory.calendar.get(2 * entry + 1)};
+  }
+  void put_pair(uint64_t list, size_t entry, Pair pair) {
+    if (list == 0) record.free_head = pair.head, record.free_tail = pair.tail;
+    else if (list == 1) record.out_head = pair.head, record.out_tail = pair.tail;
+    else memory.calendar.set(2 * entry, pair.head), memory.calendar.set(2 * entry + 1, pair.tail);
+  }
+  void damage_pair() {
+    const uint64_t list = random.below(3);
+    const size_t entry = likely_entry();
+    Pair pair = get_pair(list, entry);
+    switch (random.below(6)) {
+    case 0: pair.head = none; break;
+    case 1: pair.tail = none; break;
+    case 2: pair.head = pair.tail = none; break;
+    case 3: std::swap(pair.head, pair.tail); break;
+    case 4: pair = {edge_number(), edge_number()}; break;
+    case 5: pair = {likely_space(), likely_space()}; break;
+    }
+    put_pair(list, entry, pair);
+  }
+  // Two lists that share spaces: one gets the other's head, tail or both.
+  void alias_pairs() {
+    const uint64_t list = random.below(3), from = random.below(3);
+    const size_t entry = likely_entry();
+    Pair pair = get_pair(list, entry);
+    const Pair other = get_pair(from, likely_entry());
+    const uint64_t kind = random.below(3);
+    if (kind != 0) pair.head = other.head;
+    if (kind != 1) pair.tail = other.tail;
+    put_pair(list, entry, pair);
+  }
+  void damage_header() {
+    uint8_t cell[4];
+    const size_t at = size_t{53} * likely_space();
+    for (size_t k = 0; k < 4; ++k) cell[k] = memory.cells.get(at + k);
+    const uint32_t vpi = random.percent(40) ? random.pick<uint32_t>({1, 16, 128, 255}) : 0;
+    // A wrong VPI alone must be seen, too.
+    const uint32_t named = (cell[1] & 15u) << 12 | static_cast<uint32_t>(cell[2]) << 4 | cell[3] >> 4;
+    const uint32_t vci = vpi != 0 && random.percent(70)
+                             ? named
+                             : random.pick<uint32_t>({0, v, v + 1u, 65535, 1, random.pick(favourites),
+                                                      static_cast<uint32_t>(random.below(v))});
+    put_header(cell, vpi, vci);
+    for (size_t k = 0; k < 4; ++k) memory.cells.set(at + k, cell[k]);
+  }
+  // Another time of day: a sound state stays sound, so the clock's wrap is met.
+  void shift_clock() {
+    const uint32_t by = random.pick<uint32_t>(
+        {UINT32_MAX - record.t, UINT32_MAX - record.t - 3, static_cast<uint32_t>(random.next())});
+    record.t += by;
+    for (size_t vci = 1; vci < v; ++vci)
+      if (memory.vcs.get(7 * vci) == 1) memory.vcs.set(7 * vci + 5, memory.vcs.get(7 * vci + 5) + by);
+  }
+  // T at the next marked entry: every chain is sound, but entry T isn't empty.
+  void mark_entry_T() {
+    for (uint16_t entry = 0; entry < n; ++entry)
+      if (memory.calendar.get(2 * entry) != none) record.T = entry;
+  }
+  // A Free List that lost its first space, or all of them.
+  void hide_space() {
+    if (record.free_head < n && record.free_head != record.free_tail && random.once_in(2))
+      record.free_head = memory.links.get(record.free_head);
+    else record.free_head = record.free_tail = none;
+  }
+};
+
+} // namespace memories

@@ -1,0 +1,340 @@
+#include "generate.hpp"
+
+#include <algorithm>
+
+namespace second {
+
+namespace {
+
+void put(Octets &to, uint64_t number, unsigned octets) {
+  for (unsigned k = octets; k-- > 0;) to.push_back(static_cast<uint8_t>(number >> 8 * k));
+}
+Octets marked(const char *mark) { return {static_cast<uint8_t>(mark[0]), static_cast<uint8_t>(mark[1])}; }
+
+} // namespace
+
+Octets gm(unsigned n, unsigned v) {
+  Octets to = marked("GM");
+  return put(to, n, 2), put(to, v, 2), to;
+}
+Octets vo(unsigned vci, unsigned m, uint32_t f, uint32_t c) {
+  Octets to = marked("VO");
+  return put(to, vci, 2), put(to, m, 1), put(to, f, 4), put(to, c, 4), to;
+}
+Octets vx(unsigned vci) {
+  Octets to = marked("VX");
+  return put(to, vci, 2), to;
+}
+Octets sl(unsigned count) {
+  Octets to = marked("SL");
+  return put(to, count, 2), to;
+}
+// GFC, PTI, CLP, HEC and the payload are random: none of them matters.
+Octets ca(Random &random, unsigned vpi, unsigned vci) {
+  Octets to = marked("CA");
+  const uint64_t rest = random.next();
+  put(to, (rest & 15) << 28 | uint64_t{vpi} << 20 | uint64_t{vci} << 4 | (rest >> 4 & 15), 4);
+  put(to, rest >> 8, 1);
+  for (unsigned k = 0; k < 6; ++k) put(to, random.next(), 8);
+  return to;
+}
+
+namespace {
+
+class Generator {
+public:
+  Generator(uint64_t seed, uint64_t index)
+      : random(Random(seed).next() ^ Random(index * 2 + 1).next()), index(index) {}
+
+  Trace make() {
+    struct Kind {
+      const char *name;
+      void (Generator::*fill)();
+    };
+    static const Kind kinds[] = {
+        {"mixed traffic", &Generator::mixed},   {"full load", &Generator::full_load},
+        {"steady sources", &Generator::steady}, {"on and off", &Generator::on_off},
+        {"churn", &Generator::churn},           {"rules of 6", &Generator::rules},
+        {"setup edges", &Generator::setups},    {"reader", &Generator::reader},
+        {"limit", &Generator::limit},           {"latest departure", &Generator::latest},
+        {"headers", &Generator::headers},       {"long pauses", &Generator::pauses},
+    };
+    const Kind &kind = kinds[index % (sizeof kinds / sizeof kinds[0])];
+    trace.kind = kind.name;
+    (this->*kind.fill)();
+    return trace;
+  }
+
+private:
+  Random random;
+  const uint64_t index;
+  Trace trace;
+  unsigned n = 1, v = 2;
+  std::vector<unsigned> in_use;
+
+  void add(Octets record) { trace.records.push_back(std::move(record)); }
+  unsigned small(unsigned most) { return static_cast<unsigned>(random.below(most)); }
+
+  void begin() {
+    n = random.percent(50)   ? 1 + small(12)
+        : random.percent(50) ? 1 + small(1024)
+                             : random.pick({1u, 2u, 5u, 37u, 75u, 76u, 1023u, 1024u});
+    v = random.percent(50)   ? 2 + small(12)
+        : random.percent(50) ? 2 + small(1023)
+                             : random.pick({2u, 3u, 64u, 1023u, 1024u});
+    add(gm(n, v));
+  }
+  unsigned some_vci() { return random.percent(10) ? random.pick({1u, v - 1}) : 1 + small(v - 1); }
+
+  // Parameters within the rules: peak intervals from one slot up, tolerances up to N-1.
+  void open_good(unsigned vci, unsigned slowest) {
+    const unsigned m = random.percent(50) ? small(4) : small(16);
+    const uint32_t leak = 1u << m;
+    uint64_t f = leak;
+    if (random.percent(85)) f = leak + random.below(uint64_t{leak} * slowest + 1);
+    f = std::min<uint64_t>(f, 16777216);
+    const uint64_t delay = random.percent(60) ? n - 1 : random.below(n);
+    const uint64_t part = random.percent(40) ? leak - 1 : random.below(leak);
+    add(vo(vci, m, static_cast<uint32_t>(f), static_cast<uint32_t>(f + delay * leak + part)));
+    in_use.push_back(vci);
+  }
+  void open_some(unsigned most, unsigned slowest) {
+    for (unsigned k = 1 + small(most); k > 0; --k) open_good(some_vci(), slowest);
+  }
+  void cell() { add(ca(random, 0, random.pick(in_use))); }
+  void quiet(unsigned most) { add(sl(1 + small(most))); }
+
+  void mixed() {
+    begin();
+    open_some(6, 6);
+    const unsigned load = random.pick({10u, 50u, 80u, 95u});
+    for (unsigned k = small(500); k > 0; --k) {
+      if (random.percent(load)) cell();
+      else quiet(3);
+      if (random.once_in(40)) odd_event();
+    }
+    if (random.percent(70)) quiet(2 * n + 5);
+  }
+  void odd_event() {
+    switch (random.below(6)) {
+    case 0: add(vx(some_vci())); break;
+    case 1: open_good(some_vci(), 6); break;
+    case 2: add(ca(random, 0, some_vci())); break;
+    case 3: add(ca(random, random.pick({0u, 1u, 255u}), random.pick({0u, v, 65535u}))); break;
+    case 4: quiet(200); break;
+    case 5: add(vx(random.pick({0u, v, 65535u}))); break;
+    }
+  }
+  void full_load() {
+    begin();
+    open_some(random.once_in(2) ? 2 : 40, random.pick({1u, 3u, 20u}));
+    for (unsigned k = small(1100); k > 0; --k) cell();
+    if (random.percent(70)) quiet(2 * n + 5);
+  }
+  void steady() {
+    begin();
+    // A source every so many slots, at, above or below its peak rate.
+    const unsigned vci = some_vci(), interval = 1 + small(60), m = small(16);
+    const uint64_t leak = 1u << m;
+    const uint64_t f = std::max<uint64_t>(leak, leak * interval + random.between(0, leak) - leak / 2);
+    add(vo(vci, m, static_cast<uint32_t>(f), static_cast<uint32_t>(f + random.below(n * leak))));
+    for (unsigned k = small(400); k > 0; --k) {
+      add(ca(random, 0, vci));
+      if (interval > 1) add(sl(interval - 1));
+    }
+  }
+  void on_off() {
+    begin();
+    open_some(5, 8);
+    for (unsigned k = small(30); k > 0; --k) {
+      const unsigned vci = random.pick(in_use);
+      for (unsigned cells = small(40); cells > 0; --cells) add(ca(random, 0, vci));
+      quiet(random.pick({2u, 20u, 300u}));
+    }
+  }
+  void churn() {
+    begin();
+    open_some(3, 4);
+    for (unsigned k = small(400); k > 0; --k) {
+      const unsigned vci = random.percent(85) ? random.pick(in_use) : some_vci();
+      switch (random.below(8)) {
+      case 0: add(vx(vci)); break;
+      case 1: open_good(vci, 4); break;
+      case 2: quiet(n + 2); break;
+      case 3: add(vx(vci)), open_good(vci, 4); break;
+      default: add(ca(random, 0, vci)); break;
+      }
+    }
+  }
+  // Both sides of every rule of 6, then cells that show what opened.
+  void rules() {
+    begin();
+    for (unsigned k = 1 + small(25); k > 0; --k) {
+      const unsigned vci = random.once_in(10) ? random.pick({0u, v, v + 1, 65535u}) : some_vci();
+      unsigned m = small(16);
+      const uint32_t leak = 1u << m;
+      uint32_t f = random.pick({leak, leak, leak + small(5 * leak), 16777216u});
+      uint32_t c = random.pick({f, f + n * leak - 1, f + small(n * leak)});
+      switch (random.below(14)) {
+      case 0: f = leak - 1, c = random.pick({f, f + 1, f + n * leak - 1}); break;
+      case 1: f = 16777217, c = random.pick({f, f + n * leak - 1}); break;
+      case 2: c = f - 1; break;
+      case 3: c = f + n * leak; break;
+      case 4: m = random.pick({16u, 16u, 17u, 31u, 32u, 64u, 255u}); break;
+      case 5: m = 15, f = 32768, c = f; break;
+      case 6: f = 0, c = random.pick({0u, leak, 4294967295u}); break;
+      case 7: c = 4294967295u; break;
+      case 8: f = 4294967295u, c = f; break;
+      case 9: c = 0; break;
+      default: break;
+      }
+      add(vo(vci, m, f, c));
+      in_use.push_back(vci);
+      for (unsigned cells = small(8); cells > 0; --cells) cell();
+      if (random.once_in(4)) add(vx(random.pick(in_use)));
+      if (random.once_in(4)) quiet(n);
+    }
+    for (unsigned cells = small(60); cells > 0; --cells) cell();
+  }
+  void setups() {
+    n = random.pick({0u, 1u, 2u, 1023u, 1024u, 1025u, 65535u, 256u, 4u << 8});
+    v = random.pick({0u, 1u, 2u, 3u, 1023u, 1024u, 1025u, 65535u, 512u});
+    add(gm(n, v));
+    const bool good = n >= 1 && n <= 1024 && v >= 2 && v <= 1024;
+    if (!good) n = std::max(1u, std::min(n, 1024u)), v = std::max(2u, std::min(v, 1024u));
+    open_good(random.pick({1u, v - 1}), 3);
+    for (unsigned k = small(80); k > 0; --k) cell();
+    if (random.once_in(3)) add(sl(0));
+  }
+
+  // A short run, spoilt in one of the ways that the reader must refuse.
+  void reader() {
+    if (!random.once_in(8)) mixed_short();
+    const size_t last = trace.records.size();
+    switch (random.below(12)) {
+    case 0: trace.records.clear(); break;
+    case 1: cut(); break;
+    case 2: cut(); break;
+    case 3: insert(sl(0)); break;
+    case 4: insert(gm(random.pick({n, 1u, 0u}), v)); break;
+    case 5: insert(unknown_mark()); break;
+    case 6:
+      if (last > 1) trace.records.erase(trace.records.begin());
+      break;
+    case 7: trace.records = {{random.pick<uint8_t>({'G', 'M', 'S', 0})}}; break;
+    case 8: trace.records.insert(trace.records.begin(), unknown_mark()); break;
+    case 9: add({random.pick<uint8_t>({'G', 'V', 'C', 'S', 0, 10})}); break;
+    case 10: random_octets(); break;
+    case 11: add(gm(n, v)); break;
+    }
+  }
+  void mixed_short() {
+    begin();
+    open_some(3, 3);
+    for (unsigned k = small(30); k > 0; --k) {
+      if (random.percent(70)) cell();
+      else if (random.percent(50)) quiet(4);
+      else odd_event();
+    }
+  }
+  void cut() {
+    if (trace.records.empty()) return;
+    trace.records.resize(1 + random.below(trace.records.size()));
+    Octets &record = trace.records.back();
+    record.resize(random.percent(50) ? record.size() - 1 : random.below(record.size()));
+  }
+  void insert(Octets record) {
+    const size_t place = random.below(trace.records.size() + 1);
+    trace.records.insert(trace.records.begin() + static_cast<std::ptrdiff_t>(place), std::move(record));
+  }
+  Octets unknown_mark() {
+    static const char *const marks[] = {"gm", "MG", "VV", "OV", "CX", "AC", "LS", "SX",
+                                        "VA", "GO", "CL", "  ", "ca", "VM", "SO"};
+    Octets record = marked(marks[random.below(sizeof marks / sizeof marks[0])]);
+    record.resize(2 + random.below(55), 0);
+    return record;
+  }
+  void random_octets() {
+    Octets octets;
+    for (unsigned k = small(80); k > 0; --k) octets.push_back(static_cast<uint8_t>(random.next()));
+    insert(octets);
+  }
+
+  // A trace that ends, or goes on, within some octets of 65,536.
+  void limit() {
+    begin();
+    open_some(3, 4);
+    const bool cells = random.percent(70);
+    size_t length = trace.octets().size();
+    const size_t near = 65536 - 70;
+    while (length < near) {
+      if (cells && random.percent(97)) cell();
+      else if (cells || random.percent(96)) add(sl(random.percent(97) ? 1 : 1 + small(30)));
+      else add(vx(some_vci()));
+      length += trace.records.back().size();
+    }
+    // Records of 4 and 13 octets reach every length from 36 on.
+    const size_t target = 65536 + random.pick<size_t>({0, 0, 0, 0, 1, 2, 3, 4, 5}) -
+                          random.pick<size_t>({0, 0, 0, 1, 2, 3, 4, 12});
+    while (length + 36 < target) add(sl(1)), length += 4;
+    while (length < target && (target - length) % 4 != 0) open_good(some_vci(), 4), length += 13;
+    while (length < target) add(sl(1 + small(3))), length += 4;
+    switch (random.below(6)) {
+    case 0: cell(); break;
+    case 1: add({random.pick<uint8_t>({'C', 0, 'x'})}); break;
+    case 2: add(sl(1)), add(sl(2)); break;
+    case 3: add(vx(1)); break;
+    default: break;
+    }
+  }
+
+  // The construction that makes a cell leave exactly N-1 slots after its due slot.
+  void latest() {
+    n = 2 + small(random.once_in(4) ? 28 : 9), v = 3 + small(60);
+    add(gm(n, v));
+    unsigned m = 0;
+    while (1u << m < n - 1) ++m;
+    const uint32_t leak = 1u << m;
+    add(vo(1, m, leak, leak + small(2)));
+    add(vo(2, m, leak + 1, leak + 1 + n * leak - 1));
+    const unsigned change = random.once_in(3) ? small(4) : 0;
+    for (unsigned k = n * leak - std::min(change, n * leak); k > 0 && trace.records.size() < 1100; --k)
+      add(ca(random, 0, 2));
+    for (unsigned k = n - 1; k > 0; --k) add(ca(random, 0, random.once_in(40) ? 2 : 1));
+    quiet(3 * n);
+  }
+  // Any VPI and VCI, idle and unassigned cells among them.
+  void headers() {
+    begin();
+    open_some(8, 2);
+    for (unsigned k = small(300); k > 0; --k) {
+      const unsigned vpi =
+          random.percent(70) ? 0 : random.pick({1u, 2u, 4u, 8u, 15u, 16u, 32u, 64u, 128u, 240u, 255u});
+      const unsigned vci = random.pick({0u, 1u, v - 1, v, v + 1, 65535u, 4096u, 256u, random.pick(in_use),
+                                        random.pick(in_use), random.pick(in_use) | 4096u, small(65536)});
+      add(ca(random, vpi, vci));
+    }
+  }
+  // Pauses up to the longest, and buckets that take long to fall.
+  void pauses() {
+    begin();
+    open_some(3, 60);
+    const unsigned vci = some_vci();
+    const uint32_t f = 60000 + small(80000);
+    add(vo(vci, 0, f, f + small(n)));
+    in_use.push_back(vci);
+    const bool long_run = random.once_in(12);
+    for (unsigned k = long_run ? 6 : 1 + small(6); k > 0; --k) {
+      for (unsigned cells = small(6); cells > 0; --cells) cell();
+      add(sl(long_run ? 65535 : random.pick({1u, 255u, 256u, 257u, 1u + small(2000)})));
+    }
+    if (random.once_in(6))
+      add(sl(f > 65535 ? f - 65535 : 1)), add(sl(random.pick({65533u, 65534u, 65535u}))), cell(), cell();
+  }
+};
+
+} // namespace
+
+Trace generate(uint64_t seed, uint64_t index) { return Generator(seed, index).make(); }
+
+} // namespace second

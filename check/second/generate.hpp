@@ -1,0 +1,31 @@
+// Seeded traces of every kind that document 01 tells apart.
+#pragma once
+#include <string>
+#include <vector>
+
+#include "../random.hpp"
+
+namespace second {
+
+using Octets = std::vector<uint8_t>;
+
+struct Trace {
+  std::string kind;
+  std::vector<Octets> records; // the last may be no record at all
+  Octets octets() const {
+    Octets all;
+    for (const Octets &record : records) all.insert(all.end(), record.begin(), record.end());
+    return all;
+  }
+};
+
+Octets gm(unsigned n, unsigned v);
+Octets vo(unsigned vci, unsigned m, uint32_t f, uint32_t c);
+Octets vx(unsigned vci);
+Octets ca(Random &, unsigned vpi, unsigned vci);
+Octets sl(unsigned count);
+
+// Trace number `index` of a run with this seed.
+Trace generate(uint64_t seed, uint64_t index);
+
+} // namespace second

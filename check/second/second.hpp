@@ -1,0 +1,65 @@
+// A second spacer, written from document 01 and source 000 alone, on due times
+// and queues: each VC keeps the due time of its next cell in parts of 1/L slot on
+// a clock that never wraps; cells wait by due slot and then in one queue. There
+// are no links, heads, tails, spaces or buckets here.
+#pragma once
+#include <array>
+#include <cstdint>
+#include <deque>
+#include <map>
+#include <string>
+#include <vector>
+
+namespace second {
+
+// What a run met, so that the runner can say that every case was met.
+struct Met {
+  std::map<std::string, uint64_t> times;
+  void operator()(const std::string &what) { times[what] += 1; }
+};
+
+class Spacer {
+public:
+  Spacer(const std::vector<uint8_t> &input, Met &met) : input(input), met(met) {}
+
+  // The whole listing of the input.
+  std::string list();
+
+private:
+  // One opening of a VC. All times are in parts of 1/L slot, from slot 0 on.
+  struct Opening {
+    bool open = false;
+    unsigned m = 0;
+    uint64_t f = 0, c = 0;
+    uint64_t next_due = 0; // the last accepted cell's due time plus F, or 0
+    uint64_t waiting = 0;
+  };
+  // An accepted cell; the slot in which it is due is the queue that it is in.
+  struct Cell {
+    unsigned vci;
+    uint64_t due_slot;
+  };
+
+  const std::vector<uint8_t> &input;
+  Met &met;
+  std::string listing;
+  uint64_t spaces = 0, vcs = 0;
+  uint64_t now = 0; // the next slot's number
+  std::vector<Opening> openings;
+  std::map<uint64_t, std::vector<Cell>> due; // by due slot, in order of arrival
+  std::deque<Cell> leaving;
+  uint64_t accepted = 0, excess = 0, unknown = 0, sent = 0;
+
+  uint64_t number(size_t place, size_t octets) const;
+  void run(size_t readable, bool more);
+  bool setup(size_t place);
+  void open(size_t place);
+  void close(size_t place);
+  void slot(const uint8_t *cell);
+  std::string arrive(const uint8_t *cell);
+  std::string arrive_open(Opening &, unsigned vci);
+  bool within_rules(uint64_t m, uint64_t f, uint64_t c);
+  void stop(size_t place, const char *why);
+};
+
+} // namespace second

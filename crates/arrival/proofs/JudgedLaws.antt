@@ -1,0 +1,86 @@
+-- Step 3 by cases, as its tests come one after the other: of a VC by its open word, of a cell by its length and name.
+-- Assumes nothing.
+use Prim.Native.Nat.{ℕ, _*_, _/_, _^_, _≤_, _<_}
+use mathlib.Core.Path.{_≡_, refl, sym, _∙_, ap}
+use mathlib.Core.Logic.{_≢_}
+use mathlib.Core.Bool.{true, false}
+use mathlib.Core.List.{List}
+use native.Mathlib.Omega.{arith}
+use native.Mathlib.Nat.{div-lt-iff-lt-mul}
+use borrow.Author.Tests.{eq-eqb, ne-eqb}
+use lib.ListN.{length, getD}
+use lib.Pow.{pow-pos}
+use Rattle.meaning.specs.Numbers.{nothing, unknown, mPlace, fPlace, cPlace, waitingPlace}
+use Rattle.meaning.specs.Bucket.{bucketOf}
+use Rattle.meaning.specs.Header.{Header, headerAt}
+use Rattle.meaning.specs.Words.{vcAt, bucketFits}
+use Rattle.header.specs.Name.{nameOf}
+use Rattle.header.proofs.NameLaws.{name-none, name-user, name-names, name-past, names-vci}
+use Rattle.words.proofs.Fits.{opened-at}
+use Rattle.arrival.specs.Arrival.{judgedAs, outOfRange, judgedBucket, judgedVc, judgedOf}
+use Rattle.arrival.proofs.BroughtLaws.{fallenS, now-bucket}
+
+-- D of an S up to C-F is at most that of C-F
+pub delay-below : (S most m N : ℕ) → S ≤ most → most / 2 ^ m < N → S / 2 ^ m < N
+delay-below S most m N le low =
+    div-lt-iff-lt-mul {k = 2 ^ m} {x = S} {y = N} (pow-pos m) .1
+    (let g = div-lt-iff-lt-mul {k = 2 ^ m} {x = most} {y = N} (pow-pos m) .0 low in omega arith)
+
+-- ---- a VC
+module _ (N t : ℕ) (words : List ℕ) (vci : ℕ) where
+  pub judged-closed : getD words (7 * vci) 0 ≡ 0 → judgedAs true unknown vci 0 0 0 ≡ judgedVc N t words vci
+  unfolding judgedVc
+  judged-closed o = simp (eq-eqb _ _ (opened-at words vci ∙ o))
+
+  waits : vcAt words vci .waiting ≡ getD words (waitingPlace vci) 0
+  unfolding vcAt
+  waits = refl
+
+  pub judged-open : (S : ℕ) → getD words (7 * vci) 0 ≡ 1 → bucketFits N (vcAt words vci .bucket) ≡ true
+      → S ≡ fallenS t words vci
+      → judgedBucket N vci
+      (bucketOf (getD words (mPlace vci) 0) (getD words (fPlace vci) 0) (getD words (cPlace vci) 0) S)
+      (getD words (waitingPlace vci) 0)
+      ≡ judgedVc N t words vci
+  unfolding judgedVc
+  judged-open S o fits e =
+      simp (opened-at words vci ∙ o, fits) (rw (e, now-bucket t words vci, waits))
+
+  pub judged-unfit : getD words (7 * vci) 0 ≡ 1 → bucketFits N (vcAt words vci .bucket) ≡ false
+      → outOfRange ≡ judgedVc N t words vci
+  unfolding judgedVc
+  judged-unfit o fits = simp (opened-at words vci ∙ o, fits)
+
+  pub judged-other : getD words (7 * vci) 0 ≢ 0 → getD words (7 * vci) 0 ≢ 1 → outOfRange ≡ judgedVc N t words vci
+  unfolding judgedVc
+  judged-other o₀ o₁ =
+      simp (
+        ne-eqb (vcAt words vci .opened) 0 (λ e. o₀ (sym (opened-at words vci) ∙ e)),
+        ne-eqb (vcAt words vci .opened) 1 (λ e. o₁ (sym (opened-at words vci) ∙ e)),
+      )
+
+-- ---- a cell of 0 or 53 octets
+module _ (N z t : ℕ) (words cell : List ℕ) where
+  abbrev h : Header
+  h = headerAt cell 0
+
+  pub judged-absent : length cell ≡ 0 → judgedAs true nothing 0 0 0 0 ≡ judgedOf N z t words cell
+  unfolding judgedOf
+  judged-absent e = simp (eq-eqb _ _ e)
+
+  pub judged-idle : length cell ≢ 0 → nameOf h ≡ 0 → judgedAs true nothing 0 0 0 0 ≡ judgedOf N z t words cell
+  unfolding judgedOf
+  judged-idle some e = simp (ne-eqb _ _ some, name-none h e)
+
+  pub judged-known : length cell ≢ 0 → z ≤ 65536 → nameOf h ≢ 0 → nameOf h < z
+      → judgedVc N t words (nameOf h) ≡ judgedOf N z t words cell
+  unfolding judgedOf
+  judged-known some few user below =
+      let names = name-names z h few (omega arith) below in
+      ap (judgedVc N t words) (sym (names-vci z h names))
+      ∙ simp (ne-eqb _ _ some, name-user h user, names)
+
+  pub judged-unknown : length cell ≢ 0 → nameOf h ≢ 0 → z ≤ nameOf h
+      → judgedAs true unknown (h .vci) 0 0 0 ≡ judgedOf N z t words cell
+  unfolding judgedOf
+  judged-unknown some user past = simp (ne-eqb _ _ some, name-user h user, name-past z h past)

@@ -1,0 +1,2 @@
+pub mod BroughtLaws
+pub mod JudgedLaws

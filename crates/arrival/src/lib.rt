@@ -1,0 +1,209 @@
+// Steps 2 and 3 of a slot, up to the VC words: what is read and decided, before anything is written.
+ghost use mathlib.Core.Path.{_≡_};
+ghost use mathlib.Core.Bool.{true};
+ghost use Prim.Native.Nat.{_+_, _-_, _*_, _/_, _^_, _≤_, _<_};
+ghost use lib.ListN.{length, getD};
+ghost use Rattle.meaning.specs.Numbers.{nothing, unknown, waitingPlace};
+ghost use Rattle.meaning.specs.Bucket.{bucketOf};
+ghost use Rattle.arrival.specs.Arrival.{broughtOf, judgedAs, outOfRange, judgedBucket, judgedVc, judgedOf, fallen, filled, oneLess};
+
+// What step 2 found: ok where all that it reads is in range; on where S and last are to be written, S being s.
+pub struct Fall {
+    pub ok: bool,
+    pub on: bool,
+    pub s: u32,
+}
+
+// What step 3 found: ok where all that it reads of the VC is in range.
+pub struct Judged {
+    pub ok: bool,
+    pub verdict: u16,
+    pub vci: u16,
+    pub d: u16,
+    pub s: u32,
+    pub waiting: u32,
+}
+
+// Step 2: the VC that rotation names, brought up to date to slot t.
+pub fn bring(n: u16, words: &[u32], vci: u16, t: u32) -> Fall
+    requires { ⌜ 7 * vci + 7 ≤ length (now words) ⌝ }
+    ensures { λ r. ⌜ r ≡ broughtOf n t (now (words .entry)) vci ⌝ }
+{
+    if vci == 0 {
+        return Fall {
+            ok: true,
+            on: false,
+            s: 0,
+        };
+    }
+    let b = 7 * (vci as usize);
+    let o = words[b];
+    if o == 0 {
+        return Fall {
+            ok: true,
+            on: false,
+            s: 0,
+        };
+    }
+    if o == 1 {
+        if words::bucket_fits(n, words, vci) {
+            let s = bucket::fallen_to(words[b + 4], words[b + 1], words[b + 5], t);
+            return Fall {
+                ok: true,
+                on: true,
+                s: s,
+            };
+        }
+    }
+    Fall {
+        ok: false,
+        on: false,
+        s: 0,
+    }
+}
+
+fn out_of_range() -> Judged
+    ensures { λ r. ⌜ r ≡ outOfRange ⌝ }
+{
+    Judged {
+        ok: false,
+        verdict: 0,
+        vci: 0,
+        d: 0,
+        s: 0,
+        waiting: 0,
+    }
+}
+
+fn no_cell() -> Judged
+    ensures { λ r. ⌜ r ≡ judgedAs true nothing 0 0 0 0 ⌝ }
+{
+    Judged {
+        ok: true,
+        verdict: 0,
+        vci: 0,
+        d: 0,
+        s: 0,
+        waiting: 0,
+    }
+}
+
+fn no_vc(vci: u16) -> Judged
+    ensures { λ r. ⌜ r ≡ judgedAs true unknown vci 0 0 0 ⌝ }
+{
+    Judged {
+        ok: true,
+        verdict: 3,
+        vci: vci,
+        d: 0,
+        s: 0,
+        waiting: 0,
+    }
+}
+
+// Step 3 at an open VC whose words but waiting are in range, S as it has fallen.
+fn judge_bucket(n: u16, vci: u16, m: u32, f: u32, c: u32, s: u32, waiting: u32) -> Judged
+    requires { ⌜ (m ≤ 15) × (f ≤ c) × ((c - f) / 2 ^ m < n) ⌝ }
+    ensures { λ r. ⌜ r ≡ judgedBucket n vci (bucketOf m f c s) waiting ⌝ }
+{
+    if c - f < s {
+        return Judged {
+            ok: true,
+            verdict: 2,
+            vci: vci,
+            d: 0,
+            s: s,
+            waiting: 0,
+        };
+    }
+    if waiting < n as u32 {
+        let full = s + f;
+        let d = bucket::delay_of(s, m) as u16;
+        return Judged {
+            ok: true,
+            verdict: 1,
+            vci: vci,
+            d: d,
+            s: full,
+            waiting: waiting + 1,
+        };
+    }
+    out_of_range()
+}
+
+// Step 3 at the VC vci, from 1 to V-1.
+pub fn judge_vc(n: u16, words: &[u32], vci: u16, t: u32) -> Judged
+    requires { ⌜ 7 * vci + 7 ≤ length (now words) ⌝ }
+    ensures { λ r. ⌜ r ≡ judgedVc n t (now (words .entry)) vci ⌝ }
+{
+    let b = 7 * (vci as usize);
+    let o = words[b];
+    if o == 0 {
+        return no_vc(vci);
+    }
+    if o == 1 {
+        if words::bucket_fits(n, words, vci) {
+            let s = bucket::fallen_to(words[b + 4], words[b + 1], words[b + 5], t);
+            return judge_bucket(
+                n,
+                vci,
+                words[b + 1],
+                words[b + 2],
+                words[b + 3],
+                s,
+                words[b + 6],
+            );
+        }
+    }
+    out_of_range()
+}
+
+// Step 3 of a cell of 0 or 53 octets.
+pub fn judge(n: u16, v: u16, words: &[u32], cell: &[u8], t: u32) -> Judged
+    requires { ⌜ (7 * v ≡ length (now words)) × (v ≤ 1024) × ((length (now cell) ≡ 0 → ⊥) → length (now cell) ≡ 53) ⌝ }
+    ensures { λ r. ⌜ r ≡ judgedOf n v t (now (words .entry)) (now (cell .entry)) ⌝ }
+{
+    if cell.len() == 0 {
+        return no_cell();
+    }
+    let name = header::name_at(cell, 0);
+    if name == 0 {
+        return no_cell();
+    }
+    if name < v as u32 {
+        return judge_vc(n, words, name as u16, t);
+    }
+    no_vc((name % 65536) as u16)
+}
+
+// Writes of S and last, where on.
+pub fn put_fall(words: &mut [u32], on: bool, vci: u16, s: u32, t: u32)
+    requires { ⌜ (on ≡ true → 7 * vci + 7 ≤ length (now words)) ⌝ }
+    ensures { λ r. ⌜ now (words .exit) ≡ fallen on vci s t (now (words .entry)) ⌝ }
+{
+    if on {
+        let b = 7 * (vci as usize);
+        words[b + 4] = s;
+        words[b + 5] = t;
+    }
+}
+
+// The words of an accepted cell's VC.
+pub fn put_fill(words: &mut [u32], vci: u16, s: u32, t: u32, waiting: u32)
+    requires { ⌜ 7 * vci + 7 ≤ length (now words) ⌝ }
+    ensures { λ r. ⌜ now (words .exit) ≡ filled vci s t waiting (now (words .entry)) ⌝ }
+{
+    let b = 7 * (vci as usize);
+    words[b + 4] = s;
+    words[b + 5] = t;
+    words[b + 6] = waiting;
+}
+
+// Waiting of a VC falls by one.
+pub fn put_less(words: &mut [u32], vci: u16)
+    requires { ⌜ (7 * vci + 7 ≤ length (now words)) × (1 ≤ getD (now words) (waitingPlace vci) 0) ⌝ }
+    ensures { λ r. ⌜ now (words .exit) ≡ oneLess vci (now (words .entry)) ⌝ }
+{
+    let b = 7 * (vci as usize);
+    words[b + 6] = words[b + 6] - 1;
+}

@@ -1,0 +1,5 @@
+pub mod WaitsLaws
+pub mod ShapeLaws
+pub mod NameLaws
+pub mod Clauses
+pub mod EndsFit

@@ -1,0 +1,63 @@
+-- `audit::fill_spaces` gives each of the n spaces 1: those below x have it, at each turn.
+-- Assumes nothing.
+use mathlib.Core.Path.{_≡_, sym, _∙_}
+use Prim.Native.Nat.{ℕ, _≤_, _<_, _-_}
+use native.Mathlib.Omega.{arith}
+use lib.ListN.{length, getD, length-set}
+use Rattle.audit.specs.Budgets.{inside}
+use Rattle.audit.proofs.WaitsLaws.{inside-no, inside-turn}
+use borrow.Author.Needs.{needs}
+use Rattle.audit.proofs.fill_spaces.Statement.{statement}
+use Rattle.audit.proofs.fill_spaces.Tie as tie
+
+abbrev Inv-loop : tie.InvT-loop
+Inv-loop b₀ n x₀ b x = (x ≤ n) × (n < 65536) × (length b ≡ length b₀) × ((k : ℕ) → getD b k 0 ≡ inside k x)
+
+abbrev μ-loop : tie.MeasureT-loop
+μ-loop b₀ n x₀ b x = n - x
+
+loop-holds : tie.Need-loop-holds Inv-loop μ-loop
+loop-holds c = (search needs, search needs, search needs, λ k. c .pre .1 k ∙ sym (inside-no k 0 (omega arith)))
+
+cast-b : tie.Need-cast-b Inv-loop μ-loop
+cast-b c = search needs
+
+mul-b : tie.Need-mul-b Inv-loop μ-loop
+mul-b c = search needs
+
+slice-write-b : tie.Need-slice-write-b Inv-loop μ-loop
+slice-write-b c = search needs
+
+add-x : tie.Need-add-x Inv-loop μ-loop
+add-x c = search needs
+
+loop-less : tie.Need-loop-less Inv-loop μ-loop
+loop-less c = search needs
+
+loop-again : tie.Need-loop-again Inv-loop μ-loop
+loop-again c =
+    let a = c .before .loop in
+    let h : a .x < length (a .b) = omega arith in
+    (search needs, search needs, simp length-set (omega arith), inside-turn (a .b) (a .x) h (a .inv .3))
+
+same-length : tie.Need-same-length Inv-loop μ-loop
+same-length c = search needs
+
+returns : tie.Need-returns Inv-loop μ-loop
+returns c = let e : c .before .loop .x ≡ c .before .before .args .n = omega arith in rw e at (c .before .loop .inv .3)
+
+pub fill-spaces-spec : {M : Type 1} → statement M
+fill-spaces-spec =
+    tie.close
+    (tie.spec
+    Inv-loop
+    μ-loop
+    loop-holds
+    cast-b
+    mul-b
+    slice-write-b
+    add-x
+    loop-less
+    loop-again
+    same-length
+    returns)

@@ -1,0 +1,20 @@
+-- The two budgets that a state gives the audit: each space may be met once, and each open VC as often as it says.
+--
+--   inside x N      == 1 for a space, 0 for any other number
+--   waitsAt w z k   == the waiting of VC k where it is open and 1 to V-1, else 0
+use Prim.Native.Nat.{ℕ}
+use mathlib.Core.Bool.{_&&_}
+use mathlib.Core.List.{List}
+use Rattle.meaning.specs.Plain.{if_then_else_, _<?_, _≤?_, _=?_}
+use Rattle.meaning.specs.Words.{Vc, vcAt}
+
+-- "each space is in exactly one"
+unfoldable pub inside : ℕ → ℕ → ℕ
+inside x N = if x <? N then 1 else 0
+
+-- "each open VC's waiting is the number of its queued cells": a closed VC may have none
+unfoldable pub waitsOf : Vc → ℕ
+waitsOf vc = if vc .opened =? 1 then vc .waiting else 0
+
+unfoldable pub waitsAt : List ℕ → ℕ → ℕ → ℕ
+waitsAt words z k = if 1 ≤? k && k <? z then waitsOf (vcAt words k) else 0

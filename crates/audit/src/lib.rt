@@ -1,0 +1,99 @@
+// The audit of a policer's state: the clauses that need no walk, then a budget of 1 for each space and of waiting for
+// each open VC, which the lists must use up.
+ghost use mathlib.Core.Path.{_≡_};
+ghost use mathlib.Core.Bool.{true};
+ghost use Prim.Native.Nat.{ℕ, _+_, _*_, _≤_, _<_};
+ghost use lib.ListN.{length, getD};
+ghost use Rattle.meaning.specs.State.{stateOf};
+ghost use Rattle.meaning.specs.Words.{vcAt, vcFits};
+ghost use Rattle.meaning.specs.Promises.{AuditPromise};
+ghost use Rattle.walks.specs.Budget.{Gone};
+ghost use Rattle.audit.specs.Budgets.{inside, waitsOf, waitsAt};
+ghost use Rattle.audit.specs.Shape.{shapeHolds};
+use meaning::Record;
+use refusal::lengths_hold;
+use refusal::ranges_hold;
+use walks::stored;
+use words::vc_fits;
+
+// Each of the n spaces may be met once.
+fn fill_spaces(b: &mut [u32], n: u16)
+    requires { ⌜ (n ≤ length (now b)) × Gone (now b) ⌝ }
+    ensures { λ a. ⌜ ((x : ℕ) → getD (now (b .exit)) x 0 ≡ inside x n) ⌝ }
+{
+    let mut x = 0u16;
+    while x < n {
+        b[x as usize] = 1;
+        x += 1;
+    }
+}
+
+// The cells that may wait at a VC: none at a closed one, whatever its word says.
+fn waits_of(words: &[u32], vci: u16) -> u32
+    requires { ⌜ 7 * vci + 7 ≤ length (now words) ⌝ }
+    ensures { λ a. ⌜ a ≡ waitsOf (vcAt (now (words .entry)) vci) ⌝ }
+{
+    let base = 7 * (vci as usize);
+    if words[base] == 1 {
+        return words[base + 6];
+    }
+    0
+}
+
+// The words of VC 1 to V-1 are in their ranges; their waiting cells go into the cells' budget.
+fn fill_waits(n: u16, v: u16, words: &[u32], waits: &mut [u32]) -> bool
+    requires { ⌜ (1 < v) × (v ≤ length (now waits)) × (7 * v ≤ length (now words)) × Gone (now waits) ⌝ }
+    ensures yes { λ a. ⌜ (a ≡ true → (((vci : ℕ) → 1 ≤ vci → vci < v → vcFits n (vcAt (now (words .entry)) vci) ≡ true) × ((k : ℕ) → getD (now (waits .exit)) k 0 ≡ waitsAt (now (words .entry)) v k))) ⌝ }
+    ensures no { λ a. ⌜ (((vci : ℕ) → 1 ≤ vci → vci < v → vcFits n (vcAt (now (words .entry)) vci) ≡ true) → a ≡ true) ⌝ }
+{
+    let mut vci = 1u16;
+    while vci < v {
+        if vc_fits(n, words, vci) {
+            waits[vci as usize] = waits_of(words, vci);
+            vci += 1;
+        } else {
+            return false;
+        }
+    }
+    true
+}
+
+// N, V, the four lengths, T and rotation.
+fn shaped(r: Record, cells: &[u8], links: &[u16], calendar: &[u16], words: &[u32]) -> bool
+    ensures { λ a. ⌜ a ≡ shapeHolds (stateOf r (now (cells .entry)) (now (links .entry)) (now (calendar .entry)) (now (words .entry))) ⌝ }
+{
+    if !ranges_hold(r.n, r.v) {
+        return false;
+    }
+    if !lengths_hold(
+        r.n,
+        r.v,
+        cells.len(),
+        links.len(),
+        calendar.len(),
+        words.len(),
+    ) {
+        return false;
+    }
+    if r.turn < r.n {
+        return r.rotation < r.v;
+    }
+    false
+}
+
+// Do the clauses of the audit hold? Linear in N + V: each list is walked once, and no space twice.
+pub fn audit(r: Record, cells: &[u8], links: &[u16], calendar: &[u16], words: &[u32]) -> bool
+    ensures { λ a. ⌜ AuditPromise (stateOf r (now (cells .entry)) (now (links .entry)) (now (calendar .entry)) (now (words .entry))) a ⌝ }
+{
+    if shaped(r, cells, links, calendar, words) {
+        if calendar[2 * (r.turn as usize)] == 65535 {
+            let mut waits = [0u32; 1024];
+            if fill_waits(r.n, r.v, words, &mut waits) {
+                let mut spaces = [0u32; 1024];
+                fill_spaces(&mut spaces, r.n);
+                return stored(r, cells, links, calendar, &mut spaces, &mut waits);
+            }
+        }
+    }
+    false
+}

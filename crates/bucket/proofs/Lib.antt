@@ -1,0 +1,2 @@
+pub mod Elapsed
+pub mod Rules

@@ -1,0 +1,62 @@
+// A VC's bucket, in parts of 1/L slot: products and quotients by L = 2^m are shifts.
+ghost use mathlib.Core.Path.{_≡_};
+ghost use Prim.Native.Nat.{_+_, _-_, _*_, _/_, _%_, _^_, _≤_};
+ghost use Rattle.meaning.specs.Bucket.{bucketOf, obeysRules, elapsed};
+
+// L
+pub fn rate(m: u32) -> u32
+    requires { ⌜ m ≤ 15 ⌝ }
+    ensures { λ r. ⌜ r ≡ 2 ^ m ⌝ }
+{
+    1u32 << m
+}
+
+// "m from 0 to 15; F from L to 16,777,216; C of at least F, with floor((C-F)/L) at most N-1", judged in that order: L is
+// taken only of an m in its range, and C-F only where it is none below 0.
+pub fn obeys_rules(n: u16, m: u32, f: u32, c: u32) -> bool
+    ensures { λ r. ⌜ r ≡ obeysRules n (bucketOf m f c 0) ⌝ }
+{
+    if m > 15 {
+        return false;
+    }
+    if f < rate(m) {
+        return false;
+    }
+    if f > 16777216 {
+        return false;
+    }
+    if c < f {
+        return false;
+    }
+    (c - f) >> m < n as u32
+}
+
+// The slots from last to t, on the clock that wraps.
+fn elapsed_slots(t: u32, last: u32) -> u32
+    ensures { λ r. ⌜ r ≡ (t + 2 ^ 32 - last) % 2 ^ 32 ⌝ }
+{
+    std::num::wrapping_sub_u32(t, last)
+}
+
+// S as it has fallen from slot last to slot t. The product has up to 47 bits, so it is taken in 64.
+pub fn fallen_to(s: u32, m: u32, last: u32, t: u32) -> u32
+    requires { ⌜ m ≤ 15 ⌝ }
+    ensures { λ r. ⌜ r ≡ s - elapsed t last * 2 ^ m ⌝ }
+{
+    let slots = elapsed_slots(t, last);
+    let fall = (slots as u64) << m;
+    let full = s as u64;
+    if fall <= full {
+        (full - fall) as u32
+    } else {
+        0
+    }
+}
+
+// D = floor(S/L)
+pub fn delay_of(s: u32, m: u32) -> u32
+    requires { ⌜ m ≤ 15 ⌝ }
+    ensures { λ r. ⌜ r ≡ s / 2 ^ m ⌝ }
+{
+    s >> m
+}

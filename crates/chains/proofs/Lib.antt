@@ -1,0 +1,4 @@
+pub mod CountLaws
+pub mod StrungLaws
+pub mod JoinLaws
+pub mod AuditLaws

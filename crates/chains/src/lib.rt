@@ -1,0 +1,1 @@
+// Lists of spaces in the links, with the cells that stand in them. No code.

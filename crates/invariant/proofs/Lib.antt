@@ -1,0 +1,16 @@
+pub mod StepLaws
+pub mod AfterLaws
+pub mod AcceptLaws
+pub mod ArriveLaws
+pub mod SendLaws
+pub mod DepartLaws
+pub mod KeptLaws
+pub mod LengthLaws
+pub mod EndLaws
+pub mod SlotLaws
+pub mod CallLaws
+pub mod OpenLaws
+pub mod FreshLaws
+pub mod RunLaws
+pub mod RoundLaws
+pub mod AuditLaws

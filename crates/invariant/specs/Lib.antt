@@ -1,0 +1,3 @@
+pub mod Invariant
+pub mod Came
+pub mod Gone

@@ -1,0 +1,1 @@
+// What holds after every call from a fresh state, and that every call keeps it. No code.

@@ -1,0 +1,5 @@
+pub mod RingLaws
+pub mod HeldLaws
+pub mod ShownLaws
+pub mod HasLaws
+pub mod MoveLaws

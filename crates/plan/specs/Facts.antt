@@ -1,0 +1,48 @@
+-- What is known where the slot's cases write: each is shown by the tests that came before, and asked of the caller.
+--
+--   Sized k ..       == refusals 1 and 2 are not given, and the clock has moved
+--   Accepted k j ..  == of an accepted cell: its VC, its D and its waiting
+--   Seated k a       == of an accepted cell: its space and entry, and the Free List without the space
+use Prim.Native.Nat.{ℕ, _*_, _≤_, _<_}
+use mathlib.Core.Path.{_≡_}
+use mathlib.Core.Logic.{_≢_}
+use mathlib.Core.Bool.{true}
+use mathlib.Core.List.{List}
+use lib.ListN.{length}
+use Rattle.meaning.specs.declared.Record.{Record}
+use Rattle.meaning.specs.Numbers.{empty, accepted, excess}
+use Rattle.meaning.specs.Header.{headerAt}
+use Rattle.meaning.specs.Words.{vcAt}
+use Rattle.meaning.specs.Lists.{endsFit}
+use Rattle.arrival.specs.declared.Judged.{Judged}
+use Rattle.spaces.specs.declared.Seat.{Seat}
+use Rattle.spaces.specs.Spaces.{endsOf}
+
+pub record Sized (k : Record) (cells links calendar words : List ℕ) : Type 0 where
+  pub n-low : 1 ≤ k .n
+  pub n-high : k .n ≤ 1024
+  pub v-low : 2 ≤ k .v
+  pub v-high : k .v ≤ 1024
+  pub cells-long : length cells ≡ 53 * k .n
+  pub links-long : length links ≡ k .n
+  pub calendar-long : length calendar ≡ 2 * k .n
+  pub words-long : length words ≡ 7 * k .v
+  pub turn-low : k .turn < k .n
+  pub rotation-low : k .rotation < k .v
+
+pub record Accepted (k : Record) (j : Judged) (cell words : List ℕ) : Type 0 where
+  pub vci-low : 1 ≤ j .vci
+  pub vci-high : j .vci < k .v
+  pub near : j .d < k .n
+  pub waiting-low : 1 ≤ j .waiting
+  pub waiting-high : j .waiting ≤ k .n
+  pub is-open : vcAt words (j .vci) .opened ≡ 1
+  pub cell-long : length cell ≡ 53
+  pub vpi-is : headerAt cell 0 .vpi ≡ 0
+  pub vci-is : headerAt cell 0 .vci ≡ j .vci
+
+pub record Seated (k : Record) (a : Seat) : Type 0 where
+  pub x-low : a .x < k .n
+  pub e-low : a .e < k .n
+  pub entry-fits : endsFit (k .n) (endsOf (a .head) (a .tail)) ≡ true
+  pub free-fits : endsFit (k .n) (endsOf (a .freehead) (a .freetail)) ≡ true

@@ -1,0 +1,1 @@
+// The slot's plan: no code, only what it means.

@@ -1,0 +1,228 @@
+-- Demand 3, clause by clause, from the invariant: of each VC the accepted cells are those that left and then those that
+-- wait, so the k-th that left is the k-th accepted; one that waits can still be in time. Assumes nothing.
+use Prim.Native.Nat.{ℕ, zero, suc, _+_, _-_, _≤_, _<_}
+use mathlib.Core.Path.{_≡_, refl, sym, ap, _∙_}
+use mathlib.Core.Logic.{_↔_}
+use mathlib.Core.Bool.{Bool, true, false, _&&_, _||_}
+use mathlib.Core.List.{List, [], _∷_, _++_, map}
+use mathlib.Core.Option.{some}
+use native.Mathlib.Decide.{decLt}
+use native.Mathlib.Nat.{not-suc-le-zero, le-of-suc-le-suc}
+use native.Mathlib.Omega.{arith}
+use borrow.Author.Tests.{ne-eqb}
+use lib.ListN.{length, getD, length-append, List·getD-append}
+use lib.Seq.{getD-append-add}
+use Rattle.meaning.specs.Plain.{if_then_else_, _=?_}
+use Rattle.meaning.specs.Numbers.{accepted, excess}
+use Rattle.meaning.specs.State.{State, freeList, outputList}
+use Rattle.meaning.specs.Header.{Header, headerAt, noUserCell, namesVc}
+use Rattle.meaning.specs.Lists.{isEmpty}
+use Rattle.meaning.specs.Slot.{slot}
+use Rattle.runs.specs.Run.{Event, runOf, served}
+use Rattle.runs.specs.Leak.{Opening, leakAccepts, openingOf}
+use Rattle.runs.specs.Seen.{Cell, Departure, ofVc, cellsIn, cellsOf, departuresOf, noCell, noDeparture, cellAt, departureAt}
+use Rattle.runs.specs.Judged.{Judged, judgedOf, judgedBy, judged}
+use Rattle.queues.specs.Queue.{one, All, flat, turn}
+use Rattle.queues.proofs.QueueLaws.{map-length, turn-sums}
+use Rattle.queues.proofs.LineLaws.{still-in-time}
+use Rattle.queues.proofs.OrderLaws.{ofVc-append, ofVc-map, ofVc-all}
+use Rattle.queues.proofs.RisingLaws.{rising-of, rising-at}
+use Rattle.memory.specs.Held.{dueOf}
+use Rattle.memory.proofs.HasLaws.{SomeFree, some-free, free-marked}
+use Rattle.invariant.specs.Invariant.{Left, seenAs, cellLeft, cellIn, vciIn, InTime, Delayed, Inv}
+use Rattle.invariant.proofs.SlotLaws.{slot-served}
+use Rattle.promises.specs.Demand3.{Demand3}
+
+-- the k-th of a list
+map-at : {A B : Type 0} (f : A → B) (l : List A) (k : ℕ) (a : A) (b : B) → k < length l
+    → getD (map f l) k b ≡ f (getD l k a)
+map-at f [] k a b h = absurd (not-suc-le-zero h)
+map-at f (x ∷ l) zero a b h = refl
+map-at f (x ∷ l) (suc k) a b h = map-at f l k a b (le-of-suc-le-suc h)
+
+all-at : {A : Type 0} (P : A → Type 0) (l : List A) (k : ℕ) (d : A) → All P l → k < length l → P (getD l k d)
+all-at P [] k d a h = absurd (not-suc-le-zero h)
+all-at P (x ∷ l) zero d a h = a .0
+all-at P (x ∷ l) (suc k) d a h = all-at P l k d (a .1) (le-of-suc-le-suc h)
+
+abbrev noLeft : Left
+noLeft = record { slot = 0; cell = noCell }
+
+module _ (N z : ℕ) (h : List Event) (s : State) (i : Inv N z h s) where
+  -- those of the VC v that left, and the cells of it that wait
+  abbrev gone : ℕ → List Left
+  gone v = ofVc (λ p. p .cell .vci) v (i .left)
+
+  abbrev waiting : ℕ → List Cell
+  waiting v = ofVc vciIn v (map cellIn (i .out ++ flat (i .cal)))
+
+  departures-are : (v : ℕ) → departuresOf v h ≡ map seenAs (gone v)
+  unfolding departuresOf
+  departures-are v = ap (ofVc (λ d. d .vci) v) (i .seen) ∙ ofVc-map (λ d. d .vci) seenAs v (i .left)
+
+  cells-are : (v : ℕ) → cellsOf v h ≡ map cellLeft (gone v) ++ waiting v
+  unfolding cellsOf
+  cells-are v =
+      i .order v
+      ∙ ofVc-append vciIn v (map cellLeft (i .left)) (map cellIn (i .out ++ flat (i .cal)))
+      ∙ ap (λ l. l ++ waiting v) (ofVc-map vciIn cellLeft v (i .left))
+
+  many-left : (v : ℕ) → length (departuresOf v h) ≡ length (gone v)
+  many-left v = ap length (departures-are v) ∙ map-length seenAs (gone v)
+
+  many-cells : (v : ℕ) → length (cellsOf v h) ≡ length (gone v) + length (waiting v)
+  many-cells v =
+      ap length (cells-are v) ∙ length-append (map cellLeft (gone v)) (waiting v)
+      ∙ ap (λ (n : ℕ). n + length (waiting v)) (map-length cellLeft (gone v))
+
+  module _ (v k : ℕ) (low : k < length (departuresOf v h)) where
+    here : k < length (gone v)
+    here = omega (arith, many-left v)
+
+    departure-is : departureAt v k h ≡ seenAs (getD (gone v) k noLeft)
+    departure-is = ap (λ l. getD l k noDeparture) (departures-are v) ∙ map-at seenAs (gone v) k noLeft noDeparture here
+
+    cell-is : cellAt v k h ≡ cellLeft (getD (gone v) k noLeft)
+    cell-is =
+        ap (λ l. getD l k noCell) (cells-are v)
+        ∙ List·getD-append (map cellLeft (gone v)) (waiting v) noCell k (omega (arith, here, map-length cellLeft (gone v)))
+        ∙ map-at cellLeft (gone v) k noLeft noCell here
+
+    timely : InTime (N - 1) (getD (gone v) k noLeft)
+    timely =
+        all-at (InTime (N - 1)) (gone v) k noLeft (ofVc-all (λ p. p .cell .vci) v (InTime (N - 1)) (i .left) (i .in-time))
+        here
+
+  all-image : {A B : Type 0} (P : B → Type 0) (f : A → B) (l : List A) → All (λ x. P (f x)) l → All P (map f l)
+  all-image P f [] a = tt
+  all-image P f (x ∷ l) a = (a .0, all-image P f l (a .1))
+
+  waiting-in-time : (v : ℕ) → All (λ c. served h ≤ c .due + (N - 1)) (waiting v)
+  waiting-in-time v = ofVc-all vciIn v (λ c. served h ≤ c .due + (N - 1)) (map cellIn (i .out ++ flat (i .cal)))
+      (all-image (λ (c : Cell). served h ≤ c .due + (N - 1)) cellIn (i .out ++ flat (i .cal))
+      (still-in-time dueOf (N - 1) (served h) (i .cal) (i .out) (i .good)))
+
+  leaves-in-time : (v k : ℕ) → k < length (cellsOf v h) → cellAt v k h .due + (N - 1) < served h
+      → k < length (departuresOf v h)
+  leaves-in-time v k low lasts = go (decLt k (length (departuresOf v h)))
+    where
+      go : Dec (k < length (departuresOf v h)) → k < length (departuresOf v h)
+      go (yes p) = p
+      go (no p) =
+          absurd (omega (
+            arith,
+            all-at (λ c. served h ≤ c .due + (N - 1)) (waiting v) j noCell (waiting-in-time v)
+                (omega (arith, many-left v, many-cells v)),
+            ap (λ (c : Cell). c .due) same,
+          ))
+        where
+          j : ℕ
+          j = k - length (gone v)
+
+          same : cellAt v k h ≡ getD (waiting v) j noCell
+          same =
+              ap (λ l. getD l k noCell) (cells-are v)
+              ∙ ap (λ (n : ℕ). getD (map cellLeft (gone v) ++ waiting v) n noCell) place
+              ∙ getD-append-add (map cellLeft (gone v)) (waiting v) j noCell
+            where
+              place : k ≡ length (map cellLeft (gone v)) + j
+              place = omega (arith, map-length cellLeft (gone v), many-left v)
+
+  one-free : isEmpty (freeList s) ≡ false
+  one-free =
+      free-marked N low (s .ctl .turn + 1) (s .cells) (s .links) (s .calendar) (freeList s) (outputList s) (f .x) (f .rest)
+      (i .out) (turn (i .cal)) (rw (f .is) at (i .stage .has))
+    where
+      low : N ≤ 65_535
+      low = omega (arith, i .stage .ranges .N-high)
+
+      f : SomeFree N low (s .ctl .turn + 1) (s .cells) (s .links) (s .calendar) (freeList s) (outputList s) (i .free)
+      f =
+          some-free N low (s .ctl .turn + 1) (s .cells) (s .links) (s .calendar) (freeList s) (outputList s) (i .free)
+          (i .out) (turn (i .cal))
+          (omega (arith, turn-sums one (i .cal), i .good .room, i .stage .ranges .N-low)) (i .stage .has)
+
+  delays : (v : ℕ) → All (Delayed N) (cellsOf v h)
+  unfolding cellsOf
+  delays v = ofVc-all vciIn v (Delayed N) (cellsIn h) (i .delays)
+
+  arrivals-rise : (v j k : ℕ) → j < k → k < length (cellsOf v h) → cellAt v j h .arrival < cellAt v k h .arrival
+  unfolding cellsOf
+  arrivals-rise v j k less low =
+      rising-at (λ c. c .arrival) 0 (served h) (cellsOf v h) j k noCell less low
+      (rising-of (λ c. c .arrival) vciIn v 0 (served h) (cellsIn h) (i .cells-rise))
+
+  departures-rise : (v j k : ℕ) → j < k → k < length (departuresOf v h) → departureAt v j h .slot < departureAt v k h .slot
+  departures-rise v j k less low =
+      omega (
+        arith,
+        ap (λ (d : Departure). d .slot) (departure-is v k low),
+        ap (λ (d : Departure). d .slot) (departure-is v j (omega arith)),
+        rising-at (λ p. p .slot) 0 (served h) (gone v) j k noLeft less (omega (arith, many-left v))
+            (rising-of (λ p. p .slot) (λ p. p .cell .vci) v 0 (served h) (i .left) (i .left-rise)),
+      )
+
+  says : (cell : List ℕ) → length cell =? 0 || length cell =? 53 ≡ true
+      → judgedOf (slot s cell .answer .verdict) (slot s cell .answer .vci) (slot s cell .answer .d) ≡ judged z h cell
+  says cell e = slot-served N z h s i cell e .says
+
+  lent : (cell : List ℕ) → length cell ≡ 53 → length cell =? 0 || length cell =? 53 ≡ true
+  lent cell e = rw (e)
+
+  -- a header that names a VC is a user cell's
+  user : (cell : List ℕ) → length cell ≡ 53 → namesVc z (headerAt cell 0) ≡ true
+      → length cell =? 0 || noUserCell (headerAt cell 0) ≡ false
+  unfolding noUserCell
+  user cell e n = rw e (go (headerAt cell 0) (Rattle.invariant.proofs.ArriveLaws.names-facts z (headerAt cell 0) n .0))
+    where
+      go : (h : Header) → 1 ≤ h .vci → h .vpi =? 0 && h .vci =? 0 ≡ false
+      go h low = rw (ne-eqb (h .vci) 0 (λ y. omega arith)) (last (h .vpi =? 0))
+        where
+          last : (b : Bool) → b && false ≡ false
+          last true = refl
+          last false = refl
+
+  verdict-is : (cell : List ℕ) (o : Opening) → length cell ≡ 53 → namesVc z (headerAt cell 0) ≡ true
+      → openingOf (headerAt cell 0 .vci) h ≡ some o
+      → slot s cell .answer .verdict ≡ (if leakAccepts o (served h) then accepted else excess)
+  unfolding judgedBy
+  verdict-is cell o e n q =
+      ap (λ (j : Judged). j .verdict) (says cell (lent cell e)) ∙ rw (user cell e n, n, q) (go (leakAccepts o (served h)))
+    where
+      go : (b : Bool) → (if b then judgedOf accepted (headerAt cell 0 .vci)
+          (Rattle.runs.specs.Leak.dueSlot o (served h) - served h) else judgedOf excess (headerAt cell 0 .vci) 0) .verdict
+          ≡ (if b then accepted else excess)
+      go true = refl
+      go false = refl
+
+  exactly : (x : ℕ) (b : Bool) → x ≡ (if b then accepted else excess) → (x ≡ accepted) ↔ (b ≡ true)
+  exactly x true e = (λ p. refl, λ p. e)
+  exactly x false e = (λ p. absurd (omega (arith, p, e)), λ p. absurd (let y : _≡_ {A = ℕ} 0 1 = cc in omega arith))
+
+  pub demanded : Demand3 N z (runOf s h)
+  demanded =
+      record {
+        was-accepted = λ v k low. omega (arith, many-left v, many-cells v);
+        unchanged = λ v k low. ap (λ (d : Departure). d .octets) (departure-is v k low)
+            ∙ sym (ap (λ (c : Cell). c .octets) (cell-is v k low));
+        not-early = λ v k low. omega (
+          arith,
+          timely v k low .0,
+          ap (λ (d : Departure). d .slot) (departure-is v k low),
+          ap (λ (c : Cell). c .due) (cell-is v k low),
+        );
+        not-late = λ v k low. omega (
+          arith,
+          timely v k low .1,
+          ap (λ (d : Departure). d .slot) (departure-is v k low),
+          ap (λ (c : Cell). c .due) (cell-is v k low),
+        );
+        leaves = leaves-in-time;
+        space-free = one-free;
+        in-order = λ v j k less low.
+            (arrivals-rise v j k less (omega (arith, many-left v, many-cells v)), departures-rise v j k less low);
+        delay = λ v k low. let d = all-at (Delayed N) (cellsOf v h) k noCell (delays v) low in (d .0, omega (arith, d .1));
+        accepts-exactly = λ cell o e n q. exactly (slot s cell .answer .verdict) (leakAccepts o (served h))
+            (verdict-is cell o e n q);
+        judges = says;
+      }

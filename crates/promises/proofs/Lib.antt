@@ -1,0 +1,4 @@
+pub mod Demand3Laws
+pub mod Top
+pub mod ReachedLaws
+pub mod QuotedLaws

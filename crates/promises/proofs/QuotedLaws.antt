@@ -1,0 +1,20 @@
+-- What may be quoted, from demand 3: the due slot is D after the arrival, D is at most N-1, and N-1 more may pass.
+-- Assumes nothing.
+use Prim.Native.Nat.{ℕ}
+use native.Mathlib.Omega.{arith}
+use Rattle.runs.specs.Run.{Run}
+use Rattle.promises.specs.Demand3.{Demand3}
+use Rattle.promises.specs.Quoted.{Quoted}
+
+pub quoted : (N z : ℕ) (r : Run) → Demand3 N z r → Quoted N r
+quoted N z r d =
+    record {
+      by-delay = λ v k low. omega (arith, d .not-late v k low, d .delay v k (d .was-accepted v k low) .0);
+      at-most = λ v k low.
+          omega (
+            arith,
+            d .not-late v k low,
+            d .delay v k (d .was-accepted v k low) .0,
+            d .delay v k (d .was-accepted v k low) .1,
+          );
+    }

@@ -1,0 +1,32 @@
+-- The bound N-1 is reached, at N 2 and N 5; and on the merged output one VC's departures come closer than F/L, as the
+-- eight slots of document 01 show: 6 and 7 of VC 40. By computation. Assumes nothing.
+use Prim.Native.Nat.{_-_, _*_, _≤_}
+use mathlib.Core.Path.{_≡_, refl}
+use mathlib.Core.Option.{some}
+use native.Mathlib.Omega.{arith}
+use lib.Dec.{lit<}
+use Rattle.runs.specs.Leak.{openingWith}
+use Rattle.runs.specs.Seen.{departureAt}
+use Rattle.runs.specs.Eight.{eightCalls, eightEvents}
+use Rattle.runs.specs.Computed.{byComputation}
+use Rattle.promises.specs.Reached.{Reached, lateAtTwo, lateAtFive, PeakKept}
+
+pub reached-at-two : Reached 2 3 lateAtTwo 2 1
+unfolding byComputation
+reached-at-two = record { leaves = lit< tt; late = refl }
+
+pub reached-at-five : Reached 5 3 lateAtFive 2 19
+unfolding byComputation
+reached-at-five = record { leaves = lit< tt; late = refl }
+
+-- departures 6 and 7, though F/L is 2.5
+pub departures-six-seven : (departureAt 40 2 eightEvents .slot ≡ 6) × (departureAt 40 3 eightEvents .slot ≡ 7)
+unfolding byComputation
+departures-six-seven = (refl, refl)
+
+closer : PeakKept → 10 ≤ (departureAt 40 3 eightEvents .slot - departureAt 40 2 eightEvents .slot) * 4
+unfolding byComputation
+closer p = p 5 64 refl eightCalls 40 2 (openingWith 2 10 26 (some 30)) refl (lit< tt)
+
+pub peak-not-kept : PeakKept → ⊥
+peak-not-kept p = omega (arith, closer p, departures-six-seven .0, departures-six-seven .1)

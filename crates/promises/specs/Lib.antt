@@ -1,0 +1,4 @@
+pub mod Demand3
+pub mod Runs
+pub mod Reached
+pub mod Quoted

@@ -1,0 +1,37 @@
+-- Why demand 3 can't promise less than N-1, and what else can't be promised: runs in which it happens.
+--
+--   Reached      == in this run a cell of the VC v leaves exactly N-1 slots after its due slot
+--   PeakKept     == source 000's claim, that one VC's departures never come closer than its peak rate allows
+use Prim.Native.Nat.{ℕ, _+_, _-_, _*_, _≤_, _<_}
+use mathlib.Core.Path.{_≡_}
+use mathlib.Core.Bool.{true}
+use mathlib.Core.List.{List, [], _∷_, _++_}
+use mathlib.Core.Option.{some}
+use lib.ListN.{length, replicate}
+use Rattle.meaning.specs.Numbers.{rangesHold}
+use Rattle.runs.specs.Run.{Call, onOpen, onSlot, calls, freshRun}
+use Rattle.runs.specs.Leak.{Opening, parts, openingOf}
+use Rattle.runs.specs.Seen.{departuresOf, cellAt, departureAt}
+use Rattle.runs.specs.Eight.{cellFor}
+
+pub record Reached (N z : ℕ) (cs : List Call) (v k : ℕ) : Type 0 where
+  pub leaves : k < length (departuresOf v (calls (freshRun N z) cs .events))
+  pub late : departureAt v k (calls (freshRun N z) cs .events) .slot ≡ cellAt v k
+      (calls (freshRun N z) cs .events) .due + (N - 1)
+
+-- N 2: VC 1 with m 0, F 1, C 2; VC 2 with m 0, F 2, C 3; cells of 2, 2, 1, and an empty slot
+abbrev pub lateAtTwo : List Call
+lateAtTwo = onOpen 1 0 1 2 ∷ onOpen 2 0 2 3 ∷ onSlot (cellFor 2) ∷ onSlot (cellFor 2) ∷ onSlot (cellFor 1) ∷ onSlot [] ∷ []
+
+-- N 5, with L 4: VC 2 with F 5, C 24 sends 20 cells, then VC 1 with F and C 4 sends 4, and 4 empty slots follow
+abbrev pub lateAtFive : List Call
+lateAtFive =
+    onOpen 1 2 4 4 ∷ onOpen 2 2 5
+    24 ∷ (replicate 20 (onSlot (cellFor 2)) ++ (replicate 4 (onSlot (cellFor 1)) ++ replicate 4 (onSlot [])))
+
+abbrev pub PeakKept : Type 0
+PeakKept = (N z : ℕ) → rangesHold N z ≡ true → (cs : List Call) (v k : ℕ) (o : Opening)
+    → openingOf v (calls (freshRun N z) cs .events) ≡ some o
+    → k + 1 < length (departuresOf v (calls (freshRun N z) cs .events))
+    → o .F ≤ (departureAt v (k + 1) (calls (freshRun N z) cs .events) .slot - departureAt v k
+    (calls (freshRun N z) cs .events) .slot) * parts o

@@ -1,0 +1,4 @@
+pub mod QueueLaws
+pub mod LineLaws
+pub mod OrderLaws
+pub mod RisingLaws

@@ -1,0 +1,1 @@
+// Runs of calls, and what calls and answers alone say of each cell: definitions, in specs/. No code.

@@ -1,0 +1,54 @@
+-- `setup::empty_calendar` meets its contract: its loop fills the heads and tails from the front.
+-- Assumes nothing.
+use Prim.Native.Nat.{_-_}
+use native.Mathlib.Omega.{arith}
+use borrow.Author.Needs.{needs}
+use lib.ListN.{length}
+use Rattle.setup.proofs.Fills.{Filled, filled-none, filled-more, filled-all}
+use Rattle.setup.proofs.empty_calendar.Statement.{statement}
+use Rattle.setup.proofs.empty_calendar.Tie as tie
+
+abbrev Inv-loop : tie.InvT-loop
+Inv-loop calendar₀ place₀ calendar place = Filled 65535 calendar₀ calendar place
+
+abbrev μ-loop : tie.MeasureT-loop
+μ-loop calendar₀ place₀ calendar place = length calendar₀ - place
+
+loop-holds : tie.Need-loop-holds Inv-loop μ-loop
+loop-holds c = filled-none _ _
+
+mul-calendar : tie.Need-mul-calendar Inv-loop μ-loop
+mul-calendar c = search needs
+
+slice-write-calendar : tie.Need-slice-write-calendar Inv-loop μ-loop
+slice-write-calendar c = search needs
+
+add-place : tie.Need-add-place Inv-loop μ-loop
+add-place c = search needs
+
+loop-less : tie.Need-loop-less Inv-loop μ-loop
+loop-less c = omega arith
+
+loop-again : tie.Need-loop-again Inv-loop μ-loop
+loop-again c = filled-more _ _ _ _ (c .before .loop .inv) (c .loop-test .taken)
+
+same-length : tie.Need-same-length Inv-loop μ-loop
+same-length c = search needs
+
+returns : tie.Need-returns Inv-loop μ-loop
+returns c = filled-all _ _ _ _ (c .before .loop .inv) (c .loop-test .left)
+
+pub empty-calendar-spec : {M : Type 1} → statement M
+empty-calendar-spec =
+    tie.close
+    (tie.spec
+    Inv-loop
+    μ-loop
+    loop-holds
+    mul-calendar
+    slice-write-calendar
+    add-place
+    loop-less
+    loop-again
+    same-length
+    returns)

@@ -1,0 +1,138 @@
+// Setting up a policer: all lent memory cleared, the Free List chained, the calendar and the Output List emptied.
+ghost use mathlib.Core.Path.{_≡_};
+ghost use mathlib.Core.Bool.{not, _&&_};
+ghost use mathlib.Core.List.{[], _∷_, _++_};
+ghost use Prim.Native.Nat.{_+_, _-_, _*_, _≤_, _<_};
+ghost use lib.ListN.{length, replicate};
+ghost use Rattle.meaning.specs.Plain.{_=?_};
+ghost use Rattle.meaning.specs.Numbers.{rangesHold};
+ghost use Rattle.meaning.specs.Calls.{zeros, freshRecord, countUp};
+ghost use Rattle.meaning.specs.Promises.{setupPromise};
+ghost use Rattle.refusal.specs.Order.{refuseOf, firstOf};
+use meaning::Fresh;
+use meaning::Record;
+use refusal::first;
+use refusal::lengths_hold;
+use refusal::ranges_hold;
+use refusal::refuse;
+
+// All octets of the cell memory 0.
+fn clear_cells(cells: &mut [u8])
+    ensures { λ r. ⌜ now (cells .exit) ≡ replicate (length (now (cells .entry))) 0 ⌝ }
+{
+    let mut octet = 0;
+    while octet < cells.len() {
+        cells[octet] = 0;
+        octet += 1;
+    }
+}
+
+// All VC words 0.
+fn clear_words(words: &mut [u32])
+    ensures { λ r. ⌜ now (words .exit) ≡ replicate (length (now (words .entry))) 0 ⌝ }
+{
+    let mut word = 0;
+    while word < words.len() {
+        words[word] = 0;
+        word += 1;
+    }
+}
+
+// All heads and tails 65,535.
+fn empty_calendar(calendar: &mut [u16])
+    ensures { λ r. ⌜ now (calendar .exit) ≡ replicate (length (now (calendar .entry))) 65535 ⌝ }
+{
+    let mut place = 0;
+    while place < calendar.len() {
+        calendar[place] = 65535;
+        place += 1;
+    }
+}
+
+// Each space's link names the next space; the last one's is cleared.
+fn chain_links(links: &mut [u16])
+    requires { ⌜ (1 ≤ length (now links)) × (length (now links) ≤ 1024) ⌝ }
+    ensures { λ r. ⌜ now (links .exit) ≡ countUp (length (now (links .entry)) - 1) 1 ++ (0 ∷ []) ⌝ }
+{
+    let last = links.len() - 1;
+    let mut space = 0;
+    while space < last {
+        links[space] = (space + 1) as u16;
+        space += 1;
+    }
+    links[last] = 0;
+}
+
+// "Order: setup 1, 2": the first of the two, or 0.
+fn setup_refusal(n: u16, v: u16, cells: usize, links: usize, calendar: usize, words: usize) -> u16
+    ensures { λ r. ⌜ r ≡ firstOf (refuseOf 1 (not (rangesHold n v))) (refuseOf 2 (not (cells =? 53 * n && links =? n && calendar =? 2 * n && words =? 7 * v))) ⌝ }
+{
+    let ranges = refuse(1, !ranges_hold(n, v));
+    let lengths = refuse(2, !lengths_hold(n, v, cells, links, calendar, words));
+    first(ranges, lengths)
+}
+
+// "a refused one gives back a record of zeros"
+fn no_record() -> Record
+    ensures { λ r. ⌜ r ≡ zeros ⌝ }
+{
+    Record {
+        n: 0,
+        v: 0,
+        t: 0,
+        turn: 0,
+        rotation: 0,
+        freehead: 0,
+        freetail: 0,
+        outhead: 0,
+        outtail: 0,
+    }
+}
+
+// "t is 2^32-1, T is N-1, rotation is V-1"
+fn fresh_record(n: u16, v: u16) -> Record
+    requires { ⌜ (1 ≤ n) × (1 ≤ v) ⌝ }
+    ensures { λ r. ⌜ r ≡ freshRecord n v ⌝ }
+{
+    Record {
+        n: n,
+        v: v,
+        t: 4294967295,
+        turn: n - 1,
+        rotation: v - 1,
+        freehead: 0,
+        freetail: n - 1,
+        outhead: 65535,
+        outtail: 65535,
+    }
+}
+
+// "Setup clears all lent memory, then chains spaces 0 to N-1 into the Free List in that order and empties the calendar".
+pub fn setup(
+    n: u16,
+    v: u16,
+    cells: &mut [u8],
+    links: &mut [u16],
+    calendar: &mut [u16],
+    words: &mut [u32],
+) -> Fresh
+    ensures { λ r. ⌜ setupPromise n v (now (cells .entry)) (now (links .entry)) (now (calendar .entry)) (now (words .entry)) r (now (cells .exit)) (now (links .exit)) (now (calendar .exit)) (now (words .exit)) ⌝ }
+{
+    let number = setup_refusal(n, v, cells.len(), links.len(), calendar.len(), words.len());
+    if number != 0 {
+        let none = no_record();
+        return Fresh {
+            number: number,
+            ctl: none,
+        };
+    }
+    clear_cells(cells);
+    chain_links(links);
+    empty_calendar(calendar);
+    clear_words(words);
+    let fresh = fresh_record(n, v);
+    Fresh {
+        number: 0,
+        ctl: fresh,
+    }
+}

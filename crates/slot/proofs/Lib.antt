@@ -1,0 +1,4 @@
+pub mod Ends
+pub mod QuietCases
+pub mod AcceptCases
+pub mod Whole

@@ -1,0 +1,191 @@
+-- A slot put together: its refusals, the clock, steps 2 and 3 as they were found, and what they leave to steps 4 and 5.
+-- Assumes nothing.
+use Prim.Native.Nat.{ℕ, _+_, _*_, _%_, _≤_, _<_}
+use mathlib.Core.Path.{_≡_, refl, sym, _∙_, ap, subst}
+use mathlib.Core.Logic.{_≢_}
+use mathlib.Core.Bool.{Bool, true, false, not, _&&_, _||_}
+use mathlib.Core.List.{List}
+use native.Mathlib.Omega.{arith}
+use native.Mathlib.Nat.{mod-lt}
+use borrow.Author.Tests.{eq-eqb, ne-eqb, lt-ltb, le-ltb, leb-true, eqb-true, eqb-false}
+use lib.ListN.{length}
+use Rattle.meaning.specs.declared.Record.{Record}
+use Rattle.meaning.specs.declared.Served.{Served}
+use Rattle.meaning.specs.Plain.{if_then_else_, _<?_, _≤?_, _=?_, Out, refused, next, needs, _andThen_}
+use Rattle.meaning.specs.Numbers.{rangesHold, accepted}
+use Rattle.meaning.specs.State.{State, stateOf, recordWith, withRecord, withClock, wordsLong, lengthsHold}
+use Rattle.meaning.specs.Work.{Work, workOf, bareAnswer}
+use Rattle.meaning.specs.Slot.{step1, step2, step3, step4, step5, fiveSteps, finish, slot}
+use Rattle.arrival.specs.declared.Fall.{Fall}
+use Rattle.arrival.specs.declared.Judged.{Judged}
+use Rattle.arrival.specs.Arrival.{broughtOf, judgedOf}
+use Rattle.spaces.specs.declared.Seat.{Seat}
+use Rattle.spaces.specs.Spaces.{seatOf}
+use Rattle.plan.specs.Plan.{freeEnds, clocked, rotated, rotatedWork, quietWork, seating, acceptWork}
+use Rattle.plan.specs.Facts.{Sized}
+use Rattle.plan.proofs.Found.{no, and}
+use Rattle.plan.proofs.Rotate.{rotate-is, judged-same}
+use Rattle.plan.proofs.Arrive.{arriving, arrive-is}
+use Rattle.plan.proofs.Seat.{seat-is}
+use Rattle.slot.specs.Slot.{shapeOf}
+
+-- ---- the accepted cell and its seat
+module _ (k : Record) (j : Judged) (cell cells links calendar words : List ℕ) (small : k .n ≤ 1024) (turn : k .turn < k .n) (near : j .d < k .n)
+    (a : Seat) (is : a ≡ seatOf (k .n) links calendar (k .turn) (freeEnds k) (j .d)) where
+  seated-is : seating k j cell cells links calendar words ≡ (if a .ok then next (acceptWork k j a cell cells links calendar words) else refused)
+  seated-is = rw is (seat-is k j cell cells links calendar words small turn near)
+
+  pub seating-none : a .ok ≡ false → (seating k j cell cells links calendar words andThen step4 andThen step5) ≡ refused
+  seating-none e = rw (seated-is, e)
+
+  pub seating-goes : a .ok ≡ true
+      → (seating k j cell cells links calendar words andThen step4 andThen step5)
+      ≡ (step4 (acceptWork k j a cell cells links calendar words) andThen step5)
+  seating-goes e = rw (seated-is, e)
+
+-- ---- steps 2 and 3
+module _ (k : Record) (cell cells links calendar words : List ℕ) (b : Fall) (is : b ≡ broughtOf (k .n) (k .t) words (k .rotation)) where
+  abbrev from2 : Out Work
+  from2 = step2 (workOf (stateOf k cells links calendar words) (bareAnswer 0)) andThen step3 cell andThen step4 andThen step5
+
+  pub rotating-none : b .ok ≡ false → from2 ≡ refused
+  rotating-none e = rw (rotate-is k cells links calendar words b is, e)
+
+  module _ (j : Judged) (found : j ≡ judgedOf (k .n) (k .v) (k .t) words cell) (inside : 7 * k .rotation + 7 ≤ length words) (ok : b .ok ≡ true) where
+    rotates : step2 (workOf (stateOf k cells links calendar words) (bareAnswer 0)) ≡ next (rotatedWork k cells links calendar (rotated k b words))
+    rotates = rw (rotate-is k cells links calendar words b is, ok)
+
+    judges : step3 cell (rotatedWork k cells links calendar (rotated k b words)) ≡ arriving k j cell cells links calendar (rotated k b words)
+    judges =
+        arrive-is k cell cells links calendar (rotated k b words)
+        ∙ ap (λ (x : Judged). arriving k x cell cells links calendar (rotated k b words)) (judged-same k words cell b is inside ∙ sym found)
+
+    arrives : from2 ≡ (arriving k j cell cells links calendar (rotated k b words) andThen step4 andThen step5)
+    arrives =
+        ap (λ (o : Out Work). o andThen step3 cell andThen step4 andThen step5) rotates
+        ∙ ap (λ (o : Out Work). o andThen step4 andThen step5) judges
+
+    pub arriving-none : j .ok ≡ false → from2 ≡ refused
+    unfolding arriving
+    arriving-none e = arrives ∙ rw e
+
+    pub arriving-accepted : j .ok ≡ true → j .verdict ≡ accepted
+        → from2 ≡ (seating k j cell cells links calendar (rotated k b words) andThen step4 andThen step5)
+    unfolding arriving
+    arriving-accepted e v = arrives ∙ rw (e, eq-eqb (j .verdict) accepted v)
+
+    pub arriving-quiet : j .ok ≡ true → j .verdict ≢ accepted
+        → from2 ≡ (step4 (quietWork k j cells links calendar (rotated k b words)) andThen step5)
+    unfolding arriving
+    arriving-quiet e v = arrives ∙ rw (e, ne-eqb (j .verdict) accepted v)
+
+-- ---- the refusals 1, 2 and 9, and the clock
+module _ (r : Record) (cell cells links calendar words : List ℕ) where
+  abbrev s : State
+  s = stateOf r cells links calendar words
+
+  abbrev shape : ℕ
+  shape = shapeOf r cells links calendar words cell
+
+  by-shape : (a b d : Bool) → rangesHold (r .n) (r .v) ≡ a → lengthsHold (r .n) (r .v) cells links calendar words ≡ b → length cell =? 0 || length cell =? 53 ≡ d
+      → slot s cell ≡ (if shape =? 0 then finish s (fiveSteps cell (workOf s (bareAnswer 0))) else workOf s (bareAnswer shape))
+  unfolding slot shapeOf
+  by-shape false b d ea eb ed = rw ea
+  by-shape true false d ea eb ed = rw (ea, eb)
+  by-shape true true false ea eb ed = rw (ea, eb, ed)
+  by-shape true true true ea eb ed = rw (ea, eb, ed)
+
+  slot-is : slot s cell ≡ (if shape =? 0 then finish s (fiveSteps cell (workOf s (bareAnswer 0))) else workOf s (bareAnswer shape))
+  slot-is = by-shape (rangesHold (r .n) (r .v)) (lengthsHold (r .n) (r .v) cells links calendar words) (length cell =? 0 || length cell =? 53) refl refl refl
+
+  pub slot-refused : (number : ℕ) (x : Served) → number ≡ shape → number ≢ 0 → (x .ctl ≡ r) × (x .answer ≡ bareAnswer number)
+      → workOf (stateOf (x .ctl) cells links calendar words) (x .answer) ≡ slot s cell
+  slot-refused number x e ne p = rw (p .0, p .1) (sym (slot-is ∙ rw (← e, ne-eqb number 0 ne)))
+
+  -- the five steps, once the clock has moved
+  abbrev five : Out Work
+  five = fiveSteps cell (workOf s (bareAnswer 0))
+
+  pub slot-goes : (number : ℕ) → number ≡ shape → number ≡ 0 → slot s cell ≡ finish s five
+  slot-goes number e z = slot-is ∙ rw (sym e ∙ z)
+
+  pub clock-turn : r .n ≤ r .turn → five ≡ refused
+  unfolding fiveSteps step1
+  clock-turn h = rw (le-ltb (r .turn) (r .n) h)
+
+  pub clock-rotation : r .turn < r .n → r .v ≤ r .rotation → five ≡ refused
+  unfolding fiveSteps step1
+  clock-rotation h g = rw (lt-ltb (r .turn) (r .n) h, le-ltb (r .rotation) (r .v) g)
+
+  pub clock-goes : (k : Record) → k ≡ clocked r → r .turn < r .n → r .rotation < r .v
+      → five ≡ (step2 (workOf (stateOf k cells links calendar words) (bareAnswer 0)) andThen step3 cell andThen step4 andThen step5)
+  unfolding fiveSteps step1 clocked withClock withRecord
+  clock-goes k e h g = rw (lt-ltb (r .turn) (r .n) h, lt-ltb (r .rotation) (r .v) g, e)
+
+  -- what no refusal of 1, 2 or 9 leaves
+  pub record Shaped : Type 0 where
+    pub n-low : 1 ≤ r .n
+    pub n-high : r .n ≤ 1024
+    pub v-low : 2 ≤ r .v
+    pub v-high : r .v ≤ 1024
+    pub cells-long : length cells ≡ 53 * r .n
+    pub links-long : length links ≡ r .n
+    pub calendar-long : length calendar ≡ 2 * r .n
+    pub words-long : length words ≡ 7 * r .v
+    pub cell-long : (length cell ≡ 0 → ⊥) → length cell ≡ 53
+
+  either : (a b : Bool) → a || b ≡ true → a ≡ false → b ≡ true
+  either true b e f = no (sym f ∙ e)
+  either false b e f = e
+
+  shaped-by : rangesHold (r .n) (r .v) ≡ true → lengthsHold (r .n) (r .v) cells links calendar words ≡ true → length cell =? 0 || length cell =? 53 ≡ true → Shaped
+  unfolding rangesHold lengthsHold wordsLong
+  shaped-by a b d =
+      let v2 = and (1 ≤? r .n && r .n ≤? 1024 && 2 ≤? r .v) (r .v ≤? 1024) a in
+      let v1 = and (1 ≤? r .n && r .n ≤? 1024) (2 ≤? r .v) (v2 .0) in
+      let n2 = and (1 ≤? r .n) (r .n ≤? 1024) (v1 .0) in
+      let w = and (length cells =? 53 * r .n && length links =? r .n && length calendar =? 2 * r .n) (length words =? 7 * r .v) b in
+      let c = and (length cells =? 53 * r .n && length links =? r .n) (length calendar =? 2 * r .n) (w .0) in
+      let l = and (length cells =? 53 * r .n) (length links =? r .n) (c .0) in
+      record {
+        n-low = leb-true _ _ (n2 .0);
+        n-high = leb-true _ _ (n2 .1);
+        v-low = leb-true _ _ (v1 .1);
+        v-high = leb-true _ _ (v2 .1);
+        cells-long = eqb-true _ _ (l .0);
+        links-long = eqb-true _ _ (l .1);
+        calendar-long = eqb-true _ _ (c .1);
+        words-long = eqb-true _ _ (w .1);
+        cell-long = λ ne. eqb-true _ _ (either (length cell =? 0) (length cell =? 53) d (ne-eqb (length cell) 0 ne));
+      }
+
+  shape-shows : (a b d : Bool) → rangesHold (r .n) (r .v) ≡ a → lengthsHold (r .n) (r .v) cells links calendar words ≡ b → length cell =? 0 || length cell =? 53 ≡ d
+      → shape ≡ 0 → Shaped
+  unfolding shapeOf
+  shape-shows false b d ea eb ed = rw ea (λ h. absurd (omega arith))
+  shape-shows true false d ea eb ed = rw (ea, eb) (λ h. absurd (omega arith))
+  shape-shows true true false ea eb ed = rw (ea, eb, ed) (λ h. absurd (omega arith))
+  shape-shows true true true ea eb ed = λ h. shaped-by ea eb ed
+
+  pub shaped : (number : ℕ) → number ≡ shape → number ≡ 0 → Shaped
+  shaped number e z =
+      shape-shows (rangesHold (r .n) (r .v)) (lengthsHold (r .n) (r .v) cells links calendar words) (length cell =? 0 || length cell =? 53) refl refl refl (sym e ∙ z)
+
+  pub sized : (k : Record) → k ≡ clocked r → Shaped → Sized k cells links calendar words
+  unfolding clocked recordWith
+  sized k e h = subst (λ (x : Record). Sized x cells links calendar words) (sym e) at
+    where
+      at : Sized (clocked r) cells links calendar words
+      at =
+          record {
+            n-low = h .n-low;
+            n-high = h .n-high;
+            v-low = h .v-low;
+            v-high = h .v-high;
+            cells-long = h .cells-long;
+            links-long = h .links-long;
+            calendar-long = h .calendar-long;
+            words-long = h .words-long;
+            turn-low = mod-lt (r .turn + 1) (omega (arith, h .n-low));
+            rotation-low = mod-lt (r .rotation + 1) (omega (arith, h .v-low));
+          }

@@ -1,0 +1,39 @@
+-- What departs: the definition with the header's VC in it, and with a VC's number, 0 for none. Assumes nothing.
+use Prim.Native.Nat.{ℕ}
+use mathlib.Core.Path.{_≡_, refl, sym, _∙_}
+use mathlib.Core.Logic.{_≢_}
+use mathlib.Core.Bool.{Bool, true, false}
+use mathlib.Core.List.{List}
+use native.Mathlib.Omega.{arith}
+use borrow.Author.Tests.{ne-eqb, eqb-false}
+use Rattle.meaning.specs.Plain.{_=?_}
+use lib.ListN.{getD}
+use Rattle.meaning.specs.Numbers.{cellStart}
+use Rattle.meaning.specs.Header.{headerAt, namesVc}
+use Rattle.header.proofs.NameLaws.{names-some, names-vci}
+use Rattle.spaces.specs.Spaces.{mayLeave, offOf}
+use Rattle.spaces.specs.Leaver.{leaverOf, offFrom}
+use Rattle.spaces.proofs.LeaverLaws.{leave-none}
+
+module _ (N z : ℕ) (cells links words : List ℕ) (x tail : ℕ) where
+  -- a VC of which a cell may depart is not VC 0
+  leave-some : mayLeave N z cells words x ≡ true → headerAt cells (cellStart x) .vci ≢ 0
+  leave-some e zero = go (namesVc z (headerAt cells (cellStart x))) refl
+    where
+      go : (d : Bool) → namesVc z (headerAt cells (cellStart x)) ≡ d → ⊥
+      go true f = omega (arith, names-some z _ f, names-vci z _ f)
+      go false f =
+          let y : _≡_ {A = Bool} true false = sym e ∙ leave-none N z cells words x f in
+          let w : _≡_ {A = ℕ} 0 1 = cc in omega arith
+
+  -- the follower matters only where x is not the tail
+  pub off-is : (follower : ℕ) → (x ≢ tail → follower ≡ getD links x 0)
+      → offFrom N (leaverOf N z cells words x) x follower tail ≡ offOf N z cells links words x tail
+  unfolding offFrom leaverOf offOf
+  off-is follower next = go (mayLeave N z cells words x) (x =? tail) refl refl
+    where
+      go : (d e : Bool) → mayLeave N z cells words x ≡ d → (x =? tail) ≡ e
+          → offFrom N (leaverOf N z cells words x) x follower tail ≡ offOf N z cells links words x tail
+      go true true p q = simp (p, ne-eqb _ _ (leave-some p), q)
+      go true false p q = simp (p, ne-eqb _ _ (leave-some p), q, next (eqb-false x tail q))
+      go false e p q = simp p

@@ -1,0 +1,27 @@
+-- A head and a tail, tested by the head first: below N, 65,535, or neither. Assumes nothing.
+use Prim.Native.Nat.{ℕ, _≤_, _<_}
+use mathlib.Core.Path.{_≡_, refl}
+use mathlib.Core.Logic.{_≢_}
+use mathlib.Core.Bool.{Bool, true, false, _||_}
+use native.Mathlib.Omega.{arith}
+use borrow.Author.Tests.{lt-ltb, le-ltb, eq-eqb, ne-eqb}
+use Rattle.meaning.specs.Plain.{_<?_, _=?_}
+use Rattle.meaning.specs.Numbers.{empty}
+use Rattle.meaning.specs.Lists.{endsFit}
+use Rattle.spaces.specs.Spaces.{endsOf}
+
+or-false : (b : Bool) → b ≡ (b || false)
+or-false true = refl
+or-false false = refl
+
+pub pair-below : (N head tail : ℕ) → N ≤ 1024 → head < N → (tail <? N) ≡ endsFit N (endsOf head tail)
+unfolding endsFit
+pair-below N head tail few h = simp (lt-ltb head N h, ne-eqb head empty (λ e. omega arith)) (or-false (tail <? N))
+
+pub pair-empty : (N head tail : ℕ) → N ≤ head → head ≡ empty → (tail =? empty) ≡ endsFit N (endsOf head tail)
+unfolding endsFit
+pair-empty N head tail h e = simp (le-ltb head N h, eq-eqb head empty e)
+
+pub pair-neither : (N head tail : ℕ) → N ≤ head → head ≢ empty → false ≡ endsFit N (endsOf head tail)
+unfolding endsFit
+pair-neither N head tail h ne = simp (le-ltb head N h, ne-eqb head empty ne)

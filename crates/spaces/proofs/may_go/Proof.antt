@@ -1,0 +1,52 @@
+-- `spaces::may_go` meets its contract: the tests are those of the definition, of the open word and of waiting. Assumes nothing.
+use Rattle.spaces.proofs.LeaverLaws.{go-counts, go-none, go-closed}
+use borrow.Author.Needs.{needs}
+use Rattle.spaces.proofs.may_go.Statement.{statement}
+use Rattle.spaces.proofs.may_go.Tie as tie
+
+mul-b : tie.Need-mul-b
+mul-b c = search needs
+
+mul-if1 : tie.Need-mul-if1
+mul-if1 c = search needs
+
+shared-slice-read-if1 : tie.Need-shared-slice-read-if1
+shared-slice-read-if1 c = search needs
+
+add-waiting : tie.Need-add-waiting
+add-waiting c = search needs
+
+mul-waiting : tie.Need-mul-waiting
+mul-waiting c = search needs
+
+shared-slice-read-waiting : tie.Need-shared-slice-read-waiting
+shared-slice-read-waiting c = search needs
+
+returns : tie.Need-returns
+returns c =
+    let a = c .before .before .before .before .args in
+    go-counts (a .n) (a .words .now) (a .u) (c .before .before .if1 .taken) (c .if2 .taken)
+
+returns-2 : tie.Need-returns-2
+returns-2 c =
+    let a = c .before .before .before .before .args in
+    go-none (a .n) (a .words .now) (a .u) (c .before .before .if1 .taken) (c .if2 .left)
+
+returns-3 : tie.Need-returns-3
+returns-3 c =
+    let a = c .before .before .args in
+    go-closed (a .n) (a .words .now) (a .u) (c .if1 .left)
+
+pub may-go-spec : {M : Type 1} → statement M
+may-go-spec =
+    tie.close
+    (tie.spec
+    mul-b
+    mul-if1
+    shared-slice-read-if1
+    add-waiting
+    mul-waiting
+    shared-slice-read-waiting
+    returns
+    returns-2
+    returns-3)

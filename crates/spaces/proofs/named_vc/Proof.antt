@@ -1,0 +1,32 @@
+-- `spaces::named_vc` meets its contract: the tests are those of the definition. Assumes nothing.
+use Rattle.spaces.specs.Leaver.{namedVc}
+use borrow.Author.Tests.{lt-ltb, le-ltb, eq-eqb, ne-eqb}
+use mathlib.Core.Path.{sym}
+use borrow.Author.Needs.{needs}
+use Rattle.spaces.proofs.named_vc.Statement.{statement}
+use Rattle.spaces.proofs.named_vc.Tie as tie
+
+cast-u : tie.Need-cast-u
+cast-u c = search needs
+
+may-go-requires : tie.Need-may-go-requires
+may-go-requires c κs = search needs
+
+returns : tie.Need-returns
+unfolding namedVc
+returns c = simp (ne-eqb _ _ (c .before .before .before .if1 .taken), lt-ltb _ _ (c .before .before .if2 .taken), sym (c .before .may-go .ensures), c .if3 .taken)
+
+returns-2 : tie.Need-returns-2
+unfolding namedVc
+returns-2 c = simp (ne-eqb _ _ (c .before .before .before .if1 .taken), lt-ltb _ _ (c .before .before .if2 .taken), sym (c .before .may-go .ensures), c .if3 .left)
+
+returns-3 : tie.Need-returns-3
+unfolding namedVc
+returns-3 c = simp (ne-eqb _ _ (c .before .if1 .taken), le-ltb _ _ (c .if2 .left))
+
+returns-4 : tie.Need-returns-4
+unfolding namedVc
+returns-4 c = simp (eq-eqb _ _ (c .if1 .left))
+
+pub named-vc-spec : {M : Type 1} → statement M
+named-vc-spec = tie.close (tie.spec cast-u may-go-requires returns returns-2 returns-3 returns-4)

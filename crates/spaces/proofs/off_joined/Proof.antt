@@ -1,0 +1,33 @@
+-- `spaces::off_joined` meets its contract: as off_head, with the link as the join will leave it. Assumes nothing.
+use Rattle.spaces.proofs.OffLaws.{off-is}
+use Rattle.spaces.specs.Leaver.{offFrom}
+use Rattle.spaces.specs.Spaces.{linked}
+use lib.ListN.{set}
+use mathlib.Core.Logic.{⊎-elim}
+use mathlib.Core.Path.{_∙_, ap}
+use Prim.Native.Nat.{ℕ}
+use borrow.Author.Needs.{needs}
+use Rattle.spaces.proofs.off_joined.Statement.{statement}
+use Rattle.spaces.proofs.off_joined.Tie as tie
+
+leaver-requires : tie.Need-leaver-requires
+leaver-requires c κs = search needs
+
+link-after-requires : tie.Need-link-after-requires
+link-after-requires c κs = search needs
+
+off-from-requires : tie.Need-off-from-requires
+off-from-requires c κs = search needs
+
+returns : tie.Need-returns
+unfolding linked
+returns c =
+    let a = c .before .before .before .before .before .before .args in
+    let next = c .before .if1 .follower in
+    (c .off-from .ensures ∙ ap (λ (g : ℕ). offFrom (a .n) g (a .x) next (a .tail)) (c .before .before .leaver .ensures))
+    ∙ off-is (a .n) (a .v) (a .cells .now) (set (a .links .now) (a .old) (a .head)) (a .words .now) (a .x) (a .tail) next
+    (⊎-elim (λ w ne. absurd (ne (w .0 .taken))) (λ w ne. w .2 ∙ w .1 .ensures) (c .before .if1 .came))
+
+pub off-joined-spec : {M : Type 1} → statement M
+off-joined-spec =
+    tie.close (tie.spec leaver-requires link-after-requires off-from-requires returns)

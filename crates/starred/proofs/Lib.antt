@@ -1,0 +1,3 @@
+pub mod Unfolded
+pub mod Starred
+pub mod ShutOut

@@ -1,0 +1,12 @@
+-- Every row of the table of starred cases holds: what the calls say, by the definitions that their contracts cite, is what
+-- document 01 gives. By computation. Assumes nothing.
+use mathlib.Core.Path.{_≡_, refl}
+use mathlib.Core.List.{map}
+use Rattle.starred.specs.Row.{says, expects}
+use Rattle.starred.specs.Table.{starredTable, eightSlots, oneSpace, openings, second16, second15, farApart}
+use Rattle.starred.specs.Table.{tableI, tableII, closeWaiting}
+use Rattle.starred.proofs.Unfolded.{unfolded}
+
+pub starred : map says starredTable ≡ map expects starredTable
+unfolding unfolded starredTable eightSlots oneSpace openings second16 second15 farApart tableI tableII closeWaiting
+starred = refl

@@ -1,0 +1,18 @@
+-- `first_at`: at place 0 a GM is read, and any other mark is refused.
+-- Assumes nothing.
+use Rattle.trace.proofs.Cases.{first-gm, first-other}
+use borrow.Author.Needs.{needs}
+use Rattle.trace.proofs.first_at.Statement.{statement}
+use Rattle.trace.proofs.first_at.Tie as tie
+
+setup-at-requires : tie.Need-setup-at-requires
+setup-at-requires c κs = search needs
+
+returns : tie.Need-returns
+returns c = first-gm _ _ _ (search needs) (search needs)
+
+returns-2 : tie.Need-returns-2
+returns-2 c = first-other _ _ _ (search needs)
+
+pub first-at-spec : {M : Type 1} → statement M
+first-at-spec = tie.close (tie.spec setup-at-requires returns returns-2)

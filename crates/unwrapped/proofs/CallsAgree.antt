@@ -1,0 +1,113 @@
+-- Open and close: over the stored words they give the stored outcome, and what rotation keeps is kept. Assumes nothing.
+use Prim.Native.Nat.{ℕ, _*_, _≤_, _<_}
+use mathlib.Core.Path.{_≡_, refl, sym, ap}
+use mathlib.Core.Bool.{true, not, _&&_}
+use mathlib.Core.List.{List}
+use native.Mathlib.Omega.{arith}
+use borrow.Author.Tests.{leb-true, ltb-true, eqb-true, not-false}
+use lib.ListN.{length}
+use Rattle.meaning.specs.declared.Record.{Record}
+use Rattle.meaning.specs.Plain.{_<?_, _≤?_, _=?_}
+use Rattle.meaning.specs.Numbers.{rangesHold}
+use Rattle.meaning.specs.State.{State, wordsLong, withRecord, withWords, recordWith, withClock}
+use Rattle.meaning.specs.Bucket.{bucketOf, obeysRules}
+use Rattle.meaning.specs.Words.{Vc, vcAt, writeVc, openedVc, closedVc, openWordFits, vcFits}
+use Rattle.meaning.specs.Calls.{Called, calledOf, sharedRefusal, openCall, closeCall}
+use Rattle.unwrapped.specs.Stored.{storedVc, storedState, storedCalled}
+use Rattle.unwrapped.specs.Unwrapped.{unwrappedOpen, unwrappedClose}
+use Rattle.unwrapped.specs.Kept.{since, Behind, Kept}
+use Rattle.unwrapped.proofs.Outs.{both-true, if-both, if-holds}
+use Rattle.unwrapped.proofs.WordsStored.{stored-length, stored-read, stored-write}
+use Rattle.unwrapped.proofs.Since.{recent-write}
+
+in-range : (z vci : ℕ) → 1 ≤? vci && vci <? z ≡ true → (1 ≤ vci) × (vci < z)
+in-range z vci p =
+    let q = both-true (1 ≤? vci) (vci <? z) p in
+    (leb-true 1 vci (q .0), ltb-true vci z (q .1))
+
+fits-stored : (N : ℕ) (vc : Vc) → vcFits N (storedVc vc) ≡ vcFits N vc
+unfolding vcFits openWordFits storedVc
+fits-stored N vc = refl
+
+-- refusals 1, 2, 4 and 3 read nothing that differs
+shared-stored : (u : State) (vci : ℕ) → length (u .words) ≡ 7 * u .ctl .v
+    → sharedRefusal (storedState u .ctl) (storedState u .words) vci ≡ sharedRefusal (u .ctl) (u .words) vci
+unfolding sharedRefusal storedState withClock withRecord withWords recordWith wordsLong
+shared-stored u vci long =
+    let r = u .ctl in
+    if-both (λ (n : ℕ). n) (not (rangesHold (r .n) (r .v))) _ _ _ _ (λ _. refl)
+    (λ _. rw (stored-length (r .v) (u .words))
+    (if-both (λ (n : ℕ). n) (not (length (u .words) =? 7 * r .v)) _ _ _ _ (λ _. refl)
+    (λ _. if-both (λ (n : ℕ). n) (not (1 ≤? vci && vci <? r .v)) _ _ _ _ (λ _. refl)
+    (λ e. let low = in-range (r .v) vci (not-false (1 ≤? vci && vci <? r .v) e) .1 in
+    rw (stored-read (r .v) (u .words) vci low (omega arith), fits-stored (r .n) (vcAt (u .words) vci))))))
+
+-- none of them: the VCI is in its range
+shared-low : (r : Record) (words : List ℕ) (vci : ℕ) → sharedRefusal r words vci ≡ 0 → (1 ≤ vci) × (vci < r .v)
+unfolding sharedRefusal
+shared-low r words vci =
+    if-holds (λ n. n ≡ 0 → (1 ≤ vci) × (vci < r .v)) (not (rangesHold (r .n) (r .v))) _ _ (λ _ p. absurd (omega arith))
+    (λ _. if-holds (λ n. n ≡ 0 → (1 ≤ vci) × (vci < r .v)) (not (wordsLong (r .v) words)) _ _ (λ _ p. absurd (omega arith))
+    (λ _. if-holds (λ n. n ≡ 0 → (1 ≤ vci) × (vci < r .v)) (not (1 ≤? vci && vci <? r .v)) _ _ (λ _ p. absurd (omega arith))
+    (λ e p. in-range (r .v) vci (not-false (1 ≤? vci && vci <? r .v) e))))
+
+pub open-agrees : (u : State) (vci m F C : ℕ) → Kept u
+    → openCall (storedState u .ctl) (storedState u .words) vci m F C ≡ storedCalled (u .ctl .v) (unwrappedOpen (u .ctl) (u .words) vci m F C)
+unfolding openCall unwrappedOpen storedCalled storedState withClock withRecord withWords recordWith storedVc openedVc
+open-agrees u vci m F C kept =
+    let r = u .ctl in
+    let k = sharedRefusal r (u .words) vci in
+    rw (shared-stored u vci (kept .recent .long))
+    (if-both (storedCalled (r .v)) (not (k =? 0)) _ _ _ _ (λ _. refl)
+    (λ e. let low = shared-low r (u .words) vci (eqb-true k 0 (not-false (k =? 0) e)) .1 in
+    rw (stored-read (r .v) (u .words) vci low (omega (arith, kept .recent .long)))
+    (if-both (storedCalled (r .v)) (vcAt (u .words) vci .opened =? 1) _ _ _ _ (λ _. refl)
+    (λ _. if-both (storedCalled (r .v)) (not (obeysRules (r .n) (bucketOf m F C 0))) _ _ _ _ (λ _. refl)
+    (λ _. ap (calledOf 0) (sym (stored-write (r .v) (u .words) vci (openedVc (r .t) (bucketOf m F C 0)) low (kept .recent .long))))))))
+
+pub close-agrees : (u : State) (vci : ℕ) → Kept u
+    → closeCall (storedState u .ctl) (storedState u .words) vci ≡ storedCalled (u .ctl .v) (unwrappedClose (u .ctl) (u .words) vci)
+unfolding closeCall unwrappedClose storedCalled storedState withClock withRecord withWords recordWith storedVc closedVc
+close-agrees u vci kept =
+    let r = u .ctl in
+    let k = sharedRefusal r (u .words) vci in
+    rw (shared-stored u vci (kept .recent .long))
+    (if-both (storedCalled (r .v)) (not (k =? 0)) _ _ _ _ (λ _. refl)
+    (λ e. let low = shared-low r (u .words) vci (eqb-true k 0 (not-false (k =? 0) e)) .1 in
+    rw (stored-read (r .v) (u .words) vci low (omega (arith, kept .recent .long)))
+    (if-both (storedCalled (r .v)) (vcAt (u .words) vci .opened =? 0) _ _ _ _ (λ _. refl)
+    (λ _. if-both (storedCalled (r .v)) (not (vcAt (u .words) vci .waiting =? 0)) _ _ _ _ (λ _. refl)
+    (λ _. ap (calledOf 0) (sym (stored-write (r .v) (u .words) vci closedVc low (kept .recent .long))))))))
+
+-- one VC's words written between two slots
+kept-write : (u : State) (vci : ℕ) (vc : Vc) → vci < u .ctl .v → Kept u
+    → Behind (u .ctl .t) (since (u .ctl .v) (u .ctl .rotation) vci) vc → Kept (withWords u (writeVc (u .words) vci vc))
+unfolding withWords
+kept-write u vci vc low kept b =
+    record {
+      turns = kept .turns;
+      recent = recent-write (u .ctl .v) (u .ctl .t) (since (u .ctl .v) (u .ctl .rotation)) (u .words) vci vc low (kept .recent .long)
+          (λ v p q _. kept .recent .behind v p q) b;
+    }
+
+pub open-keeps : (u : State) (vci m F C : ℕ) → Kept u → Kept (withWords u (unwrappedOpen (u .ctl) (u .words) vci m F C .words))
+unfolding unwrappedOpen openedVc withWords
+open-keeps u vci m F C kept =
+    let r = u .ctl in
+    let k = sharedRefusal r (u .words) vci in
+    if-holds (λ (c : Called). Kept (withWords u (c .words))) (not (k =? 0)) _ _ (λ _. kept)
+    (λ e. let low = shared-low r (u .words) vci (eqb-true k 0 (not-false (k =? 0) e)) .1 in
+    if-holds (λ (c : Called). Kept (withWords u (c .words))) (vcAt (u .words) vci .opened =? 1) _ _ (λ _. kept)
+    (λ _. if-holds (λ (c : Called). Kept (withWords u (c .words))) (not (obeysRules (r .n) (bucketOf m F C 0))) _ _ (λ _. kept)
+    (λ _. kept-write u vci (openedVc (r .t) (bucketOf m F C 0)) low kept (λ o. (omega arith, omega arith)))))
+
+pub close-keeps : (u : State) (vci : ℕ) → Kept u → Kept (withWords u (unwrappedClose (u .ctl) (u .words) vci .words))
+unfolding unwrappedClose closeCall closedVc withWords
+close-keeps u vci kept =
+    let r = u .ctl in
+    let k = sharedRefusal r (u .words) vci in
+    if-holds (λ (c : Called). Kept (withWords u (c .words))) (not (k =? 0)) _ _ (λ _. kept)
+    (λ e. let low = shared-low r (u .words) vci (eqb-true k 0 (not-false (k =? 0) e)) .1 in
+    if-holds (λ (c : Called). Kept (withWords u (c .words))) (vcAt (u .words) vci .opened =? 0) _ _ (λ _. kept)
+    (λ _. if-holds (λ (c : Called). Kept (withWords u (c .words))) (not (vcAt (u .words) vci .waiting =? 0)) _ _ (λ _. kept)
+    (λ _. kept-write u vci closedVc low kept (λ o. absurd (o refl)))))

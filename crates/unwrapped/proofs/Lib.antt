@@ -1,0 +1,9 @@
+pub mod Wrap
+pub mod WordsStored
+pub mod Outs
+pub mod Steps
+pub mod Since
+pub mod Keeps
+pub mod SlotAgrees
+pub mod CallsAgree
+pub mod NeverWraps

@@ -1,0 +1,4 @@
+pub mod Stored
+pub mod Unwrapped
+pub mod Kept
+pub mod UnwrappedRun

@@ -1,0 +1,42 @@
+-- What 32 bits keep of the clock that never wraps: the record and memories of the policer, from those of its unwrapped
+-- fellow. Only the numbers t and last differ.
+use Prim.Native.Nat.{ℕ, zero, suc, _+_, _-_, _%_}
+use mathlib.Core.List.{List}
+use Rattle.meaning.specs.Plain.{if_then_else_, _=?_}
+use Rattle.meaning.specs.Numbers.{slotNumbers}
+use Rattle.meaning.specs.State.{State, withClock, withWords}
+use Rattle.meaning.specs.Words.{Vc, vcAt, writeVc}
+use Rattle.meaning.specs.Calls.{Called, calledOf}
+use Rattle.meaning.specs.Work.{Work, workOf}
+
+-- "The slot number is 32 bits wide and wraps. The first slot after setup is slot 0." After k slots t is k - 1 modulo 2^32.
+unfoldable pub stored : ℕ → ℕ
+stored k = (k + slotNumbers - 1) % slotNumbers
+
+-- a VC's words; those of a closed one hold no slot number
+unfoldable pub storedVc : Vc → Vc
+storedVc vc =
+    record {
+      opened = vc .opened;
+      bucket = vc .bucket;
+      last = (if vc .opened =? 0 then vc .last else stored (vc .last));
+      waiting = vc .waiting;
+    }
+
+-- the words of the VCs below z
+unfoldable pub storedWords : ℕ → List ℕ → List ℕ
+storedWords zero words = words
+storedWords (suc z) words = writeVc (storedWords z words) z (storedVc (vcAt words z))
+
+unfoldable pub storedState : State → State
+storedState u =
+    let r = u .ctl in
+    withWords (withClock u (stored (r .t)) (r .turn) (r .rotation)) (storedWords (r .v) (u .words))
+
+-- the answer is the same
+unfoldable pub storedWork : Work → Work
+storedWork w = workOf (storedState (w .state)) (w .answer)
+
+-- so is the number that open and close give
+unfoldable pub storedCalled : ℕ → Called → Called
+storedCalled z c = calledOf (c .number) (storedWords z (c .words))

@@ -1,0 +1,78 @@
+// Opening and closing a VC.
+ghost use mathlib.Core.Path.{_≡_};
+ghost use mathlib.Core.Bool.{_&&_};
+ghost use Rattle.meaning.specs.Plain.{_<?_, _≤?_};
+ghost use Rattle.meaning.specs.Calls.{sharedRefusal};
+ghost use Rattle.meaning.specs.Promises.{openPromise, closePromise};
+use bucket::obeys_rules;
+use meaning::Record;
+use refusal::first;
+use refusal::ranges_hold;
+use refusal::refuse;
+use words::vc_fits;
+use words::write_vc;
+
+// "VCI .. 1 to V-1"
+fn names_vc(v: u16, vci: u16) -> bool
+    ensures { λ r. ⌜ r ≡ (1 ≤? vci && vci <? v) ⌝ }
+{
+    if vci < 1 {
+        return false;
+    }
+    vci < v
+}
+
+// Refusals 1, 2, 4 and 3, in this order, or 0. The VC's words are read only where they are lent.
+fn shared_refusal(ctl: Record, words: &[u32], vci: u16) -> u16
+    ensures { λ r. ⌜ r ≡ sharedRefusal ctl (now (words .entry)) vci ⌝ }
+{
+    let ranges = refuse(1, !ranges_hold(ctl.n, ctl.v));
+    let lengths = refuse(2, words.len() != 7 * (ctl.v as usize));
+    let name = refuse(4, !names_vc(ctl.v, vci));
+    let early = first(ranges, lengths);
+    let k = first(early, name);
+    if k != 0 {
+        return k;
+    }
+    refuse(3, !vc_fits(ctl.n, words, vci))
+}
+
+// "Opening sets open 1, the given m, F and C, S 0, last t, waiting 0."
+pub fn open(ctl: Record, words: &mut [u32], vci: u16, m: u8, f: u32, c: u32) -> u16
+    ensures { λ r. ⌜ openPromise ctl (now (words .entry)) vci m f c r (now (words .exit)) ⌝ }
+{
+    let shared = shared_refusal(ctl, words, vci);
+    if shared != 0 {
+        return shared;
+    }
+    let opened = words[7 * (vci as usize)];
+    let already = refuse(5, opened == 1);
+    let against = refuse(6, !obeys_rules(ctl.n, m as u32, f, c));
+    let k = first(already, against);
+    if k != 0 {
+        return k;
+    }
+    write_vc(words, vci, 1, m as u32, f, c, 0, ctl.t, 0);
+    0
+}
+
+// "Closing clears all seven words." Of a closed VC waiting decides nothing, since 7 comes before 8.
+pub fn close(ctl: Record, words: &mut [u32], vci: u16) -> u16
+    ensures { λ r. ⌜ closePromise ctl (now (words .entry)) vci r (now (words .exit)) ⌝ }
+{
+    let shared = shared_refusal(ctl, words, vci);
+    if shared != 0 {
+        return shared;
+    }
+    let base = 7 * (vci as usize);
+    let opened = words[base];
+    let waiting = words[base + 6];
+    let closed = refuse(7, opened == 0);
+    let waits = refuse(8, waiting != 0);
+    let k = first(closed, waits);
+    if k != 0 {
+        return k;
+    }
+    write_vc(words, vci, 0, 0, 0, 0, 0, 0, 0);
+    0
+}

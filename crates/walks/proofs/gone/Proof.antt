@@ -1,0 +1,59 @@
+-- `walks::gone` finds whether a budget is all 0: the numbers before i are, at each turn.
+-- Assumes nothing.
+use mathlib.Core.Path.{_≡_, refl}
+use denote.Ref.{now}
+use Prim.Native.Nat.{ℕ, _≤_, _<_, _-_}
+use lib.ListN.{length, getD}
+use borrow.Author.Count.{below-more}
+use Rattle.walks.proofs.BudgetLaws.{gone-all}
+use Rattle.walks.proofs.Choice.{false-true}
+use borrow.Author.Needs.{needs}
+use Rattle.walks.proofs.gone.Statement.{statement}
+use Rattle.walks.proofs.gone.Tie as tie
+
+abbrev Inv-loop : tie.InvT-loop
+Inv-loop b i₀ i = (i ≤ length b) × ((k : ℕ) → k < i → getD b k 0 ≡ 0)
+
+abbrev μ-loop : tie.MeasureT-loop
+μ-loop b i₀ i = length b - i
+
+loop-holds : tie.Need-loop-holds Inv-loop μ-loop
+loop-holds c = search needs
+
+mul-if1 : tie.Need-mul-if1 Inv-loop μ-loop
+mul-if1 c = search needs
+
+shared-slice-read-if1 : tie.Need-shared-slice-read-if1 Inv-loop μ-loop
+shared-slice-read-if1 c = search needs
+
+returns : tie.Need-returns Inv-loop μ-loop
+returns c = ((λ h. false-true h), λ g. absurd (c .if1 .taken (g (c .before .before .before .loop .i))))
+
+add-i : tie.Need-add-i Inv-loop μ-loop
+add-i c = search needs
+
+loop-less : tie.Need-loop-less Inv-loop μ-loop
+loop-less c = search needs
+
+loop-again : tie.Need-loop-again Inv-loop μ-loop
+loop-again c = (search needs, below-more _ _ (c .before .before .before .loop .inv .1) (c .if1 .left))
+
+returns-2 : tie.Need-returns-2 Inv-loop μ-loop
+returns-2 c =
+    let a = c .before .loop in
+    ((λ _. gone-all (now (c .before .before .args .b)) (a .i) (c .loop-test .left) (a .inv .1)), λ _. refl)
+
+pub gone-spec : {M : Type 1} → statement M
+gone-spec =
+    tie.close
+    (tie.spec
+    Inv-loop
+    μ-loop
+    loop-holds
+    mul-if1
+    shared-slice-read-if1
+    returns
+    add-i
+    loop-less
+    loop-again
+    returns-2)

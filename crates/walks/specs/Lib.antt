@@ -1,0 +1,3 @@
+pub mod Budget
+pub mod Walk
+pub mod Stored

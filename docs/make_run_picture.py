@@ -1,0 +1,112 @@
+#!/usr/bin/env python3
+"""The numbers of PLANNERS.md: the picture of the eight slots, the delays at usual line rates, and the worked example.
+
+Computed from due times and queues alone, by the few lines below, not by the library.
+  python3 docs/make_run_picture.py           print the three blocks
+  python3 docs/make_run_picture.py --check   exit 1 unless PLANNERS.md holds them word for word
+"""
+import math
+import pathlib
+import sys
+
+# cells a second: SONET and SDH carry 53-octet cells in their payload; DS-3 by PLCP and E3 by G.832 carry them by frames
+LINES = [("E3", 80_000), ("DS-3", 96_000)] + [
+    (name, rate * 1_000 / 424)
+    for name, rate in [("OC-3c, STM-1", 149_760), ("OC-12c, STM-4c", 599_040), ("OC-48c", 2_396_160), ("OC-192c", 9_584_640)]
+]
+
+
+def run(spaces, vcs, arrivals):
+    """Cells as (VCI, arrival, verdict, due slot, slot in which it leaves), by the exact leak rule and the two queues."""
+    last_due, calendar, output, cells = {}, {}, [], []
+    slot = 0
+    while slot < len(arrivals) or output or any(due >= slot for due in calendar):
+        vci = arrivals[slot] if slot < len(arrivals) else 0
+        if vci:
+            m, f, c = vcs[vci]
+            parts = 2**m
+            behind = last_due[vci] + f - slot * parts if vci in last_due else 0
+            if behind > c - f:
+                cells.append([vci, slot, "X", None, None])
+            else:
+                last_due[vci] = slot * parts + max(behind, 0)
+                cells.append([vci, slot, "A", last_due[vci] // parts, None])
+                calendar.setdefault(cells[-1][3], []).insert(0, cells[-1])
+        output += calendar.pop(slot, [])
+        if output:
+            output.pop(0)[4] = slot
+        slot += 1
+    late = [leaves - due for _, _, verdict, due, leaves in cells if verdict == "A"]
+    assert all(0 <= k <= spaces - 1 for k in late), "a cell left before its due slot, or more than N-1 slots after it"
+    return cells, slot
+
+
+def picture():
+    """One line a slot number, one a cell: a arrives, - waits for its due slot d, = waits for the line, * leaves."""
+    cells, slots = run(5, {40: (2, 10, 26), 41: (2, 4, 4)}, [40, 40, 40, 40, 40, 41, 0, 0])
+    wide = 5
+    lines = ["slot           " + "".join(f"{t:<{wide}}" for t in range(slots))]
+    for vci, arrives, verdict, due, leaves in cells:
+        row = [" "] * (wide * slots)
+        if verdict == "X":
+            row[wide * arrives] = "x"
+            note = "excess"
+        else:
+            row[wide * arrives : wide * due] = ["-"] * (wide * (due - arrives))
+            row[wide * due : wide * leaves] = ["="] * (wide * (leaves - due))
+            row[wide * arrives], row[wide * due], row[wide * leaves] = "a", "d", "*"
+            note = f"D {due - arrives}, late {leaves - due}"
+        lines.append(f"cell of VC {vci}  " + "".join(row) + note)
+    sent = {leaves: vci for vci, _, _, _, leaves in cells if leaves is not None}
+    lines.append("leaves         " + "".join(f"{sent.get(t, '.')!s:<{wide}}" for t in range(slots)))
+    return "\n".join(line.rstrip() for line in lines)
+
+
+def at_most(micros):
+    """Four digits, rounded up: what is quoted as a bound must not lie below it."""
+    step = 10.0 ** (math.floor(math.log10(micros)) - 3)
+    return f"{math.ceil(micros / step - 1e-9) * step:.4g}"
+
+
+def delays(spaces):
+    """For N = 76: N-1 is 75 and 2 × (N-1) is 150."""
+    rows = ["| line | one slot | 75 slots | 150 slots |", "|---|---|---|---|"]
+    for name, cells in LINES:
+        micros = 1e6 / cells
+        bounds = [at_most(micros * k) for k in (1, spaces - 1, 2 * (spaces - 1))]
+        rows.append(f"| {name} | " + " | ".join(f"{bound} µs" for bound in bounds) + " |")
+    return "\n".join(rows)
+
+
+def example():
+    """A peak of 8 Mb/s on 149.76 Mb/s, tolerance 60 microseconds, with m 4."""
+    parts, micros = 2**4, 424 / 149.76
+    f = math.floor(parts * 149.76 / 8)
+    c = f + math.ceil(parts * 60 / micros)
+    most = (c - f) // parts
+    return "\n".join(
+        [
+            f"L = 16, F = {f}, C = {c}",
+            f"rate let through: one cell in {f / parts:.4f} slots, {149.76 * parts / f:.3f} Mb/s",
+            f"largest D: floor(({c} - {f}) / 16) = {most} slots, so N = {most + 1} for this VC alone",
+            f"due slot at most {most} slots, {at_most(most * micros)} µs, after arrival",
+            f"on the line at most {2 * most} slots, {at_most(2 * most * micros)} µs, after arrival, where N = {most + 1}",
+            f"on the line at most {most + 75} slots, {at_most((most + 75) * micros)} µs, after arrival, where N = 76",
+        ]
+    )
+
+
+def main():
+    blocks = [f"```\n{picture()}\n```", delays(76), f"```\n{example()}\n```"]
+    if "--check" not in sys.argv[1:]:
+        print("\n\n".join(blocks))
+        return 0
+    page = pathlib.Path(__file__).with_name("PLANNERS.md").read_text(encoding="utf-8")
+    missing = [block for block in blocks if block not in page]
+    for block in missing:
+        print(f"PLANNERS.md does not hold:\n{block}\n")
+    return 1 if missing else 0
+
+
+if __name__ == "__main__":
+    sys.exit(main())

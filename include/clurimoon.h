@@ -1,0 +1,279 @@
+/*
+ * Clurimoon: the spacing policer of Wallmeier and Worster (ISS 1992).
+ *
+ * A policer has N cell spaces and serves VCs named by their VCI, 1 to V-1, at
+ * VPI 0. The caller lends all memory and keeps the control record: the library
+ * has no memory of its own, allocates nothing and keeps no pointer.
+ *
+ * Every call answers for every argument and every content of the lent memory.
+ * A refused call leaves everything as it came. What each call does is said over
+ * its declaration; document 01 of the project has the exact rules.
+ *
+ * Rules of lending:
+ *  - a pointer is followed by the length of what it points to, in elements;
+ *  - lent buffers don't overlap one another, and the arriving cell does not lie
+ *    in the cell memory;
+ *  - links, calendar and answers are aligned to 2 octets, VC words to 4;
+ *  - the pointer of a length of 0 is not followed and may be NULL.
+ *
+ * Widths: a value is judged as the parameter's type holds it. C cuts a wider
+ * value before the call, and the call can't see that: 65,537 handed over as N
+ * arrives as 1. Compile with -Wconversion, which warns of it.
+ */
+#ifndef CLURIMOON_H
+#define CLURIMOON_H
+
+#include <stddef.h>
+#include <stdint.h>
+#ifndef __cplusplus
+#include <stdbool.h>
+#endif
+
+/* Octets of a cell, and the number that marks an empty head or tail, and no space. */
+#define CLURIMOON_CELL 53
+#define CLURIMOON_NONE 65535
+
+/* The ranges: N, V, m (with L = 2^m) and F (from L on). */
+#define CLURIMOON_N_MIN 1
+#define CLURIMOON_N_MAX 1024
+#define CLURIMOON_V_MIN 2
+#define CLURIMOON_V_MAX 1024
+#define CLURIMOON_M_MAX 15
+#define CLURIMOON_F_MAX 16777216
+
+/* How much to lend, in elements: octets, 16-bit, 16-bit and 32-bit numbers. */
+#define CLURIMOON_CELLS(n) ((size_t)53 * (size_t)(n))
+#define CLURIMOON_LINKS(n) ((size_t)(n))
+#define CLURIMOON_CALENDAR(n) ((size_t)2 * (size_t)(n))
+#define CLURIMOON_VCS(v) ((size_t)7 * (size_t)(v))
+
+/* The octets of all four memories together; the record is kept apart. */
+#define CLURIMOON_OCTETS(n, v) ((size_t)59 * (size_t)(n) + (size_t)28 * (size_t)(v))
+
+/* What a burst of k slots takes, in elements: octets, octets, 16-bit numbers. */
+#define CLURIMOON_ARRIVALS(k) ((size_t)53 * (size_t)(k))
+#define CLURIMOON_DEPARTURES(k) ((size_t)53 * (size_t)(k))
+#define CLURIMOON_ANSWERS(k) ((size_t)6 * (size_t)(k))
+
+/* Refusal numbers. 10 is the trace reader's; no call of this header gives it. */
+enum clurimoon_number {
+  CLURIMOON_DONE = 0,         /* done */
+  CLURIMOON_RANGE = 1,        /* N or V outside its range */
+  CLURIMOON_LENGTH = 2,       /* a lent buffer has another length than it must */
+  CLURIMOON_STORED = 3,       /* the call would read a stored number outside its range */
+  CLURIMOON_VCI = 4,          /* VCI outside 1 to V-1 */
+  CLURIMOON_ALREADY_OPEN = 5, /* open: already open */
+  CLURIMOON_RULES = 6,        /* open: m, F or C against the rules */
+  CLURIMOON_NOT_OPEN = 7,     /* close: not open */
+  CLURIMOON_WAITING = 8,      /* close: waiting isn't 0 */
+  CLURIMOON_CELL_LENGTH = 9,  /* slot: cell length neither 0 nor 53 */
+  CLURIMOON_UNREADABLE = 10   /* trace: record unreadable */
+};
+
+/* Verdicts on what arrived. */
+enum clurimoon_verdict {
+  CLURIMOON_NOTHING = 0,  /* no cell, or VPI 0 with VCI 0: the slot counts as empty */
+  CLURIMOON_ACCEPTED = 1, /* accepted; it is due D slots from now */
+  CLURIMOON_EXCESS = 2,   /* beyond the VC's peak rate and tolerance; not stored */
+  CLURIMOON_UNKNOWN = 3   /* VPI not 0, VCI of V or more, or a VC not open; not stored */
+};
+
+/* The seven words of VC number x, from word 7 * x of the VC words on. */
+enum clurimoon_word {
+  CLURIMOON_WORD_OPEN = 0,   /* 0 or 1 */
+  CLURIMOON_WORD_M = 1,      /* L = 2^m */
+  CLURIMOON_WORD_F = 2,      /* what a cell fills in */
+  CLURIMOON_WORD_C = 3,      /* what the bucket holds */
+  CLURIMOON_WORD_S = 4,      /* what is in it */
+  CLURIMOON_WORD_LAST = 5,   /* the slot in which S was last brought up to date */
+  CLURIMOON_WORD_WAITING = 6 /* accepted cells that have not left */
+};
+
+/* The six numbers of slot k in a burst's answers, from number 6 * k on. */
+enum clurimoon_answer_place {
+  CLURIMOON_ANSWER_NUMBER = 0,
+  CLURIMOON_ANSWER_VERDICT = 1,
+  CLURIMOON_ANSWER_VCI = 2,
+  CLURIMOON_ANSWER_D = 3,
+  CLURIMOON_ANSWER_SPACE = 4,
+  CLURIMOON_ANSWER_OUT_VCI = 5
+};
+
+/* The control record. The caller keeps it, hands it in and takes it back; it
+   need not look inside. t is the last slot's number, modulo 2^32. */
+typedef struct {
+  uint16_t n, v;
+  uint32_t t;
+  uint16_t T, rotation, free_head, free_tail, out_head, out_tail;
+} clurimoon_record;
+
+/* What a slot did: refusal number; verdict; VCI as read (0 for nothing); D (0
+   unless accepted); the departing space (65,535 for none); the departing VCI (0
+   for none). In a refusal all but the number are 0, and the space is 65,535. */
+typedef struct {
+  uint16_t number, verdict, vci, d, space, out_vci;
+} clurimoon_answer;
+
+/* What setup answers. */
+typedef struct {
+  uint16_t number;
+  clurimoon_record record;
+} clurimoon_set;
+
+/* What a slot answers. */
+typedef struct {
+  clurimoon_record record;
+  clurimoon_answer answer;
+} clurimoon_served;
+
+/* Where the line's cell lies: in the idle cell (from_idle 1) or in the cell
+   memory (from_idle 0), from octet `start` on, `length` octets. */
+typedef struct {
+  uint16_t from_idle;
+  size_t start, length;
+} clurimoon_part;
+
+/* What a burst answers: `done` slots were served, and then came `number`. */
+typedef struct {
+  clurimoon_record record;
+  uint16_t number;
+  size_t done;
+} clurimoon_burst_end;
+
+#ifdef __cplusplus
+extern "C" {
+#endif
+
+/*
+ * Sets up a policer with n spaces and VCIs below v.
+ *
+ * Refusals, in this order: 1 if n is not 1 to 1,024 or v not 2 to 1,024; 2 if
+ * the lengths are not 53 n octets of cells, n links, 2 n calendar numbers and
+ * 7 v VC words. A refusal writes nothing and hands back a record of zeros.
+ *
+ * Done: all four memories are cleared; spaces 0 to n-1 are chained into the Free
+ * List in that order (link i is i+1, the last link stays 0); every calendar
+ * number is 65,535; the Output List is empty. The record has t 2^32-1, T n-1 and
+ * rotation v-1, so that the first slot is slot 0. No VC is open.
+ */
+clurimoon_set clurimoon_setup(uint16_t n, uint16_t v,
+                              uint8_t *cells, size_t cells_length,
+                              uint16_t *links, size_t links_length,
+                              uint16_t *calendar, size_t calendar_length,
+                              uint32_t *vcs, size_t vcs_length);
+
+/*
+ * Opens VC vci with L = 2^m, fill F and capacity C: a peak rate of L/F cells a
+ * slot, and a tolerance of (C-F)/L slots.
+ *
+ * Refusals, in this order: 1 if the record's N or V is outside its range; 2 if
+ * the VC words are not 7 V; 4 if vci is not 1 to V-1; 3 if the VC's open word is
+ * neither 0 nor 1, or it is open and its m, F and C break the rules, or S is
+ * above C, or waiting above N; 5 if it is open; 6 unless m is at most 15, F from
+ * L to 16,777,216, C at least F and floor((C-F)/L) at most N-1.
+ *
+ * Done: the VC's seven words are 1, m, F, C, 0, the record's t, 0. No other word
+ * changes. The record does not change and so isn't handed back.
+ */
+uint16_t clurimoon_open(clurimoon_record record, uint32_t *vcs, size_t vcs_length,
+                        uint16_t vci, uint8_t m, uint32_t f, uint32_t c);
+
+/*
+ * Closes VC vci.
+ *
+ * Refusals, in this order: 1, 2, 4 and 3 as for open; 7 if it is not open; 8 if
+ * cells of it wait.
+ *
+ * Done: the VC's seven words are 0. No other word changes.
+ */
+uint16_t clurimoon_close(clurimoon_record record, uint32_t *vcs, size_t vcs_length,
+                         uint16_t vci);
+
+/*
+ * Serves one slot. `cell` is what arrived: 53 octets, or none (length 0).
+ *
+ * Refusals, in this order: 1 if the record's N or V is outside its range; 2 if
+ * one of the four memories has another length than at setup; 9 if the cell's
+ * length is neither 0 nor 53; 3 if the slot would read a stored number outside
+ * its range. A refusal writes nothing and hands the record back as it came.
+ *
+ * Done: the clock, T and rotation grow by one; the VC that rotation names, if
+ * open, is brought up to date; the arriving cell is judged and, if accepted,
+ * stored in the head of the Free List and joined to the head of calendar entry
+ * T+D; entry T goes to the end of the Output List; the head of the Output List
+ * departs, and its space goes to the tail of the Free List. No octet and no word
+ * changes but those that these steps name.
+ *
+ * The departing cell stays in its space, `answer.space`, until a later slot
+ * stores another there: show it with clurimoon_line before the next slot.
+ */
+clurimoon_served clurimoon_slot(clurimoon_record record,
+                                uint8_t *cells, size_t cells_length,
+                                uint16_t *links, size_t links_length,
+                                uint16_t *calendar, size_t calendar_length,
+                                uint32_t *vcs, size_t vcs_length,
+                                const uint8_t *cell, size_t cell_length);
+
+/*
+ * Says where the cell for the line lies; nothing is copied and nothing written.
+ * `number` is a slot's answer.space.
+ *
+ * If the cell memory's length isn't 53 N for an N of 1 to 1,024, or the idle
+ * cell isn't 53 long, or the number is neither below N nor 65,535: the empty
+ * part, {1, 0, 0}. Otherwise, number below N: {0, 53 number, 53}, that space of
+ * the cell memory; 65,535: {1, 0, 53}, the whole idle cell.
+ */
+clurimoon_part clurimoon_line(const uint8_t *cells, size_t cells_length,
+                              const uint8_t *idle, size_t idle_length,
+                              uint16_t number);
+
+/*
+ * Says whether the state is sound; writes nothing.
+ *
+ * True exactly when lengths and ranges hold throughout, each space is in exactly
+ * one of the Free List, the Output List and the time slot queues, each chain
+ * ends at its tail, entry T is empty, each queued header names an open VC, and
+ * each open VC's waiting is the number of its queued cells. VC 0's words don't
+ * matter. It is true after every call since a setup that answered 0, where each
+ * call got record and memories as the call before left them.
+ */
+bool clurimoon_audit(clurimoon_record record,
+                     const uint8_t *cells, size_t cells_length,
+                     const uint16_t *links, size_t links_length,
+                     const uint16_t *calendar, size_t calendar_length,
+                     const uint32_t *vcs, size_t vcs_length);
+
+/*
+ * Serves slot after slot in one call: `sizes` has an octet a slot, the length of
+ * the cell that arrived (0 or 53); `arrivals` 53 octets a slot, not read where
+ * the size is 0; `departures` 53 octets a slot; `answers` six numbers a slot, in
+ * the order of clurimoon_answer.
+ *
+ * Refusals, in this order: 1 if the record's N or V is outside its range; 2 if
+ * one of the four memories has another length than at setup, or arrivals and
+ * departures are not 53 times, answers not 6 times as long as sizes. Each leaves
+ * everything as it came, with done 0.
+ *
+ * Otherwise it is that many calls of clurimoon_slot, each followed by copying the
+ * departing cell, if any, into the slot's own 53 octets of departures (since its
+ * space may be taken again within the burst). Where nothing departs these octets
+ * keep their values. The burst stops before the first slot that would be refused,
+ * with 9 or 3: record and memories are those after `done` served slots, answers
+ * and departures of these are written, and all others keep their values. If all
+ * slots are served, and for no sizes, the number is 0.
+ */
+clurimoon_burst_end clurimoon_burst(clurimoon_record record,
+                                    uint8_t *cells, size_t cells_length,
+                                    uint16_t *links, size_t links_length,
+                                    uint16_t *calendar, size_t calendar_length,
+                                    uint32_t *vcs, size_t vcs_length,
+                                    const uint8_t *arrivals, size_t arrivals_length,
+                                    const uint8_t *sizes, size_t sizes_length,
+                                    uint8_t *departures, size_t departures_length,
+                                    uint16_t *answers, size_t answers_length);
+
+#ifdef __cplusplus
+}
+#endif
+
+#endif
