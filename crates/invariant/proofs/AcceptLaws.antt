@@ -27,6 +27,8 @@ use Rattle.queues.proofs.QueueLaws.{turn-sums, turn-flat, put-sums, all-map, al
 use Rattle.queues.proofs.LineLaws.{arrive-some, timed-turn}
 use Rattle.queues.proofs.OrderLaws.{put-order}
 use Rattle.queues.proofs.RisingLaws.{rising-add}
+use Rattle.chains.specs.Strung.{self}
+use Rattle.chains.proofs.StrungLaws.{TakenOff}
 use Rattle.chains.proofs.CountLaws.{is-no, is-same}
 use Rattle.table.specs.Stored.{stored, VcIs, OpenVc}
 use Rattle.table.proofs.LeakLaws.{due-grows, rules-are}
@@ -88,20 +90,18 @@ module _ (now : ℕ) (cell : List ℕ) (op : ℕ → Option Opening) (free : Lis
     room : sums one (turn cal) + sum one out < N
     room = omega (arith, turn-sums one cal, good .room, st .ranges .N-low)
 
-    spare : SomeFree N low (s .ctl .turn) (s .cells) (s .links) (s .calendar) (freeList s) (outputList s) free
+    spare : SomeFree free
     spare =
-        some-free N low (s .ctl .turn) (s .cells) (s .links) (s .calendar) (freeList s) (outputList s) free out (turn cal)
-        room (st .has)
+        some-free low (st .has) room
 
     has : Has N (s .ctl .turn) (s .cells) (s .links) (s .calendar) (freeList s) (outputList s) (spare .x ∷ spare .rest) out
         (turn cal)
     has = rw (spare .is) at (st .has)
 
-    taken : Rattle.chains.proofs.StrungLaws.TakenOff Rattle.chains.specs.Strung.self N low (s .links) (freeList s)
+    taken : TakenOff self N low (s .links) (freeList s)
         (spare .rest)
     taken =
-        free-taken N low (s .ctl .turn) (s .cells) (s .links) (s .calendar) (freeList s) (outputList s) (spare .x)
-        (spare .rest) out (turn cal) has
+        free-taken low has
 
     abbrev new : Queued
     new = record {
@@ -122,13 +122,10 @@ module _ (now : ℕ) (cell : List ℕ) (op : ℕ → Option Opening) (free : Lis
     goes =
         rw (
           lt-ltb q N (omega (arith, waits-low u (N - 1) out (turn cal) (omega (arith, room)), st .ranges .N-low)),
-          free-fits N low (s .ctl .turn) (s .cells) (s .links) (s .calendar) (freeList s) (outputList s) free out (turn cal)
-              (st .has),
-          free-marked N low (s .ctl .turn) (s .cells) (s .links) (s .calendar) (freeList s) (outputList s) (spare .x)
-              (spare .rest) out (turn cal) has,
+          free-fits low (st .has),
+          free-marked low has,
           taken .goes,
-          entry-fits N low (s .ctl .turn) (s .cells) (s .links) (s .calendar) (freeList s) (outputList s) free out
-              (turn cal) (st .has) D D-low,
+          entry-fits low (st .has) D D-low,
         )
 
     entered : sums (isOf u) (put D new (turn cal)) ≡ suc (sums (isOf u) (turn cal))
@@ -202,8 +199,7 @@ module _ (now : ℕ) (cell : List ℕ) (op : ℕ → Option Opening) (free : Lis
               t-is = st .t-is;
               turn-low = st .turn-low;
               rotation-is = st .rotation-is;
-              has = placed N low (s .ctl .turn) (s .cells) (s .links) (s .calendar) (freeList s) (outputList s) (spare .x)
-                  (spare .rest) out (turn cal) has D new D-low refl long (taken .left) (taken .rest);
+              has = placed low has D new D-low refl long (taken .left) (taken .rest);
               words-long = write-length (s .words) u full ∙ st .words-long;
               table = λ v h1 h2. each v h1 h2 (ℕ-discrete v u);
             };

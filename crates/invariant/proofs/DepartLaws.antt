@@ -55,8 +55,7 @@ module _ (now : ℕ) (op : ℕ → Option Opening) (free : List ℕ) (r : List (
     idles st =
         record {
           work = w;
-          goes = rw (out-bare N (omega (arith, st .ranges .N-high)) b (s .cells) (s .links) (s .calendar) (freeList s)
-              (outputList s) free r (st .has));
+          goes = rw (out-bare (omega (arith, st .ranges .N-high)) (st .has));
           holds = record { free = free; stage = st; departs = refl };
         }
 
@@ -122,7 +121,7 @@ module _ (now : ℕ) (op : ℕ → Option Opening) (free : List ℕ) (r : List (
       few-wait = omega (arith, waiting-is, one-more, waits-low u N (c ∷ o) r few)
 
       taken : TakenOff spaceOf N low (s .links) (outputList s) o
-      taken = out-taken N low b (s .cells) (s .links) (s .calendar) (freeList s) (outputList s) free c o r (st .has)
+      taken = out-taken low (st .has)
 
       abbrev grown : Grown
       grown = addTail (s .links) (freeList s) x
@@ -140,13 +139,13 @@ module _ (now : ℕ) (op : ℕ → Option Opening) (free : List ℕ) (r : List (
       unfolding step5 depart withOutputList withLinks withFreeList withWords withRecord recordWith
       goes =
           rw (
-            out-marked N low b (s .cells) (s .links) (s .calendar) (freeList s) (outputList s) free c o r (st .has),
+            out-marked low (st .has),
             taken .goes,
             header-is,
             names-open,
             le-leb 1 (vc .waiting) (omega (arith, waiting-is)),
             le-leb (vc .waiting) N few-wait,
-            free-fits N low b (s .cells) (s .links) (s .calendar) (freeList s) (outputList s) free (c ∷ o) r (st .has),
+            free-fits low (st .has),
           )
 
       each : (v : ℕ) → 1 ≤ v → v < z → Dec (v ≡ u) → VcIs N z (suc now) v (vcAt (writeVc (s .words) u less) v) (waits v o r)
@@ -177,7 +176,7 @@ module _ (now : ℕ) (op : ℕ → Option Opening) (free : List ℕ) (r : List (
                 t-is = st .t-is;
                 turn-low = st .turn-low;
                 rotation-is = st .rotation-is;
-                has = departed N low b (s .cells) (s .links) (s .calendar) (freeList s) (outputList s) free c o r (st .has)
+                has = departed low (st .has)
                     (taken .left) (taken .rest);
                 words-long = write-length (s .words) u less ∙ st .words-long;
                 table = λ v h1 h2. each v h1 h2 (ℕ-discrete v u);
@@ -185,9 +184,9 @@ module _ (now : ℕ) (op : ℕ → Option Opening) (free : List ℕ) (r : List (
               departs = (
                 x,
                 ap (answerOf (w .answer .number) (w .answer .verdict) (w .answer .vci) (w .answer .d) x) (sits .1),
-                out-low N low b (s .cells) (s .links) (s .calendar) (freeList s) (outputList s) free c o r (st .has),
+                out-low low (st .has),
                 line-cell N (st .ranges .N-low) (st .ranges .N-high) (s .cells) idle (st .has .cells-long) refl x
-                    (out-low N low b (s .cells) (s .links) (s .calendar) (freeList s) (outputList s) free c o r (st .has))
+                    (out-low low (st .has))
                     ∙ octets-are,
               );
             };

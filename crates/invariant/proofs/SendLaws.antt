@@ -1,17 +1,15 @@
--- Steps 4 and 5 of a slot, from the invariant: entry T is transferred, the head of the Output List departs with the
--- octets that were accepted, and no test of refusal 3 fails. Assumes nothing.
-use Prim.Native.Nat.{ℕ, suc, _+_, _%_, _≤_}
-use mathlib.Core.Path.{_≡_, refl, sym, ap, _∙_, subst, subst₂}
-use mathlib.Core.Bool.{true}
+-- Step 4 of a slot, from the invariant: entry T, if marked, joins the end of the Output List, and no test of refusal 3
+-- fails. Assumes nothing.
+use Prim.Native.Nat.{ℕ, suc, _+_, _≤_}
+use mathlib.Core.Path.{_≡_, refl, subst, subst₂}
 use mathlib.Core.List.{List, [], _∷_, _++_, tail, append-nil}
 use mathlib.Core.Option.{Option}
-use native.Mathlib.Nat.{mod-eq-of-lt}
 use native.Mathlib.Numerals.{add-one}
 use native.Mathlib.Omega.{arith}
 use Rattle.meaning.specs.Numbers.{empty}
-use Rattle.meaning.specs.State.{State, freeList, outputList, withRecord, recordWith, withLinks, withCalendar, withOutputList}
+use Rattle.meaning.specs.State.{State, outputList, withRecord, recordWith, withLinks, withCalendar, withOutputList}
 use Rattle.meaning.specs.Words.{vcAt}
-use Rattle.meaning.specs.Lists.{emptyList, endsFit, entryAt, writeEntry, Grown, joinTail}
+use Rattle.meaning.specs.Lists.{emptyList, entryAt, writeEntry, Grown, joinTail}
 use Rattle.meaning.specs.Work.{Work, withState}
 use Rattle.meaning.specs.Slot.{step4}
 use Rattle.runs.specs.Leak.{Opening}
@@ -19,8 +17,8 @@ use Rattle.queues.specs.Queue.{first, turn}
 use Rattle.queues.proofs.QueueLaws.{sum-append, turn-sums}
 use Rattle.table.specs.Stored.{VcIs}
 use Rattle.memory.specs.Held.{Queued}
-use Rattle.memory.proofs.HasLaws.{out-fits, entry-fits}
-use Rattle.memory.proofs.MoveLaws.{first-marked, first-bare, passed, transferred}
+use Rattle.memory.proofs.HasLaws.{out-fits}
+use Rattle.memory.proofs.MoveLaws.{first-fits, first-bare, passed, first-marked, transferred}
 use Rattle.invariant.specs.Invariant.{isOf, waits, Stage}
 use Rattle.invariant.proofs.StepLaws.{Goes}
 
@@ -53,10 +51,9 @@ module _ (now : ℕ) (op : ℕ → Option Opening) (free : List ℕ) where
           record {
             work = w;
             goes = rw (
-              entry-fit,
-              out-fits N low T (s .cells) (s .links) (s .calendar) (freeList s) (outputList s) free o ([] ∷ r) (st .has),
-              first-bare N low T (s .cells) (s .links) (s .calendar) (freeList s) (outputList s) (st .turn-low) free o r
-                  (st .has),
+              first-fits low (st .turn-low) (st .has),
+              out-fits low (st .has),
+              first-bare low (st .turn-low) (st .has),
             );
             holds = record {
               answer-kept = refl;
@@ -68,8 +65,7 @@ module _ (now : ℕ) (op : ℕ → Option Opening) (free : List ℕ) where
                 turn-low = st .turn-low;
                 rotation-is = st .rotation-is;
                 has = rw (append-nil o, add-one T)
-                    (passed N low T (s .cells) (s .links) (s .calendar) (freeList s) (outputList s) (st .turn-low) free o r
-                    (st .has));
+                    (passed low (st .turn-low) (st .has));
                 words-long = st .words-long;
                 table = λ v h1 h2. subst (λ (i : ℕ). VcIs N z (suc now) v (vcAt (s .words) v) i (op v)) (same v)
                     (st .table v h1 h2);
@@ -80,13 +76,6 @@ module _ (now : ℕ) (op : ℕ → Option Opening) (free : List ℕ) where
           low : N ≤ empty
           low = omega (arith, st .ranges .N-high)
 
-          entry-fit : endsFit N (entryAt (s .calendar) T) ≡ true
-          entry-fit =
-              ap (λ (i : ℕ). endsFit N (entryAt (s .calendar) i))
-              (sym (ap (λ (m : ℕ). m % N) (omega arith) ∙ mod-eq-of-lt (st .turn-low)))
-              ∙ entry-fits N low T (s .cells) (s .links) (s .calendar) (freeList s) (outputList s) free o ([] ∷ r) (st .has)
-              0 (st .ranges .N-low)
-
           same : (v : ℕ) → waits v o ([] ∷ r) ≡ waits v (o ++ []) (turn r)
           same v = omega (arith, sum-append (isOf v) o [], turn-sums (isOf v) r)
       moves ((c ∷ q) ∷ r) st =
@@ -94,11 +83,9 @@ module _ (now : ℕ) (op : ℕ → Option Opening) (free : List ℕ) where
             work = withState w (withCalendar (withLinks (withOutputList s (grown .ends)) (grown .links))
                 (writeEntry (s .calendar) T emptyList));
             goes = rw (
-              entry-fit,
-              out-fits N low T (s .cells) (s .links) (s .calendar) (freeList s) (outputList s) free o ((c ∷ q) ∷ r)
-                  (st .has),
-              first-marked N low T (s .cells) (s .links) (s .calendar) (freeList s) (outputList s) (st .turn-low) free o c q
-                  r (st .has),
+              first-fits low (st .turn-low) (st .has),
+              out-fits low (st .has),
+              first-marked low (st .turn-low) (st .has),
             );
             holds = record {
               answer-kept = refl;
@@ -109,8 +96,7 @@ module _ (now : ℕ) (op : ℕ → Option Opening) (free : List ℕ) where
                 t-is = st .t-is;
                 turn-low = st .turn-low;
                 rotation-is = st .rotation-is;
-                has = rw (add-one T) (transferred N low T (s .cells) (s .links) (s .calendar) (freeList s) (outputList s)
-                    (st .turn-low) free o c q r (st .has));
+                has = rw (add-one T) (transferred low (st .turn-low) (st .has));
                 words-long = st .words-long;
                 table = λ v h1 h2. subst (λ (i : ℕ). VcIs N z (suc now) v (vcAt (s .words) v) i (op v)) (same v)
                     (st .table v h1 h2);
@@ -123,13 +109,6 @@ module _ (now : ℕ) (op : ℕ → Option Opening) (free : List ℕ) where
 
           grown : Grown
           grown = joinTail (s .links) (outputList s) (entryAt (s .calendar) T)
-
-          entry-fit : endsFit N (entryAt (s .calendar) T) ≡ true
-          entry-fit =
-              ap (λ (i : ℕ). endsFit N (entryAt (s .calendar) i))
-              (sym (ap (λ (m : ℕ). m % N) (omega arith) ∙ mod-eq-of-lt (st .turn-low)))
-              ∙ entry-fits N low T (s .cells) (s .links) (s .calendar) (freeList s) (outputList s) free o ((c ∷ q) ∷ r)
-              (st .has) 0 (st .ranges .N-low)
 
           same : (v : ℕ) → waits v o ((c ∷ q) ∷ r) ≡ waits v (o ++ c ∷ q) (turn r)
           same v = omega (arith, sum-append (isOf v) o (c ∷ q), turn-sums (isOf v) r)

@@ -12,7 +12,7 @@ use borrow.Author.Tests.{eq-eqb, ne-eqb, lt-ltb}
 use lib.ListN.{length}
 use Rattle.meaning.specs.Plain.{Out, next}
 use Rattle.meaning.specs.Numbers.{slotNumbers}
-use Rattle.meaning.specs.State.{State, freeList, outputList, withRecord, recordWith, withClock, withWords}
+use Rattle.meaning.specs.State.{State, withRecord, recordWith, withClock, withWords}
 use Rattle.meaning.specs.Words.{Vc, vcAt, writeVc, upToDate}
 use Rattle.meaning.specs.Work.{Work, withState, withVc}
 use Rattle.meaning.specs.Slot.{step1, step2}
@@ -56,8 +56,7 @@ module _ (openings : ℕ → Option Opening) (free : List ℕ) (o : List Queued)
             turn-low = mod-lt (s .ctl .turn + 1) (st .ranges .N-low);
             rotation-is = count-next z now (s .ctl .rotation) (omega (arith, st .ranges .z-low)) (st .rotation-is)
                 ∙ count-now z now (omega (arith, st .ranges .z-low));
-            has = tick N (omega (arith, st .ranges .N-high)) (s .ctl .turn + 1) (s .cells) (s .links) (s .calendar)
-                (freeList s) (outputList s) free o r (st .has);
+            has = tick (omega (arith, st .ranges .N-high)) (st .has);
             words-long = st .words-long;
             table = st .table;
           };

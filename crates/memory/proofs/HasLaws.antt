@@ -23,56 +23,55 @@ use Rattle.memory.specs.Held.{Queued, spaceOf, octetsIn, Held, cnts, Has
 use Rattle.memory.proofs.RingLaws.{entry-ne}
 use Rattle.memory.proofs.HeldLaws.{all-held, alls-held}
 
-module _ (N : ℕ) (low : N ≤ empty) (b : ℕ) (cells links calendar : List ℕ) (fr out : Ends) where
-  -- the tests of refusal 3
-  pub free-fits : (free : List ℕ) (o : List Queued) (r : List (List Queued)) → Has N b cells links calendar fr out free o r
-      → endsFit N fr ≡ true
-  free-fits free o r h = ends-fit self N low links fr free (λ k. omega (arith, h .parted k)) (h .free-is)
+-- a list that is not empty
+pub record SomeFree (free : List ℕ) : Type 0 where
+  pub x : ℕ
+  pub rest : List ℕ
+  pub is : free ≡ x ∷ rest
 
-  pub out-fits : (free : List ℕ) (o : List Queued) (r : List (List Queued)) → Has N b cells links calendar fr out free o r
-      → endsFit N out ≡ true
-  out-fits free o r h = ends-fit spaceOf N low links out o (λ k. omega (arith, h .parted k)) (h .out-is)
+module _ {N b : ℕ} {cells links calendar : List ℕ} {fr out : Ends} (low : N ≤ empty) where
+  module _ {free : List ℕ} {o : List Queued} {r : List (List Queued)} (h : Has N b cells links calendar fr out free o r)
+    where
+      -- the tests of refusal 3
+      pub free-fits : endsFit N fr ≡ true
+      free-fits = ends-fit self N low links fr free (λ k. omega (arith, h .parted k)) (h .free-is)
 
-  pub entry-fits : (free : List ℕ) (o : List Queued) (r : List (List Queued)) → Has N b cells links calendar fr out free o r
-      → (j : ℕ) → j < N → endsFit N (entryAt calendar ((b + j) % N)) ≡ true
-  entry-fits free o r h j hj =
-      ends-fit spaceOf N low links (entryAt calendar ((b + j) % N)) (getD r j [])
-      (λ k. omega (arith, h .parted k, sum-getD (λ c. is k (c .space)) r j)) (h .queues-are j hj)
+      pub out-fits : endsFit N out ≡ true
+      out-fits = ends-fit spaceOf N low links out o (λ k. omega (arith, h .parted k)) (h .out-is)
+
+      pub entry-fits : (j : ℕ) → j < N → endsFit N (entryAt calendar ((b + j) % N)) ≡ true
+      entry-fits j hj =
+          ends-fit spaceOf N low links (entryAt calendar ((b + j) % N)) (getD r j [])
+          (λ k. omega (arith, h .parted k, sum-getD (λ c. is k (c .space)) r j)) (h .queues-are j hj)
+
+      -- T moves on by one, modulo N
+      pub tick : Has N (b % N) cells links calendar fr out free o r
+      tick =
+          record {
+            cells-long = h .cells-long;
+            links-long = h .links-long;
+            calendar-long = h .calendar-long;
+            wide = h .wide;
+            free-is = h .free-is;
+            out-is = h .out-is;
+            queues-are = λ j hj. rw (mod-add-mod b N j) (h .queues-are j hj);
+            parted = h .parted;
+            full = h .full;
+            held-out = h .held-out;
+            held-cal = h .held-cal;
+          }
 
   -- a space is free where fewer than N cells wait
-  pub record SomeFree (free : List ℕ) : Type 0 where
-    pub x : ℕ
-    pub rest : List ℕ
-    pub is : free ≡ x ∷ rest
+  pub some-free : {free : List ℕ} {o : List Queued} {r : List (List Queued)} → Has N b cells links calendar fr out free o r
+      → sums one r + sum one o < N → SomeFree free
+  some-free {free} {o} {r} h k = go free (h .full)
+    where
+      go : (f : List ℕ) → sum one f + sum one o + sums one r ≡ N → SomeFree f
+      go [] e = absurd (omega arith)
+      go (x ∷ rest) e = record { x = x; rest = rest; is = refl }
 
-  pub some-free : (free : List ℕ) (o : List Queued) (r : List (List Queued)) → sums one r + sum one o < N
-      → Has N b cells links calendar fr out free o r → SomeFree free
-  some-free [] o r k h = absurd (omega (arith, h .full))
-  some-free (x ∷ rest) o r k h = record { x = x; rest = rest; is = refl }
-
-  -- T moves on by one, modulo N
-  pub tick : (free : List ℕ) (o : List Queued) (r : List (List Queued)) → Has N b cells links calendar fr out free o r
-      → Has N (b % N) cells links calendar fr out free o r
-  tick free o r h =
-      record {
-        cells-long = h .cells-long;
-        links-long = h .links-long;
-        calendar-long = h .calendar-long;
-        wide = h .wide;
-        free-is = h .free-is;
-        out-is = h .out-is;
-        queues-are = λ j hj. rw (mod-add-mod b N j) (h .queues-are j hj);
-        parted = h .parted;
-        full = h .full;
-        held-out = h .held-out;
-        held-cal = h .held-cal;
-      }
-
-  module _ (x : ℕ) (free : List ℕ) (o : List Queued) (r : List (List Queued))
+  module _ {x : ℕ} {free : List ℕ} {o : List Queued} {r : List (List Queued)}
       (h : Has N b cells links calendar fr out (x ∷ free) o r) where
-    once : (k : ℕ) → is k x + cnt self k free + cnt spaceOf k o + cnts k r ≤ 1
-    once k = omega (arith, h .parted k, inside-le k N)
-
     pub head-low : fr .head < N
     head-low = omega (arith, h .free-is .0, head-lt self N low x free (λ k. omega (arith, h .parted k)))
 

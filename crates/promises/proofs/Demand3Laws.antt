@@ -18,7 +18,7 @@ use Rattle.meaning.specs.State.{State, freeList, outputList}
 use Rattle.meaning.specs.Header.{Header, headerAt, noUserCell, namesVc}
 use Rattle.meaning.specs.Lists.{isEmpty}
 use Rattle.meaning.specs.Slot.{slot}
-use Rattle.runs.specs.Run.{Event, runOf, served}
+use Rattle.runs.specs.Run.{Event, served}
 use Rattle.runs.specs.Leak.{Opening, leakAccepts, openingOf}
 use Rattle.runs.specs.Seen.{Cell, Departure, ofVc, cellsIn, cellsOf, departuresOf, noCell, noDeparture, cellAt, departureAt}
 use Rattle.runs.specs.Judged.{Judged, judgedOf, judgedBy, judged}
@@ -27,7 +27,7 @@ use Rattle.queues.proofs.QueueLaws.{map-length, turn-sums}
 use Rattle.queues.proofs.LineLaws.{still-in-time}
 use Rattle.queues.proofs.OrderLaws.{ofVc-append, ofVc-map, ofVc-all}
 use Rattle.queues.proofs.RisingLaws.{rising-of, rising-at}
-use Rattle.memory.specs.Held.{dueOf}
+use Rattle.memory.specs.Held.{dueOf, Has}
 use Rattle.memory.proofs.HasLaws.{SomeFree, some-free, free-marked}
 use Rattle.invariant.specs.Invariant.{Left, seenAs, cellLeft, cellIn, vciIn, InTime, Delayed, Inv}
 use Rattle.invariant.proofs.SlotLaws.{slot-served}
@@ -130,17 +130,18 @@ module _ (N z : ℕ) (h : List Event) (s : State) (i : Inv N z h s) where
 
   one-free : isEmpty (freeList s) ≡ false
   one-free =
-      free-marked N low (s .ctl .turn + 1) (s .cells) (s .links) (s .calendar) (freeList s) (outputList s) (f .x) (f .rest)
-      (i .out) (turn (i .cal)) (rw (f .is) at (i .stage .has))
+      free-marked low has
     where
       low : N ≤ 65_535
       low = omega (arith, i .stage .ranges .N-high)
 
-      f : SomeFree N low (s .ctl .turn + 1) (s .cells) (s .links) (s .calendar) (freeList s) (outputList s) (i .free)
+      f : SomeFree (i .free)
       f =
-          some-free N low (s .ctl .turn + 1) (s .cells) (s .links) (s .calendar) (freeList s) (outputList s) (i .free)
+          some-free low (i .stage .has) (omega (arith, turn-sums one (i .cal), i .good .room, i .stage .ranges .N-low))
+
+      has : Has N (s .ctl .turn + 1) (s .cells) (s .links) (s .calendar) (freeList s) (outputList s) (f .x ∷ f .rest)
           (i .out) (turn (i .cal))
-          (omega (arith, turn-sums one (i .cal), i .good .room, i .stage .ranges .N-low)) (i .stage .has)
+      has = rw (f .is) at (i .stage .has)
 
   delays : (v : ℕ) → All (Delayed N) (cellsOf v h)
   unfolding cellsOf
@@ -199,7 +200,7 @@ module _ (N z : ℕ) (h : List Event) (s : State) (i : Inv N z h s) where
   exactly x true e = (λ p. refl, λ p. e)
   exactly x false e = (λ p. absurd (omega (arith, p, e)), λ p. absurd (let y : _≡_ {A = ℕ} 0 1 = cc in omega arith))
 
-  pub demanded : Demand3 N z (runOf s h)
+  pub demanded : Demand3 N z h s
   demanded =
       record {
         was-accepted = λ v k low. omega (arith, many-left v, many-cells v);

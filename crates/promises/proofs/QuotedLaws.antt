@@ -2,12 +2,14 @@
 -- Assumes nothing.
 use Prim.Native.Nat.{ℕ}
 use native.Mathlib.Omega.{arith}
-use Rattle.runs.specs.Run.{Run}
+use mathlib.Core.List.{List}
+use Rattle.meaning.specs.State.{State}
+use Rattle.runs.specs.Run.{Event}
 use Rattle.promises.specs.Demand3.{Demand3}
 use Rattle.promises.specs.Quoted.{Quoted}
 
-pub quoted : (N z : ℕ) (r : Run) → Demand3 N z r → Quoted N r
-quoted N z r d =
+pub quoted : (N z : ℕ) (h : List Event) (s : State) → Demand3 N z h s → Quoted N h
+quoted N z h s d =
     record {
       by-delay = λ v k low. omega (arith, d .not-late v k low, d .delay v k (d .was-accepted v k low) .0);
       at-most = λ v k low.

@@ -1,15 +1,19 @@
--- The bound N-1 is reached, at N 2 and N 5; and on the merged output one VC's departures come closer than F/L, as the
--- eight slots of document 01 show: 6 and 7 of VC 40. By computation. Assumes nothing.
-use Prim.Native.Nat.{_-_, _*_, _≤_}
+-- The bound N-1 is reached, at N 2 and N 5, so that no smaller one holds; and on the merged output one VC's departures
+-- come closer than F/L, as the eight slots of document 01 show: 6 and 7 of VC 40. By computation. Assumes nothing.
+use Prim.Native.Nat.{ℕ, _-_, _*_, _≤_}
 use mathlib.Core.Path.{_≡_, refl}
+use mathlib.Core.Bool.{true}
+use mathlib.Core.List.{List}
 use mathlib.Core.Option.{some}
 use native.Mathlib.Omega.{arith}
 use lib.Dec.{lit<}
+use Rattle.meaning.specs.Numbers.{rangesHold}
+use Rattle.runs.specs.Run.{Call}
 use Rattle.runs.specs.Leak.{openingWith}
 use Rattle.runs.specs.Seen.{departureAt}
 use Rattle.runs.specs.Eight.{eightCalls, eightEvents}
 use Rattle.runs.specs.Computed.{byComputation}
-use Rattle.promises.specs.Reached.{Reached, lateAtTwo, lateAtFive, PeakKept}
+use Rattle.promises.specs.Reached.{Reached, Within, lateAtTwo, lateAtFive, PeakKept}
 
 pub reached-at-two : Reached 2 3 lateAtTwo 2 1
 unfolding byComputation
@@ -18,6 +22,24 @@ reached-at-two = record { leaves = lit< tt; late = refl }
 pub reached-at-five : Reached 5 3 lateAtFive 2 19
 unfolding byComputation
 reached-at-five = record { leaves = lit< tt; late = refl }
+
+-- so no smaller bound holds there
+pub not-within : (N z w : ℕ) (cs : List Call) (v k : ℕ) → rangesHold N z ≡ true → Reached N z cs v k → Within N w → N - 1 ≤ w
+not-within N z w cs v k e r b = omega (arith, b z e cs v k (r .leaves), r .late)
+
+two-allowed : rangesHold 2 3 ≡ true
+unfolding rangesHold
+two-allowed = refl
+
+five-allowed : rangesHold 5 3 ≡ true
+unfolding rangesHold
+five-allowed = refl
+
+pub least-at-two : (w : ℕ) → Within 2 w → 1 ≤ w
+least-at-two w b = not-within 2 3 w lateAtTwo 2 1 two-allowed reached-at-two b
+
+pub least-at-five : (w : ℕ) → Within 5 w → 4 ≤ w
+least-at-five w b = not-within 5 3 w lateAtFive 2 19 five-allowed reached-at-five b
 
 -- departures 6 and 7, though F/L is 2.5
 pub departures-six-seven : (departureAt 40 2 eightEvents .slot ≡ 6) × (departureAt 40 3 eightEvents .slot ≡ 7)

@@ -10,6 +10,8 @@ use Rattle.queues.specs.Queue.{All}
 use Rattle.invariant.proofs.FreshLaws.{setup-fresh}
 use Rattle.invariant.proofs.RunLaws.{Kept, run-kept}
 use Rattle.invariant.proofs.AuditLaws.{audit-holds}
+use Rattle.unwrapped.proofs.NeverWraps.{never-wraps-after-setup}
+use Rattle.promises.specs.Demand2.{Demand2Holds}
 use Rattle.promises.specs.Demand3.{Demand3, Demand3Holds}
 use Rattle.promises.specs.Runs.{NeverThree, InOrder, InOrderAlways}
 use Rattle.promises.proofs.Demand3Laws.{demanded}
@@ -28,9 +30,13 @@ never-three : (h : List Event) → All (λ e. numberOf e ≢ 3) h → NeverThree
 never-three [] a = a
 never-three (e ∷ h) a = (a .0, never-three h (a .1))
 
+-- DEMAND 2 over runs
+pub demand2 : Demand2Holds
+demand2 = never-wraps-after-setup
+
 -- DEMAND 3
 pub demand3 : Demand3Holds
-demand3 = from-setup Demand3 (λ N z r k. demanded N z (r .events) (r .state) (k .inv))
+demand3 = from-setup (λ N z r. Demand3 N z (r .events) (r .state)) (λ N z r k. demanded N z (r .events) (r .state) (k .inv))
 
 -- 3 is never given, and the audit says yes
 pub in-order : InOrderAlways

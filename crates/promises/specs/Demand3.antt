@@ -1,15 +1,17 @@
 -- DEMAND 3. A setup of a policer with N spaces has answered 0, whatever the memory held before. Then any calls follow:
--- open, close and slot, with any arguments, refused ones among them. After every such run the clauses below hold.
+-- open, close and slot, with any arguments, refused ones among them. After every such run the clauses below hold, where h
+-- is what was called and said, the newest first, s the record and memory that the next call gets, and z is V.
 --
 -- They speak of the calls and answers alone (crate runs, specs/):
---   r .events            the calls with what each said, the newest first; r .state, what the next call gets
 --   served h             how many slots were served: slot numbers that don't wrap
 --   cellAt v k h         the k-th accepted cell of the VC v, from 0: its arrival slot, the D answered, its octets, and,
 --                        by the leak rule in exact parts of 1/L slot, its due slot. There are `length (cellsOf v h)`
 --   departureAt v k h    the k-th departure of the VC v: its slot, and the octets of the line cell, which are the same
 --                        whatever idle cell is lent. There are `length (departuresOf v h)`
 --   openingOf v h        the m, F, C and last due time of the VC v, if it is open
---   judged z h octets    verdict, VCI and D by the header and the exact leak rule
+--   leakAccepts o t      the leak rule's verdict on a cell that arrives in slot t
+--   judged z h cell      verdict, VCI and D by the header and the exact leak rule
+-- Signs: (v k : ℕ) → .. for all v and k; A → B where A holds, B; × and; ↔ exactly when; ≡ equals; x .due, the due of x.
 use Prim.Native.Nat.{ℕ, _+_, _-_, _≤_, _<_}
 use mathlib.Core.Path.{_≡_}
 use mathlib.Core.Bool.{true, false, _||_}
@@ -19,52 +21,51 @@ use mathlib.Core.Option.{some}
 use lib.ListN.{length}
 use Rattle.meaning.specs.Plain.{_=?_}
 use Rattle.meaning.specs.Numbers.{octets, accepted}
-use Rattle.meaning.specs.State.{freeList}
+use Rattle.meaning.specs.State.{State, freeList}
 use Rattle.meaning.specs.Header.{headerAt, namesVc}
 use Rattle.meaning.specs.Lists.{isEmpty}
 use Rattle.meaning.specs.Calls.{setup}
 use Rattle.meaning.specs.Slot.{slot}
-use Rattle.runs.specs.Run.{Call, Run, runOf, calls, served}
+use Rattle.runs.specs.Run.{Call, Event, runOf, calls, served}
 use Rattle.runs.specs.Leak.{Opening, leakAccepts, openingOf}
 use Rattle.runs.specs.Seen.{cellsOf, departuresOf, cellAt, departureAt}
 use Rattle.runs.specs.Judged.{judgedOf, judged}
 
-pub record Demand3 (N z : ℕ) (r : Run) : Type 0 where
+pub record Demand3 (N z : ℕ) (h : List Event) (s : State) : Type 0 where
   -- 6, 1 and 4: the k-th departure of a VC is its k-th accepted cell. So nothing leaves that was not accepted, no cell
   -- leaves twice, and one VC's cells leave in arrival order, also across a close and a reopening.
-  pub was-accepted : (v k : ℕ) → k < length (departuresOf v (r .events)) → k < length (cellsOf v (r .events))
-  pub in-order : (v j k : ℕ) → j < k → k < length (departuresOf v (r .events))
-      → (cellAt v j (r .events) .arrival < cellAt v k (r .events) .arrival)
-      × (departureAt v j (r .events) .slot < departureAt v k (r .events) .slot)
+  pub was-accepted : (v k : ℕ) → k < length (departuresOf v h) → k < length (cellsOf v h)
+  pub in-order : (v j k : ℕ) → j < k → k < length (departuresOf v h)
+      → (cellAt v j h .arrival < cellAt v k h .arrival)
+      × (departureAt v j h .slot < departureAt v k h .slot)
   -- 3: with its octets unchanged, as the line cell shows them in that slot
-  pub unchanged : (v k : ℕ) → k < length (departuresOf v (r .events))
-      → departureAt v k (r .events) .octets ≡ cellAt v k (r .events) .octets
+  pub unchanged : (v k : ℕ) → k < length (departuresOf v h)
+      → departureAt v k h .octets ≡ cellAt v k h .octets
   -- 2: not before its due slot, and at most N-1 slots after it
-  pub not-early : (v k : ℕ) → k < length (departuresOf v (r .events))
-      → cellAt v k (r .events) .due ≤ departureAt v k (r .events) .slot
-  pub not-late : (v k : ℕ) → k < length (departuresOf v (r .events))
-      → departureAt v k (r .events) .slot ≤ cellAt v k (r .events) .due + (N - 1)
+  pub not-early : (v k : ℕ) → k < length (departuresOf v h)
+      → cellAt v k h .due ≤ departureAt v k h .slot
+  pub not-late : (v k : ℕ) → k < length (departuresOf v h)
+      → departureAt v k h .slot ≤ cellAt v k h .due + (N - 1)
   -- 1: it leaves by the run's end, if the run lasts at least to its due slot plus N-1
-  pub leaves : (v k : ℕ) → k < length (cellsOf v (r .events)) → cellAt v k (r .events) .due + (N - 1) < served (r .events)
-      → k < length (departuresOf v (r .events))
+  pub leaves : (v k : ℕ) → k < length (cellsOf v h) → cellAt v k h .due + (N - 1) < served h
+      → k < length (departuresOf v h)
   -- 5: a space is free, before each slot, and so whenever a cell is accepted
-  pub space-free : isEmpty (freeList (r .state)) ≡ false
+  pub space-free : isEmpty (freeList s) ≡ false
   -- 7: the answer's D is the due slot less the arrival slot; it is at most N-1
-  pub delay : (v k : ℕ) → k < length (cellsOf v (r .events))
-      → (cellAt v k (r .events) .due ≡ cellAt v k (r .events) .arrival + cellAt v k (r .events) .D)
-      × (cellAt v k (r .events) .D ≤ N - 1)
+  pub delay : (v k : ℕ) → k < length (cellsOf v h)
+      → (cellAt v k h .due ≡ cellAt v k h .arrival + cellAt v k h .D)
+      × (cellAt v k h .D ≤ N - 1)
   -- 8: the next slot accepts a cell of an open VC exactly when the leak rule does
   pub accepts-exactly : (cell : List ℕ) (o : Opening) → length cell ≡ octets → namesVc z (headerAt cell 0) ≡ true
-      → openingOf (headerAt cell 0 .vci) (r .events) ≡ some o
-      → (slot (r .state) cell .answer .verdict ≡ accepted) ↔ (leakAccepts o (served (r .events)) ≡ true)
+      → openingOf (headerAt cell 0 .vci) h ≡ some o
+      → (slot s cell .answer .verdict ≡ accepted) ↔ (leakAccepts o (served h) ≡ true)
   -- and whatever arrives, verdict, VCI and D are those of the header and the leak rule
   pub judges : (cell : List ℕ) → length cell =? 0 || length cell =? octets ≡ true
-      → judgedOf (slot (r .state) cell .answer .verdict) (slot (r .state) cell .answer .vci)
-      (slot (r .state) cell .answer .d)
-      ≡ judged z (r .events) cell
+      → judgedOf (slot s cell .answer .verdict) (slot s cell .answer .vci) (slot s cell .answer .d) ≡ judged z h cell
 
 -- of every run from a fresh state
 abbrev pub Demand3Holds : Type 0
 Demand3Holds = (N z : ℕ) (cells links calendar words : List ℕ)
     → setup N z cells links calendar words .number ≡ 0
-    → (cs : List Call) → Demand3 N z (calls (runOf (setup N z cells links calendar words .state) []) cs)
+    → (cs : List Call)
+    → let r = calls (runOf (setup N z cells links calendar words .state) []) cs in Demand3 N z (r .events) (r .state)

@@ -1,6 +1,7 @@
 -- Why demand 3 can't promise less than N-1, and what else can't be promised: runs in which it happens.
 --
 --   Reached      == in this run a cell of the VC v leaves exactly N-1 slots after its due slot
+--   Within N w   == at this N no cell of any run leaves more than w slots after its due slot
 --   PeakKept     == source 000's claim, that one VC's departures never come closer than its peak rate allows
 use Prim.Native.Nat.{ℕ, _+_, _-_, _*_, _≤_, _<_}
 use mathlib.Core.Path.{_≡_}
@@ -16,8 +17,13 @@ use Rattle.runs.specs.Eight.{cellFor}
 
 pub record Reached (N z : ℕ) (cs : List Call) (v k : ℕ) : Type 0 where
   pub leaves : k < length (departuresOf v (calls (freshRun N z) cs .events))
-  pub late : departureAt v k (calls (freshRun N z) cs .events) .slot ≡ cellAt v k
-      (calls (freshRun N z) cs .events) .due + (N - 1)
+  pub late : let h = calls (freshRun N z) cs .events in
+      departureAt v k h .slot ≡ cellAt v k h .due + (N - 1)
+
+abbrev pub Within : ℕ → ℕ → Type 0
+Within N w = (z : ℕ) → rangesHold N z ≡ true → (cs : List Call) (v k : ℕ)
+    → let h = calls (freshRun N z) cs .events in
+    k < length (departuresOf v h) → departureAt v k h .slot ≤ cellAt v k h .due + w
 
 -- N 2: VC 1 with m 0, F 1, C 2; VC 2 with m 0, F 2, C 3; cells of 2, 2, 1, and an empty slot
 abbrev pub lateAtTwo : List Call
@@ -31,7 +37,6 @@ lateAtFive =
 
 abbrev pub PeakKept : Type 0
 PeakKept = (N z : ℕ) → rangesHold N z ≡ true → (cs : List Call) (v k : ℕ) (o : Opening)
-    → openingOf v (calls (freshRun N z) cs .events) ≡ some o
-    → k + 1 < length (departuresOf v (calls (freshRun N z) cs .events))
-    → o .F ≤ (departureAt v (k + 1) (calls (freshRun N z) cs .events) .slot - departureAt v k
-    (calls (freshRun N z) cs .events) .slot) * parts o
+    → let h = calls (freshRun N z) cs .events in
+    openingOf v h ≡ some o → k + 1 < length (departuresOf v h)
+    → o .F ≤ (departureAt v (k + 1) h .slot - departureAt v k h .slot) * parts o

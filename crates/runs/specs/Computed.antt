@@ -9,12 +9,13 @@ use Rattle.meaning.specs.Header.{headerOf, headerAt, noUserCell, namesVc, names
 use Rattle.meaning.specs.Lists.{endsFit, entryAt, writeEntry, takeHead, joinHead, joinTail, addTail}
 use Rattle.meaning.specs.Arrival.{place, accept, judge}
 use Rattle.meaning.specs.Slot.{step1, step2, step3, step4, step5, depart, fiveSteps, finish, slot}
-use Rattle.meaning.specs.Calls.{freshRecord, countUp, freshState, sharedRefusal, openCall, closeCall}
+use Rattle.meaning.specs.Calls.{zeros, freshRecord, countUp, freshState, setup, sharedRefusal, openCall, closeCall}
 use Rattle.meaning.specs.Line.{cellsAllowed, linePart, octetsOf, lineCell}
 use Rattle.runs.specs.Run.{calls, call, freshRun, shown, served}
-use Rattle.runs.specs.Leak.{dueTime, dueSlot, accepts, openingOf}
+use Rattle.runs.specs.Leak.{dueTime, dueSlot, leakAccepts, accepts, openingOf}
+use Rattle.runs.specs.Judged.{judgedBy}
 use Rattle.runs.specs.Seen.{cellsIn, departuresIn, cellsOf, departuresOf}
 
 unfoldable pub byComputation : ℕ
-unfolding rangesHold slotNumbers wordsLong lengthsHold withRecord withCells withLinks withCalendar withWords recordWith withClock withFreeList withOutputList writeCell vcAt writeVc openedVc closedVc openWordFits bucketFits vcFits upToDate obeysRules elapsed fall isExcess delay fill headerOf headerAt noUserCell namesVc namesOpenVc endsFit entryAt writeEntry takeHead joinHead joinTail addTail place accept judge step1 step2 step3 step4 step5 depart fiveSteps finish slot freshRecord countUp freshState sharedRefusal openCall closeCall cellsAllowed linePart octetsOf lineCell calls call freshRun shown served dueTime dueSlot accepts openingOf cellsIn departuresIn cellsOf departuresOf
+unfolding rangesHold slotNumbers wordsLong lengthsHold withRecord withCells withLinks withCalendar withWords recordWith withClock withFreeList withOutputList writeCell vcAt writeVc openedVc closedVc openWordFits bucketFits vcFits upToDate obeysRules elapsed fall isExcess delay fill headerOf headerAt noUserCell namesVc namesOpenVc endsFit entryAt writeEntry takeHead joinHead joinTail addTail place accept judge step1 step2 step3 step4 step5 depart fiveSteps finish slot zeros freshRecord countUp freshState setup sharedRefusal openCall closeCall cellsAllowed linePart octetsOf lineCell calls call freshRun shown served dueTime dueSlot leakAccepts accepts openingOf judgedBy cellsIn departuresIn cellsOf departuresOf
 byComputation = 0

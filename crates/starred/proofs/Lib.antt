@@ -1,3 +1,2 @@
-pub mod Unfolded
 pub mod Starred
 pub mod ShutOut

@@ -16,7 +16,7 @@ use Rattle.runs.specs.Run.{onOpen, onSlot, call, calls, freshRun, shown}
 use Rattle.starred.specs.Row.{cellOf}
 use Rattle.starred.specs.ShutOut.{Policer, Meets, Reached, after, AlwaysRefuses, VerdictNeverVaries}
 use Rattle.starred.specs.ShutOut.{LaterOnlyMovesT, InventsD, InventsTally, NeverSends, DiscardsAll}
-use Rattle.starred.proofs.Unfolded.{unfolded}
+use Rattle.runs.specs.Computed.{byComputation}
 
 -- the five steps are themselves such a policer
 pub fiveSteps-meet : Meets (λ s cell. record {
@@ -36,28 +36,28 @@ abbrev later : State
 later = calls (freshRun 5 2) (onOpen 1 2 10 15 ∷ onSlot (cellOf 1) ∷ []) .state
 
 opened-reached : Reached opened
-unfolding unfolded
+unfolding byComputation
 opened-reached = after 5 2 refl (onOpen 1 2 10 15 ∷ [])
 
 later-reached : Reached later
-unfolding unfolded
+unfolding byComputation
 later-reached = after 5 2 refl (onOpen 1 2 10 15 ∷ onSlot (cellOf 1) ∷ [])
 
 first-answer : slot opened (cellOf 1) .answer ≡ answerOf 0 1 1 0 0 1
-unfolding unfolded call calls freshRun shown
+unfolding byComputation call calls freshRun shown
 first-answer = refl
 
 second-answer : slot later (cellOf 1) .answer ≡ answerOf 0 2 1 0 empty 0
-unfolding unfolded call calls freshRun shown
+unfolding byComputation call calls freshRun shown
 second-answer = refl
 
 -- S of VC 1 falls from 10 to 6 in that slot, which is slot 1
 second-S : (getD (later .words) (sPlace 1) 0 ≡ 10) × (getD (slot later (cellOf 1) .state .words) (sPlace 1) 0 ≡ 6)
-unfolding unfolded call calls freshRun shown
+unfolding byComputation call calls freshRun shown
 second-S = (refl, refl)
 
 later-t : later .ctl .t ≢ slotNumbers - 1
-unfolding unfolded call calls freshRun shown
+unfolding byComputation call calls freshRun shown
 later-t e = omega arith
 
 module _ (f : Policer) (meets : Meets f) where

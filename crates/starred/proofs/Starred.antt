@@ -5,8 +5,8 @@ use mathlib.Core.List.{map}
 use Rattle.starred.specs.Row.{says, expects}
 use Rattle.starred.specs.Table.{starredTable, eightSlots, oneSpace, openings, second16, second15, farApart}
 use Rattle.starred.specs.Table.{tableI, tableII, closeWaiting}
-use Rattle.starred.proofs.Unfolded.{unfolded}
+use Rattle.runs.specs.Computed.{byComputation}
 
 pub starred : map says starredTable ≡ map expects starredTable
-unfolding unfolded starredTable eightSlots oneSpace openings second16 second15 farApart tableI tableII closeWaiting
+unfolding byComputation starredTable eightSlots oneSpace openings second16 second15 farApart tableI tableII closeWaiting
 starred = refl
