@@ -1,21 +1,21 @@
 -- Step 3, as it was found in numbers: refused, no cell accepted, or a space sought for the accepted cell.
 -- Assumes nothing.
-use Prim.Native.Nat.{ℕ, _+_, _-_, _*_, _^_, _<_}
-use mathlib.Core.Path.{_≡_, refl, sym, _∙_, ap}
-use mathlib.Core.Logic.{_≢_, _⊎_, inl, inr}
-use mathlib.Core.Bool.{Bool, true, false, not, _&&_, _||_}
+use Prim.Native.Nat.{ℕ, _+_, _<_}
+use mathlib.Core.Path.{_≡_, refl, ap}
+use mathlib.Core.Logic.{_⊎_, inl, inr}
+use mathlib.Core.Bool.{Bool, true, false, _||_}
 use mathlib.Core.List.{List}
 use native.Mathlib.Omega.{arith}
 use borrow.Author.Tests.{eq-eqb, ne-eqb, le-leb, lt-leb}
 use lib.ListN.{length}
 use Rattle.meaning.specs.declared.Record.{Record}
-use Rattle.meaning.specs.Plain.{if_then_else_, _<?_, _≤?_, _=?_, Out, refused, next, needs, _andThen_}
+use Rattle.meaning.specs.Plain.{if_then_else_, _<?_, _=?_, Out, refused, next}
 use Rattle.meaning.specs.Numbers.{accepted, excess}
-use Rattle.meaning.specs.State.{State, stateOf, withWords}
+use Rattle.meaning.specs.State.{stateOf, withWords}
 use Rattle.meaning.specs.Header.{Header, headerAt, noUserCell, namesVc}
-use Rattle.meaning.specs.Bucket.{Bucket, withS, fall, isExcess, fill}
+use Rattle.meaning.specs.Bucket.{fall, isExcess, fill}
 use Rattle.meaning.specs.Words.{Vc, vcAt, writeVc, withBucket, withWaiting, bucketFits, openWordFits, upToDate}
-use Rattle.meaning.specs.Work.{Work, workOf, answerOf, bareAnswer}
+use Rattle.meaning.specs.Work.{Work, workOf, answerOf}
 use Rattle.meaning.specs.Arrival.{accept, judge}
 use Rattle.meaning.specs.Slot.{step3}
 use Rattle.meaning.proofs.WordsLaws.{write-fill}

@@ -1,17 +1,16 @@
 -- The cases of a slot's code, each over plain lists: steps 4 and 5 of a work after step 3, by what was read of entry T,
 -- the Output List, what departs and the Free List. Assumes nothing.
-use Prim.Native.Nat.{ℕ, _+_, _*_, _≤_, _<_}
+use Prim.Native.Nat.{ℕ, _+_, _*_, _≤_}
 use mathlib.Core.Path.{_≡_, refl, sym, _∙_, ap}
 use mathlib.Core.Logic.{_≢_}
-use mathlib.Core.Bool.{Bool, true, false, not, _&&_}
+use mathlib.Core.Bool.{Bool, true, false, _&&_}
 use mathlib.Core.List.{List}
-use native.Mathlib.Omega.{arith}
-use borrow.Author.Tests.{eq-eqb, ne-eqb, eqb-true, eqb-false}
+use borrow.Author.Tests.{eq-eqb, ne-eqb, eqb-false}
 use lib.ListN.{length, getD}
 use Rattle.meaning.specs.declared.Record.{Record}
 use Rattle.meaning.specs.Plain.{if_then_else_, _=?_, Out, refused, next, _andThen_}
 use Rattle.meaning.specs.Numbers.{empty, excess}
-use Rattle.meaning.specs.State.{State, Ends, freeList, outputList, recordWith}
+use Rattle.meaning.specs.State.{Ends, freeList, outputList}
 use Rattle.meaning.specs.Lists.{isEmpty, endsFit, entryAt, writeEntry}
 use Rattle.meaning.specs.Work.{Work}
 use Rattle.meaning.specs.Slot.{step4, step5}
@@ -23,7 +22,7 @@ use Rattle.spaces.specs.declared.Seat.{Seat}
 use Rattle.spaces.specs.declared.Off.{Off}
 use Rattle.spaces.specs.Spaces.{endsOf, offOf}
 use Rattle.spaces.proofs.After.{Kept, kept-fall}
-use Rattle.plan.specs.Plan.{rotated, quietWork, acceptWork, withEnds, seatEnds, leftBy, leaving, joinedLinks, joinedHead, offMarked, offUnmarked, leavingMarked, leavingOutput}
+use Rattle.plan.specs.Plan.{rotated, quietWork, seatEnds, leftBy, leaving, joinedLinks, joinedHead, offMarked, offUnmarked, leavingMarked, leavingOutput}
 use Rattle.plan.specs.Facts.{Seated}
 use Rattle.plan.proofs.Leave.{leave-unfit, leave-marked, leave-output, leave-none}
 use Rattle.plan.proofs.Off.{off-kept}

@@ -1,30 +1,26 @@
 -- What the tests of a slot have shown, once they passed: of the judged cell, of its seat, and of what departs.
 -- Assumes nothing.
 use Prim.Native.Nat.{ℕ, _+_, _-_, _*_, _/_, _^_, _≤_, _<_}
-use mathlib.Core.Path.{_≡_, refl, sym, _∙_, ap}
-use mathlib.Core.Logic.{_≢_, _⊎_, inl, inr}
-use mathlib.Core.Bool.{Bool, true, false, not, _&&_, _||_}
+use mathlib.Core.Path.{_≡_, refl, sym}
+use mathlib.Core.Logic.{_⊎_, inl, inr}
+use mathlib.Core.Bool.{Bool, true, false, _&&_, _||_}
 use mathlib.Core.List.{List}
 use native.Mathlib.Omega.{arith}
 use native.Mathlib.Nat.{div-lt-iff-lt-mul}
-use native.Mathlib.Decide.{decLt}
-use borrow.Author.Tests.{eq-eqb, ne-eqb, ltb-true, ltb-false, leb-true, eqb-true, eqb-false}
+use borrow.Author.Tests.{eq-eqb, ne-eqb, ltb-true, ltb-false, leb-true, eqb-true}
 use lib.ListN.{length, getD}
 use lib.Pow.{pow-pos}
 use Rattle.meaning.specs.declared.Record.{Record}
 use Rattle.meaning.specs.Plain.{if_then_else_, _<?_, _≤?_, _=?_}
-use Rattle.meaning.specs.Numbers.{empty, accepted, excess, waitingPlace, cellStart}
-use Rattle.meaning.specs.State.{Ends}
-use Rattle.meaning.specs.Header.{Header, headerAt, noUserCell, namesVc, namesOpenVc}
-use Rattle.meaning.specs.Bucket.{Bucket, obeysRules, elapsed, fall, isExcess, delay, fill}
+use Rattle.meaning.specs.Numbers.{accepted, excess}
+use Rattle.meaning.specs.Header.{Header, headerAt, noUserCell, namesVc}
+use Rattle.meaning.specs.Bucket.{obeysRules, elapsed, fall, isExcess, delay}
 use Rattle.meaning.specs.Words.{Vc, vcAt, bucketFits}
-use Rattle.meaning.specs.Lists.{endsFit, entryAt, emptyList}
+use Rattle.meaning.specs.Lists.{endsFit, entryAt}
 use Rattle.meaning.proofs.ListsLaws.{fit-marked, fit-empty}
 use Rattle.arrival.specs.declared.Judged.{Judged}
 use Rattle.arrival.specs.Arrival.{bucketNow, judgedBucket, judgedVc, judgedOf}
-use Rattle.spaces.specs.declared.Seat.{Seat}
-use Rattle.spaces.specs.declared.Off.{Off}
-use Rattle.spaces.specs.Spaces.{endsOf, seatAs, seatAt, entryOf, seatOf, mayLeave, offOf}
+use Rattle.spaces.specs.Spaces.{seatAt, entryOf, seatOf}
 use Rattle.plan.specs.Plan.{freeEnds}
 use Rattle.plan.specs.Facts.{Accepted, Seated}
 use Rattle.plan.proofs.Rotate.{open-cases}

@@ -1,17 +1,17 @@
 -- Steps 4 and 5 of any work, by cases: entry T marked or not, the Output List empty or not.
 -- Assumes nothing.
 use Prim.Native.Nat.{ℕ, _-_}
-use mathlib.Core.Path.{_≡_, refl, sym, _∙_, ap}
+use mathlib.Core.Path.{_≡_, refl, _∙_, ap}
 use mathlib.Core.Bool.{Bool, true, false, not, _&&_}
 use mathlib.Core.List.{List}
 use lib.ListN.{getD, set}
-use Rattle.meaning.specs.Plain.{if_then_else_, _<?_, _≤?_, _=?_, Out, refused, next, needs, _andThen_}
+use Rattle.meaning.specs.Plain.{if_then_else_, _<?_, _≤?_, _=?_, refused, next, needs, _andThen_}
 use Rattle.meaning.specs.Numbers.{empty, cellStart, waitingPlace}
-use Rattle.meaning.specs.State.{State, stateOf, Ends, freeList, outputList, recordWith, withRecord, withCells, withLinks, withCalendar, withWords, withFreeList, withOutputList}
+use Rattle.meaning.specs.State.{State, stateOf, Ends, freeList, outputList, recordWith, withRecord, withLinks, withCalendar, withWords, withFreeList, withOutputList}
 use Rattle.meaning.specs.Header.{Header, headerAt, namesOpenVc}
 use Rattle.meaning.specs.Words.{Vc, vcAt, writeVc, withWaiting}
-use Rattle.meaning.specs.Lists.{emptyList, isEmpty, endsFit, entryAt, writeEntry, Taken, takeHead, Grown, joinTail, addTail}
-use Rattle.meaning.specs.Work.{Work, workOf, answerOf, withState, withVc, withDeparture}
+use Rattle.meaning.specs.Lists.{emptyList, isEmpty, endsFit, entryAt, writeEntry, takeHead, Grown, joinTail, addTail}
+use Rattle.meaning.specs.Work.{Work, workOf, answerOf}
 use Rattle.meaning.specs.Slot.{step4, depart, step5}
 use Rattle.meaning.proofs.WordsLaws.{write-waiting}
 use Rattle.arrival.specs.Arrival.{oneLess}

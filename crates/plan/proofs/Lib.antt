@@ -5,3 +5,7 @@ pub mod Seat
 pub mod Found
 pub mod Off
 pub mod Cases
+pub mod Ends
+pub mod QuietCases
+pub mod AcceptCases
+pub mod Steps

@@ -1,28 +1,28 @@
 -- Step 2 as it was found in numbers; and what step 3 then finds is what it would have found before step 2, since a VC
 -- brought up to date at t is not moved by a second update at t. Assumes nothing.
-use Prim.Native.Nat.{ℕ, _+_, _-_, _*_, _^_, _%_, _≤_, _<_}
+use Prim.Native.Nat.{ℕ, _+_, _*_, _%_, _≤_, _<_}
 use mathlib.Core.Path.{_≡_, refl, sym, _∙_, ap}
 use mathlib.Core.Logic.{_≢_, _⊎_, inl, inr}
-use mathlib.Core.Bool.{Bool, true, false, not, _&&_, _||_}
+use mathlib.Core.Bool.{Bool, true, false, _&&_}
 use mathlib.Core.List.{List}
 use native.Mathlib.Omega.{arith}
 use native.Mathlib.Nat.{mod-self}
-use native.Mathlib.Decide.{ℕ-discrete, decLt}
-use borrow.Author.Tests.{eq-eqb, ne-eqb, le-leb, lt-leb, eqb-true, eqb-false, leb-true}
-use lib.ListN.{length, getD, set}
+use native.Mathlib.Decide.{ℕ-discrete}
+use borrow.Author.Tests.{eq-eqb, ne-eqb, le-leb, lt-leb, leb-true}
+use lib.ListN.{length}
 use Rattle.meaning.specs.declared.Record.{Record}
-use Rattle.meaning.specs.Plain.{if_then_else_, _<?_, _≤?_, _=?_, Out, refused, next, needs, _andThen_}
+use Rattle.meaning.specs.Plain.{if_then_else_, _≤?_, _=?_, refused, next}
 use Rattle.meaning.specs.Numbers.{slotNumbers, unknown}
-use Rattle.meaning.specs.State.{State, stateOf, withWords}
-use Rattle.meaning.specs.Header.{headerAt, noUserCell, namesVc}
-use Rattle.meaning.specs.Bucket.{Bucket, withS, elapsed, fall, obeysRules}
+use Rattle.meaning.specs.State.{stateOf, withWords}
+use Rattle.meaning.specs.Header.{headerAt}
+use Rattle.meaning.specs.Bucket.{withS, elapsed, fall, obeysRules}
 use Rattle.meaning.specs.Words.{Vc, vcAt, writeVc, bucketFits, openWordFits, upToDate}
-use Rattle.meaning.specs.Work.{Work, workOf, bareAnswer, withState, withVc}
+use Rattle.meaning.specs.Work.{workOf, bareAnswer}
 use Rattle.meaning.specs.Slot.{step2}
 use Rattle.meaning.proofs.WordsLaws.{write-fall, write-read, write-read-other}
 use Rattle.arrival.specs.declared.Fall.{Fall}
 use Rattle.arrival.specs.declared.Judged.{Judged}
-use Rattle.arrival.specs.Arrival.{fallOf, bucketNow, broughtOf, judgedAs, outOfRange, judgedBucket, judgedVc, judgedOf, fallen}
+use Rattle.arrival.specs.Arrival.{bucketNow, broughtOf, judgedAs, outOfRange, judgedBucket, judgedVc, judgedOf, fallen}
 use Rattle.plan.specs.Plan.{rotated, rotatedWork}
 
 -- an open word is 0, 1, or out of range

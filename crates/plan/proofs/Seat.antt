@@ -1,26 +1,25 @@
 -- The rest of step 3 for an accepted cell: a space is taken, the cell written there, and it joins entry (T+D) modulo N.
 -- Assumes nothing.
-use Prim.Native.Nat.{ℕ, _+_, _-_, _*_, _%_, _≤_, _<_}
-use mathlib.Core.Path.{_≡_, refl, sym, _∙_, ap}
+use Prim.Native.Nat.{ℕ, _+_, _-_, _%_, _≤_, _<_}
+use mathlib.Core.Path.{_≡_, refl, _∙_}
 use mathlib.Core.Bool.{Bool, true, false, not, _&&_, _||_}
 use mathlib.Core.List.{List}
 use native.Mathlib.Omega.{arith}
 use native.Mathlib.Nat.{mod-eq-of-lt, mod-eq-sub-mod}
 use native.Mathlib.Decide.{decLt}
-use borrow.Author.Tests.{lt-ltb, le-ltb, ltb-true, ne-eqb}
+use borrow.Author.Tests.{lt-ltb, le-ltb, ltb-true}
 use lib.ListN.{getD, set}
 use Rattle.meaning.specs.declared.Record.{Record}
 use Rattle.meaning.specs.Plain.{if_then_else_, _<?_, _=?_, Out, refused, next, needs, _andThen_}
-use Rattle.meaning.specs.Numbers.{empty, accepted}
-use Rattle.meaning.specs.State.{Ends, stateOf, recordWith, withRecord, withCells, withLinks, withCalendar, withFreeList, writeCell}
-use Rattle.meaning.specs.Lists.{emptyList, isEmpty, endsFit, entryAt, writeEntry, Taken, takeHead, Grown, joinHead}
-use Rattle.meaning.specs.Work.{Work, workOf, answerOf}
+use Rattle.meaning.specs.Numbers.{empty}
+use Rattle.meaning.specs.State.{Ends, recordWith, withRecord, withCells, withLinks, withCalendar, withFreeList}
+use Rattle.meaning.specs.Lists.{emptyList, isEmpty, endsFit, entryAt, takeHead, Grown, joinHead}
+use Rattle.meaning.specs.Work.{Work}
 use Rattle.meaning.specs.Arrival.{place}
 use Rattle.arrival.specs.declared.Judged.{Judged}
-use Rattle.arrival.specs.Arrival.{filled}
 use Rattle.spaces.specs.declared.Seat.{Seat}
 use Rattle.spaces.specs.Spaces.{endsOf, linked, seatAs, noSeat, seatAt, entryOf, seatOf}
-use Rattle.plan.specs.Plan.{freeEnds, outputEnds, withEnds, seatEnds, seekingWork, seating, acceptWork}
+use Rattle.plan.specs.Plan.{freeEnds, withEnds, seatEnds, seekingWork, seating, acceptWork}
 
 -- (T + D) modulo N without a division
 pub entry-is : (N T D : ℕ) → T < N → D < N → (T + D) % N ≡ entryOf N T D

@@ -5,12 +5,10 @@
 --   Seated k a       == of an accepted cell: its space and entry, and the Free List without the space
 use Prim.Native.Nat.{ℕ, _*_, _≤_, _<_}
 use mathlib.Core.Path.{_≡_}
-use mathlib.Core.Logic.{_≢_}
 use mathlib.Core.Bool.{true}
 use mathlib.Core.List.{List}
 use lib.ListN.{length}
 use Rattle.meaning.specs.declared.Record.{Record}
-use Rattle.meaning.specs.Numbers.{empty, accepted, excess}
 use Rattle.meaning.specs.Header.{headerAt}
 use Rattle.meaning.specs.Words.{vcAt}
 use Rattle.meaning.specs.Lists.{endsFit}

@@ -10,12 +10,13 @@
 --                               step 4 left them
 --   leaving w links cal o    == the same, or refused where o or the Free List's ends are out of range
 use Prim.Native.Nat.{ℕ, _+_, _%_}
-use mathlib.Core.Bool.{Bool, true, false, not, _&&_}
+use mathlib.Core.Bool.{not, _&&_}
 use mathlib.Core.List.{List}
 use Rattle.meaning.specs.declared.Record.{Record}
+use Rattle.meaning.specs.declared.Served.{Served}
 use Rattle.meaning.specs.Plain.{if_then_else_, _=?_, Out, refused, next, needs, _andThen_}
 use Rattle.meaning.specs.Numbers.{slotNumbers, empty, accepted, excess}
-use Rattle.meaning.specs.State.{State, stateOf, Ends, freeList, recordWith, writeCell}
+use Rattle.meaning.specs.State.{stateOf, Ends, freeList, recordWith, writeCell}
 use Rattle.meaning.specs.Lists.{emptyList, isEmpty, endsFit, writeEntry, takeHead}
 use Rattle.meaning.specs.Work.{Work, workOf, answerOf, bareAnswer}
 use Rattle.meaning.specs.Arrival.{place}
@@ -125,3 +126,7 @@ leavingMarked w entry =
 
 unfoldable pub leavingOutput : Work → Out Work
 leavingOutput w = leaving w (w .state .links) (w .state .calendar) (offUnmarked w)
+
+-- what a case of the code gives back, with the memories as it leaves them
+abbrev pub servedWork : Served → List ℕ → List ℕ → List ℕ → List ℕ → Work
+servedWork s cells links calendar words = workOf (stateOf (s .ctl) cells links calendar words) (s .answer)

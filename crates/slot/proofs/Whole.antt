@@ -1,83 +1,25 @@
 -- A slot put together: its refusals, the clock, steps 2 and 3 as they were found, and what they leave to steps 4 and 5.
 -- Assumes nothing.
-use Prim.Native.Nat.{ℕ, _+_, _*_, _%_, _≤_, _<_}
-use mathlib.Core.Path.{_≡_, refl, sym, _∙_, ap, subst}
+use Prim.Native.Nat.{ℕ, _+_, _*_, _≤_, _<_}
+use mathlib.Core.Path.{_≡_, refl, sym, _∙_, subst}
 use mathlib.Core.Logic.{_≢_}
-use mathlib.Core.Bool.{Bool, true, false, not, _&&_, _||_}
+use mathlib.Core.Bool.{Bool, true, false, _&&_, _||_}
 use mathlib.Core.List.{List}
 use native.Mathlib.Omega.{arith}
 use native.Mathlib.Nat.{mod-lt}
-use borrow.Author.Tests.{eq-eqb, ne-eqb, lt-ltb, le-ltb, leb-true, eqb-true, eqb-false}
+use borrow.Author.Tests.{ne-eqb, lt-ltb, le-ltb, leb-true, eqb-true}
 use lib.ListN.{length}
 use Rattle.meaning.specs.declared.Record.{Record}
 use Rattle.meaning.specs.declared.Served.{Served}
-use Rattle.meaning.specs.Plain.{if_then_else_, _<?_, _≤?_, _=?_, Out, refused, next, needs, _andThen_}
-use Rattle.meaning.specs.Numbers.{rangesHold, accepted}
+use Rattle.meaning.specs.Plain.{if_then_else_, _≤?_, _=?_, Out, refused, _andThen_}
+use Rattle.meaning.specs.Numbers.{rangesHold}
 use Rattle.meaning.specs.State.{State, stateOf, recordWith, withRecord, withClock, wordsLong, lengthsHold}
 use Rattle.meaning.specs.Work.{Work, workOf, bareAnswer}
 use Rattle.meaning.specs.Slot.{step1, step2, step3, step4, step5, fiveSteps, finish, slot}
-use Rattle.arrival.specs.declared.Fall.{Fall}
-use Rattle.arrival.specs.declared.Judged.{Judged}
-use Rattle.arrival.specs.Arrival.{broughtOf, judgedOf}
-use Rattle.spaces.specs.declared.Seat.{Seat}
-use Rattle.spaces.specs.Spaces.{seatOf}
-use Rattle.plan.specs.Plan.{freeEnds, clocked, rotated, rotatedWork, quietWork, seating, acceptWork}
+use Rattle.plan.specs.Plan.{clocked}
 use Rattle.plan.specs.Facts.{Sized}
 use Rattle.plan.proofs.Found.{no, and}
-use Rattle.plan.proofs.Rotate.{rotate-is, judged-same}
-use Rattle.plan.proofs.Arrive.{arriving, arrive-is}
-use Rattle.plan.proofs.Seat.{seat-is}
 use Rattle.slot.specs.Slot.{shapeOf}
-
--- ---- the accepted cell and its seat
-module _ (k : Record) (j : Judged) (cell cells links calendar words : List ℕ) (small : k .n ≤ 1024) (turn : k .turn < k .n) (near : j .d < k .n)
-    (a : Seat) (is : a ≡ seatOf (k .n) links calendar (k .turn) (freeEnds k) (j .d)) where
-  seated-is : seating k j cell cells links calendar words ≡ (if a .ok then next (acceptWork k j a cell cells links calendar words) else refused)
-  seated-is = rw is (seat-is k j cell cells links calendar words small turn near)
-
-  pub seating-none : a .ok ≡ false → (seating k j cell cells links calendar words andThen step4 andThen step5) ≡ refused
-  seating-none e = rw (seated-is, e)
-
-  pub seating-goes : a .ok ≡ true
-      → (seating k j cell cells links calendar words andThen step4 andThen step5)
-      ≡ (step4 (acceptWork k j a cell cells links calendar words) andThen step5)
-  seating-goes e = rw (seated-is, e)
-
--- ---- steps 2 and 3
-module _ (k : Record) (cell cells links calendar words : List ℕ) (b : Fall) (is : b ≡ broughtOf (k .n) (k .t) words (k .rotation)) where
-  abbrev from2 : Out Work
-  from2 = step2 (workOf (stateOf k cells links calendar words) (bareAnswer 0)) andThen step3 cell andThen step4 andThen step5
-
-  pub rotating-none : b .ok ≡ false → from2 ≡ refused
-  rotating-none e = rw (rotate-is k cells links calendar words b is, e)
-
-  module _ (j : Judged) (found : j ≡ judgedOf (k .n) (k .v) (k .t) words cell) (inside : 7 * k .rotation + 7 ≤ length words) (ok : b .ok ≡ true) where
-    rotates : step2 (workOf (stateOf k cells links calendar words) (bareAnswer 0)) ≡ next (rotatedWork k cells links calendar (rotated k b words))
-    rotates = rw (rotate-is k cells links calendar words b is, ok)
-
-    judges : step3 cell (rotatedWork k cells links calendar (rotated k b words)) ≡ arriving k j cell cells links calendar (rotated k b words)
-    judges =
-        arrive-is k cell cells links calendar (rotated k b words)
-        ∙ ap (λ (x : Judged). arriving k x cell cells links calendar (rotated k b words)) (judged-same k words cell b is inside ∙ sym found)
-
-    arrives : from2 ≡ (arriving k j cell cells links calendar (rotated k b words) andThen step4 andThen step5)
-    arrives =
-        ap (λ (o : Out Work). o andThen step3 cell andThen step4 andThen step5) rotates
-        ∙ ap (λ (o : Out Work). o andThen step4 andThen step5) judges
-
-    pub arriving-none : j .ok ≡ false → from2 ≡ refused
-    unfolding arriving
-    arriving-none e = arrives ∙ rw e
-
-    pub arriving-accepted : j .ok ≡ true → j .verdict ≡ accepted
-        → from2 ≡ (seating k j cell cells links calendar (rotated k b words) andThen step4 andThen step5)
-    unfolding arriving
-    arriving-accepted e v = arrives ∙ rw (e, eq-eqb (j .verdict) accepted v)
-
-    pub arriving-quiet : j .ok ≡ true → j .verdict ≢ accepted
-        → from2 ≡ (step4 (quietWork k j cells links calendar (rotated k b words)) andThen step5)
-    unfolding arriving
-    arriving-quiet e v = arrives ∙ rw (e, ne-eqb (j .verdict) accepted v)
 
 -- ---- the refusals 1, 2 and 9, and the clock
 module _ (r : Record) (cell cells links calendar words : List ℕ) where

@@ -1,14 +1,12 @@
--- A slot's refusals 1, 2 and 9 as one number, and what a case of the code leaves.
+-- A slot's refusals 1, 2 and 9 as one number.
 use Prim.Native.Nat.{ℕ}
 use mathlib.Core.Bool.{not, _||_}
 use mathlib.Core.List.{List}
 use lib.ListN.{length}
 use Rattle.meaning.specs.declared.Record.{Record}
-use Rattle.meaning.specs.declared.Served.{Served}
 use Rattle.meaning.specs.Plain.{if_then_else_, _=?_}
 use Rattle.meaning.specs.Numbers.{rangesHold, octets}
-use Rattle.meaning.specs.State.{stateOf, lengthsHold}
-use Rattle.meaning.specs.Work.{Work, workOf}
+use Rattle.meaning.specs.State.{lengthsHold}
 
 -- "slot 1, 2, 9": the first that is given, or 0
 unfoldable pub shapeOf : Record → List ℕ → List ℕ → List ℕ → List ℕ → List ℕ → ℕ
@@ -17,7 +15,3 @@ shapeOf r cells links calendar words cell =
     else if not (lengthsHold (r .n) (r .v) cells links calendar words) then 2
     else if not (length cell =? 0 || length cell =? octets) then 9
     else 0
-
--- what a case gives back, with the memories as it leaves them
-abbrev pub servedWork : Served → List ℕ → List ℕ → List ℕ → List ℕ → Work
-servedWork s cells links calendar words = workOf (stateOf (s .ctl) cells links calendar words) (s .answer)

@@ -1,28 +1,19 @@
 use Rattle.meaning.specs.Numbers.{slotNumbers}
-use mathlib.Core.Path.{_≡_, refl, sym, _∙_, ap}
 use Rattle.plan.specs.Plan.{clocked}
 use Rattle.meaning.specs.State.{recordWith}
 use borrow.Author.Needs.{needs}
 use Rattle.slot.proofs.clock.Statement.{statement}
 use Rattle.slot.proofs.clock.Tie as tie
-use Rattle.slot.proofs.clock.Reads as reads
-use Rattle.slot.proofs.clock.Lts as lts
-use Rattle.slot.proofs.after.Reads as after-reads
-use Rattle.std.proofs.num.wrapping_add_u32.Reads as wrapping-add-u32-reads
 
--- src/lib.rt:43:9
 wrapping-add-u32-requires : tie.Need-wrapping-add-u32-requires
 wrapping-add-u32-requires c κs = search needs
 
--- src/lib.rt:44:9
 after-requires : tie.Need-after-requires
 after-requires c κs = search needs
 
--- src/lib.rt:45:9
 after-requires-2 : tie.Need-after-requires-2
 after-requires-2 c κs = search needs
 
--- src/lib.rt:39:1
 returns : tie.Need-returns
 unfolding clocked recordWith slotNumbers
 returns c = rw (c .after2 .ensures, c .before .after .ensures, c .before .before .wrapping-add-u32 .ensures)

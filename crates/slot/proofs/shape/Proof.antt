@@ -1,44 +1,33 @@
-use mathlib.Core.Path.{_≡_, refl, sym, _∙_, ap}
-use borrow.Author.Tests.{eq-eqb, ne-eqb, eqb-true, eqb-false, not-true}
+use mathlib.Core.Path.{sym}
+use borrow.Author.Tests.{eq-eqb, ne-eqb}
 use Rattle.slot.specs.Slot.{shapeOf}
 use Rattle.meaning.specs.State.{lengthsHold, wordsLong}
 use borrow.Author.Needs.{needs}
 use Rattle.slot.proofs.shape.Statement.{statement}
 use Rattle.slot.proofs.shape.Tie as tie
-use Rattle.slot.proofs.shape.Reads as reads
-use Rattle.slot.proofs.shape.Lts as lts
-use Rattle.refusal.proofs.lengths_hold.Reads as lengths-hold-reads
-use Rattle.refusal.proofs.ranges_hold.Reads as ranges-hold-reads
 
--- src/lib.rt:645:9
 ranges-hold-requires : tie.Need-ranges-hold-requires
 ranges-hold-requires c κs = search needs
 
--- src/lib.rt:646:9
 returns : tie.Need-returns
 unfolding shapeOf
 returns c = simp (sym (c .before .ranges-hold .ensures), c .if1 .taken)
 
--- src/lib.rt:648:9
 lengths-hold-requires : tie.Need-lengths-hold-requires
 lengths-hold-requires c κs = search needs
 
--- src/lib.rt:656:9
 returns-2 : tie.Need-returns-2
 unfolding shapeOf lengthsHold wordsLong
 returns-2 c = simp (sym (c .before .before .before .ranges-hold .ensures), c .before .before .if1 .left, sym (c .before .lengths-hold .ensures), c .if2 .taken)
 
--- src/lib.rt:659:9
 returns-3 : tie.Need-returns-3
 unfolding shapeOf lengthsHold wordsLong
 returns-3 c = simp (sym (c .before .before .before .before .ranges-hold .ensures), c .before .before .before .if1 .left, sym (c .before .before .lengths-hold .ensures), c .before .if2 .left, eq-eqb _ _ (c .if3 .taken))
 
--- src/lib.rt:662:9
 returns-4 : tie.Need-returns-4
 unfolding shapeOf lengthsHold wordsLong
 returns-4 c = simp (sym (c .before .before .before .before .before .ranges-hold .ensures), c .before .before .before .before .if1 .left, sym (c .before .before .before .lengths-hold .ensures), c .before .before .if2 .left, ne-eqb _ _ (c .before .if3 .left), eq-eqb _ _ (c .if4 .taken))
 
--- src/lib.rt:635:1
 returns-5 : tie.Need-returns-5
 unfolding shapeOf lengthsHold wordsLong
 returns-5 c = simp (sym (c .before .before .before .before .before .ranges-hold .ensures), c .before .before .before .before .if1 .left, sym (c .before .before .before .lengths-hold .ensures), c .before .before .if2 .left, ne-eqb _ _ (c .before .if3 .left), ne-eqb _ _ (c .if4 .left))

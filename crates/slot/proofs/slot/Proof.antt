@@ -1,129 +1,97 @@
-use mathlib.Core.Path.{_≡_, refl, sym, _∙_, ap}
+use mathlib.Core.Path.{sym, _∙_, ap}
 use denote.Ref.{now}
 use Rattle.meaning.specs.State.{stateOf}
 use Rattle.meaning.specs.Slot.{finish}
-use Rattle.slot.proofs.QuietCases.{as-came}
+use Rattle.plan.proofs.Ends.{as-came}
 use Rattle.slot.proofs.Whole.{slot-refused, slot-goes, clock-turn, clock-rotation, clock-goes, shaped, sized}
 use borrow.Author.Needs.{needs}
 use Rattle.slot.proofs.slot.Statement.{statement}
 use Rattle.slot.proofs.slot.Tie as tie
-use Rattle.slot.proofs.slot.Reads as reads
-use Rattle.slot.proofs.slot.Lts as lts
-use Rattle.slot.proofs.clock.Reads as clock-reads
-use Rattle.slot.proofs.refuse.Reads as refuse-reads
-use Rattle.slot.proofs.shape.Reads as shape-reads
-use Rattle.slot.proofs.steps.Reads as steps-reads
 
--- src/lib.rt:683:9
 shape-requires : tie.Need-shape-requires
 shape-requires c κs = search needs
 
--- src/lib.rt:685:9
 refuse-requires : tie.Need-refuse-requires
 refuse-requires c κs = search needs
 
--- src/lib.rt:685:9
 same-length : tie.Need-same-length
 same-length c = search needs
 
--- src/lib.rt:685:9
 same-length-2 : tie.Need-same-length-2
 same-length-2 c = search needs
 
--- src/lib.rt:685:9
 same-length-3 : tie.Need-same-length-3
 same-length-3 c = search needs
 
--- src/lib.rt:685:9
 same-length-4 : tie.Need-same-length-4
 same-length-4 c = search needs
 
--- src/lib.rt:685:9
 returns : tie.Need-returns
 returns c =
     let a = c .before .before .before .before .before .before .before .before .before .before .before .before .args in
     slot-refused (a .r) (now (a .cell)) (now (a .cells)) (now (a .links)) (now (a .calendar)) (now (a .words)) _ _ (c .before .before .shape .ensures) (c .before .if1 .taken) (c .refuse .ensures)
 
--- src/lib.rt:688:9
 refuse-requires-2 : tie.Need-refuse-requires-2
 refuse-requires-2 c κs = search needs
 
--- src/lib.rt:688:9
 same-length-5 : tie.Need-same-length-5
 same-length-5 c = search needs
 
--- src/lib.rt:688:9
 same-length-6 : tie.Need-same-length-6
 same-length-6 c = search needs
 
--- src/lib.rt:688:9
 same-length-7 : tie.Need-same-length-7
 same-length-7 c = search needs
 
--- src/lib.rt:688:9
 same-length-8 : tie.Need-same-length-8
 same-length-8 c = search needs
 
--- src/lib.rt:688:9
 returns-2 : tie.Need-returns-2
 returns-2 c =
     let a = c .before .before .before .before .before .before .before .before .before .before .before .before .before .before .args in
     as-came (a .r) (now (a .cells)) (now (a .links)) (now (a .calendar)) (now (a .words)) _ _ (c .refuse2 .ensures) (clock-turn (a .r) (now (a .cell)) (now (a .cells)) (now (a .links)) (now (a .calendar)) (now (a .words)) (c .before .if2 .taken)) ∙ sym (slot-goes (a .r) (now (a .cell)) (now (a .cells)) (now (a .links)) (now (a .calendar)) (now (a .words)) _ (c .before .before .before .before .shape .ensures) (c .before .before .before .if1 .left))
 
--- src/lib.rt:691:9
 refuse-requires-3 : tie.Need-refuse-requires-3
 refuse-requires-3 c κs = search needs
 
--- src/lib.rt:691:9
 same-length-9 : tie.Need-same-length-9
 same-length-9 c = search needs
 
--- src/lib.rt:691:9
 same-length-10 : tie.Need-same-length-10
 same-length-10 c = search needs
 
--- src/lib.rt:691:9
 same-length-11 : tie.Need-same-length-11
 same-length-11 c = search needs
 
--- src/lib.rt:691:9
 same-length-12 : tie.Need-same-length-12
 same-length-12 c = search needs
 
--- src/lib.rt:691:9
 returns-3 : tie.Need-returns-3
 returns-3 c =
     let a = c .before .before .before .before .before .before .before .before .before .before .before .before .before .before .before .before .args in
     as-came (a .r) (now (a .cells)) (now (a .links)) (now (a .calendar)) (now (a .words)) _ _ (c .refuse3 .ensures) (clock-rotation (a .r) (now (a .cell)) (now (a .cells)) (now (a .links)) (now (a .calendar)) (now (a .words)) (c .before .before .before .if2 .left) (c .before .if3 .taken)) ∙ sym (slot-goes (a .r) (now (a .cell)) (now (a .cells)) (now (a .links)) (now (a .calendar)) (now (a .words)) _ (c .before .before .before .before .before .before .shape .ensures) (c .before .before .before .before .before .if1 .left))
 
--- src/lib.rt:693:9
 clock-requires : tie.Need-clock-requires
 clock-requires c κs = search needs
 
--- src/lib.rt:694:5
 steps-requires : tie.Need-steps-requires
 steps-requires c κs =
     let a = c .before .before .before .before .before .before .before .before .before .before .before .before .before .before .before .before .before .before .before .before .args in
     let h = shaped (a .r) (now (a .cell)) (now (a .cells)) (now (a .links)) (now (a .calendar)) (now (a .words)) _ (c .before .before .before .before .before .before .before .before .before .before .shape .ensures) (c .before .before .before .before .before .before .before .before .before .if1 .left) in
     (sized (a .r) (now (a .cell)) (now (a .cells)) (now (a .links)) (now (a .calendar)) (now (a .words)) _ (c .before .before .before .before .clock .ensures) h, h .cell-long)
 
--- src/lib.rt:673:1
 same-length-13 : tie.Need-same-length-13
 same-length-13 c = search needs
 
--- src/lib.rt:673:1
 same-length-14 : tie.Need-same-length-14
 same-length-14 c = search needs
 
--- src/lib.rt:673:1
 same-length-15 : tie.Need-same-length-15
 same-length-15 c = search needs
 
--- src/lib.rt:673:1
 same-length-16 : tie.Need-same-length-16
 same-length-16 c = search needs
 
--- src/lib.rt:673:1
 returns-4 : tie.Need-returns-4
 returns-4 c =
     let a = c .before .before .before .before .before .before .before .before .before .before .before .before .before .before .before .before .before .before .before .before .before .before .before .before .before .before .before .before .before .args in

@@ -1,4 +1,4 @@
-use mathlib.Core.Path.{_≡_, refl, sym, _∙_, ap}
+use mathlib.Core.Path.{sym, _∙_, ap}
 use native.Mathlib.Omega.{arith}
 use denote.Ref.{now}
 use borrow.Author.Tests.{eqb-true, not-true, not-false}
@@ -6,58 +6,42 @@ use Rattle.meaning.specs.State.{stateOf}
 use Rattle.meaning.specs.Slot.{finish}
 use Rattle.arrival.specs.declared.Judged.{Judged}
 use Rattle.plan.proofs.Found.{judged-shows}
-use Rattle.slot.proofs.QuietCases.{as-came}
-use Rattle.slot.proofs.Whole.{rotating-none, arriving-none, arriving-accepted, arriving-quiet}
+use Rattle.plan.proofs.Ends.{as-came}
+use Rattle.plan.proofs.Steps.{rotating-none, arriving-none, arriving-accepted, arriving-quiet}
 use borrow.Author.Needs.{needs}
 use Rattle.slot.proofs.steps.Statement.{statement}
 use Rattle.slot.proofs.steps.Tie as tie
-use Rattle.slot.proofs.steps.Reads as reads
-use Rattle.slot.proofs.steps.Lts as lts
-use Rattle.arrival.proofs.bring.Reads as bring-reads
-use Rattle.arrival.proofs.judge.Reads as judge-reads
-use Rattle.slot.proofs.accept.Reads as accept-reads
-use Rattle.slot.proofs.quiet.Reads as quiet-reads
-use Rattle.slot.proofs.refuse.Reads as refuse-reads
 
--- src/lib.rt:625:9
 bring-requires : tie.Need-bring-requires
 bring-requires c κs = search needs
 
--- src/lib.rt:627:9
 refuse-requires : tie.Need-refuse-requires
 refuse-requires c κs = search needs
 
--- src/lib.rt:627:9
 same-length : tie.Need-same-length
 same-length c = search needs
 
--- src/lib.rt:627:9
 returns : tie.Need-returns
 returns c =
     let a = c .before .before .before .before .before .before .before .before .before .before .args in
     let pre = c .before .before .before .before .before .before .before .before .before .before .pre in
     as-came (a .r) (now (a .cells)) (now (a .links)) (now (a .calendar)) (now (a .words)) _ _ (c .refuse .ensures) (rotating-none (a .k) (now (a .cell)) (now (a .cells)) (now (a .links)) (now (a .calendar)) (now (a .words)) _ (c .before .before .before .bring .ensures) (not-true _ (c .before .if1 .taken)))
 
--- src/lib.rt:629:9
 judge-requires : tie.Need-judge-requires
 judge-requires c κs = search needs
 
--- src/lib.rt:631:9
 refuse-requires-2 : tie.Need-refuse-requires-2
 refuse-requires-2 c κs = search needs
 
--- src/lib.rt:631:9
 same-length-2 : tie.Need-same-length-2
 same-length-2 c = search needs
 
--- src/lib.rt:631:9
 returns-2 : tie.Need-returns-2
 returns-2 c =
     let a = c .before .before .before .before .before .before .before .before .before .before .before .before .before .before .args in
     let pre = c .before .before .before .before .before .before .before .before .before .before .before .before .before .before .pre in
     as-came (a .r) (now (a .cells)) (now (a .links)) (now (a .calendar)) (now (a .words)) _ _ (c .refuse2 .ensures) (arriving-none (a .k) (now (a .cell)) (now (a .cells)) (now (a .links)) (now (a .calendar)) (now (a .words)) _ (c .before .before .before .before .before .before .before .bring .ensures) _ (c .before .before .before .judge .ensures) (omega (arith, pre .0 .rotation-low, pre .0 .words-long)) (not-false _ (c .before .before .before .before .before .if1 .left)) (not-true _ (c .before .if2 .taken)))
 
--- src/lib.rt:634:9
 accept-requires : tie.Need-accept-requires
 accept-requires c κs =
     let a = c .before .before .before .before .before .before .before .before .before .before .before .before .before .before .before .before .before .before .before .args in
@@ -65,30 +49,24 @@ accept-requires c κs =
     let e = c .before .before .before .before .before .before .before .before .judge .ensures in
     (pre .0, rw e (judged-shows (a .k) (now (a .cell)) (now (a .words)) .accepted-is (pre .1) (ap (λ (j : Judged). j .ok) (sym e) ∙ not-false _ (c .before .before .before .before .before .before .if2 .left)) (ap (λ (j : Judged). j .verdict) (sym e) ∙ c .before .before .before .before .if3 .taken)))
 
--- src/lib.rt:634:9
 same-length-3 : tie.Need-same-length-3
 same-length-3 c = search needs
 
--- src/lib.rt:634:9
 same-length-4 : tie.Need-same-length-4
 same-length-4 c = search needs
 
--- src/lib.rt:634:9
 same-length-5 : tie.Need-same-length-5
 same-length-5 c = search needs
 
--- src/lib.rt:634:9
 same-length-6 : tie.Need-same-length-6
 same-length-6 c = search needs
 
--- src/lib.rt:634:9
 returns-3 : tie.Need-returns-3
 returns-3 c =
     let a = c .before .before .before .before .before .before .before .before .before .before .before .before .before .before .before .before .before .before .before .before .before .before .before .before .before .before .before .before .args in
     let pre = c .before .before .before .before .before .before .before .before .before .before .before .before .before .before .before .before .before .before .before .before .before .before .before .before .before .before .before .before .pre in
     c .before .before .before .before .before .before .before .before .accept .ensures ∙ ap (finish (stateOf (a .r) (now (a .cells)) (now (a .links)) (now (a .calendar)) (now (a .words)))) (sym (arriving-accepted (a .k) (now (a .cell)) (now (a .cells)) (now (a .links)) (now (a .calendar)) (now (a .words)) _ (c .before .before .before .before .before .before .before .before .before .before .before .before .before .before .before .before .before .before .before .before .before .bring .ensures) _ (c .before .before .before .before .before .before .before .before .before .before .before .before .before .before .before .before .before .judge .ensures) (omega (arith, pre .0 .rotation-low, pre .0 .words-long)) (not-false _ (c .before .before .before .before .before .before .before .before .before .before .before .before .before .before .before .before .before .before .before .if1 .left)) (not-false _ (c .before .before .before .before .before .before .before .before .before .before .before .before .before .before .before .if2 .left)) (c .before .before .before .before .before .before .before .before .before .before .before .before .before .if3 .taken)))
 
--- src/lib.rt:636:5
 quiet-requires : tie.Need-quiet-requires
 quiet-requires c κs =
     let a = c .before .before .before .before .before .before .before .before .before .before .before .before .before .before .before .before .before .before .before .args in
@@ -96,23 +74,18 @@ quiet-requires c κs =
     let e = c .before .before .before .before .before .before .before .before .judge .ensures in
     (pre .0, λ x. rw (ap (λ (j : Judged). j .vci) e) (judged-shows (a .k) (now (a .cell)) (now (a .words)) .excess-is (ap (λ (j : Judged). j .ok) (sym e) ∙ not-false _ (c .before .before .before .before .before .before .if2 .left)) (ap (λ (j : Judged). j .verdict) (sym e) ∙ eqb-true _ _ x)))
 
--- src/lib.rt:612:1
 same-length-7 : tie.Need-same-length-7
 same-length-7 c = search needs
 
--- src/lib.rt:612:1
 same-length-8 : tie.Need-same-length-8
 same-length-8 c = search needs
 
--- src/lib.rt:612:1
 same-length-9 : tie.Need-same-length-9
 same-length-9 c = search needs
 
--- src/lib.rt:612:1
 same-length-10 : tie.Need-same-length-10
 same-length-10 c = search needs
 
--- src/lib.rt:612:1
 returns-4 : tie.Need-returns-4
 returns-4 c =
     let a = c .before .before .before .before .before .before .before .before .before .before .before .before .before .before .before .before .before .before .before .before .before .before .before .before .before .before .args in

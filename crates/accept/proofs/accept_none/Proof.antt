@@ -1,0 +1,41 @@
+use mathlib.Core.Path.{refl}
+use denote.Ref.{now}
+use Rattle.plan.proofs.Ends.{accept-served}
+use borrow.Author.Needs.{needs}
+use Rattle.accept.proofs.accept_none.Statement.{statement}
+use Rattle.accept.proofs.accept_none.Tie as tie
+
+store-requires : tie.Need-store-requires
+store-requires c κs = search needs
+
+seated-requires : tie.Need-seated-requires
+seated-requires c κs = search needs
+
+same-length : tie.Need-same-length
+same-length c = search needs
+
+same-length-2 : tie.Need-same-length-2
+same-length-2 c = search needs
+
+same-length-3 : tie.Need-same-length-3
+same-length-3 c = search needs
+
+same-length-4 : tie.Need-same-length-4
+same-length-4 c = search needs
+
+returns : tie.Need-returns
+returns c =
+    let a = c .before .before .before .before .before .before .before .before .before .before .before .before .before .before .before .before .before .before .before .args in
+    accept-served (a .k) (a .b) (a .j) (a .a) (now (a .cell)) (now (a .cells)) (now (a .links)) (now (a .calendar)) (now (a .words)) _ _ _ _ _ (c .seated .ensures) refl (c .before .before .before .before .before .before .before .before .before .store .ensures .0) (c .before .before .before .before .before .before .before .before .before .store .ensures .1 .0) (c .before .before .before .before .before .before .before .before .before .store .ensures .1 .1 .0) (c .before .before .before .before .before .before .before .before .before .store .ensures .1 .1 .1)
+
+pub accept-none-spec : {M : Type 1} → statement M
+accept-none-spec =
+    tie.close
+    (tie.spec
+    store-requires
+    seated-requires
+    same-length
+    same-length-2
+    same-length-3
+    same-length-4
+    returns)

@@ -1,0 +1,24 @@
+use borrow.Author.Tests.{eq-eqb, ne-eqb}
+use Rattle.plan.specs.Plan.{joinedLinks, joinedHead}
+use Rattle.spaces.specs.Spaces.{linked}
+use Rattle.meaning.proofs.ListsLaws.{fit-head}
+use borrow.Author.Needs.{needs}
+use Rattle.quiet.proofs.off_marked.Statement.{statement}
+use Rattle.quiet.proofs.off_marked.Tie as tie
+
+off-head-requires : tie.Need-off-head-requires
+off-head-requires c κs = search needs
+
+returns : tie.Need-returns
+unfolding joinedLinks joinedHead linked
+returns c = rw (eq-eqb (c .before .before .before .before .before .before .args .k .outhead) 65535 (c .before .if1 .taken)) (c .off-head .ensures)
+
+off-joined-requires : tie.Need-off-joined-requires
+off-joined-requires c κs = let pre = c .before .before .before .before .before .pre in (pre .0 .0, pre .0 .1, fit-head _ _ (pre .1) (c .if1 .left), pre .0 .3, pre .0 .4, pre .0 .5)
+
+returns-2 : tie.Need-returns-2
+unfolding joinedLinks joinedHead linked
+returns-2 c = rw (ne-eqb (c .before .before .before .before .before .before .args .k .outhead) 65535 (c .before .if1 .left)) (c .off-joined .ensures)
+
+pub off-marked-spec : {M : Type 1} → statement M
+off-marked-spec = tie.close (tie.spec off-head-requires returns off-joined-requires returns-2)

@@ -1,0 +1,87 @@
+use borrow.Author.Tests.{not-true, not-false}
+use mathlib.Core.Path.{sym, _∙_, ap}
+use native.Mathlib.Omega.{arith}
+use denote.Ref.{now}
+use Rattle.spaces.specs.declared.Off.{Off}
+use Rattle.plan.proofs.Found.{no}
+use Rattle.plan.proofs.Off.{off-shows}
+use Rattle.plan.proofs.Ends.{as-came, went}
+use Rattle.plan.proofs.QuietCases.{output-none, output-unfit, output-goes}
+use borrow.Author.Needs.{needs}
+use Rattle.quiet.proofs.quiet_output.Statement.{statement}
+use Rattle.quiet.proofs.quiet_output.Tie as tie
+
+off-head-requires : tie.Need-off-head-requires
+off-head-requires c κs = search needs
+
+refuse-requires : tie.Need-refuse-requires
+refuse-requires c κs = search needs
+
+same-length : tie.Need-same-length
+same-length c = search needs
+
+same-length-2 : tie.Need-same-length-2
+same-length-2 c = search needs
+
+returns : tie.Need-returns
+returns c = λ calendar.
+    let a = c .before .before .before .before .before .before .before .before .before .args in
+    as-came (a .r) (now (a .cells)) (now (a .links)) calendar (now (a .words)) _ _ (c .refuse .ensures) (output-none (a .k) (a .b) (a .j) (now (a .cells)) (now (a .links)) calendar (now (a .words)) _ (c .before .before .before .off-head .ensures) (not-true _ (c .before .if1 .taken)))
+
+pair-requires : tie.Need-pair-requires
+pair-requires c κs = search needs
+
+refuse-requires-2 : tie.Need-refuse-requires-2
+refuse-requires-2 c κs = search needs
+
+same-length-3 : tie.Need-same-length-3
+same-length-3 c = search needs
+
+same-length-4 : tie.Need-same-length-4
+same-length-4 c = search needs
+
+returns-2 : tie.Need-returns-2
+returns-2 c = λ calendar.
+    let a = c .before .before .before .before .before .before .before .before .before .before .before .args in
+    as-came (a .r) (now (a .cells)) (now (a .links)) calendar (now (a .words)) _ _ (c .refuse2 .ensures) (output-unfit (a .k) (a .b) (a .j) (now (a .cells)) (now (a .links)) calendar (now (a .words)) _ (c .before .before .before .before .before .off-head .ensures) (sym (c .before .before .pair .ensures) ∙ not-true _ (c .before .if2 .taken)))
+
+quiet-end-requires : tie.Need-quiet-end-requires
+quiet-end-requires c κs =
+    let a = c .before .before .before .before .before .before .before .before .before .before .before .before .args in
+    let pre = c .before .before .before .before .before .before .before .before .before .before .before .before .pre in
+    let shows = off-shows _ _ _ _ _ _ _ (ap (λ (o : Off). o .ok) (sym (c .before .before .before .before .before .before .off-head .ensures)) ∙ not-false _ (c .before .before .before .before .if1 .left)) in
+    let vci = ap (λ (o : Off). o .vci) (c .before .before .before .before .before .before .off-head .ensures) in (
+      (omega (arith, pre .0 .3), omega (arith, pre .0 .4), pre .0 .5, rw vci (shows .0), rw vci (shows .1)),
+      (pre .1, (λ e. no e, sym (c .before .before .before .pair .ensures) ∙ not-false _ (c .before .before .if2 .left))),
+    )
+
+same-length-5 : tie.Need-same-length-5
+same-length-5 c = search needs
+
+same-length-6 : tie.Need-same-length-6
+same-length-6 c = search needs
+
+returns-3 : tie.Need-returns-3
+returns-3 c = λ calendar.
+    let a = c .before .before .before .before .before .before .before .before .before .before .before .before .before .before .before .before .before .args in
+    went (a .r) (now (a .cells)) (now (a .links)) calendar (now (a .words)) _ _ _ (output-goes (a .k) (a .b) (a .j) (now (a .cells)) (now (a .links)) calendar (now (a .words)) _ (c .before .before .before .before .before .before .before .before .before .before .before .off-head .ensures) (not-false _ (c .before .before .before .before .before .before .before .before .before .if1 .left)) (sym (c .before .before .before .before .before .before .before .before .pair .ensures) ∙ not-false _ (c .before .before .before .before .before .before .before .if2 .left)))
+    (c .before .before .before .before .quiet-end .ensures (now (a .cells)) calendar calendar)
+
+pub quiet-output-spec : {M : Type 1} → statement M
+quiet-output-spec =
+    tie.close
+    (tie.spec
+    off-head-requires
+    refuse-requires
+    same-length
+    same-length-2
+    returns
+    pair-requires
+    refuse-requires-2
+    same-length-3
+    same-length-4
+    returns-2
+    quiet-end-requires
+    same-length-5
+    same-length-6
+    returns-3)

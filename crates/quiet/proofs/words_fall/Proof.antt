@@ -1,0 +1,21 @@
+use native.Mathlib.Omega.{arith}
+use Rattle.plan.specs.Plan.{rotated}
+use borrow.Author.Needs.{needs}
+use Rattle.quiet.proofs.words_fall.Statement.{statement}
+use Rattle.quiet.proofs.words_fall.Tie as tie
+
+put-fall-requires : tie.Need-put-fall-requires
+put-fall-requires c κs = search needs
+
+put-fall-requires-2 : tie.Need-put-fall-requires-2
+put-fall-requires-2 c κs = λ e. let h = c .before .before .before .before .before .before .before .pre .1 e in omega (arith, h)
+
+same-length : tie.Need-same-length
+same-length c = search needs
+
+returns : tie.Need-returns
+unfolding rotated
+returns c = rw (c .before .before .put-fall2 .ensures, c .before .before .before .before .before .before .before .put-fall .ensures)
+
+pub words-fall-spec : {M : Type 1} → statement M
+words-fall-spec = tie.close (tie.spec put-fall-requires put-fall-requires-2 same-length returns)

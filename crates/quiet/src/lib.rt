@@ -1,0 +1,173 @@
+// A slot in which no cell is accepted: steps 4 and 5 are read and judged, then all is written.
+ghost use mathlib.Core.Path.{_≡_};
+ghost use mathlib.Core.Bool.{true};
+ghost use mathlib.Core.List.{List};
+ghost use Prim.Native.Nat.{ℕ, _+_, _*_, _≤_, _<_};
+ghost use lib.ListN.{length, getD};
+ghost use Rattle.meaning.specs.Plain.{_=?_, _andThen_};
+ghost use Rattle.meaning.specs.Numbers.{excess, waitingPlace};
+ghost use Rattle.meaning.specs.State.{stateOf};
+ghost use Rattle.meaning.specs.Lists.{endsFit};
+ghost use Rattle.meaning.specs.Slot.{step4, step5, finish};
+ghost use Rattle.arrival.specs.Arrival.{fallen};
+ghost use Rattle.spaces.specs.Spaces.{endsOf, linked, offOf};
+ghost use Rattle.plan.specs.Plan.{rotated, quietWork, leftBy, joinedLinks, joinedHead, leavingMarked, leavingOutput, servedWork};
+ghost use Rattle.plan.specs.Facts.{Sized};
+use arrival::Fall;
+use arrival::Judged;
+use meaning::Answer;
+use meaning::Record;
+use meaning::Served;
+use spaces::Off;
+
+// Steps 2 and 3 in the words where no cell is accepted.
+fn words_fall(k: Record, b: Fall, j: Judged, words: &mut [u32])
+    requires { ⌜ (b .on ≡ true → 7 * k .rotation + 7 ≤ length (now words)) ⌝ }
+    requires { ⌜ (j .verdict =? excess ≡ true → 7 * j .vci + 7 ≤ length (now words)) ⌝ }
+    ensures { λ r. ⌜ now (words .exit) ≡ fallen (j .verdict =? excess) (j .vci) (j .s) (k .t) (rotated k b (now (words .entry))) ⌝ }
+{
+    arrival::put_fall(words, b.on, k.rotation, b.s, k.t);
+    arrival::put_fall(words, j.verdict == 2, j.vci, j.s, k.t);
+}
+
+// A departure where no cell was accepted: all writes but the entry's.
+fn quiet_end(
+    k: Record,
+    b: Fall,
+    j: Judged,
+    o: Off,
+    joins: bool,
+    head: u16,
+    links: &mut [u16],
+    words: &mut [u32],
+) -> Served
+    requires { ⌜ (length (now links) ≡ k .n) × (length (now words) ≡ 7 * k .v) × (k .rotation < k .v) × (o .vci < k .v) × (1 ≤ getD (now words) (waitingPlace (o .vci)) 0) ⌝ }
+    requires { ⌜ (j .verdict =? excess ≡ true → j .vci < k .v) ⌝ }
+    requires { ⌜ (joins ≡ true → k .outtail < k .n) ⌝ }
+    requires { ⌜ endsFit (k .n) (endsOf (k .freehead) (k .freetail)) ≡ true ⌝ }
+    ensures { λ s. ⌜ ((cells calendar calendar′ : List ℕ) → servedWork s cells (now (links .exit)) calendar′ (now (words .exit)) ≡ leftBy (quietWork k j cells (now (links .entry)) calendar (rotated k b (now (words .entry)))) (linked joins (k .outtail) head (now (links .entry))) calendar′ o) ⌝ }
+{
+    words_fall(k, b, j, words);
+    arrival::put_less(words, o.vci);
+    departure::links_leave(k, joins, head, o.space, links);
+    departure::left(k, j.verdict, j.vci, 0, o)
+}
+
+// What departs once entry T, from head to tail, has joined the Output List.
+fn off_marked(k: Record, head: u16, tail: u16, cells: &[u8], links: &[u16], words: &[u32]) -> Off
+    requires { ⌜ (k .n ≤ 1024) × (k .v ≤ 1024) × (head < k .n) × (length (now cells) ≡ 53 * k .n) × (length (now links) ≡ k .n) × (length (now words) ≡ 7 * k .v) ⌝ }
+    requires { ⌜ endsFit (k .n) (endsOf (k .outhead) (k .outtail)) ≡ true ⌝ }
+    ensures { λ r. ⌜ r ≡ offOf (k .n) (k .v) (now (cells .entry)) (joinedLinks k (endsOf head tail) (now (links .entry))) (now (words .entry)) (joinedHead k (endsOf head tail)) tail ⌝ }
+{
+    if k.outhead == 65535 {
+        return spaces::off_head(k.n, k.v, cells, links, words, head, tail);
+    }
+    spaces::off_joined(
+        k.n,
+        k.v,
+        cells,
+        links,
+        words,
+        k.outhead,
+        k.outtail,
+        head,
+        tail,
+    )
+}
+
+// No cell was accepted, and entry T is marked, from head to tail.
+fn quiet_marked(
+    r: Record,
+    k: Record,
+    b: Fall,
+    j: Judged,
+    head: u16,
+    tail: u16,
+    cells: &[u8],
+    links: &mut [u16],
+    calendar: &mut [u16],
+    words: &mut [u32],
+) -> Served
+    requires { ⌜ Sized k (now cells) (now links) (now calendar) (now words) ⌝ }
+    requires { ⌜ (j .verdict =? excess ≡ true → j .vci < k .v) ⌝ }
+    requires { ⌜ (head < k .n) × (endsFit (k .n) (endsOf (k .outhead) (k .outtail)) ≡ true) ⌝ }
+    ensures { λ s. ⌜ servedWork s (now (cells .entry)) (now (links .exit)) (now (calendar .exit)) (now (words .exit)) ≡ finish (stateOf r (now (cells .entry)) (now (links .entry)) (now (calendar .entry)) (now (words .entry))) (leavingMarked (quietWork k j (now (cells .entry)) (now (links .entry)) (now (calendar .entry)) (rotated k b (now (words .entry)))) (endsOf head tail)) ⌝ }
+{
+    let o = off_marked(k, head, tail, cells, links, words);
+    if !o.ok {
+        return departure::refuse(r, 3);
+    }
+    if !spaces::pair(k.n, k.freehead, k.freetail) {
+        return departure::refuse(r, 3);
+    }
+    departure::clear_entry(calendar, true, k.turn);
+    quiet_end(k, b, j, o, k.outhead != 65535, head, links, words)
+}
+
+// No cell was accepted, entry T is not marked, and the Output List has a head.
+fn quiet_output(
+    r: Record,
+    k: Record,
+    b: Fall,
+    j: Judged,
+    cells: &[u8],
+    links: &mut [u16],
+    words: &mut [u32],
+) -> Served
+    requires { ⌜ (k .n ≤ 1024) × (k .v ≤ 1024) × (length (now cells) ≡ 53 * k .n) × (length (now links) ≡ k .n) × (length (now words) ≡ 7 * k .v) × (k .rotation < k .v) × (k .outhead < k .n) ⌝ }
+    requires { ⌜ (j .verdict =? excess ≡ true → j .vci < k .v) ⌝ }
+    ensures { λ s. ⌜ ((calendar : List ℕ) → servedWork s (now (cells .entry)) (now (links .exit)) calendar (now (words .exit)) ≡ finish (stateOf r (now (cells .entry)) (now (links .entry)) calendar (now (words .entry))) (leavingOutput (quietWork k j (now (cells .entry)) (now (links .entry)) calendar (rotated k b (now (words .entry)))))) ⌝ }
+{
+    let o = spaces::off_head(k.n, k.v, cells, links, words, k.outhead, k.outtail);
+    if !o.ok {
+        return departure::refuse(r, 3);
+    }
+    if !spaces::pair(k.n, k.freehead, k.freetail) {
+        return departure::refuse(r, 3);
+    }
+    quiet_end(k, b, j, o, false, 0, links, words)
+}
+
+// No cell was accepted.
+pub fn quiet(
+    r: Record,
+    k: Record,
+    b: Fall,
+    j: Judged,
+    cells: &[u8],
+    links: &mut [u16],
+    calendar: &mut [u16],
+    words: &mut [u32],
+) -> Served
+    requires { ⌜ Sized k (now cells) (now links) (now calendar) (now words) ⌝ }
+    requires { ⌜ (j .verdict =? excess ≡ true → j .vci < k .v) ⌝ }
+    ensures { λ s. ⌜ servedWork s (now (cells .entry)) (now (links .exit)) (now (calendar .exit)) (now (words .exit)) ≡ finish (stateOf r (now (cells .entry)) (now (links .entry)) (now (calendar .entry)) (now (words .entry))) (step4 (quietWork k j (now (cells .entry)) (now (links .entry)) (now (calendar .entry)) (rotated k b (now (words .entry)))) andThen step5) ⌝ }
+{
+    let at = 2 * (k.turn as usize);
+    let head = calendar[at];
+    let tail = calendar[at + 1];
+    if !spaces::pair(k.n, head, tail) {
+        return departure::refuse(r, 3);
+    }
+    if !spaces::pair(k.n, k.outhead, k.outtail) {
+        return departure::refuse(r, 3);
+    }
+    if head != 65535 {
+        return quiet_marked(r, k, b, j, head, tail, cells, links, calendar, words);
+    }
+    if k.outhead != 65535 {
+        return quiet_output(r, k, b, j, cells, links, words);
+    }
+    words_fall(k, b, j, words);
+    Served {
+        ctl: k,
+        answer: Answer {
+            number: 0,
+            verdict: j.verdict,
+            vci: j.vci,
+            d: 0,
+            space: 65535,
+            departing: 0,
+        },
+    }
+}
