@@ -1,0 +1,60 @@
+-- `lines::served_line` puts a served slot's line: six parts, joined by `put-then`, are the line by `slot-words`.
+-- Assumes nothing.
+use borrow.Author.Needs.{needs}
+use native.Mathlib.Omega.{arith}
+use mathlib.Core.Path.{ap, sym}
+use mathlib.Core.List.{List, [], _∷_}
+use Prim.Native.Nat.{ℕ}
+use Rattle.lines.specs.Lines.{servedLine}
+use Rattle.lines.proofs.Words.{slot-words}
+use Rattle.lines.proofs.Puts.{put-is, put-then}
+use Rattle.lines.proofs.served_line.Statement.{statement}
+use Rattle.lines.proofs.served_line.Tie as tie
+
+letter-requires : tie.Need-letter-requires
+letter-requires c κs = search needs
+
+number-requires : tie.Need-number-requires
+number-requires c κs = search needs
+
+pair-requires : tie.Need-pair-requires
+pair-requires c κs = search needs
+
+word-requires : tie.Need-word-requires
+word-requires c κs = search needs
+
+word-requires-2 : tie.Need-word-requires-2
+word-requires-2 c κs = search needs
+
+word-requires-3 : tie.Need-word-requires-3
+word-requires-3 c κs = search needs
+
+same-length : tie.Need-same-length
+same-length c = search needs
+
+returns : tie.Need-returns
+unfolding servedLine
+returns c =
+    let w3 = c .before .before in
+    let w2 = w3 .before .before .before .before in
+    let w1 = w2 .before .before .before .before in
+    let p = w1 .before .before .before .before in
+    let n = p .before .before .before .before in
+    let l = n .before .before in (
+      put-is (slot-words _ _ _ _ _)
+          (put-then (put-then (put-then (put-then (n .number .ensures .0) (put-is (ap (λ (x : ℕ). x ∷ 32 ∷ []) (sym (l .letter .ensures))) (p .pair .ensures))) (w1 .word .ensures .0)) (w2 .word2 .ensures .0)) (w3 .word3 .ensures .0)),
+      omega (arith, n .number .ensures .1, p .pair .ensures .next, w1 .word .ensures .1, w2 .word2 .ensures .1, w3 .word3 .ensures .1),
+    )
+
+pub served-line-spec : {M : Type 1} → statement M
+served-line-spec =
+    tie.close
+    (tie.spec
+    letter-requires
+    number-requires
+    pair-requires
+    word-requires
+    word-requires-2
+    word-requires-3
+    same-length
+    returns)
