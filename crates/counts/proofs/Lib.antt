@@ -1,0 +1,5 @@
+pub mod Sums
+pub mod Balance
+pub mod Arrives
+pub mod Served
+pub mod Ends

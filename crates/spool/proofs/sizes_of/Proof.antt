@@ -1,0 +1,43 @@
+-- `spool::sizes_of` answers the sizes for an input: the first record of its first 65,536 octets.
+-- Assumes nothing.
+use Prim.Native.Nat.{ℕ, _≤_}
+use mathlib.Core.Path.{sym, ap, subst, _∙_}
+use mathlib.Core.List.{List}
+use native.Mathlib.Omega.{arith}
+use lib.Seq.{length-take-le}
+use Rattle.meaning.specs.Numbers.{mostN, mostV}
+use Rattle.trace.specs.Trace.{standsAt}
+use Rattle.steps.specs.declared.Sizes.{Sizes}
+use Rattle.steps.specs.Fill.{sizesAt, sizesOf}
+use Rattle.steps.proofs.Cut.{take-cut}
+use Rattle.spool.proofs.Lent.{sizes-small}
+use borrow.Author.Needs.{needs}
+use Rattle.spool.proofs.sizes_of.Statement.{statement}
+use Rattle.spool.proofs.sizes_of.Tie as tie
+
+least-requires : tie.Need-least-requires
+least-requires c κs = search needs
+
+slice-aggregate-event-at : tie.Need-slice-aggregate-event-at
+slice-aggregate-event-at c =
+    let l = c .before .least in
+    sym (length-take-le (l .result) (c .before .before .before .args .input .now) (omega (arith, l .ensures)))
+
+event-at-requires : tie.Need-event-at-requires
+event-at-requires c κs = search needs
+
+sizes-at-requires : tie.Need-sizes-at-requires
+sizes-at-requires c κs = search needs
+
+returns : tie.Need-returns
+unfolding sizesOf
+returns c =
+    let s = c .before .before .before .before .before in
+    let e = c .sizes-at .ensures ∙ ap sizesAt (c .before .event-at .ensures)
+    ∙ ap (λ (x : List ℕ). sizesAt (standsAt x 0)) (take-cut (s .args .input .now) _ (c .before .before .before .least .ensures)) in
+    (e, subst (λ (x : Sizes). (x .n ≤ mostN) × (x .v ≤ mostV)) (sym e) (sizes-small _))
+
+pub sizes-of-spec : {M : Type 1} → statement M
+sizes-of-spec =
+    tie.close
+    (tie.spec least-requires slice-aggregate-event-at event-at-requires sizes-at-requires returns)
