@@ -1,0 +1,15 @@
+// spacer: a trace on standard input, its listing on standard output.
+//
+// It reads one octet more than it lists, which shows whether the input goes on. A read that fails, or an input that goes on
+// after its end, ends the program with nothing written; a write that fails ends it there.
+fn main() {
+    let mut input = [0u8; 65537];
+    let long = io::read_full(0, &mut input);
+    if long < 65537 {
+        let mut next = [0u8; 1];
+        if libc::read(0, &mut next) != 0 {
+            return;
+        }
+    }
+    handover::list(1, &input[..long]);
+}
