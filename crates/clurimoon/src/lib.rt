@@ -4,7 +4,9 @@ ghost use mathlib.Core.Path.{_≡_};
 ghost use lib.ListN.{length};
 ghost use Rattle.meaning.specs.State.{stateOf};
 ghost use Rattle.meaning.specs.Promises.{setupPromise, openPromise, closePromise, slotPromise, AuditPromise};
+ghost use Rattle.burst.specs.Promise.{burstPromise};
 ghost use Rattle.clurimoon.specs.Places.{placePromise};
+use burst::BurstEnd;
 use line::Place;
 use meaning::Fresh;
 use meaning::Record;
@@ -78,4 +80,31 @@ pub extern "C" fn clurimoon_audit(
     ensures { λ a. ⌜ AuditPromise (stateOf ctl (now (cells .entry)) (now (links .entry)) (now (calendar .entry)) (now (words .entry))) a ⌝ }
 {
     audit::audit(ctl, cells, links, calendar, words)
+}
+
+#[no_mangle]
+pub extern "C" fn clurimoon_burst(
+    ctl: Record,
+    cells: &mut [u8],
+    links: &mut [u16],
+    calendar: &mut [u16],
+    words: &mut [u32],
+    arrivals: &[u8],
+    sizes: &[u8],
+    departures: &mut [u8],
+    answers: &mut [u16],
+) -> BurstEnd
+    ensures { λ r. ⌜ burstPromise (stateOf ctl (now (cells .entry)) (now (links .entry)) (now (calendar .entry)) (now (words .entry))) (now (arrivals .entry)) (now (sizes .entry)) (now (departures .entry)) (now (answers .entry)) r (now (cells .exit)) (now (links .exit)) (now (calendar .exit)) (now (words .exit)) (now (departures .exit)) (now (answers .exit)) ⌝ }
+{
+    burst::burst(
+        ctl,
+        cells,
+        links,
+        calendar,
+        words,
+        arrivals,
+        sizes,
+        departures,
+        answers,
+    )
 }
