@@ -1,0 +1,5 @@
+pub mod SlotLaws
+pub mod ShowLaws
+pub mod TurnLaws
+pub mod Refusals
+pub mod Loop

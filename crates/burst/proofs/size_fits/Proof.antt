@@ -1,0 +1,19 @@
+use borrow.Author.Tests.{eq-eqb, ne-eqb}
+use Rattle.burst.specs.Burst.{sizeFits}
+use Rattle.burst.proofs.size_fits.Statement.{statement}
+use Rattle.burst.proofs.size_fits.Tie as tie
+use Rattle.burst.proofs.size_fits.Reads as reads
+use Rattle.burst.proofs.size_fits.Lts as lts
+
+-- src/lib.rt:29:9
+returns : tie.Need-returns
+unfolding sizeFits
+returns c = simp (eq-eqb (c .before .args .size) 0 (c .if1 .taken))
+
+-- src/lib.rt:25:1
+returns-2 : tie.Need-returns-2
+unfolding sizeFits
+returns-2 c = simp (ne-eqb (c .before .args .size) 0 (c .if1 .left))
+
+pub size-fits-spec : {M : Type 1} → statement M
+size-fits-spec = tie.close (tie.spec returns returns-2)

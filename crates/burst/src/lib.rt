@@ -1,0 +1,246 @@
+// Slot after slot in one call, as cards poll: each slot's departing cell is copied out, since its space may be taken
+// again within the burst, and its answer is written as six numbers.
+ghost use mathlib.Core.Path.{_≡_};
+ghost use mathlib.Core.Logic.{_≢_};
+ghost use mathlib.Core.Bool.{true, _&&_, _||_};
+ghost use Prim.Native.Nat.{_+_, _*_, _≤_, _<_};
+ghost use lib.ListN.{length, take, drop};
+ghost use Rattle.meaning.specs.Plain.{_=?_};
+ghost use Rattle.meaning.specs.State.{stateOf, writeCell};
+ghost use Rattle.burst.specs.Burst.{Stretch, stretchOf, sizeFits, shownInto, writeAnswer, oneSlot, slots, burstRefusal};
+ghost use Rattle.burst.specs.Promise.{burstPromise, Shows, Lent, BurstLent};
+use cell::copy_cell;
+use meaning::Answer;
+use meaning::Record;
+
+// What a burst gives back: the record, the number that ended it (0 for none), and how many slots were served.
+#[repr(C)]
+pub struct BurstEnd {
+    pub ctl: Record,
+    pub number: u16,
+    pub done: usize,
+}
+
+// "a size neither 0 nor 53" is refused
+fn size_fits(size: u8) -> bool
+    ensures { λ r. ⌜ r ≡ sizeFits size ⌝ }
+{
+    if size == 0 {
+        return true;
+    }
+    size == 53
+}
+
+// The cell in this space, copied into slot i's own 53 octets.
+fn copy_departure(departures: &mut [u8], i: usize, cells: &[u8], space: u16)
+    requires { ⌜ (53 * i + 53 ≤ length (now departures)) × (53 * space + 53 ≤ length (now cells)) ⌝ }
+    ensures { λ r. ⌜ now (departures .exit) ≡ writeCell (now (departures .entry)) i (take 53 (drop (53 * space) (now (cells .entry)))) ⌝ }
+{
+    let a = 53 * i;
+    let e = a + 53;
+    let from = 53 * (space as usize);
+    let to = from + 53;
+    copy_cell(&mut departures[a..e], &cells[from..to]);
+}
+
+// The line cell of slot i, shown into its own octets: nothing moves where nothing departs.
+fn show(departures: &mut [u8], i: usize, cells: &[u8], space: u16)
+    requires { ⌜ 53 * i + 53 ≤ length (now departures) ⌝ }
+    requires { ⌜ Shows (now cells) space ⌝ }
+    ensures { λ r. ⌜ now (departures .exit) ≡ shownInto (now (departures .entry)) i (now (cells .entry)) space ⌝ }
+{
+    if space == 65535 {
+        return;
+    }
+    copy_departure(departures, i, cells, space);
+}
+
+// The six numbers of slot i's answer.
+fn put_answer(answers: &mut [u16], i: usize, a: Answer)
+    requires { ⌜ 6 * i + 6 ≤ length (now answers) ⌝ }
+    ensures { λ r. ⌜ now (answers .exit) ≡ writeAnswer (now (answers .entry)) i a ⌝ }
+{
+    let at = 6 * i;
+    answers[at] = a.number;
+    answers[at + 1] = a.verdict;
+    answers[at + 2] = a.vci;
+    answers[at + 3] = a.d;
+    answers[at + 4] = a.space;
+    answers[at + 5] = a.departing;
+}
+
+// Slot i of a burst: served and written, or stopped with its number.
+fn turn(
+    ctl: Record,
+    cells: &mut [u8],
+    links: &mut [u16],
+    calendar: &mut [u16],
+    words: &mut [u32],
+    arrivals: &[u8],
+    size: u8,
+    departures: &mut [u8],
+    answers: &mut [u16],
+    i: usize,
+) -> BurstEnd
+    requires { ⌜ Lent (now arrivals) (now departures) (now answers) i ⌝ }
+    ensures { λ r. ⌜ stretchOf (stateOf (r .ctl) (now (cells .exit)) (now (links .exit)) (now (calendar .exit)) (now (words .exit))) (now (departures .exit)) (now (answers .exit)) (r .number) (r .done) ≡ oneSlot (now (arrivals .entry)) size (stretchOf (stateOf ctl (now (cells .entry)) (now (links .entry)) (now (calendar .entry)) (now (words .entry))) (now (departures .entry)) (now (answers .entry)) 0 i) ⌝ }
+{
+    if !size_fits(size) {
+        return BurstEnd {
+            ctl: ctl,
+            number: 9,
+            done: i,
+        };
+    }
+    let a = 53 * i;
+    let e = a + (size as usize);
+    let done = i + 1;
+    let served = slot::slot(ctl, cells, links, calendar, words, &arrivals[a..e]);
+    let answer = served.answer;
+    let after = served.ctl;
+    if answer.number != 0 {
+        return BurstEnd {
+            ctl: after,
+            number: answer.number,
+            done: i,
+        };
+    }
+    show(departures, i, cells, answer.space);
+    put_answer(answers, i, answer);
+    BurstEnd {
+        ctl: after,
+        number: 0,
+        done: done,
+    }
+}
+
+// All slots of a burst that was not refused.
+fn run(
+    ctl: Record,
+    cells: &mut [u8],
+    links: &mut [u16],
+    calendar: &mut [u16],
+    words: &mut [u32],
+    arrivals: &[u8],
+    sizes: &[u8],
+    departures: &mut [u8],
+    answers: &mut [u16],
+) -> BurstEnd
+    requires { ⌜ BurstLent (now arrivals) (now sizes) (now departures) (now answers) ⌝ }
+    ensures { λ r. ⌜ stretchOf (stateOf (r .ctl) (now (cells .exit)) (now (links .exit)) (now (calendar .exit)) (now (words .exit))) (now (departures .exit)) (now (answers .exit)) (r .number) (r .done) ≡ slots (now (arrivals .entry)) (now (sizes .entry)) (stretchOf (stateOf ctl (now (cells .entry)) (now (links .entry)) (now (calendar .entry)) (now (words .entry))) (now (departures .entry)) (now (answers .entry)) 0 0) ⌝ }
+{
+    let mut end = BurstEnd {
+        ctl: ctl,
+        number: 0,
+        done: 0,
+    };
+    while end.done < sizes.len() {
+        let i = end.done;
+        let last = end.ctl;
+        let size = sizes[i];
+        end = turn(
+            last,
+            cells,
+            links,
+            calendar,
+            words,
+            arrivals,
+            size,
+            departures,
+            answers,
+            i,
+        );
+        if end.number != 0 {
+            return end;
+        }
+    }
+    end
+}
+
+// Whether a buffer has so many elements for each of k slots, without a product that could wrap.
+fn is_times(long: usize, each: usize, k: usize) -> bool
+    requires { ⌜ 0 < each ⌝ }
+    ensures { λ r. ⌜ r ≡ (long =? each * k) ⌝ }
+{
+    if long % each != 0 {
+        return false;
+    }
+    long / each == k
+}
+
+// Refusals 1 and 2, in this order, or 0.
+fn burst_refusal(
+    ctl: Record,
+    cells: usize,
+    links: usize,
+    calendar: usize,
+    words: usize,
+    arrivals: usize,
+    sizes: usize,
+    departures: usize,
+    answers: usize,
+) -> u16
+    ensures { λ r. ⌜ r ≡ burstRefusal (ctl .n) (ctl .v) cells links calendar words arrivals sizes departures answers ⌝ }
+{
+    if !refusal::ranges_hold(ctl.n, ctl.v) {
+        return 1;
+    }
+    if !refusal::lengths_hold(ctl.n, ctl.v, cells, links, calendar, words) {
+        return 2;
+    }
+    if !is_times(arrivals, 53, sizes) {
+        return 2;
+    }
+    if !is_times(departures, 53, sizes) {
+        return 2;
+    }
+    if !is_times(answers, 6, sizes) {
+        return 2;
+    }
+    0
+}
+
+// "runs slot after slot in one call"
+pub fn burst(
+    ctl: Record,
+    cells: &mut [u8],
+    links: &mut [u16],
+    calendar: &mut [u16],
+    words: &mut [u32],
+    arrivals: &[u8],
+    sizes: &[u8],
+    departures: &mut [u8],
+    answers: &mut [u16],
+) -> BurstEnd
+    ensures { λ r. ⌜ burstPromise (stateOf ctl (now (cells .entry)) (now (links .entry)) (now (calendar .entry)) (now (words .entry))) (now (arrivals .entry)) (now (sizes .entry)) (now (departures .entry)) (now (answers .entry)) r (now (cells .exit)) (now (links .exit)) (now (calendar .exit)) (now (words .exit)) (now (departures .exit)) (now (answers .exit)) ⌝ }
+{
+    let number = burst_refusal(
+        ctl,
+        cells.len(),
+        links.len(),
+        calendar.len(),
+        words.len(),
+        arrivals.len(),
+        sizes.len(),
+        departures.len(),
+        answers.len(),
+    );
+    if number != 0 {
+        return BurstEnd {
+            ctl: ctl,
+            number: number,
+            done: 0,
+        };
+    }
+    run(
+        ctl,
+        cells,
+        links,
+        calendar,
+        words,
+        arrivals,
+        sizes,
+        departures,
+        answers,
+    )
+}
