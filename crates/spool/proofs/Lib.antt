@@ -1,3 +1,1 @@
-pub mod Did
-pub mod Step
 pub mod Lent

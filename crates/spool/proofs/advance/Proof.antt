@@ -4,7 +4,7 @@ use mathlib.Core.Path.{_≡_, sym}
 use native.Mathlib.Omega.{arith}
 use Rattle.steps.specs.Run.{worldOf}
 use Rattle.steps.specs.Fill.{room}
-use Rattle.spool.proofs.Step.{did-is}
+use Rattle.onestep.proofs.Step.{did-is}
 use Rattle.steps.proofs.Ran.{step-read, ran-one}
 use borrow.Author.Needs.{needs}
 use Rattle.spool.proofs.advance.Statement.{statement}

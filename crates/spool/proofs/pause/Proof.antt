@@ -10,7 +10,7 @@ use lib.ListN.{length}
 use Rattle.listing.specs.Listing.{endsRun}
 use Rattle.steps.specs.Run.{World, worldOf, called}
 use Rattle.steps.specs.Fill.{room, Ran}
-use Rattle.spool.proofs.Step.{did-is}
+use Rattle.onestep.proofs.Step.{did-is}
 use Rattle.steps.proofs.Ran.{step-idle, ran-none, ran-one, ran-then}
 use Rattle.spool.proofs.pause.Statement.{statement}
 use Rattle.spool.proofs.pause.Tie as tie

@@ -1,0 +1,35 @@
+-- `onestep::end_tally` puts the end line: waiting is accepted less sent on 32 bits, which is `lessModulo`.
+-- Assumes nothing.
+use Prim.Native.Nat.{ℕ, _+_, _-_, _%_, _^_}
+use native.Mathlib.Omega.{arith}
+use mathlib.Core.Path.{_≡_, ap}
+use Rattle.meaning.specs.Numbers.{slotNumbers}
+use Rattle.lines.specs.Lines.{endLine}
+use Rattle.lines.proofs.Puts.{put-is}
+use Rattle.listing.specs.Listing.{endOf, lessModulo}
+use borrow.Author.Needs.{needs}
+use Rattle.onestep.proofs.end_tally.Statement.{statement}
+use Rattle.onestep.proofs.end_tally.Tie as tie
+
+wrapping-sub-u32-requires : tie.Need-wrapping-sub-u32-requires
+wrapping-sub-u32-requires c κs = search needs
+
+end-line-requires : tie.Need-end-line-requires
+end-line-requires c κs = search needs
+
+same-length : tie.Need-same-length
+same-length c = search needs
+
+returns : tie.Need-returns
+unfolding endOf lessModulo slotNumbers
+returns c =
+    let l = c .before .before in
+    let w = l .before .before .wrapping-sub-u32 in
+    let s = l .before .before .before .before in
+    let t = s .args .t in
+    let e : (t .accepted + 2 ^ 32 - t .sent) % 2 ^ 32 ≡ w .result = omega (arith, w .ensures) in
+    (put-is (ap (λ (x : ℕ). endLine (t .accepted) (t .excess) (t .unknown) (t .sent) x) e) (l .end-line .ensures .0), l .end-line .ensures .1)
+
+pub end-tally-spec : {M : Type 1} → statement M
+end-tally-spec =
+    tie.close (tie.spec wrapping-sub-u32-requires end-line-requires same-length returns)
