@@ -1,17 +1,17 @@
 // A slot in which a cell is accepted: its seat, then steps 4 and 5, are read and judged, then all is written.
 ghost use mathlib.Core.Path.{_≡_};
 ghost use mathlib.Core.Bool.{true, not};
-ghost use Prim.Native.Nat.{_≤_, _<_};
-ghost use lib.ListN.{getD};
+ghost use Prim.Native.Nat.{_+_, _*_, _≤_, _<_};
+ghost use lib.ListN.{length, getD};
 ghost use Rattle.meaning.specs.Plain.{if_then_else_, _=?_, _andThen_};
 ghost use Rattle.meaning.specs.Numbers.{empty, waitingPlace};
 ghost use Rattle.meaning.specs.State.{stateOf};
-ghost use Rattle.meaning.specs.Lists.{emptyList, endsFit, writeEntry};
+ghost use Rattle.meaning.specs.Lists.{emptyList, endsFit, entryAt, writeEntry};
 ghost use Rattle.meaning.specs.Slot.{step4, step5, finish};
 ghost use Rattle.arrival.specs.Arrival.{filled};
 ghost use Rattle.spaces.specs.Spaces.{endsOf, linked};
-ghost use Rattle.plan.specs.Plan.{rotated, seating, acceptWork, seatEnds, leftBy, leavingMarked, leavingOutput, servedWork};
-ghost use Rattle.plan.specs.Facts.{Sized, Accepted, Seated};
+ghost use Rattle.plan.specs.Plan.{rotated, seating, acceptWork, seatEnds, leftBy, joinedHead, leavingMarked, leavingOutput, servedWork};
+ghost use Rattle.plan.specs.Facts.{Sized, Accepted, Seated, OffStored};
 use arrival::Fall;
 use arrival::Judged;
 use meaning::Answer;
@@ -51,6 +51,49 @@ fn accept_end(
     departure::left(taken, 1, j.vci, j.d, o)
 }
 
+// What departs once the cell is stored and, where joins, the chain from head to tail has joined the Output List. Field by
+// field: as a whole the answer would be packed into one word.
+fn off_stored(
+    k: Record,
+    j: Judged,
+    a: Seat,
+    joins: bool,
+    head: u16,
+    tail: u16,
+    cells: &[u8],
+    links: &[u16],
+    words: &[u32],
+) -> Off
+    requires { ⌜ (k .n ≤ 1024) × (k .v ≤ 1024) × (1 ≤ j .vci) × (j .vci < k .v) × (length (now cells) ≡ 53 * k .n) × (length (now links) ≡ k .n) × (length (now words) ≡ 7 * k .v) ⌝ }
+    requires { ⌜ joinedHead k (endsOf head tail) < k .n ⌝ }
+    ensures { λ r. ⌜ OffStored k j a (now (cells .entry)) (now (links .entry)) (now (words .entry)) joins (endsOf head tail) r ⌝ }
+{
+    let x = departure::first_of(k.outhead, head);
+    let o = spaces::off_after(
+        k.n,
+        k.v,
+        cells,
+        links,
+        words,
+        j.vci,
+        a.x,
+        a.head != 65535,
+        a.head,
+        joins,
+        k.outtail,
+        head,
+        x,
+        tail,
+    );
+    Off {
+        ok: o.ok,
+        space: o.space,
+        vci: o.vci,
+        head: o.head,
+        tail: o.tail,
+    }
+}
+
 // An accepted cell, where entry T is then marked, from head to tail.
 fn accept_marked(
     r: Record,
@@ -72,24 +115,7 @@ fn accept_marked(
     requires { ⌜ (head < k .n) × (endsFit (k .n) (endsOf (k .outhead) (k .outtail)) ≡ true) ⌝ }
     ensures { λ s. ⌜ servedWork s (now (cells .exit)) (now (links .exit)) (now (calendar .exit)) (now (words .exit)) ≡ finish (stateOf r (now (cells .entry)) (now (links .entry)) (now (calendar .entry)) (now (words .entry))) (leavingMarked (acceptWork k j a (now (cell .entry)) (now (cells .entry)) (now (links .entry)) (now (calendar .entry)) (rotated k b (now (words .entry)))) (endsOf head tail)) ⌝ }
 {
-    let joins = k.outhead != 65535;
-    let x = departure::first_of(k.outhead, head);
-    let o = spaces::off_after(
-        k.n,
-        k.v,
-        cells,
-        links,
-        words,
-        j.vci,
-        a.x,
-        a.head != 65535,
-        a.head,
-        joins,
-        k.outtail,
-        head,
-        x,
-        tail,
-    );
+    let o = off_stored(k, j, a, k.outhead != 65535, head, tail, cells, links, words);
     if !o.ok {
         return departure::refuse(r, 3);
     }
@@ -99,7 +125,7 @@ fn accept_marked(
         j,
         a,
         o,
-        joins,
+        k.outhead != 65535,
         head,
         true,
         cells,
@@ -129,22 +155,7 @@ fn accept_output(
     requires { ⌜ k .outhead < k .n ⌝ }
     ensures { λ s. ⌜ servedWork s (now (cells .exit)) (now (links .exit)) (now (calendar .exit)) (now (words .exit)) ≡ finish (stateOf r (now (cells .entry)) (now (links .entry)) (now (calendar .entry)) (now (words .entry))) (leavingOutput (acceptWork k j a (now (cell .entry)) (now (cells .entry)) (now (links .entry)) (now (calendar .entry)) (rotated k b (now (words .entry))))) ⌝ }
 {
-    let o = spaces::off_after(
-        k.n,
-        k.v,
-        cells,
-        links,
-        words,
-        j.vci,
-        a.x,
-        a.head != 65535,
-        a.head,
-        false,
-        0,
-        0,
-        k.outhead,
-        k.outtail,
-    );
+    let o = off_stored(k, j, a, false, 0, k.outtail, cells, links, words);
     if !o.ok {
         return departure::refuse(r, 3);
     }
@@ -197,8 +208,30 @@ fn accept_none(
     }
 }
 
-// An accepted cell whose entry is not T.
-fn accept_far(
+// The head of entry T once the cell has joined its own.
+fn head_joined(turn: u16, a: Seat, calendar: &[u16]) -> u16
+    requires { ⌜ 2 * turn + 2 ≤ length (now calendar) ⌝ }
+    ensures { λ r. ⌜ r ≡ entryAt (writeEntry (now (calendar .entry)) (a .e) (seatEnds a)) turn .head ⌝ }
+{
+    if a.e == turn {
+        return a.x;
+    }
+    calendar[2 * (turn as usize)]
+}
+
+// Its tail.
+fn tail_joined(turn: u16, a: Seat, calendar: &[u16]) -> u16
+    requires { ⌜ 2 * turn + 2 ≤ length (now calendar) ⌝ }
+    ensures { λ r. ⌜ r ≡ entryAt (writeEntry (now (calendar .entry)) (a .e) (seatEnds a)) turn .tail ⌝ }
+{
+    if a.e == turn {
+        return store::tail_of(a);
+    }
+    calendar[2 * (turn as usize) + 1]
+}
+
+// An accepted cell that has its seat: entry T, from x to y, is read as the cell leaves it.
+fn accept_seated(
     r: Record,
     k: Record,
     b: Fall,
@@ -213,30 +246,16 @@ fn accept_far(
     requires { ⌜ Sized k (now cells) (now links) (now calendar) (now words) ⌝ }
     requires { ⌜ Accepted k j (now cell) (now words) ⌝ }
     requires { ⌜ Seated k a ⌝ }
-    requires { ⌜ ((a .e ≡ k .turn → ⊥)) × (endsFit (k .n) (endsOf (k .outhead) (k .outtail)) ≡ true) ⌝ }
+    requires { ⌜ endsFit (k .n) (endsOf (k .outhead) (k .outtail)) ≡ true ⌝ }
     ensures { λ s. ⌜ servedWork s (now (cells .exit)) (now (links .exit)) (now (calendar .exit)) (now (words .exit)) ≡ finish (stateOf r (now (cells .entry)) (now (links .entry)) (now (calendar .entry)) (now (words .entry))) (step4 (acceptWork k j a (now (cell .entry)) (now (cells .entry)) (now (links .entry)) (now (calendar .entry)) (rotated k b (now (words .entry)))) andThen step5) ⌝ }
 {
-    let at = 2 * (k.turn as usize);
-    let head = calendar[at];
-    let tail = calendar[at + 1];
-    if !spaces::pair(k.n, head, tail) {
+    let x = head_joined(k.turn, a, calendar);
+    let y = tail_joined(k.turn, a, calendar);
+    if !spaces::pair(k.n, x, y) {
         return departure::refuse(r, 3);
     }
-    if head != 65535 {
-        return accept_marked(
-            r,
-            k,
-            b,
-            j,
-            a,
-            head,
-            tail,
-            cells,
-            links,
-            calendar,
-            words,
-            cell,
-        );
+    if x != 65535 {
+        return accept_marked(r, k, b, j, a, x, y, cells, links, calendar, words, cell);
     }
     if k.outhead != 65535 {
         return accept_output(r, k, b, j, a, cells, links, calendar, words, cell);
@@ -267,22 +286,5 @@ pub fn accept(
     if !spaces::pair(k.n, k.outhead, k.outtail) {
         return departure::refuse(r, 3);
     }
-    if a.e != k.turn {
-        return accept_far(r, k, b, j, a, cells, links, calendar, words, cell);
-    }
-    let tail = store::tail_of(a);
-    accept_marked(
-        r,
-        k,
-        b,
-        j,
-        a,
-        a.x,
-        tail,
-        cells,
-        links,
-        calendar,
-        words,
-        cell,
-    )
+    accept_seated(r, k, b, j, a, cells, links, calendar, words, cell)
 }

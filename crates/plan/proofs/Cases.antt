@@ -1,10 +1,11 @@
 -- The cases of a slot's code, each over plain lists: steps 4 and 5 of a work after step 3, by what was read of entry T,
 -- the Output List, what departs and the Free List. Assumes nothing.
-use Prim.Native.Nat.{ℕ, _+_, _*_, _≤_}
+use Prim.Native.Nat.{ℕ, _+_, _*_, _≤_, _<_}
 use mathlib.Core.Path.{_≡_, refl, sym, _∙_, ap}
 use mathlib.Core.Logic.{_≢_}
 use mathlib.Core.Bool.{Bool, true, false, _&&_}
 use mathlib.Core.List.{List}
+use native.Mathlib.Omega.{arith}
 use borrow.Author.Tests.{eq-eqb, ne-eqb, eqb-false}
 use lib.ListN.{length, getD}
 use Rattle.meaning.specs.declared.Record.{Record}
@@ -14,7 +15,7 @@ use Rattle.meaning.specs.State.{Ends, freeList, outputList}
 use Rattle.meaning.specs.Lists.{isEmpty, endsFit, entryAt, writeEntry}
 use Rattle.meaning.specs.Work.{Work}
 use Rattle.meaning.specs.Slot.{step4, step5}
-use Rattle.meaning.proofs.ListsLaws.{fit-marked, fit-tail, entry-read, entry-other}
+use Rattle.meaning.proofs.ListsLaws.{fit-head, entry-read, entry-other}
 use Rattle.arrival.specs.declared.Fall.{Fall}
 use Rattle.arrival.specs.declared.Judged.{Judged}
 use Rattle.arrival.specs.Arrival.{fallen}
@@ -23,7 +24,6 @@ use Rattle.spaces.specs.declared.Off.{Off}
 use Rattle.spaces.specs.Spaces.{endsOf, offOf}
 use Rattle.spaces.proofs.After.{Kept, kept-fall}
 use Rattle.plan.specs.Plan.{rotated, quietWork, seatEnds, leftBy, leaving, joinedLinks, joinedHead, offMarked, offUnmarked, leavingMarked, leavingOutput}
-use Rattle.plan.specs.Facts.{Seated}
 use Rattle.plan.proofs.Leave.{leave-unfit, leave-marked, leave-output, leave-none}
 use Rattle.plan.proofs.Off.{off-kept}
 
@@ -77,24 +77,47 @@ leaving-unfit w links calendar o q = rw q (go (o .ok))
     go true = refl
     go false = refl
 
+-- ---- the head of the Output List, once entry T has joined it
+pub joined-low : (k : Record) (entry : Ends) → endsFit (k .n) (endsOf (k .outhead) (k .outtail)) ≡ true → entry .head < k .n → joinedHead k entry < k .n
+unfolding joinedHead
+joined-low k entry f h = go (k .outhead =? empty) refl
+  where
+    go : (b : Bool) → k .outhead =? empty ≡ b → (if b then entry .head else k .outhead) < k .n
+    go true q = h
+    go false q = fit-head (k .n) (endsOf (k .outhead) (k .outtail)) f (eqb-false (k .outhead) empty q)
+
+pub output-head : (k : Record) (entry : Ends) → k .n ≤ 1024 → k .outhead < k .n → joinedHead k entry ≡ k .outhead
+unfolding joinedHead
+output-head k entry small low = rw (ne-eqb (k .outhead) empty (λ q. omega arith))
+
+pub output-low : (k : Record) (entry : Ends) → k .n ≤ 1024 → k .outhead < k .n → joinedHead k entry < k .n
+output-low k entry small low = rw (output-head k entry small low) low
+
 -- ---- entry T once an accepted cell has joined its own
 module _ (calendar : List ℕ) (a : Seat) (T : ℕ) where
-  pub far-entry : a .e ≢ T → entryAt (writeEntry calendar (a .e) (seatEnds a)) T ≡ endsOf (getD calendar (2 * T) 0) (getD calendar (2 * T + 1) 0)
+  abbrev joined : Ends
+  joined = entryAt (writeEntry calendar (a .e) (seatEnds a)) T
+
+  far-entry : a .e ≢ T → entryAt (writeEntry calendar (a .e) (seatEnds a)) T ≡ endsOf (getD calendar (2 * T) 0) (getD calendar (2 * T + 1) 0)
   unfolding entryAt
   far-entry ne = entry-other calendar (a .e) (seatEnds a) T (λ q. ne (sym q))
 
-  pub own-entry : a .e ≡ T → 2 * T + 2 ≤ length calendar → entryAt (writeEntry calendar (a .e) (seatEnds a)) T ≡ seatEnds a
+  own-entry : a .e ≡ T → 2 * T + 2 ≤ length calendar → entryAt (writeEntry calendar (a .e) (seatEnds a)) T ≡ seatEnds a
   unfolding seatEnds
   own-entry e inside = rw e (entry-read calendar T (seatEnds a) inside)
 
-pub seat-fits : (k : Record) (a : Seat) → Seated k a → endsFit (k .n) (seatEnds a) ≡ true
-unfolding seatEnds
-seat-fits k a s = go (a .head =? empty) refl
-  where
-    go : (b : Bool) → a .head =? empty ≡ b → endsFit (k .n) (endsOf (a .x) (if b then a .x else a .tail)) ≡ true
-    go true e = fit-marked (k .n) (a .x) (a .x) (s .x-low) (s .x-low)
-    go false e =
-        fit-marked (k .n) (a .x) (a .tail) (s .x-low) (fit-tail (k .n) (endsOf (a .head) (a .tail)) (s .entry-fits) (eqb-false (a .head) empty e))
+  pub own-head : a .e ≡ T → 2 * T + 2 ≤ length calendar → a .x ≡ joined .head
+  unfolding seatEnds
+  own-head e inside = ap (λ (x : Ends). x .head) (sym (own-entry e inside))
+
+  pub own-tail : (t : ℕ) → endsOf (a .x) t ≡ seatEnds a → a .e ≡ T → 2 * T + 2 ≤ length calendar → t ≡ joined .tail
+  own-tail t is e inside = ap (λ (x : Ends). x .tail) (is ∙ sym (own-entry e inside))
+
+  pub far-head : a .e ≢ T → getD calendar (2 * T) 0 ≡ joined .head
+  far-head ne = ap (λ (x : Ends). x .head) (sym (far-entry ne))
+
+  pub far-tail : a .e ≢ T → getD calendar (2 * T + 1) 0 ≡ joined .tail
+  far-tail ne = ap (λ (x : Ends). x .tail) (sym (far-entry ne))
 
 -- ---- where no cell is accepted, what departs is what the words before steps 2 and 3 show
 module _ (k : Record) (b : Fall) (j : Judged) (cells links calendar words : List ℕ) where

@@ -1,20 +1,20 @@
 -- What the last function of a case gives back is the work after step 5: its record, its answer and each memory, put
 -- together. Assumes nothing.
 use Prim.Native.Nat.{ℕ, _≤_, _<_}
-use mathlib.Core.Path.{_≡_, refl, _∙_, ap}
+use mathlib.Core.Path.{_≡_, sym, _∙_, ap}
 use mathlib.Core.Bool.{Bool, true, false, not}
 use mathlib.Core.List.{List}
-use borrow.Author.Tests.{eqb-false, not-true}
+use borrow.Author.Tests.{eqb-false, not-true, not-false}
 use lib.ListN.{getD}
 use Rattle.meaning.specs.declared.Record.{Record}
 use Rattle.meaning.specs.declared.Served.{Served}
-use Rattle.meaning.specs.Plain.{if_then_else_, _=?_, Out, refused, next}
+use Rattle.meaning.specs.Plain.{_=?_, Out, refused, next}
 use Rattle.meaning.specs.Numbers.{empty, excess}
 use Rattle.meaning.specs.State.{stateOf, recordWith, writeCell}
-use Rattle.meaning.specs.Lists.{endsFit, writeEntry}
+use Rattle.meaning.specs.Lists.{writeEntry}
 use Rattle.meaning.specs.Work.{Work, answerOf, bareAnswer}
 use Rattle.meaning.specs.Slot.{finish}
-use Rattle.meaning.proofs.ListsLaws.{fit-head, fit-tail}
+use Rattle.meaning.proofs.ListsLaws.{fit-tail}
 use Rattle.arrival.specs.declared.Fall.{Fall}
 use Rattle.arrival.specs.declared.Judged.{Judged}
 use Rattle.arrival.specs.Arrival.{fallen, filled, oneLess}
@@ -28,17 +28,6 @@ use Rattle.plan.specs.Plan.{servedWork}
 -- a number read in a list that is another one
 pub read-same : (l l′ : List ℕ) (i : ℕ) → l′ ≡ l → 1 ≤ getD l i 0 → 1 ≤ getD l′ i 0
 read-same l l′ i e h = rw e h
-
--- the head of the Output List once entry T, which begins at head, has joined it
-pub first-low : (k : Record) (head x : ℕ) → x ≡ (if k .outhead =? empty then head else k .outhead)
-    → endsFit (k .n) (endsOf (k .outhead) (k .outtail)) ≡ true
-    → head < k .n
-    → x < k .n
-first-low k head x e f h = rw e (go (k .outhead =? empty) refl)
-  where
-    go : (b : Bool) → k .outhead =? empty ≡ b → (if b then head else k .outhead) < k .n
-    go true q = h
-    go false q = fit-head (k .n) (endsOf (k .outhead) (k .outtail)) f (eqb-false (k .outhead) empty q)
 
 -- no cell accepted
 pub quiet-left : (k : Record) (b : Fall) (j : Judged) (o : Off) (cells links calendar words : List ℕ) (s : Served)
@@ -116,3 +105,15 @@ went r cells links calendar words o w y e q = rw (e, q)
 pub left-calendar : (w : Work) (links calendar calendar′ : List ℕ) (o : Off) → calendar′ ≡ calendar
     → leftBy w links calendar′ o ≡ leftBy w links calendar o
 left-calendar w links calendar calendar′ o e = rw e
+
+pub goes-on : (r : Record) (cells links calendar words : List ℕ) (o o′ : Out Work) (y : Work) → o ≡ o′
+    → y ≡ finish (stateOf r cells links calendar words) o′
+    → y ≡ finish (stateOf r cells links calendar words) o
+goes-on r cells links calendar words o o′ y e q = rw e q
+
+-- a test p of e, passed or not
+pub shown : (p e : Bool) → p ≡ e → not p ≡ false → e ≡ true
+shown p e q n = sym q ∙ not-false p n
+
+pub not-shown : (p e : Bool) → p ≡ e → not p ≡ true → e ≡ false
+not-shown p e q n = sym q ∙ not-true p n

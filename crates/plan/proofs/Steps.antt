@@ -2,7 +2,7 @@
 -- cell is judged, and an accepted one has its seat.
 -- Assumes nothing.
 use Prim.Native.Nat.{ℕ, _+_, _*_, _≤_, _<_}
-use mathlib.Core.Path.{_≡_, sym, _∙_, ap}
+use mathlib.Core.Path.{_≡_, refl, sym, _∙_, ap}
 use mathlib.Core.Logic.{_≢_}
 use mathlib.Core.Bool.{true, false}
 use mathlib.Core.List.{List}
@@ -11,15 +11,19 @@ use lib.ListN.{length}
 use Rattle.meaning.specs.declared.Record.{Record}
 use Rattle.meaning.specs.Plain.{if_then_else_, Out, refused, next, _andThen_}
 use Rattle.meaning.specs.Numbers.{accepted}
-use Rattle.meaning.specs.State.{stateOf}
+use Rattle.meaning.specs.State.{stateOf, recordWith}
+use Rattle.meaning.specs.Lists.{endsFit}
 use Rattle.meaning.specs.Work.{Work, workOf, bareAnswer}
 use Rattle.meaning.specs.Slot.{step2, step3, step4, step5}
 use Rattle.arrival.specs.declared.Fall.{Fall}
 use Rattle.arrival.specs.declared.Judged.{Judged}
 use Rattle.arrival.specs.Arrival.{broughtOf, judgedOf}
 use Rattle.spaces.specs.declared.Seat.{Seat}
-use Rattle.spaces.specs.Spaces.{seatOf}
-use Rattle.plan.specs.Plan.{freeEnds, rotated, rotatedWork, quietWork, seating, acceptWork}
+use Rattle.spaces.specs.Spaces.{endsOf, seatOf}
+use Rattle.plan.specs.Plan.{withEnds, freeEnds, rotated, rotatedWork, quietWork, seating, acceptWork}
+use Rattle.plan.specs.Facts.{Seated}
+use Rattle.plan.proofs.Found.{seat-shows}
+use Rattle.plan.proofs.Cases.{unfit-output}
 use Rattle.plan.proofs.Rotate.{rotate-is, judged-same}
 use Rattle.plan.proofs.Arrive.{arriving, arrive-is}
 use Rattle.plan.proofs.Seat.{seat-is}
@@ -37,6 +41,14 @@ module _ (k : Record) (j : Judged) (cell cells links calendar words : List ℕ) 
       → (seating k j cell cells links calendar words andThen step4 andThen step5)
       ≡ (step4 (acceptWork k j a cell cells links calendar words) andThen step5)
   seating-goes e = rw (seated-is, e)
+
+  pub seating-shows : a .ok ≡ true → Seated k a
+  seating-shows e = rw is (seat-shows k links calendar (j .d) turn near (ap (λ (s : Seat). s .ok) (sym is) ∙ e))
+
+  pub seating-unfit : a .ok ≡ true → endsFit (k .n) (endsOf (k .outhead) (k .outtail)) ≡ false
+      → (seating k j cell cells links calendar words andThen step4 andThen step5) ≡ refused
+  unfolding acceptWork withEnds recordWith
+  seating-unfit e f = seating-goes e ∙ unfit-output (acceptWork k j a cell cells links calendar words) _ refl f
 
 -- ---- steps 2 and 3
 module _ (k : Record) (cell cells links calendar words : List ℕ) (b : Fall) (is : b ≡ broughtOf (k .n) (k .t) words (k .rotation)) where

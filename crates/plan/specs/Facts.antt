@@ -3,18 +3,24 @@
 --   Sized k ..       == refusals 1 and 2 are not given, and the clock has moved
 --   Accepted k j ..  == of an accepted cell: its VC, its D and its waiting
 --   Seated k a       == of an accepted cell: its space and entry, and the Free List without the space
+--   OffStored k ..   == what departs, for every memory in which the cell is stored and counted
 use Prim.Native.Nat.{ℕ, _*_, _≤_, _<_}
 use mathlib.Core.Path.{_≡_}
-use mathlib.Core.Bool.{true}
+use mathlib.Core.Bool.{Bool, true, not}
 use mathlib.Core.List.{List}
 use lib.ListN.{length}
 use Rattle.meaning.specs.declared.Record.{Record}
+use Rattle.meaning.specs.Plain.{_=?_}
+use Rattle.meaning.specs.Numbers.{empty}
+use Rattle.meaning.specs.State.{Ends}
 use Rattle.meaning.specs.Header.{headerAt}
 use Rattle.meaning.specs.Words.{vcAt}
 use Rattle.meaning.specs.Lists.{endsFit}
 use Rattle.arrival.specs.declared.Judged.{Judged}
 use Rattle.spaces.specs.declared.Seat.{Seat}
-use Rattle.spaces.specs.Spaces.{endsOf}
+use Rattle.spaces.specs.declared.Off.{Off}
+use Rattle.spaces.specs.Spaces.{endsOf, linked, offOf, Stored, Counted}
+use Rattle.plan.specs.Plan.{joinedHead}
 
 pub record Sized (k : Record) (cells links calendar words : List ℕ) : Type 0 where
   pub n-low : 1 ≤ k .n
@@ -44,3 +50,10 @@ pub record Seated (k : Record) (a : Seat) : Type 0 where
   pub e-low : a .e < k .n
   pub entry-fits : endsFit (k .n) (endsOf (a .head) (a .tail)) ≡ true
   pub free-fits : endsFit (k .n) (endsOf (a .freehead) (a .freetail)) ≡ true
+
+-- entry is what has joined the Output List, where joins: the cell's header and its VC's words need no second reading
+abbrev pub OffStored : Record → Judged → Seat → List ℕ → List ℕ → List ℕ → Bool → Ends → Off → Type 0
+OffStored k j a cells links words joins entry o =
+    (cells′ words′ : List ℕ) → Stored (j .vci) (a .x) cells cells′ → Counted (k .n) (j .vci) words words′
+    → o
+    ≡ offOf (k .n) (k .v) cells′ (linked joins (k .outtail) (entry .head) (linked (not (a .head =? empty)) (a .x) (a .head) links)) words′ (joinedHead k entry) (entry .tail)

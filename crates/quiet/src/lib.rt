@@ -53,16 +53,23 @@ fn quiet_end(
     departure::left(k, j.verdict, j.vci, 0, o)
 }
 
-// What departs once entry T, from head to tail, has joined the Output List.
+// What departs once entry T, from head to tail, has joined the Output List; field by field, as a whole would be packed.
 fn off_marked(k: Record, head: u16, tail: u16, cells: &[u8], links: &[u16], words: &[u32]) -> Off
     requires { ⌜ (k .n ≤ 1024) × (k .v ≤ 1024) × (head < k .n) × (length (now cells) ≡ 53 * k .n) × (length (now links) ≡ k .n) × (length (now words) ≡ 7 * k .v) ⌝ }
     requires { ⌜ endsFit (k .n) (endsOf (k .outhead) (k .outtail)) ≡ true ⌝ }
     ensures { λ r. ⌜ r ≡ offOf (k .n) (k .v) (now (cells .entry)) (joinedLinks k (endsOf head tail) (now (links .entry))) (now (words .entry)) (joinedHead k (endsOf head tail)) tail ⌝ }
 {
     if k.outhead == 65535 {
-        return spaces::off_head(k.n, k.v, cells, links, words, head, tail);
+        let o = spaces::off_head(k.n, k.v, cells, links, words, head, tail);
+        return Off {
+            ok: o.ok,
+            space: o.space,
+            vci: o.vci,
+            head: o.head,
+            tail: o.tail,
+        };
     }
-    spaces::off_joined(
+    let o = spaces::off_joined(
         k.n,
         k.v,
         cells,
@@ -72,7 +79,14 @@ fn off_marked(k: Record, head: u16, tail: u16, cells: &[u8], links: &[u16], word
         k.outtail,
         head,
         tail,
-    )
+    );
+    Off {
+        ok: o.ok,
+        space: o.space,
+        vci: o.vci,
+        head: o.head,
+        tail: o.tail,
+    }
 }
 
 // No cell was accepted, and entry T is marked, from head to tail.

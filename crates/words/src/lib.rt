@@ -2,8 +2,8 @@
 ghost use mathlib.Core.Path.{_≡_};
 ghost use Prim.Native.Nat.{_+_, _*_, _≤_};
 ghost use lib.ListN.{length};
-ghost use Rattle.meaning.specs.Words.{vcAt, writeVc, withWaiting, bucketFits, vcFits};
-ghost use Rattle.words.specs.Vcs.{vcOf, withCounts};
+ghost use Rattle.meaning.specs.Words.{vcAt, writeVc, bucketFits, vcFits};
+ghost use Rattle.words.specs.Vcs.{vcOf};
 use bucket::obeys_rules;
 
 // "an open VC's m, F and C obey the rules, S is at most C"
@@ -58,36 +58,6 @@ pub fn write_vc(
     words[base + 1] = m;
     words[base + 2] = f;
     words[base + 3] = c;
-    words[base + 4] = s;
-    words[base + 5] = last;
-    words[base + 6] = waiting;
-}
-
-// A VC brought up to date: S as it has fallen, and the slot to which it fell. Two stores, since the other five words stay.
-pub fn put_fall(words: &mut [u32], vci: u16, s: u32, last: u32)
-    requires { ⌜ 7 * vci + 7 ≤ length (now words) ⌝ }
-    ensures { λ r. ⌜ now (words .exit) ≡ writeVc (now (words .entry)) vci (withCounts (vcAt (now (words .entry)) vci) s last (vcAt (now (words .entry)) vci .waiting)) ⌝ }
-{
-    let base = 7 * (vci as usize);
-    words[base + 4] = s;
-    words[base + 5] = last;
-}
-
-// A VC with another number of waiting cells.
-pub fn put_waiting(words: &mut [u32], vci: u16, waiting: u32)
-    requires { ⌜ 7 * vci + 7 ≤ length (now words) ⌝ }
-    ensures { λ r. ⌜ now (words .exit) ≡ writeVc (now (words .entry)) vci (withWaiting (vcAt (now (words .entry)) vci) waiting) ⌝ }
-{
-    let base = 7 * (vci as usize);
-    words[base + 6] = waiting;
-}
-
-// A VC that has accepted a cell: S, last and waiting.
-pub fn put_fill(words: &mut [u32], vci: u16, s: u32, last: u32, waiting: u32)
-    requires { ⌜ 7 * vci + 7 ≤ length (now words) ⌝ }
-    ensures { λ r. ⌜ now (words .exit) ≡ writeVc (now (words .entry)) vci (withCounts (vcAt (now (words .entry)) vci) s last waiting) ⌝ }
-{
-    let base = 7 * (vci as usize);
     words[base + 4] = s;
     words[base + 5] = last;
     words[base + 6] = waiting;

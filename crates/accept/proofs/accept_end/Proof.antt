@@ -1,3 +1,5 @@
+-- `accept::accept_end` meets its contract: step 3 is written, then the departure, over the record without the space taken.
+-- Assumes nothing.
 use mathlib.Core.Path.{_∙_, ap}
 use native.Mathlib.Omega.{arith}
 use denote.Ref.{now}
@@ -15,8 +17,13 @@ store-requires c κs = search needs
 
 put-less-requires : tie.Need-put-less-requires
 put-less-requires c κs =
-    let pre = c .before .before .before .before .before .before .before .before .before .before .before .before .before .before .before .before .before .before .before .pre in
-    (omega (arith, pre .0 .words-long, pre .1 .1 .1 .1 .0), read-same _ _ _ (c .before .before .before .before .before .before .before .before .before .store .ensures .1 .1 .1) (pre .1 .1 .1 .1 .1))
+    let at-store = c .before .before .before .before .before .before .before .before .before in
+    let start = at-store .before .before .before .before .before .before .before .before .before .before in
+    let pre = start .pre in (
+      omega (arith, pre .0 .words-long, pre .1 .1 .1 .1 .0),
+      read-same _ _ _ (at-store .store .ensures .1 .1 .1)
+          (pre .1 .1 .1 .1 .1),
+    )
 
 clear-entry-requires : tie.Need-clear-entry-requires
 clear-entry-requires c κs = search needs
@@ -26,34 +33,62 @@ seated-requires c κs = search needs
 
 links-leave-requires : tie.Need-links-leave-requires
 links-leave-requires c κs =
-    let a = c .before .before .before .before .before .before .before .before .before .before .before .before .before .before .before .before .before .before .before .before .before .before .before .before .before .before .before .before .args in
-    let pre = c .before .before .before .before .before .before .before .before .before .before .before .before .before .before .before .before .before .before .before .before .before .before .before .before .before .before .before .before .pre in
-    let f = seated-facts (a .k) (a .a) _ (c .before .seated .ensures) in
-    (λ e. let h = pre .1 .1 .1 .0 e in omega (arith, h, f .0, pre .0 .links-long), λ e. let h = seated-tail (a .k) (a .a) _ (c .before .seated .ensures) (pre .1 .1 .0) e in omega (arith, h, pre .0 .links-long))
+    let at-seated = c .before in
+    let at-store = at-seated .before .before .before .before .before .before .before .before .before .before .before .before .before .before .before .before .before in
+    let start = at-store .before .before .before .before .before .before .before .before .before .before in
+    let a = start .args in
+    let pre = start .pre in
+    let taken = at-seated .seated .ensures in
+    let f = seated-facts (a .k) (a .a) _ taken in
+    let long = pre .0 .links-long in
+    let kept = at-store .store .kept in (
+      λ e. let h = pre .1 .1 .1 .0 e in omega (arith, h, f .0, long, kept),
+      λ e. let h = seated-tail (a .k) (a .a) _ taken (pre .1 .1 .0) e in omega (arith, h, long, kept),
+    )
 
 left-requires : tie.Need-left-requires
 left-requires c κs = search needs
 
 same-length : tie.Need-same-length
-same-length c = omega (arith, c .before .before .before .before .before .before .before .before .before .before .before .before .before .before .before .before .before .before .before .before .before .before .store .kept)
+same-length c =
+    let at-store = c .before .before .before .before .before .before .before .before .before .before .before .before .before .before .before .before .before .before .before .before .before .before in
+    omega (arith, at-store .store .kept)
 
 same-length-2 : tie.Need-same-length-2
-same-length-2 c = omega (arith, c .before .before .before .before .before .before .before .before .before .before .before .before .before .before .before .before .before .before .before .before .before .before .store .kept, c .before .before .before .links-leave .kept)
+same-length-2 c =
+    let at-links-leave = c .before .before .before in
+    let at-store = at-links-leave .before .before .before .before .before .before .before .before .before .before .before .before .before .before .before .before .before .before .before in
+    omega (arith, at-store .store .kept, at-links-leave .links-leave .kept)
 
 same-length-3 : tie.Need-same-length-3
-same-length-3 c = omega (arith, c .before .before .before .before .before .before .before .before .before .before .before .before .before .before .before .before .before .before .before .before .before .before .store .kept, c .before .before .before .before .before .before .before .before .clear-entry .kept)
+same-length-3 c =
+    let at-clear-entry = c .before .before .before .before .before .before .before .before in
+    let at-store = at-clear-entry .before .before .before .before .before .before .before .before .before .before .before .before .before .before in
+    omega (arith, at-store .store .kept, at-clear-entry .clear-entry .kept)
 
 same-length-4 : tie.Need-same-length-4
-same-length-4 c = omega (arith, c .before .before .before .before .before .before .before .before .before .before .before .before .before .before .before .before .before .before .before .before .before .before .store .kept, c .before .before .before .before .before .before .before .before .before .before .before .before .put-less .kept)
+same-length-4 c =
+    let at-put-less = c .before .before .before .before .before .before .before .before .before .before .before .before in
+    let at-store = at-put-less .before .before .before .before .before .before .before .before .before .before in
+    omega (arith, at-store .store .kept, at-put-less .put-less .kept)
 
 returns : tie.Need-returns
 returns c =
-    let a = c .before .before .before .before .before .before .before .before .before .before .before .before .before .before .before .before .before .before .before .before .before .before .before .before .before .before .before .before .before .before .before .before .args in
-    let taken = seated-facts (a .k) (a .a) _ (c .before .before .before .before .before .seated .ensures) in
-    accept-left (a .k) (a .b) (a .j) (a .a) (a .o) (now (a .cell)) (now (a .cells)) (now (a .links)) (now (a .calendar)) (now (a .words)) (c .left .result) _ _ _ _ _ _ _ _ _ (c .before .before .before .before .before .seated .ensures) (c .left .ensures) (c .before .before .before .before .before .before .before .before .before .before .before .before .before .before .before .before .before .before .before .before .before .before .store .ensures .0) (c .before .before .before .links-leave .ensures)
-    (rw (taken .0, c .before .before .before .before .before .before .before .before .before .before .before .before .before .before .before .before .before .before .before .before .before .before .store .ensures .1 .0))
-    (c .before .before .before .before .before .before .before .before .clear-entry .ensures ∙ ap (λ (l : List ℕ). if a .clears then writeEntry l (a .k .turn) emptyList else l) (c .before .before .before .before .before .before .before .before .before .before .before .before .before .before .before .before .before .before .before .before .before .before .store .ensures .1 .1 .0))
-    (c .before .before .before .before .before .before .before .before .before .before .before .before .before .before .before .before .before .before .before .before .before .before .store .ensures .1 .1 .1) (c .before .before .before .before .before .before .before .before .before .before .before .before .put-less .ensures)
+    let at-links-leave = c .before .before .before in
+    let at-seated = at-links-leave .before .before in
+    let at-clear-entry = at-seated .before .before .before in
+    let at-put-less = at-clear-entry .before .before .before .before in
+    let at-store = at-put-less .before .before .before .before .before .before .before .before .before .before in
+    let start = at-store .before .before .before .before .before .before .before .before .before .before in
+    let a = start .args in
+    let taken = seated-facts (a .k) (a .a) _ (at-seated .seated .ensures) in
+    accept-left (a .k) (a .b) (a .j) (a .a) (a .o) (now (a .cell)) (now (a .cells)) (now (a .links)) (now (a .calendar))
+    (now (a .words)) (c .left .result) _ _ _ _ _ _ _ _ _ (at-seated .seated .ensures) (c .left .ensures)
+    (at-store .store .ensures .0) (at-links-leave .links-leave .ensures)
+    (rw (taken .0, at-store .store .ensures .1 .0))
+    (at-clear-entry .clear-entry .ensures ∙ ap (λ (l : List ℕ). if a .clears then writeEntry l (a .k .turn) emptyList else l)
+    (at-store .store .ensures .1 .1 .0))
+    (at-store .store .ensures .1 .1 .1) (at-put-less .put-less .ensures)
 
 pub accept-end-spec : {M : Type 1} → statement M
 accept-end-spec =

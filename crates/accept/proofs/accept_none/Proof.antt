@@ -1,3 +1,5 @@
+-- `accept::accept_none` meets its contract: step 3 is written, and nothing departs.
+-- Assumes nothing.
 use mathlib.Core.Path.{refl}
 use denote.Ref.{now}
 use Rattle.plan.proofs.Ends.{accept-served}
@@ -25,8 +27,12 @@ same-length-4 c = search needs
 
 returns : tie.Need-returns
 returns c =
-    let a = c .before .before .before .before .before .before .before .before .before .before .before .before .before .before .before .before .before .before .before .args in
-    accept-served (a .k) (a .b) (a .j) (a .a) (now (a .cell)) (now (a .cells)) (now (a .links)) (now (a .calendar)) (now (a .words)) _ _ _ _ _ (c .seated .ensures) refl (c .before .before .before .before .before .before .before .before .before .store .ensures .0) (c .before .before .before .before .before .before .before .before .before .store .ensures .1 .0) (c .before .before .before .before .before .before .before .before .before .store .ensures .1 .1 .0) (c .before .before .before .before .before .before .before .before .before .store .ensures .1 .1 .1)
+    let at-store = c .before .before .before .before .before .before .before .before .before in
+    let start = at-store .before .before .before .before .before .before .before .before .before .before in
+    let a = start .args in
+    accept-served (a .k) (a .b) (a .j) (a .a) (now (a .cell)) (now (a .cells)) (now (a .links)) (now (a .calendar))
+    (now (a .words)) _ _ _ _ _ (c .seated .ensures) refl (at-store .store .ensures .0) (at-store .store .ensures .1 .0)
+    (at-store .store .ensures .1 .1 .0) (at-store .store .ensures .1 .1 .1)
 
 pub accept-none-spec : {M : Type 1} → statement M
 accept-none-spec =

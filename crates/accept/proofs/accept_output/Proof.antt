@@ -1,14 +1,37 @@
+-- `accept::accept_output` meets its contract: as where entry T is marked, but that nothing joins the Output List.
+-- Assumes nothing.
+use native.Mathlib.Omega.{arith}
+use mathlib.Core.Bool.{false}
 use denote.Ref.{now}
 use borrow.Author.Tests.{not-true, not-false}
+use Rattle.spaces.specs.Spaces.{endsOf}
 use Rattle.plan.proofs.Found.{no}
+use Rattle.plan.proofs.Cases.{output-low}
 use Rattle.plan.proofs.Ends.{as-came, went}
 use Rattle.plan.proofs.AcceptCases.{accept-output-none, accept-output-goes, accept-shows}
 use borrow.Author.Needs.{needs}
 use Rattle.accept.proofs.accept_output.Statement.{statement}
 use Rattle.accept.proofs.accept_output.Tie as tie
 
-off-after-requires : tie.Need-off-after-requires
-off-after-requires c κs = search needs
+off-stored-requires : tie.Need-off-stored-requires
+off-stored-requires c κs =
+    let start = c .before .before .before .before .before .before .before .before in
+    let a = start .args in
+    let pre = start .pre in
+    let z = pre .0 in
+    let acc = pre .1 .0 in (
+      (
+        z .n-high,
+        z .v-high,
+        acc .vci-low,
+        acc .vci-high,
+        omega (arith, z .cells-long),
+        omega (arith, z .links-long),
+        omega
+            (arith, z .words-long),
+      ),
+      output-low (a .k) (endsOf 0 (a .k .outtail)) (z .n-high) (pre .1 .1 .1),
+    )
 
 refuse-requires : tie.Need-refuse-requires
 refuse-requires c κs = search needs
@@ -24,15 +47,37 @@ same-length-3 c = search needs
 
 returns : tie.Need-returns
 returns c =
-    let a = c .before .before .before .before .before .before .before .before .before .before .before .before .before .args in
-    let pre = c .before .before .before .before .before .before .before .before .before .before .before .before .before .pre in
-    as-came (a .r) (now (a .cells)) (now (a .links)) (now (a .calendar)) (now (a .words)) _ _ (c .refuse .ensures) (accept-output-none (a .k) (a .b) (a .j) (a .a) (now (a .cell)) (now (a .cells)) (now (a .links)) (now (a .calendar)) (now (a .words)) (pre .0) (pre .1 .0) (pre .1 .1 .0) _ (c .before .before .before .off-after .ensures) (not-true _ (c .before .if1 .taken)))
+    let test = c .before in
+    let read = test .before .before in
+    let start = read .before .before .before .before .before .before .before .before .before in
+    let a = start .args in
+    let pre = start .pre in
+    as-came (a .r) (now (a .cells)) (now (a .links)) (now (a .calendar)) (now (a .words)) _ _ (c .refuse .ensures)
+    (accept-output-none (a .k) (a .b) (a .j) (a .a) (now (a .cell)) (now (a .cells)) (now (a .links)) (now (a .calendar))
+    (now (a .words)) (pre .0) (pre .1 .0) (pre .1 .1 .0) (pre .1 .1 .1) (read .off-stored .result) (read .off-stored .ensures)
+    (not-true _ (test .if1 .taken)))
 
 accept-end-requires : tie.Need-accept-end-requires
 accept-end-requires c κs =
-    let a = c .before .before .before .before .before .before .before .before .before .before .before .before .before .before .before .before .args in
-    let pre = c .before .before .before .before .before .before .before .before .before .before .before .before .before .before .before .before .pre in
-    (pre .0, (pre .1 .0, (pre .1 .1 .0, (λ e. no e, accept-shows (a .k) (a .b) (a .j) (a .a) (now (a .cell)) (now (a .cells)) (now (a .links)) (now (a .calendar)) (now (a .words)) (pre .0) (pre .1 .0) (pre .1 .1 .0) _ _ _ _ _ _ (c .before .before .before .before .before .before .off-after .ensures) (not-false _ (c .before .before .before .before .if1 .left))))))
+    let test = c .before .before .before .before in
+    let read = test .before .before in
+    let start = read .before .before .before .before .before .before .before .before .before in
+    let a = start .args in
+    let pre = start .pre in (
+      pre .0,
+      (
+        pre .1 .0,
+        (
+          pre .1 .1 .0,
+          (
+            λ e. no e,
+            accept-shows (a .k) (a .b) (a .j) (a .a) (now (a .cell)) (now (a .cells)) (now (a .links)) (now (a .calendar))
+                (now (a .words)) (pre .0) (pre .1 .0) (pre .1 .1 .0) false (endsOf 0 (a .k .outtail)) (read .off-stored .result)
+                (read .off-stored .ensures) (not-false _ (test .if1 .left)),
+          ),
+        ),
+      ),
+    )
 
 same-length-4 : tie.Need-same-length-4
 same-length-4 c = search needs
@@ -48,15 +93,23 @@ same-length-7 c = search needs
 
 returns-2 : tie.Need-returns-2
 returns-2 c =
-    let a = c .before .before .before .before .before .before .before .before .before .before .before .before .before .before .before .before .before .before .before .before .before .before .before .before .before .args in
-    let pre = c .before .before .before .before .before .before .before .before .before .before .before .before .before .before .before .before .before .before .before .before .before .before .before .before .before .pre in
-    went (a .r) (now (a .cells)) (now (a .links)) (now (a .calendar)) (now (a .words)) _ _ _ (accept-output-goes (a .k) (a .b) (a .j) (a .a) (now (a .cell)) (now (a .cells)) (now (a .links)) (now (a .calendar)) (now (a .words)) (pre .0) (pre .1 .0) (pre .1 .1 .0) _ (c .before .before .before .before .before .before .before .before .before .before .before .before .before .before .before .off-after .ensures) (not-false _ (c .before .before .before .before .before .before .before .before .before .before .before .before .before .if1 .left))) (c .before .before .before .before .before .before .before .before .accept-end .ensures)
+    let written = c .before .before .before .before .before .before .before .before in
+    let test = written .before .before .before .before .before in
+    let read = test .before .before in
+    let start = read .before .before .before .before .before .before .before .before .before in
+    let a = start .args in
+    let pre = start .pre in
+    went (a .r) (now (a .cells)) (now (a .links)) (now (a .calendar)) (now (a .words)) _ _ _
+    (accept-output-goes (a .k) (a .b) (a .j) (a .a) (now (a .cell)) (now (a .cells)) (now (a .links)) (now (a .calendar))
+    (now (a .words)) (pre .0) (pre .1 .0) (pre .1 .1 .0) (pre .1 .1 .1) (read .off-stored .result) (read .off-stored .ensures)
+    (not-false _ (test .if1 .left)))
+    (written .accept-end .ensures)
 
 pub accept-output-spec : {M : Type 1} → statement M
 accept-output-spec =
     tie.close
     (tie.spec
-    off-after-requires
+    off-stored-requires
     refuse-requires
     same-length
     same-length-2

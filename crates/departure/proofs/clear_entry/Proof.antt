@@ -1,3 +1,5 @@
+-- `departure::clear_entry` meets its contract: one entry is written, where on.
+-- Assumes nothing.
 use borrow.Author.Needs.{needs}
 use Rattle.departure.proofs.clear_entry.Statement.{statement}
 use Rattle.departure.proofs.clear_entry.Tie as tie
@@ -9,7 +11,10 @@ same-length : tie.Need-same-length
 same-length c = search needs
 
 returns : tie.Need-returns
-returns c = rw (c .before .before .before .before .if1 .taken) (c .before .before .put-entry .ensures)
+returns c =
+    let at-put-entry = c .before .before in
+    let at-if1 = at-put-entry .before .before in
+    rw (at-if1 .if1 .taken) (at-put-entry .put-entry .ensures)
 
 returns-2 : tie.Need-returns-2
 returns-2 c = search needs

@@ -1,3 +1,5 @@
+-- `departure::left` meets its contract: the record and the answer are written out field by field.
+-- Assumes nothing.
 use mathlib.Core.Path.{refl}
 use Rattle.plan.specs.Plan.{withEnds, freed}
 use Rattle.meaning.specs.State.{recordWith}

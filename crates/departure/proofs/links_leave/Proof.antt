@@ -1,3 +1,5 @@
+-- `departure::links_leave` meets its contract: two conditional writes, the second over the first.
+-- Assumes nothing.
 use native.Mathlib.Omega.{arith}
 use borrow.Author.Needs.{needs}
 use Rattle.departure.proofs.links_leave.Statement.{statement}
@@ -7,13 +9,18 @@ put-link-requires : tie.Need-put-link-requires
 put-link-requires c κs = search needs
 
 put-link-requires-2 : tie.Need-put-link-requires-2
-put-link-requires-2 c κs = λ e. let h = c .before .before .before .before .before .before .before .pre .1 e in omega (arith, h)
+put-link-requires-2 c κs =
+    let start = c .before .before .before .before .before .before .before in
+    λ e. let h = start .pre .1 e in omega (arith, h)
 
 same-length : tie.Need-same-length
 same-length c = search needs
 
 returns : tie.Need-returns
-returns c = rw (c .before .before .put-link2 .ensures, c .before .before .before .before .before .before .before .put-link .ensures)
+returns c =
+    let at-put-link2 = c .before .before in
+    let at-put-link = at-put-link2 .before .before .before .before .before in
+    rw (at-put-link2 .put-link2 .ensures, at-put-link .put-link .ensures)
 
 pub links-leave-spec : {M : Type 1} → statement M
 links-leave-spec = tie.close (tie.spec put-link-requires put-link-requires-2 same-length returns)

@@ -1,4 +1,5 @@
-use borrow.Author.Tests.{not-true, not-false}
+-- `quiet::quiet` meets its contract: entry T and the Output List say which case of steps 4 and 5 it is.
+-- Assumes nothing.
 use mathlib.Core.Path.{refl, sym, _∙_, ap}
 use native.Mathlib.Omega.{arith}
 use denote.Ref.{now}
@@ -7,7 +8,7 @@ use Rattle.meaning.specs.Slot.{finish}
 use Rattle.meaning.proofs.ListsLaws.{fit-head}
 use Rattle.plan.specs.Plan.{quietWork}
 use Rattle.plan.proofs.Cases.{unfit-entry, unfit-output, marked, output, none}
-use Rattle.plan.proofs.Ends.{as-came, went}
+use Rattle.plan.proofs.Ends.{as-came, went, shown, not-shown}
 use Rattle.plan.proofs.QuietCases.{quiet-work, quiet-entry, quiet-served}
 use borrow.Author.Needs.{needs}
 use Rattle.quiet.proofs.quiet.Statement.{statement}
@@ -43,8 +44,14 @@ refuse-requires c κs = search needs
 returns : tie.Need-returns
 unfolding quietWork
 returns c =
-    let a = c .before .before .before .before .before .before .before .before .before .before .args in
-    as-came (a .r) (now (a .cells)) (now (a .links)) (now (a .calendar)) (now (a .words)) _ _ (c .refuse .ensures) (unfit-entry (quiet-work (a .k) (a .b) (a .j) (now (a .cells)) (now (a .links)) (now (a .calendar)) (now (a .words))) _ (quiet-entry (a .k) (a .b) (a .j) (now (a .cells)) (now (a .links)) (now (a .calendar)) (now (a .words))) (sym (c .before .before .pair .ensures) ∙ not-true _ (c .before .if1 .taken)))
+    let at-if1 = c .before in
+    let at-pair = at-if1 .before in
+    let start = at-pair .before .before .before .before .before .before .before .before in
+    let a = start .args in
+    as-came (a .r) (now (a .cells)) (now (a .links)) (now (a .calendar)) (now (a .words)) _ _ (c .refuse .ensures)
+    (unfit-entry (quiet-work (a .k) (a .b) (a .j) (now (a .cells)) (now (a .links)) (now (a .calendar)) (now (a .words))) _
+    (quiet-entry (a .k) (a .b) (a .j) (now (a .cells)) (now (a .links)) (now (a .calendar)) (now (a .words)))
+    (not-shown _ _ (at-pair .pair .ensures) (at-if1 .if1 .taken)))
 
 pair-requires-2 : tie.Need-pair-requires-2
 pair-requires-2 c κs = search needs
@@ -55,14 +62,34 @@ refuse-requires-2 c κs = search needs
 returns-2 : tie.Need-returns-2
 unfolding quietWork
 returns-2 c =
-    let a = c .before .before .before .before .before .before .before .before .before .before .before .before .args in
-    as-came (a .r) (now (a .cells)) (now (a .links)) (now (a .calendar)) (now (a .words)) _ _ (c .refuse2 .ensures) (unfit-output (quiet-work (a .k) (a .b) (a .j) (now (a .cells)) (now (a .links)) (now (a .calendar)) (now (a .words))) _ (quiet-entry (a .k) (a .b) (a .j) (now (a .cells)) (now (a .links)) (now (a .calendar)) (now (a .words))) (sym (c .before .before .pair2 .ensures) ∙ not-true _ (c .before .if2 .taken)))
+    let at-if2 = c .before in
+    let at-pair2 = at-if2 .before in
+    let start = at-pair2 .before .before .before .before .before .before .before .before .before .before in
+    let a = start .args in
+    as-came (a .r) (now (a .cells)) (now (a .links)) (now (a .calendar)) (now (a .words)) _ _ (c .refuse2 .ensures)
+    (unfit-output (quiet-work (a .k) (a .b) (a .j) (now (a .cells)) (now (a .links)) (now (a .calendar)) (now (a .words))) _
+    (quiet-entry (a .k) (a .b) (a .j) (now (a .cells)) (now (a .links)) (now (a .calendar)) (now (a .words)))
+    (not-shown _ _ (at-pair2 .pair2 .ensures) (at-if2 .if2 .taken)))
 
 quiet-marked-requires : tie.Need-quiet-marked-requires
 quiet-marked-requires c κs =
-    let pre = c .before .before .before .before .before .before .before .before .before .before .before .before .before .before .before .pre in
-    let entry-fits = sym (c .before .before .before .before .before .before .before .pair .ensures) ∙ not-false _ (c .before .before .before .before .before .before .if1 .left) in
-    (pre .0, (pre .1, (fit-head _ _ entry-fits (c .before .before .before .if3 .taken), sym (c .before .before .before .before .before .pair2 .ensures) ∙ not-false _ (c .before .before .before .before .if2 .left))))
+    let at-if3 = c .before .before .before in
+    let at-if2 = at-if3 .before in
+    let at-pair2 = at-if2 .before in
+    let at-if1 = at-pair2 .before in
+    let at-pair = at-if1 .before in
+    let start = at-pair .before .before .before .before .before .before .before .before in
+    let pre = start .pre in
+    let entry-fits = shown _ _ (at-pair .pair .ensures) (at-if1 .if1 .left) in (
+      pre .0,
+      (
+        pre .1,
+        (
+          fit-head _ _ entry-fits (at-if3 .if3 .taken),
+          shown _ _ (at-pair2 .pair2 .ensures) (at-if2 .if2 .left),
+        ),
+      ),
+    )
 
 same-length : tie.Need-same-length
 same-length c = search needs
@@ -76,16 +103,41 @@ same-length-3 c = search needs
 returns-3 : tie.Need-returns-3
 unfolding quietWork
 returns-3 c =
-    let a = c .before .before .before .before .before .before .before .before .before .before .before .before .before .before .before .before .before .before .before .before .before .before .args in
-    c .before .before .before .before .before .before .quiet-marked .ensures
+    let at-quiet-marked = c .before .before .before .before .before .before in
+    let at-if3 = at-quiet-marked .before .before .before .before in
+    let at-if2 = at-if3 .before in
+    let at-pair2 = at-if2 .before in
+    let at-if1 = at-pair2 .before in
+    let at-pair = at-if1 .before in
+    let start = at-pair .before .before .before .before .before .before .before .before in
+    let a = start .args in
+    at-quiet-marked .quiet-marked .ensures
     ∙ ap (finish (stateOf (a .r) (now (a .cells)) (now (a .links)) (now (a .calendar)) (now (a .words))))
-    (sym (marked (quiet-work (a .k) (a .b) (a .j) (now (a .cells)) (now (a .links)) (now (a .calendar)) (now (a .words))) _ (quiet-entry (a .k) (a .b) (a .j) (now (a .cells)) (now (a .links)) (now (a .calendar)) (now (a .words))) (sym (c .before .before .before .before .before .before .before .before .before .before .before .before .before .before .pair .ensures) ∙ not-false _ (c .before .before .before .before .before .before .before .before .before .before .before .before .before .if1 .left)) (sym (c .before .before .before .before .before .before .before .before .before .before .before .before .pair2 .ensures) ∙ not-false _ (c .before .before .before .before .before .before .before .before .before .before .before .if2 .left)) (c .before .before .before .before .before .before .before .before .before .before .if3 .taken)))
+    (sym (marked (quiet-work (a .k) (a .b) (a .j) (now (a .cells)) (now (a .links)) (now (a .calendar)) (now (a .words))) _
+    (quiet-entry (a .k) (a .b) (a .j) (now (a .cells)) (now (a .links)) (now (a .calendar)) (now (a .words)))
+    (shown _ _ (at-pair .pair .ensures) (at-if1 .if1 .left))
+    (shown _ _ (at-pair2 .pair2 .ensures) (at-if2 .if2 .left)) (at-if3 .if3 .taken)))
 
 quiet-output-requires : tie.Need-quiet-output-requires
 quiet-output-requires c κs =
-    let pre = c .before .before .before .before .before .before .before .before .before .before .before .before .before .before .before .before .pre in
-    let z = pre .0 in
-    ((z .n-high, z .v-high, z .cells-long, z .links-long, z .words-long, z .rotation-low, fit-head _ _ (sym (c .before .before .before .before .before .before .pair2 .ensures) ∙ not-false _ (c .before .before .before .before .before .if2 .left)) (c .before .before .if4 .taken)), pre .1)
+    let at-if4 = c .before .before in
+    let at-if2 = at-if4 .before .before .before in
+    let at-pair2 = at-if2 .before in
+    let start = at-pair2 .before .before .before .before .before .before .before .before .before .before in
+    let pre = start .pre in
+    let z = pre .0 in (
+      (
+        z .n-high,
+        z .v-high,
+        z .cells-long,
+        z .links-long,
+        z .words-long,
+        z .rotation-low,
+        fit-head _ _
+            (shown _ _ (at-pair2 .pair2 .ensures) (at-if2 .if2 .left)) (at-if4 .if4 .taken),
+      ),
+      pre .1,
+    )
 
 same-length-4 : tie.Need-same-length-4
 same-length-4 c = search needs
@@ -96,15 +148,30 @@ same-length-5 c = search needs
 returns-4 : tie.Need-returns-4
 unfolding quietWork
 returns-4 c =
-    let a = c .before .before .before .before .before .before .before .before .before .before .before .before .before .before .before .before .before .before .before .before .before .args in
-    c .before .before .before .before .quiet-output .ensures (now (a .calendar))
+    let at-quiet-output = c .before .before .before .before in
+    let at-if4 = at-quiet-output .before .before .before in
+    let at-if3 = at-if4 .before .before in
+    let at-if2 = at-if3 .before in
+    let at-pair2 = at-if2 .before in
+    let at-if1 = at-pair2 .before in
+    let at-pair = at-if1 .before in
+    let start = at-pair .before .before .before .before .before .before .before .before in
+    let a = start .args in
+    at-quiet-output .quiet-output .ensures (now (a .calendar))
     ∙ ap (finish (stateOf (a .r) (now (a .cells)) (now (a .links)) (now (a .calendar)) (now (a .words))))
-    (sym (output (quiet-work (a .k) (a .b) (a .j) (now (a .cells)) (now (a .links)) (now (a .calendar)) (now (a .words))) _ (quiet-entry (a .k) (a .b) (a .j) (now (a .cells)) (now (a .links)) (now (a .calendar)) (now (a .words))) (sym (c .before .before .before .before .before .before .before .before .before .before .before .before .before .pair .ensures) ∙ not-false _ (c .before .before .before .before .before .before .before .before .before .before .before .before .if1 .left)) (sym (c .before .before .before .before .before .before .before .before .before .before .before .pair2 .ensures) ∙ not-false _ (c .before .before .before .before .before .before .before .before .before .before .if2 .left)) (c .before .before .before .before .before .before .before .before .before .if3 .left) (c .before .before .before .before .before .before .before .if4 .taken)))
+    (sym (output (quiet-work (a .k) (a .b) (a .j) (now (a .cells)) (now (a .links)) (now (a .calendar)) (now (a .words))) _
+    (quiet-entry (a .k) (a .b) (a .j) (now (a .cells)) (now (a .links)) (now (a .calendar)) (now (a .words)))
+    (shown _ _ (at-pair .pair .ensures) (at-if1 .if1 .left))
+    (shown _ _ (at-pair2 .pair2 .ensures) (at-if2 .if2 .left)) (at-if3 .if3 .left) (at-if4 .if4 .taken)))
 
 words-fall-requires : tie.Need-words-fall-requires
 words-fall-requires c κs =
-    let pre = c .before .before .before .before .before .before .before .before .before .before .before .before .before .before .before .pre in
-    (λ e. omega (arith, pre .0 .rotation-low, pre .0 .words-long), λ e. let h = pre .1 e in omega (arith, h, pre .0 .words-long))
+    let start = c .before .before .before .before .before .before .before .before .before .before .before .before .before .before .before in
+    let pre = start .pre in (
+      λ e. omega (arith, pre .0 .rotation-low, pre .0 .words-long),
+      λ e. let h = pre .1 e in omega
+          (arith, h, pre .0 .words-long),
+    )
 
 same-length-6 : tie.Need-same-length-6
 same-length-6 c = search needs
@@ -112,9 +179,22 @@ same-length-6 c = search needs
 returns-5 : tie.Need-returns-5
 unfolding quietWork
 returns-5 c =
-    let a = c .before .before .before .before .before .before .before .before .before .before .before .before .before .before .before .before .before .before .args in
-    went (a .r) (now (a .cells)) (now (a .links)) (now (a .calendar)) (now (a .words)) _ _ _ (none (quiet-work (a .k) (a .b) (a .j) (now (a .cells)) (now (a .links)) (now (a .calendar)) (now (a .words))) _ (quiet-entry (a .k) (a .b) (a .j) (now (a .cells)) (now (a .links)) (now (a .calendar)) (now (a .words))) (sym (c .before .before .before .before .before .before .before .before .before .before .pair .ensures) ∙ not-false _ (c .before .before .before .before .before .before .before .before .before .if1 .left)) (sym (c .before .before .before .before .before .before .before .before .pair2 .ensures) ∙ not-false _ (c .before .before .before .before .before .before .before .if2 .left)) (c .before .before .before .before .before .before .if3 .left) (c .before .before .before .before .if4 .left))
-    (quiet-served (a .k) (a .b) (a .j) (now (a .cells)) (now (a .links)) (now (a .calendar)) (now (a .words)) _ _ refl refl (c .before .before .words-fall .ensures))
+    let at-words-fall = c .before .before in
+    let at-if4 = at-words-fall .before .before in
+    let at-if3 = at-if4 .before .before in
+    let at-if2 = at-if3 .before in
+    let at-pair2 = at-if2 .before in
+    let at-if1 = at-pair2 .before in
+    let at-pair = at-if1 .before in
+    let start = at-pair .before .before .before .before .before .before .before .before in
+    let a = start .args in
+    went (a .r) (now (a .cells)) (now (a .links)) (now (a .calendar)) (now (a .words)) _ _ _
+    (none (quiet-work (a .k) (a .b) (a .j) (now (a .cells)) (now (a .links)) (now (a .calendar)) (now (a .words))) _
+    (quiet-entry (a .k) (a .b) (a .j) (now (a .cells)) (now (a .links)) (now (a .calendar)) (now (a .words)))
+    (shown _ _ (at-pair .pair .ensures) (at-if1 .if1 .left))
+    (shown _ _ (at-pair2 .pair2 .ensures) (at-if2 .if2 .left)) (at-if3 .if3 .left) (at-if4 .if4 .left))
+    (quiet-served (a .k) (a .b) (a .j) (now (a .cells)) (now (a .links)) (now (a .calendar)) (now (a .words)) _ _ refl refl
+    (at-words-fall .words-fall .ensures))
 
 pub quiet-spec : {M : Type 1} → statement M
 quiet-spec =

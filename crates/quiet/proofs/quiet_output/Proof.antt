@@ -1,3 +1,5 @@
+-- `quiet::quiet_output` meets its contract: as where entry T is marked, but that nothing joins the Output List.
+-- Assumes nothing.
 use borrow.Author.Tests.{not-true, not-false}
 use mathlib.Core.Path.{sym, _∙_, ap}
 use native.Mathlib.Omega.{arith}
@@ -5,7 +7,7 @@ use denote.Ref.{now}
 use Rattle.spaces.specs.declared.Off.{Off}
 use Rattle.plan.proofs.Found.{no}
 use Rattle.plan.proofs.Off.{off-shows}
-use Rattle.plan.proofs.Ends.{as-came, went}
+use Rattle.plan.proofs.Ends.{as-came, went, shown, not-shown}
 use Rattle.plan.proofs.QuietCases.{output-none, output-unfit, output-goes}
 use borrow.Author.Needs.{needs}
 use Rattle.quiet.proofs.quiet_output.Statement.{statement}
@@ -24,9 +26,15 @@ same-length-2 : tie.Need-same-length-2
 same-length-2 c = search needs
 
 returns : tie.Need-returns
-returns c = λ calendar.
-    let a = c .before .before .before .before .before .before .before .before .before .args in
-    as-came (a .r) (now (a .cells)) (now (a .links)) calendar (now (a .words)) _ _ (c .refuse .ensures) (output-none (a .k) (a .b) (a .j) (now (a .cells)) (now (a .links)) calendar (now (a .words)) _ (c .before .before .before .off-head .ensures) (not-true _ (c .before .if1 .taken)))
+returns c =
+    let at-if1 = c .before in
+    let at-off-head = at-if1 .before .before in
+    let start = at-off-head .before .before .before .before .before .before in
+    λ calendar.
+    let a = start .args in
+    as-came (a .r) (now (a .cells)) (now (a .links)) calendar (now (a .words)) _ _ (c .refuse .ensures)
+    (output-none (a .k) (a .b) (a .j) (now (a .cells)) (now (a .links)) calendar (now (a .words)) _
+    (at-off-head .off-head .ensures) (not-true _ (at-if1 .if1 .taken)))
 
 pair-requires : tie.Need-pair-requires
 pair-requires c κs = search needs
@@ -41,18 +49,30 @@ same-length-4 : tie.Need-same-length-4
 same-length-4 c = search needs
 
 returns-2 : tie.Need-returns-2
-returns-2 c = λ calendar.
-    let a = c .before .before .before .before .before .before .before .before .before .before .before .args in
-    as-came (a .r) (now (a .cells)) (now (a .links)) calendar (now (a .words)) _ _ (c .refuse2 .ensures) (output-unfit (a .k) (a .b) (a .j) (now (a .cells)) (now (a .links)) calendar (now (a .words)) _ (c .before .before .before .before .before .off-head .ensures) (sym (c .before .before .pair .ensures) ∙ not-true _ (c .before .if2 .taken)))
+returns-2 c =
+    let at-if2 = c .before in
+    let at-pair = at-if2 .before in
+    let at-off-head = at-pair .before .before .before in
+    let start = at-off-head .before .before .before .before .before .before in
+    λ calendar.
+    let a = start .args in
+    as-came (a .r) (now (a .cells)) (now (a .links)) calendar (now (a .words)) _ _ (c .refuse2 .ensures)
+    (output-unfit (a .k) (a .b) (a .j) (now (a .cells)) (now (a .links)) calendar (now (a .words)) _
+    (at-off-head .off-head .ensures) (not-shown _ _ (at-pair .pair .ensures) (at-if2 .if2 .taken)))
 
 quiet-end-requires : tie.Need-quiet-end-requires
 quiet-end-requires c κs =
-    let a = c .before .before .before .before .before .before .before .before .before .before .before .before .args in
-    let pre = c .before .before .before .before .before .before .before .before .before .before .before .before .pre in
-    let shows = off-shows _ _ _ _ _ _ _ (ap (λ (o : Off). o .ok) (sym (c .before .before .before .before .before .before .off-head .ensures)) ∙ not-false _ (c .before .before .before .before .if1 .left)) in
-    let vci = ap (λ (o : Off). o .vci) (c .before .before .before .before .before .before .off-head .ensures) in (
+    let at-if2 = c .before .before in
+    let at-pair = at-if2 .before in
+    let at-if1 = at-pair .before in
+    let at-off-head = at-if1 .before .before in
+    let start = at-off-head .before .before .before .before .before .before in
+    let a = start .args in
+    let pre = start .pre in
+    let shows = off-shows _ _ _ _ _ _ _ (ap (λ (o : Off). o .ok) (sym (at-off-head .off-head .ensures)) ∙ not-false _ (at-if1 .if1 .left)) in
+    let vci = ap (λ (o : Off). o .vci) (at-off-head .off-head .ensures) in (
       (omega (arith, pre .0 .3), omega (arith, pre .0 .4), pre .0 .5, rw vci (shows .0), rw vci (shows .1)),
-      (pre .1, (λ e. no e, sym (c .before .before .before .pair .ensures) ∙ not-false _ (c .before .before .if2 .left))),
+      (pre .1, (λ e. no e, shown _ _ (at-pair .pair .ensures) (at-if2 .if2 .left))),
     )
 
 same-length-5 : tie.Need-same-length-5
@@ -62,10 +82,20 @@ same-length-6 : tie.Need-same-length-6
 same-length-6 c = search needs
 
 returns-3 : tie.Need-returns-3
-returns-3 c = λ calendar.
-    let a = c .before .before .before .before .before .before .before .before .before .before .before .before .before .before .before .before .before .args in
-    went (a .r) (now (a .cells)) (now (a .links)) calendar (now (a .words)) _ _ _ (output-goes (a .k) (a .b) (a .j) (now (a .cells)) (now (a .links)) calendar (now (a .words)) _ (c .before .before .before .before .before .before .before .before .before .before .before .off-head .ensures) (not-false _ (c .before .before .before .before .before .before .before .before .before .if1 .left)) (sym (c .before .before .before .before .before .before .before .before .pair .ensures) ∙ not-false _ (c .before .before .before .before .before .before .before .if2 .left)))
-    (c .before .before .before .before .quiet-end .ensures (now (a .cells)) calendar calendar)
+returns-3 c =
+    let at-quiet-end = c .before .before .before .before in
+    let at-if2 = at-quiet-end .before .before .before in
+    let at-pair = at-if2 .before in
+    let at-if1 = at-pair .before in
+    let at-off-head = at-if1 .before .before in
+    let start = at-off-head .before .before .before .before .before .before in
+    λ calendar.
+    let a = start .args in
+    went (a .r) (now (a .cells)) (now (a .links)) calendar (now (a .words)) _ _ _
+    (output-goes (a .k) (a .b) (a .j) (now (a .cells)) (now (a .links)) calendar (now (a .words)) _
+    (at-off-head .off-head .ensures) (not-false _ (at-if1 .if1 .left))
+    (shown _ _ (at-pair .pair .ensures) (at-if2 .if2 .left)))
+    (at-quiet-end .quiet-end .ensures (now (a .cells)) calendar calendar)
 
 pub quiet-output-spec : {M : Type 1} → statement M
 quiet-output-spec =

@@ -1,3 +1,5 @@
+-- `quiet::words_fall` meets its contract: rotation's VC is written first, then the cell's, which may be the same.
+-- Assumes nothing.
 use native.Mathlib.Omega.{arith}
 use Rattle.plan.specs.Plan.{rotated}
 use borrow.Author.Needs.{needs}
@@ -8,14 +10,19 @@ put-fall-requires : tie.Need-put-fall-requires
 put-fall-requires c κs = search needs
 
 put-fall-requires-2 : tie.Need-put-fall-requires-2
-put-fall-requires-2 c κs = λ e. let h = c .before .before .before .before .before .before .before .pre .1 e in omega (arith, h)
+put-fall-requires-2 c κs =
+    let start = c .before .before .before .before .before .before .before in
+    λ e. let h = start .pre .1 e in omega (arith, h)
 
 same-length : tie.Need-same-length
 same-length c = search needs
 
 returns : tie.Need-returns
 unfolding rotated
-returns c = rw (c .before .before .put-fall2 .ensures, c .before .before .before .before .before .before .before .put-fall .ensures)
+returns c =
+    let at-put-fall2 = c .before .before in
+    let at-put-fall = at-put-fall2 .before .before .before .before .before in
+    rw (at-put-fall2 .put-fall2 .ensures, at-put-fall .put-fall .ensures)
 
 pub words-fall-spec : {M : Type 1} → statement M
 words-fall-spec = tie.close (tie.spec put-fall-requires put-fall-requires-2 same-length returns)

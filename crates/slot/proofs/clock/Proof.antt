@@ -1,3 +1,5 @@
+-- `slot::clock` meets its contract: step 1, field by field.
+-- Assumes nothing.
 use Rattle.meaning.specs.Numbers.{slotNumbers}
 use Rattle.plan.specs.Plan.{clocked}
 use Rattle.meaning.specs.State.{recordWith}

@@ -1,3 +1,5 @@
+-- `slot::slot` meets its promise: refusals 1, 2 and 9, then the clock, then steps 2 to 5.
+-- Assumes nothing.
 use mathlib.Core.Path.{sym, _∙_, ap}
 use denote.Ref.{now}
 use Rattle.meaning.specs.State.{stateOf}
@@ -28,8 +30,12 @@ same-length-4 c = search needs
 
 returns : tie.Need-returns
 returns c =
-    let a = c .before .before .before .before .before .before .before .before .before .before .before .before .args in
-    slot-refused (a .r) (now (a .cell)) (now (a .cells)) (now (a .links)) (now (a .calendar)) (now (a .words)) _ _ (c .before .before .shape .ensures) (c .before .if1 .taken) (c .refuse .ensures)
+    let at-if1 = c .before in
+    let at-shape = at-if1 .before in
+    let start = at-shape .before .before .before .before .before .before .before .before .before .before in
+    let a = start .args in
+    slot-refused (a .r) (now (a .cell)) (now (a .cells)) (now (a .links)) (now (a .calendar)) (now (a .words)) _ _
+    (at-shape .shape .ensures) (at-if1 .if1 .taken) (c .refuse .ensures)
 
 refuse-requires-2 : tie.Need-refuse-requires-2
 refuse-requires-2 c κs = search needs
@@ -48,8 +54,15 @@ same-length-8 c = search needs
 
 returns-2 : tie.Need-returns-2
 returns-2 c =
-    let a = c .before .before .before .before .before .before .before .before .before .before .before .before .before .before .args in
-    as-came (a .r) (now (a .cells)) (now (a .links)) (now (a .calendar)) (now (a .words)) _ _ (c .refuse2 .ensures) (clock-turn (a .r) (now (a .cell)) (now (a .cells)) (now (a .links)) (now (a .calendar)) (now (a .words)) (c .before .if2 .taken)) ∙ sym (slot-goes (a .r) (now (a .cell)) (now (a .cells)) (now (a .links)) (now (a .calendar)) (now (a .words)) _ (c .before .before .before .before .shape .ensures) (c .before .before .before .if1 .left))
+    let at-if2 = c .before in
+    let at-if1 = at-if2 .before .before in
+    let at-shape = at-if1 .before in
+    let start = at-shape .before .before .before .before .before .before .before .before .before .before in
+    let a = start .args in
+    as-came (a .r) (now (a .cells)) (now (a .links)) (now (a .calendar)) (now (a .words)) _ _ (c .refuse2 .ensures)
+    (clock-turn (a .r) (now (a .cell)) (now (a .cells)) (now (a .links)) (now (a .calendar)) (now (a .words))
+    (at-if2 .if2 .taken)) ∙ sym (slot-goes (a .r) (now (a .cell)) (now (a .cells)) (now (a .links)) (now (a .calendar))
+    (now (a .words)) _ (at-shape .shape .ensures) (at-if1 .if1 .left))
 
 refuse-requires-3 : tie.Need-refuse-requires-3
 refuse-requires-3 c κs = search needs
@@ -68,17 +81,32 @@ same-length-12 c = search needs
 
 returns-3 : tie.Need-returns-3
 returns-3 c =
-    let a = c .before .before .before .before .before .before .before .before .before .before .before .before .before .before .before .before .args in
-    as-came (a .r) (now (a .cells)) (now (a .links)) (now (a .calendar)) (now (a .words)) _ _ (c .refuse3 .ensures) (clock-rotation (a .r) (now (a .cell)) (now (a .cells)) (now (a .links)) (now (a .calendar)) (now (a .words)) (c .before .before .before .if2 .left) (c .before .if3 .taken)) ∙ sym (slot-goes (a .r) (now (a .cell)) (now (a .cells)) (now (a .links)) (now (a .calendar)) (now (a .words)) _ (c .before .before .before .before .before .before .shape .ensures) (c .before .before .before .before .before .if1 .left))
+    let at-if3 = c .before in
+    let at-if2 = at-if3 .before .before in
+    let at-if1 = at-if2 .before .before in
+    let at-shape = at-if1 .before in
+    let start = at-shape .before .before .before .before .before .before .before .before .before .before in
+    let a = start .args in
+    as-came (a .r) (now (a .cells)) (now (a .links)) (now (a .calendar)) (now (a .words)) _ _ (c .refuse3 .ensures)
+    (clock-rotation (a .r) (now (a .cell)) (now (a .cells)) (now (a .links)) (now (a .calendar)) (now (a .words))
+    (at-if2 .if2 .left) (at-if3 .if3 .taken)) ∙ sym (slot-goes (a .r) (now (a .cell)) (now (a .cells)) (now (a .links))
+    (now (a .calendar)) (now (a .words)) _ (at-shape .shape .ensures) (at-if1 .if1 .left))
 
 clock-requires : tie.Need-clock-requires
 clock-requires c κs = search needs
 
 steps-requires : tie.Need-steps-requires
 steps-requires c κs =
-    let a = c .before .before .before .before .before .before .before .before .before .before .before .before .before .before .before .before .before .before .before .before .args in
-    let h = shaped (a .r) (now (a .cell)) (now (a .cells)) (now (a .links)) (now (a .calendar)) (now (a .words)) _ (c .before .before .before .before .before .before .before .before .before .before .shape .ensures) (c .before .before .before .before .before .before .before .before .before .if1 .left) in
-    (sized (a .r) (now (a .cell)) (now (a .cells)) (now (a .links)) (now (a .calendar)) (now (a .words)) _ (c .before .before .before .before .clock .ensures) h, h .cell-long)
+    let at-clock = c .before .before .before .before in
+    let at-if1 = at-clock .before .before .before .before .before in
+    let at-shape = at-if1 .before in
+    let start = at-shape .before .before .before .before .before .before .before .before .before .before in
+    let a = start .args in
+    let h = shaped (a .r) (now (a .cell)) (now (a .cells)) (now (a .links)) (now (a .calendar)) (now (a .words)) _ (at-shape .shape .ensures) (at-if1 .if1 .left) in (
+      sized (a .r) (now (a .cell)) (now (a .cells)) (now (a .links)) (now (a .calendar)) (now (a .words)) _
+          (at-clock .clock .ensures) h,
+      h .cell-long,
+    )
 
 same-length-13 : tie.Need-same-length-13
 same-length-13 c = search needs
@@ -94,10 +122,20 @@ same-length-16 c = search needs
 
 returns-4 : tie.Need-returns-4
 returns-4 c =
-    let a = c .before .before .before .before .before .before .before .before .before .before .before .before .before .before .before .before .before .before .before .before .before .before .before .before .before .before .before .before .before .args in
-    c .before .before .before .before .before .before .before .before .steps .ensures
-    ∙ ap (finish (stateOf (a .r) (now (a .cells)) (now (a .links)) (now (a .calendar)) (now (a .words)))) (sym (clock-goes (a .r) (now (a .cell)) (now (a .cells)) (now (a .links)) (now (a .calendar)) (now (a .words)) _ (c .before .before .before .before .before .before .before .before .before .before .before .before .before .clock .ensures) (c .before .before .before .before .before .before .before .before .before .before .before .before .before .before .before .before .if2 .left) (c .before .before .before .before .before .before .before .before .before .before .before .before .before .before .if3 .left)))
-    ∙ sym (slot-goes (a .r) (now (a .cell)) (now (a .cells)) (now (a .links)) (now (a .calendar)) (now (a .words)) _ (c .before .before .before .before .before .before .before .before .before .before .before .before .before .before .before .before .before .before .before .shape .ensures) (c .before .before .before .before .before .before .before .before .before .before .before .before .before .before .before .before .before .before .if1 .left))
+    let at-steps = c .before .before .before .before .before .before .before .before in
+    let at-clock = at-steps .before .before .before .before .before in
+    let at-if3 = at-clock .before in
+    let at-if2 = at-if3 .before .before in
+    let at-if1 = at-if2 .before .before in
+    let at-shape = at-if1 .before in
+    let start = at-shape .before .before .before .before .before .before .before .before .before .before in
+    let a = start .args in
+    at-steps .steps .ensures
+    ∙ ap (finish (stateOf (a .r) (now (a .cells)) (now (a .links)) (now (a .calendar)) (now (a .words))))
+    (sym (clock-goes (a .r) (now (a .cell)) (now (a .cells)) (now (a .links)) (now (a .calendar)) (now (a .words)) _
+    (at-clock .clock .ensures) (at-if2 .if2 .left) (at-if3 .if3 .left)))
+    ∙ sym (slot-goes (a .r) (now (a .cell)) (now (a .cells)) (now (a .links)) (now (a .calendar)) (now (a .words)) _
+    (at-shape .shape .ensures) (at-if1 .if1 .left))
 
 pub slot-spec : {M : Type 1} → statement M
 slot-spec =

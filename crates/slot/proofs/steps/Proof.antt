@@ -1,3 +1,5 @@
+-- `slot::steps` meets its contract: steps 2 and 3 are judged on the words as they came, then the case writes.
+-- Assumes nothing.
 use mathlib.Core.Path.{sym, _∙_, ap}
 use native.Mathlib.Omega.{arith}
 use denote.Ref.{now}
@@ -23,9 +25,14 @@ same-length c = search needs
 
 returns : tie.Need-returns
 returns c =
-    let a = c .before .before .before .before .before .before .before .before .before .before .args in
-    let pre = c .before .before .before .before .before .before .before .before .before .before .pre in
-    as-came (a .r) (now (a .cells)) (now (a .links)) (now (a .calendar)) (now (a .words)) _ _ (c .refuse .ensures) (rotating-none (a .k) (now (a .cell)) (now (a .cells)) (now (a .links)) (now (a .calendar)) (now (a .words)) _ (c .before .before .before .bring .ensures) (not-true _ (c .before .if1 .taken)))
+    let at-if1 = c .before in
+    let at-bring = at-if1 .before .before in
+    let start = at-bring .before .before .before .before .before .before .before in
+    let a = start .args in
+    let pre = start .pre in
+    as-came (a .r) (now (a .cells)) (now (a .links)) (now (a .calendar)) (now (a .words)) _ _ (c .refuse .ensures)
+    (rotating-none (a .k) (now (a .cell)) (now (a .cells)) (now (a .links)) (now (a .calendar)) (now (a .words)) _
+    (at-bring .bring .ensures) (not-true _ (at-if1 .if1 .taken)))
 
 judge-requires : tie.Need-judge-requires
 judge-requires c κs = search needs
@@ -38,16 +45,32 @@ same-length-2 c = search needs
 
 returns-2 : tie.Need-returns-2
 returns-2 c =
-    let a = c .before .before .before .before .before .before .before .before .before .before .before .before .before .before .args in
-    let pre = c .before .before .before .before .before .before .before .before .before .before .before .before .before .before .pre in
-    as-came (a .r) (now (a .cells)) (now (a .links)) (now (a .calendar)) (now (a .words)) _ _ (c .refuse2 .ensures) (arriving-none (a .k) (now (a .cell)) (now (a .cells)) (now (a .links)) (now (a .calendar)) (now (a .words)) _ (c .before .before .before .before .before .before .before .bring .ensures) _ (c .before .before .before .judge .ensures) (omega (arith, pre .0 .rotation-low, pre .0 .words-long)) (not-false _ (c .before .before .before .before .before .if1 .left)) (not-true _ (c .before .if2 .taken)))
+    let at-if2 = c .before in
+    let at-judge = at-if2 .before .before in
+    let at-if1 = at-judge .before .before in
+    let at-bring = at-if1 .before .before in
+    let start = at-bring .before .before .before .before .before .before .before in
+    let a = start .args in
+    let pre = start .pre in
+    as-came (a .r) (now (a .cells)) (now (a .links)) (now (a .calendar)) (now (a .words)) _ _ (c .refuse2 .ensures)
+    (arriving-none (a .k) (now (a .cell)) (now (a .cells)) (now (a .links)) (now (a .calendar)) (now (a .words)) _
+    (at-bring .bring .ensures) _ (at-judge .judge .ensures) (omega (arith, pre .0 .rotation-low, pre .0 .words-long))
+    (not-false _ (at-if1 .if1 .left)) (not-true _ (at-if2 .if2 .taken)))
 
 accept-requires : tie.Need-accept-requires
 accept-requires c κs =
-    let a = c .before .before .before .before .before .before .before .before .before .before .before .before .before .before .before .before .before .before .before .args in
-    let pre = c .before .before .before .before .before .before .before .before .before .before .before .before .before .before .before .before .before .before .before .pre in
-    let e = c .before .before .before .before .before .before .before .before .judge .ensures in
-    (pre .0, rw e (judged-shows (a .k) (now (a .cell)) (now (a .words)) .accepted-is (pre .1) (ap (λ (j : Judged). j .ok) (sym e) ∙ not-false _ (c .before .before .before .before .before .before .if2 .left)) (ap (λ (j : Judged). j .verdict) (sym e) ∙ c .before .before .before .before .if3 .taken)))
+    let at-if3 = c .before .before .before .before in
+    let at-if2 = at-if3 .before .before in
+    let at-judge = at-if2 .before .before in
+    let start = at-judge .before .before .before .before .before .before .before .before .before .before .before in
+    let a = start .args in
+    let pre = start .pre in
+    let e = at-judge .judge .ensures in (
+      pre .0,
+      rw e (judged-shows (a .k) (now (a .cell)) (now (a .words)) .accepted-is (pre .1)
+          (ap (λ (j : Judged). j .ok) (sym e) ∙ not-false _ (at-if2 .if2 .left))
+          (ap (λ (j : Judged). j .verdict) (sym e) ∙ at-if3 .if3 .taken)),
+    )
 
 same-length-3 : tie.Need-same-length-3
 same-length-3 c = search needs
@@ -63,16 +86,34 @@ same-length-6 c = search needs
 
 returns-3 : tie.Need-returns-3
 returns-3 c =
-    let a = c .before .before .before .before .before .before .before .before .before .before .before .before .before .before .before .before .before .before .before .before .before .before .before .before .before .before .before .before .args in
-    let pre = c .before .before .before .before .before .before .before .before .before .before .before .before .before .before .before .before .before .before .before .before .before .before .before .before .before .before .before .before .pre in
-    c .before .before .before .before .before .before .before .before .accept .ensures ∙ ap (finish (stateOf (a .r) (now (a .cells)) (now (a .links)) (now (a .calendar)) (now (a .words)))) (sym (arriving-accepted (a .k) (now (a .cell)) (now (a .cells)) (now (a .links)) (now (a .calendar)) (now (a .words)) _ (c .before .before .before .before .before .before .before .before .before .before .before .before .before .before .before .before .before .before .before .before .before .bring .ensures) _ (c .before .before .before .before .before .before .before .before .before .before .before .before .before .before .before .before .before .judge .ensures) (omega (arith, pre .0 .rotation-low, pre .0 .words-long)) (not-false _ (c .before .before .before .before .before .before .before .before .before .before .before .before .before .before .before .before .before .before .before .if1 .left)) (not-false _ (c .before .before .before .before .before .before .before .before .before .before .before .before .before .before .before .if2 .left)) (c .before .before .before .before .before .before .before .before .before .before .before .before .before .if3 .taken)))
+    let at-accept = c .before .before .before .before .before .before .before .before in
+    let at-if3 = at-accept .before .before .before .before .before in
+    let at-if2 = at-if3 .before .before in
+    let at-judge = at-if2 .before .before in
+    let at-if1 = at-judge .before .before in
+    let at-bring = at-if1 .before .before in
+    let start = at-bring .before .before .before .before .before .before .before in
+    let a = start .args in
+    let pre = start .pre in
+    at-accept .accept .ensures ∙ ap (finish (stateOf (a .r) (now (a .cells)) (now (a .links)) (now (a .calendar))
+    (now (a .words)))) (sym (arriving-accepted (a .k) (now (a .cell)) (now (a .cells)) (now (a .links)) (now (a .calendar))
+    (now (a .words)) _ (at-bring .bring .ensures) _ (at-judge .judge .ensures)
+    (omega (arith, pre .0 .rotation-low, pre .0 .words-long)) (not-false _ (at-if1 .if1 .left))
+    (not-false _ (at-if2 .if2 .left)) (at-if3 .if3 .taken)))
 
 quiet-requires : tie.Need-quiet-requires
 quiet-requires c κs =
-    let a = c .before .before .before .before .before .before .before .before .before .before .before .before .before .before .before .before .before .before .before .args in
-    let pre = c .before .before .before .before .before .before .before .before .before .before .before .before .before .before .before .before .before .before .before .pre in
-    let e = c .before .before .before .before .before .before .before .before .judge .ensures in
-    (pre .0, λ x. rw (ap (λ (j : Judged). j .vci) e) (judged-shows (a .k) (now (a .cell)) (now (a .words)) .excess-is (ap (λ (j : Judged). j .ok) (sym e) ∙ not-false _ (c .before .before .before .before .before .before .if2 .left)) (ap (λ (j : Judged). j .verdict) (sym e) ∙ eqb-true _ _ x)))
+    let at-if2 = c .before .before .before .before .before .before in
+    let at-judge = at-if2 .before .before in
+    let start = at-judge .before .before .before .before .before .before .before .before .before .before .before in
+    let a = start .args in
+    let pre = start .pre in
+    let e = at-judge .judge .ensures in (
+      pre .0,
+      λ x. rw (ap (λ (j : Judged). j .vci) e) (judged-shows (a .k) (now (a .cell)) (now (a .words)) .excess-is
+          (ap (λ (j : Judged). j .ok) (sym e) ∙ not-false _ (at-if2 .if2 .left))
+          (ap (λ (j : Judged). j .verdict) (sym e) ∙ eqb-true _ _ x)),
+    )
 
 same-length-7 : tie.Need-same-length-7
 same-length-7 c = search needs
@@ -88,9 +129,20 @@ same-length-10 c = search needs
 
 returns-4 : tie.Need-returns-4
 returns-4 c =
-    let a = c .before .before .before .before .before .before .before .before .before .before .before .before .before .before .before .before .before .before .before .before .before .before .before .before .before .before .args in
-    let pre = c .before .before .before .before .before .before .before .before .before .before .before .before .before .before .before .before .before .before .before .before .before .before .before .before .before .before .pre in
-    c .before .before .before .before .before .before .quiet .ensures ∙ ap (finish (stateOf (a .r) (now (a .cells)) (now (a .links)) (now (a .calendar)) (now (a .words)))) (sym (arriving-quiet (a .k) (now (a .cell)) (now (a .cells)) (now (a .links)) (now (a .calendar)) (now (a .words)) _ (c .before .before .before .before .before .before .before .before .before .before .before .before .before .before .before .before .before .before .before .bring .ensures) _ (c .before .before .before .before .before .before .before .before .before .before .before .before .before .before .before .judge .ensures) (omega (arith, pre .0 .rotation-low, pre .0 .words-long)) (not-false _ (c .before .before .before .before .before .before .before .before .before .before .before .before .before .before .before .before .before .if1 .left)) (not-false _ (c .before .before .before .before .before .before .before .before .before .before .before .before .before .if2 .left)) (c .before .before .before .before .before .before .before .before .before .before .before .if3 .left)))
+    let at-quiet = c .before .before .before .before .before .before in
+    let at-if3 = at-quiet .before .before .before .before .before in
+    let at-if2 = at-if3 .before .before in
+    let at-judge = at-if2 .before .before in
+    let at-if1 = at-judge .before .before in
+    let at-bring = at-if1 .before .before in
+    let start = at-bring .before .before .before .before .before .before .before in
+    let a = start .args in
+    let pre = start .pre in
+    at-quiet .quiet .ensures ∙ ap (finish (stateOf (a .r) (now (a .cells)) (now (a .links)) (now (a .calendar))
+    (now (a .words)))) (sym (arriving-quiet (a .k) (now (a .cell)) (now (a .cells)) (now (a .links)) (now (a .calendar))
+    (now (a .words)) _ (at-bring .bring .ensures) _ (at-judge .judge .ensures)
+    (omega (arith, pre .0 .rotation-low, pre .0 .words-long)) (not-false _ (at-if1 .if1 .left))
+    (not-false _ (at-if2 .if2 .left)) (at-if3 .if3 .left)))
 
 pub steps-spec : {M : Type 1} → statement M
 steps-spec =

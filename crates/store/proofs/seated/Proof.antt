@@ -1,3 +1,5 @@
+-- `store::seated` meets its contract: the record is written out field by field.
+-- Assumes nothing.
 use mathlib.Core.Path.{refl}
 use Rattle.plan.specs.Plan.{withEnds}
 use Rattle.meaning.specs.State.{recordWith}

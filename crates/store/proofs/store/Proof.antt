@@ -1,3 +1,5 @@
+-- `store::store` meets its contract: each memory has one writer, whose promise is handed on.
+-- Assumes nothing.
 use mathlib.Core.Path.{_∙_, ap}
 use denote.Ref.{now}
 use Rattle.meaning.specs.State.{Ends}
@@ -34,7 +36,23 @@ same-length-4 : tie.Need-same-length-4
 same-length-4 c = search needs
 
 returns : tie.Need-returns
-returns c = (c .before .before .before .before .before .before .before .before .before .before .before .before .put-cell .ensures, (c .before .before .before .before .before .before .before .put-link .ensures, (c .before .before .put-entry .ensures ∙ ap (λ (e : Ends). writeEntry (now (c .before .before .before .before .before .before .before .before .before .before .before .before .before .before .before .before .before .before .before .before .before .before .before .args .calendar)) (c .before .before .before .before .before .before .before .before .before .before .before .before .before .before .before .before .before .before .before .before .before .before .before .args .a .e) e) (c .before .before .before .before .tail-of .ensures), c .before .before .before .before .before .before .before .before .before .before .before .before .before .before .before .before .words-fill .ensures)))
+returns c =
+    let at-put-entry = c .before .before in
+    let at-tail-of = at-put-entry .before .before in
+    let at-put-link = at-tail-of .before .before .before in
+    let at-put-cell = at-put-link .before .before .before .before .before in
+    let at-words-fill = at-put-cell .before .before .before .before in
+    let start = at-words-fill .before .before .before .before .before .before .before in (
+      at-put-cell .put-cell .ensures,
+      (
+        at-put-link .put-link .ensures,
+        (
+          at-put-entry .put-entry .ensures ∙ ap (λ (e : Ends). writeEntry (now (start .args .calendar)) (start .args .a .e) e)
+              (at-tail-of .tail-of .ensures),
+          at-words-fill .words-fill .ensures,
+        ),
+      ),
+    )
 
 pub store-spec : {M : Type 1} → statement M
 store-spec =

@@ -1,3 +1,5 @@
+-- `store::words_fill` meets its contract: rotation's VC is written first, then the cell's, which may be the same.
+-- Assumes nothing.
 use Rattle.plan.specs.Plan.{rotated}
 use borrow.Author.Needs.{needs}
 use Rattle.store.proofs.words_fill.Statement.{statement}
@@ -14,7 +16,10 @@ same-length c = search needs
 
 returns : tie.Need-returns
 unfolding rotated
-returns c = rw (c .before .before .put-fill .ensures, c .before .before .before .before .before .before .put-fall .ensures)
+returns c =
+    let at-put-fill = c .before .before in
+    let at-put-fall = at-put-fill .before .before .before .before in
+    rw (at-put-fill .put-fill .ensures, at-put-fall .put-fall .ensures)
 
 pub words-fill-spec : {M : Type 1} → statement M
 words-fill-spec = tie.close (tie.spec put-fall-requires put-fill-requires same-length returns)

@@ -1,0 +1,30 @@
+-- `accept::head_joined` meets its contract: the cell is the head where it joined entry T; any other entry keeps its head.
+-- Assumes nothing.
+use denote.Ref.{now}
+use Rattle.plan.proofs.Cases.{own-head, far-head}
+use borrow.Author.Needs.{needs}
+use Rattle.accept.proofs.head_joined.Statement.{statement}
+use Rattle.accept.proofs.head_joined.Tie as tie
+
+returns : tie.Need-returns
+returns c =
+    let start = c .before .before in
+    own-head (now (start .args .calendar)) (start .args .a) (start .args .turn) (c .if1 .taken) (start .pre)
+
+mul-result : tie.Need-mul-result
+mul-result c = search needs
+
+mul-result-2 : tie.Need-mul-result-2
+mul-result-2 c = search needs
+
+shared-slice-read-result : tie.Need-shared-slice-read-result
+shared-slice-read-result c = search needs
+
+returns-2 : tie.Need-returns-2
+returns-2 c =
+    let start = c .before .before .before in
+    far-head (now (start .args .calendar)) (start .args .a) (start .args .turn) (c .before .if1 .left)
+
+pub head-joined-spec : {M : Type 1} → statement M
+head-joined-spec =
+    tie.close (tie.spec returns mul-result mul-result-2 shared-slice-read-result returns-2)
