@@ -3,3 +3,4 @@ pub mod ShowLaws
 pub mod TurnLaws
 pub mod Refusals
 pub mod Loop
+pub mod Once

@@ -81,25 +81,20 @@ slots arrivals (size ∷ sizes) b =
     let after = oneSlot arrivals size b in
     if after .number =? 0 then slots arrivals sizes after else after
 
+-- buffers of these lengths, for N, V and so many sizes: the four memories, arrivals, departures and answers
+unfoldable pub lengthsFit : ℕ → ℕ → ℕ → ℕ → ℕ → ℕ → ℕ → ℕ → ℕ → ℕ → Bool
+lengthsFit N z cells links calendar words arrivals sizes departures answers =
+    cells =? octets * N && links =? N && calendar =? perEntry * N && words =? wordsPerVc * z
+    && arrivals =? octets * sizes && departures =? octets * sizes && answers =? answerLong * sizes
+
 -- "Refusals, in this order: 1; 2 if one of the four memories, or arrivals, departures or answers for so many sizes, has
--- another length", of these lengths; 0 where none is given
-unfoldable pub burstRefusal : ℕ → ℕ → ℕ → ℕ → ℕ → ℕ → ℕ → ℕ → ℕ → ℕ → ℕ
-burstRefusal N z cells links calendar words arrivals sizes departures answers =
-    if not (rangesHold N z) then 1
-    else if not (cells =? octets * N && links =? N && calendar =? perEntry * N && words =? wordsPerVc * z) then 2
-    else if not (arrivals =? octets * sizes && departures =? octets * sizes && answers =? answerLong * sizes) then 2
-    else 0
-
--- the refusal of these very buffers
-abbrev pub refusalOf : State → List ℕ → List ℕ → List ℕ → List ℕ → ℕ
-refusalOf s arrivals sizes departures answers =
-    burstRefusal (s .ctl .n) (s .ctl .v) (length (s .cells)) (length (s .links)) (length (s .calendar)) (length (s .words))
-    (length arrivals) (length sizes) (length departures) (length answers)
-
--- "each leaves everything as it came, `done` 0 .. Then slots"; "No sizes: 0, `done` 0"
+-- another length; each leaves everything as it came, `done` 0. Then slots"; "No sizes: 0, `done` 0"
 unfoldable pub burst : State → List ℕ → List ℕ → List ℕ → List ℕ → Stretch
 burst s arrivals sizes departures answers =
+    let N = s .ctl .n in
+    let z = s .ctl .v in
     let begun = stretchOf s departures answers 0 0 in
-    let k = refusalOf s arrivals sizes departures answers in
-    if not (k =? 0) then stopped begun k
+    if not (rangesHold N z) then stopped begun 1
+    else if not (lengthsFit N z (length (s .cells)) (length (s .links)) (length (s .calendar)) (length (s .words)) (length arrivals) (length sizes) (length departures) (length answers))
+    then stopped begun 2
     else slots arrivals sizes begun

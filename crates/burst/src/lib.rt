@@ -7,11 +7,15 @@ ghost use Prim.Native.Nat.{_+_, _*_, _≤_, _<_};
 ghost use lib.ListN.{length, take, drop};
 ghost use Rattle.meaning.specs.Plain.{_=?_};
 ghost use Rattle.meaning.specs.State.{stateOf, writeCell};
-ghost use Rattle.burst.specs.Burst.{Stretch, stretchOf, sizeFits, shownInto, writeAnswer, oneSlot, slots, burstRefusal};
+ghost use Rattle.burst.specs.Burst.{Stretch, stretchOf, sizeFits, shownInto, writeAnswer, oneSlot, slots, lengthsFit};
 ghost use Rattle.burst.specs.Promise.{burstPromise, Shows, Lent, BurstLent};
 use cell::copy_cell;
 use meaning::Answer;
 use meaning::Record;
+use refusal::first;
+use refusal::lengths_hold;
+use refusal::ranges_hold;
+use refusal::refuse;
 
 // What a burst gives back: the record, the number that ended it (0 for none), and how many slots were served.
 #[repr(C)]
@@ -19,6 +23,16 @@ pub struct BurstEnd {
     pub ctl: Record,
     pub number: u16,
     pub done: usize,
+}
+
+fn ended(ctl: Record, number: u16, done: usize) -> BurstEnd
+    ensures { λ r. ⌜ r ≡ record { ctl = ctl; number = number; done = done } ⌝ }
+{
+    BurstEnd {
+        ctl: ctl,
+        number: number,
+        done: done,
+    }
 }
 
 // "a size neither 0 nor 53" is refused
@@ -86,11 +100,7 @@ fn turn(
     ensures { λ r. ⌜ stretchOf (stateOf (r .ctl) (now (cells .exit)) (now (links .exit)) (now (calendar .exit)) (now (words .exit))) (now (departures .exit)) (now (answers .exit)) (r .number) (r .done) ≡ oneSlot (now (arrivals .entry)) size (stretchOf (stateOf ctl (now (cells .entry)) (now (links .entry)) (now (calendar .entry)) (now (words .entry))) (now (departures .entry)) (now (answers .entry)) 0 i) ⌝ }
 {
     if !size_fits(size) {
-        return BurstEnd {
-            ctl: ctl,
-            number: 9,
-            done: i,
-        };
+        return ended(ctl, 9, i);
     }
     let a = 53 * i;
     let e = a + (size as usize);
@@ -99,19 +109,11 @@ fn turn(
     let answer = served.answer;
     let after = served.ctl;
     if answer.number != 0 {
-        return BurstEnd {
-            ctl: after,
-            number: answer.number,
-            done: i,
-        };
+        return ended(after, answer.number, i);
     }
     show(departures, i, cells, answer.space);
     put_answer(answers, i, answer);
-    BurstEnd {
-        ctl: after,
-        number: 0,
-        done: done,
-    }
+    ended(after, 0, done)
 }
 
 // All slots of a burst that was not refused.
@@ -168,8 +170,8 @@ fn is_times(long: usize, each: usize, k: usize) -> bool
     long / each == k
 }
 
-// Refusals 1 and 2, in this order, or 0.
-fn burst_refusal(
+// Whether all seven buffers have the lengths for N, V and so many sizes.
+fn lengths_fit(
     ctl: Record,
     cells: usize,
     links: usize,
@@ -179,25 +181,19 @@ fn burst_refusal(
     sizes: usize,
     departures: usize,
     answers: usize,
-) -> u16
-    ensures { λ r. ⌜ r ≡ burstRefusal (ctl .n) (ctl .v) cells links calendar words arrivals sizes departures answers ⌝ }
+) -> bool
+    ensures { λ r. ⌜ r ≡ lengthsFit (ctl .n) (ctl .v) cells links calendar words arrivals sizes departures answers ⌝ }
 {
-    if !refusal::ranges_hold(ctl.n, ctl.v) {
-        return 1;
-    }
-    if !refusal::lengths_hold(ctl.n, ctl.v, cells, links, calendar, words) {
-        return 2;
+    if !lengths_hold(ctl.n, ctl.v, cells, links, calendar, words) {
+        return false;
     }
     if !is_times(arrivals, 53, sizes) {
-        return 2;
+        return false;
     }
     if !is_times(departures, 53, sizes) {
-        return 2;
+        return false;
     }
-    if !is_times(answers, 6, sizes) {
-        return 2;
-    }
-    0
+    is_times(answers, 6, sizes)
 }
 
 // "runs slot after slot in one call"
@@ -214,7 +210,7 @@ pub fn burst(
 ) -> BurstEnd
     ensures { λ r. ⌜ burstPromise (stateOf ctl (now (cells .entry)) (now (links .entry)) (now (calendar .entry)) (now (words .entry))) (now (arrivals .entry)) (now (sizes .entry)) (now (departures .entry)) (now (answers .entry)) r (now (cells .exit)) (now (links .exit)) (now (calendar .exit)) (now (words .exit)) (now (departures .exit)) (now (answers .exit)) ⌝ }
 {
-    let number = burst_refusal(
+    let fit = lengths_fit(
         ctl,
         cells.len(),
         links.len(),
@@ -225,12 +221,11 @@ pub fn burst(
         departures.len(),
         answers.len(),
     );
+    let ranges = refuse(1, !ranges_hold(ctl.n, ctl.v));
+    let lengths = refuse(2, !fit);
+    let number = first(ranges, lengths);
     if number != 0 {
-        return BurstEnd {
-            ctl: ctl,
-            number: number,
-            done: 0,
-        };
+        return ended(ctl, number, 0);
     }
     run(
         ctl,

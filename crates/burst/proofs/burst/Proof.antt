@@ -1,69 +1,80 @@
-use mathlib.Core.Path.{sym, _∙_}
+-- `burst::burst` meets its contract: the refusals in their order, and then all the slots.
+-- Assumes nothing.
+use mathlib.Core.Path.{_∙_}
 use denote.Ref.{now}
-use borrow.Author.Needs.{needs}
 use Rattle.meaning.specs.State.{stateOf}
-use Rattle.burst.proofs.Refusals.{lent-all, burst-refused, burst-goes}
+use Rattle.burst.proofs.Refusals.{lent-all, worked-out, burst-refused, burst-goes, burst-fits}
+use borrow.Author.Needs.{needs}
 use Rattle.burst.proofs.burst.Statement.{statement}
 use Rattle.burst.proofs.burst.Tie as tie
-use Rattle.burst.proofs.burst.Reads as reads
-use Rattle.burst.proofs.burst.Lts as lts
-use Rattle.burst.proofs.burst_refusal.Reads as burst-refusal-reads
-use Rattle.burst.proofs.run.Reads as run-reads
 
--- src/lib.rt:216:9
-burst-refusal-requires : tie.Need-burst-refusal-requires
-burst-refusal-requires c κs = search needs
+lengths-fit-requires : tie.Need-lengths-fit-requires
+lengths-fit-requires c κs = search needs
 
--- src/lib.rt:228:9
+ranges-hold-requires : tie.Need-ranges-hold-requires
+ranges-hold-requires c κs = search needs
+
+refuse-requires : tie.Need-refuse-requires
+refuse-requires c κs = search needs
+
+refuse-requires-2 : tie.Need-refuse-requires-2
+refuse-requires-2 c κs = search needs
+
+first-requires : tie.Need-first-requires
+first-requires c κs = search needs
+
+ended-requires : tie.Need-ended-requires
+ended-requires c κs = search needs
+
 returns : tie.Need-returns
 returns c =
-    let a = c .before .before .before .before .before .before .before .before .before .before .args in
+    let a = c .before .before .before .before .before .before .before .before .before .before .before .before .before .before .before .args in
     let s = stateOf (a .ctl) (now (a .cells)) (now (a .links)) (now (a .calendar)) (now (a .words)) in
-    burst-refused s (now (a .arrivals)) (now (a .sizes)) (now (a .departures)) (now (a .answers)) _ (c .before .burst-refusal .ensures) (c .if1 .taken)
+    let e = worked-out s (now (a .arrivals)) (now (a .sizes)) (now (a .departures)) (now (a .answers)) _ _ _ _ _ (c .before .before .before .before .before .ranges-hold .ensures) (c .before .before .before .before .before .before .lengths-fit .ensures) (c .before .before .before .before .refuse .ensures) (c .before .before .before .refuse2 .ensures) (c .before .before .first .ensures) in
+    rw (c .ended .ensures) (burst-refused s (now (a .arrivals)) (now (a .sizes)) (now (a .departures)) (now (a .answers)) _ e (c .before .if1 .taken))
 
--- src/lib.rt:234:5
 run-requires : tie.Need-run-requires
 run-requires c κs =
-    let a = c .before .before .before .before .before .before .before .before .before .before .before .before .before .before .before .before .args in
+    let a = c .before .before .before .before .before .before .before .before .before .before .before .before .before .before .before .before .before .before .before .before .args in
     let s = stateOf (a .ctl) (now (a .cells)) (now (a .links)) (now (a .calendar)) (now (a .words)) in
-    lent-all (a .ctl .n) (a .ctl .v) _ _ _ _ (now (a .arrivals)) (now (a .sizes)) (now (a .departures)) (now (a .answers)) (sym (c .before .before .before .before .before .before .before .burst-refusal .ensures) ∙ c .before .before .before .before .before .before .if1 .left)
+    let e = worked-out s (now (a .arrivals)) (now (a .sizes)) (now (a .departures)) (now (a .answers)) _ _ _ _ _ (c .before .before .before .before .before .before .before .before .before .before .ranges-hold .ensures) (c .before .before .before .before .before .before .before .before .before .before .before .lengths-fit .ensures) (c .before .before .before .before .before .before .before .before .before .refuse .ensures) (c .before .before .before .before .before .before .before .before .refuse2 .ensures) (c .before .before .before .before .before .before .before .first .ensures) in
+    lent-all (a .ctl .n) (a .ctl .v) _ _ _ _ (now (a .arrivals)) (now (a .sizes)) (now (a .departures)) (now (a .answers)) (burst-fits s (now (a .arrivals)) (now (a .sizes)) (now (a .departures)) (now (a .answers)) _ e (c .before .before .before .before .before .before .if1 .left))
 
--- src/lib.rt:203:1
 same-length : tie.Need-same-length
 same-length c = search needs
 
--- src/lib.rt:203:1
 same-length-2 : tie.Need-same-length-2
 same-length-2 c = search needs
 
--- src/lib.rt:203:1
 same-length-3 : tie.Need-same-length-3
 same-length-3 c = search needs
 
--- src/lib.rt:203:1
 same-length-4 : tie.Need-same-length-4
 same-length-4 c = search needs
 
--- src/lib.rt:203:1
 same-length-5 : tie.Need-same-length-5
 same-length-5 c = search needs
 
--- src/lib.rt:203:1
 same-length-6 : tie.Need-same-length-6
 same-length-6 c = search needs
 
--- src/lib.rt:203:1
 returns-2 : tie.Need-returns-2
 returns-2 c =
-    let a = c .before .before .before .before .before .before .before .before .before .before .before .before .before .before .before .before .before .before .before .before .before .before .before .before .before .before .before .before .before .args in
+    let a = c .before .before .before .before .before .before .before .before .before .before .before .before .before .before .before .before .before .before .before .before .before .before .before .before .before .before .before .before .before .before .before .before .before .args in
     let s = stateOf (a .ctl) (now (a .cells)) (now (a .links)) (now (a .calendar)) (now (a .words)) in
-    c .before .before .before .before .before .before .before .before .before .before .before .before .run .ensures ∙ burst-goes s (now (a .arrivals)) (now (a .sizes)) (now (a .departures)) (now (a .answers)) _ (c .before .before .before .before .before .before .before .before .before .before .before .before .before .before .before .before .before .before .before .before .burst-refusal .ensures) (c .before .before .before .before .before .before .before .before .before .before .before .before .before .before .before .before .before .before .before .if1 .left)
+    let e = worked-out s (now (a .arrivals)) (now (a .sizes)) (now (a .departures)) (now (a .answers)) _ _ _ _ _ (c .before .before .before .before .before .before .before .before .before .before .before .before .before .before .before .before .before .before .before .before .before .before .before .ranges-hold .ensures) (c .before .before .before .before .before .before .before .before .before .before .before .before .before .before .before .before .before .before .before .before .before .before .before .before .lengths-fit .ensures) (c .before .before .before .before .before .before .before .before .before .before .before .before .before .before .before .before .before .before .before .before .before .before .refuse .ensures) (c .before .before .before .before .before .before .before .before .before .before .before .before .before .before .before .before .before .before .before .before .before .refuse2 .ensures) (c .before .before .before .before .before .before .before .before .before .before .before .before .before .before .before .before .before .before .before .before .first .ensures) in
+    c .before .before .before .before .before .before .before .before .before .before .before .before .run .ensures ∙ burst-goes s (now (a .arrivals)) (now (a .sizes)) (now (a .departures)) (now (a .answers)) _ e (c .before .before .before .before .before .before .before .before .before .before .before .before .before .before .before .before .before .before .before .if1 .left)
 
 pub burst-spec : {M : Type 1} → statement M
 burst-spec =
     tie.close
     (tie.spec
-    burst-refusal-requires
+    lengths-fit-requires
+    ranges-hold-requires
+    refuse-requires
+    refuse-requires-2
+    first-requires
+    ended-requires
     returns
     run-requires
     same-length

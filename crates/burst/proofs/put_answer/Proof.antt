@@ -1,89 +1,69 @@
+-- `burst::put_answer` meets its contract: the six stores are the six of the definition, each within the slot's own numbers.
+-- Assumes nothing.
 use native.Mathlib.Omega.{arith}
 use lib.ListN.{length-set}
 use Rattle.burst.specs.Burst.{writeAnswer}
 use borrow.Author.Needs.{needs}
 use Rattle.burst.proofs.put_answer.Statement.{statement}
 use Rattle.burst.proofs.put_answer.Tie as tie
-use Rattle.burst.proofs.put_answer.Reads as reads
-use Rattle.burst.proofs.put_answer.Lts as lts
 
--- src/lib.rt:63:14
 mul-at : tie.Need-mul-at
 mul-at c = search needs
 
--- src/lib.rt:64:5
 mul-answers : tie.Need-mul-answers
 mul-answers c = search needs
 
--- src/lib.rt:64:5
 slice-write-answers : tie.Need-slice-write-answers
 slice-write-answers c = search needs
 
--- src/lib.rt:65:13
 add-answers : tie.Need-add-answers
 add-answers c = search needs
 
--- src/lib.rt:65:5
 mul-answers-2 : tie.Need-mul-answers-2
 mul-answers-2 c = search needs
 
--- src/lib.rt:65:5
 slice-write-answers-2 : tie.Need-slice-write-answers-2
 slice-write-answers-2 c = simp length-set (omega arith)
 
--- src/lib.rt:66:13
 add-answers-2 : tie.Need-add-answers-2
 add-answers-2 c = search needs
 
--- src/lib.rt:66:5
 mul-answers-3 : tie.Need-mul-answers-3
 mul-answers-3 c = search needs
 
--- src/lib.rt:66:5
 slice-write-answers-3 : tie.Need-slice-write-answers-3
 slice-write-answers-3 c = simp length-set (omega arith)
 
--- src/lib.rt:67:13
 add-answers-3 : tie.Need-add-answers-3
 add-answers-3 c = search needs
 
--- src/lib.rt:67:5
 mul-answers-4 : tie.Need-mul-answers-4
 mul-answers-4 c = search needs
 
--- src/lib.rt:67:5
 slice-write-answers-4 : tie.Need-slice-write-answers-4
 slice-write-answers-4 c = simp length-set (omega arith)
 
--- src/lib.rt:68:13
 add-answers-4 : tie.Need-add-answers-4
 add-answers-4 c = search needs
 
--- src/lib.rt:68:5
 mul-answers-5 : tie.Need-mul-answers-5
 mul-answers-5 c = search needs
 
--- src/lib.rt:68:5
 slice-write-answers-5 : tie.Need-slice-write-answers-5
 slice-write-answers-5 c = simp length-set (omega arith)
 
--- src/lib.rt:69:13
 add-answers-5 : tie.Need-add-answers-5
 add-answers-5 c = search needs
 
--- src/lib.rt:69:5
 mul-answers-6 : tie.Need-mul-answers-6
 mul-answers-6 c = search needs
 
--- src/lib.rt:69:5
 slice-write-answers-6 : tie.Need-slice-write-answers-6
 slice-write-answers-6 c = simp length-set (omega arith)
 
--- src/lib.rt:59:1
 same-length : tie.Need-same-length
 same-length c = search needs
 
--- src/lib.rt:59:1
 returns : tie.Need-returns
 unfolding writeAnswer
 returns c = search needs

@@ -1,3 +1,5 @@
+-- `burst::run` meets its contract. The invariant: the sizes that are left give, from here, what all sizes give from the start.
+-- The measure is what is left of the sizes. Assumes nothing.
 use Prim.Native.Nat.{ℕ, _-_}
 use native.Mathlib.Omega.{arith}
 use mathlib.Core.Path.{refl, sym, _∙_, ap}
@@ -9,9 +11,6 @@ use Rattle.burst.proofs.TurnLaws.{slots-stop}
 use Rattle.burst.proofs.Loop.{reached, Turning, turn-counted, turn-on, slots-end}
 use Rattle.burst.proofs.run.Statement.{statement}
 use Rattle.burst.proofs.run.Tie as tie
-use Rattle.burst.proofs.run.Reads as reads
-use Rattle.burst.proofs.run.Lts as lts
-use Rattle.burst.proofs.turn.Reads as turn-reads
 
 abbrev Inv-loop : tie.InvT-loop
 Inv-loop cells₀ links₀ calendar₀ words₀ arrivals sizes departures₀ answers₀ end₀ cells links calendar words departures answers end =
@@ -21,43 +20,33 @@ abbrev μ-loop : tie.MeasureT-loop
 μ-loop cells₀ links₀ calendar₀ words₀ arrivals sizes departures₀ answers₀ end₀ cells links calendar words departures answers end =
     length sizes - end .done
 
--- src/lib.rt:136:5
 loop-holds : tie.Need-loop-holds Inv-loop μ-loop
 loop-holds c = record { going = refl; low = omega arith; cells-kept = refl; links-kept = refl; calendar-kept = refl; words-kept = refl; departures-kept = refl; answers-kept = refl; rest = refl }
 
--- src/lib.rt:139:20
 shared-slice-read-size : tie.Need-shared-slice-read-size Inv-loop μ-loop
 shared-slice-read-size c = search needs
 
--- src/lib.rt:140:9
 turn-requires : tie.Need-turn-requires Inv-loop μ-loop
 turn-requires c κs = let at = c .before .before .before .before .before .before .before .before .before .before .loop in let p = c .before .before .before .before .before .before .before .before .before .before .before .before .before .before .before .before .before .before .before .pre in record { arrival = omega (arith, p .arrivals-long); departure = omega (arith, p .departures-long, at .inv .departures-kept); answer = omega (arith, p .answers-long, at .inv .answers-kept) }
 
--- src/lib.rt:153:13
 same-length : tie.Need-same-length Inv-loop μ-loop
 same-length c = omega (arith, c .before .before .before .before .before .before .before .before .before .before .before .before .before .before .before .before .before .before .before .before .before .before .before .before .before .loop .inv .cells-kept)
 
--- src/lib.rt:153:13
 same-length-2 : tie.Need-same-length-2 Inv-loop μ-loop
 same-length-2 c = omega (arith, c .before .before .before .before .before .before .before .before .before .before .before .before .before .before .before .before .before .before .before .before .before .before .before .before .before .loop .inv .links-kept)
 
--- src/lib.rt:153:13
 same-length-3 : tie.Need-same-length-3 Inv-loop μ-loop
 same-length-3 c = omega (arith, c .before .before .before .before .before .before .before .before .before .before .before .before .before .before .before .before .before .before .before .before .before .before .before .before .before .loop .inv .calendar-kept)
 
--- src/lib.rt:153:13
 same-length-4 : tie.Need-same-length-4 Inv-loop μ-loop
 same-length-4 c = omega (arith, c .before .before .before .before .before .before .before .before .before .before .before .before .before .before .before .before .before .before .before .before .before .before .before .before .before .loop .inv .words-kept)
 
--- src/lib.rt:153:13
 same-length-5 : tie.Need-same-length-5 Inv-loop μ-loop
 same-length-5 c = omega (arith, c .before .before .before .before .before .before .before .before .before .before .before .before .before .before .before .before .before .before .before .before .before .before .before .before .before .loop .inv .departures-kept)
 
--- src/lib.rt:153:13
 same-length-6 : tie.Need-same-length-6 Inv-loop μ-loop
 same-length-6 c = omega (arith, c .before .before .before .before .before .before .before .before .before .before .before .before .before .before .before .before .before .before .before .before .before .before .before .before .before .loop .inv .answers-kept)
 
--- src/lib.rt:153:13
 returns : tie.Need-returns Inv-loop μ-loop
 returns c =
     let at = c .before .before .before .before .before .before .before .before .before .before .before .before .before .before .before .before .before .before .before .before .before .before .before .before .before .loop in
@@ -65,7 +54,6 @@ returns c =
     let b = reached (at .end) (at .cells) (at .links) (at .calendar) (at .words) (at .departures) (at .answers) in
     slots-stop (now (a .arrivals)) (now (a .sizes)) (at .end .done) (c .before .before .before .before .before .before .before .before .before .before .before .before .before .before .before .before .before .before .before .before .before .before .before .if1 .taken) b _ (c .before .before .before .before .before .before .before .before .before .before .before .before .before .before .turn .ensures) (c .if2 .taken) ∙ at .inv .rest
 
--- src/lib.rt:136:5
 loop-less : tie.Need-loop-less Inv-loop μ-loop
 loop-less c =
     let at = c .before .before .before .before .before .before .before .before .before .before .before .before .before .before .before .before .before .before .before .before .before .before .before .before .before .loop in
@@ -73,7 +61,6 @@ loop-less c =
     let b = reached (at .end) (at .cells) (at .links) (at .calendar) (at .words) (at .departures) (at .answers) in
     omega (arith, c .before .before .before .before .before .before .before .before .before .before .before .before .before .before .before .before .before .before .before .before .before .before .before .if1 .taken, turn-counted (now (a .arrivals)) (now (a .sizes)) b (c .before .before .before .before .before .before .before .before .before .before .before .before .before .before .before .before .before .before .before .before .before .before .before .if1 .taken) _ _ _ _ _ (c .before .before .before .before .before .before .before .before .before .before .before .before .before .before .turn .ensures) (c .if2 .left))
 
--- src/lib.rt:136:5
 loop-again : tie.Need-loop-again Inv-loop μ-loop
 loop-again c =
     let at = c .before .before .before .before .before .before .before .before .before .before .before .before .before .before .before .before .before .before .before .before .before .before .before .before .before .loop in
@@ -93,31 +80,24 @@ loop-again c =
       rest = turn-on (now (a .arrivals)) (now (a .sizes)) b low _ _ _ _ _ e (c .if2 .left) ∙ at .inv .rest;
     }
 
--- src/lib.rt:117:1
 same-length-7 : tie.Need-same-length-7 Inv-loop μ-loop
 same-length-7 c = search needs
 
--- src/lib.rt:117:1
 same-length-8 : tie.Need-same-length-8 Inv-loop μ-loop
 same-length-8 c = search needs
 
--- src/lib.rt:117:1
 same-length-9 : tie.Need-same-length-9 Inv-loop μ-loop
 same-length-9 c = search needs
 
--- src/lib.rt:117:1
 same-length-10 : tie.Need-same-length-10 Inv-loop μ-loop
 same-length-10 c = search needs
 
--- src/lib.rt:117:1
 same-length-11 : tie.Need-same-length-11 Inv-loop μ-loop
 same-length-11 c = search needs
 
--- src/lib.rt:117:1
 same-length-12 : tie.Need-same-length-12 Inv-loop μ-loop
 same-length-12 c = search needs
 
--- src/lib.rt:117:1
 returns-2 : tie.Need-returns-2 Inv-loop μ-loop
 returns-2 c =
     let at = c .before .before .loop in

@@ -1,3 +1,5 @@
+-- `burst::show` meets its contract: a departing cell is copied; where nothing departs, showing the slot's own octets changes nothing.
+-- Assumes nothing.
 use native.Mathlib.Omega.{arith}
 use mathlib.Core.Path.{sym, _∙_}
 use denote.Ref.{now}
@@ -5,23 +7,16 @@ use Rattle.burst.proofs.ShowLaws.{shown-cell, shown-none}
 use borrow.Author.Needs.{needs}
 use Rattle.burst.proofs.show.Statement.{statement}
 use Rattle.burst.proofs.show.Tie as tie
-use Rattle.burst.proofs.show.Reads as reads
-use Rattle.burst.proofs.show.Lts as lts
-use Rattle.burst.proofs.copy_departure.Reads as copy-departure-reads
 
--- src/lib.rt:53:9
 returns : tie.Need-returns
 returns c = let a = c .before .before .before .args in let p = c .before .before .before .pre in sym (shown-none (now (a .departures)) (a .i) (p .0) (now (a .cells)) (p .1 .allowed) (a .space) (c .if1 .taken))
 
--- src/lib.rt:55:5
 copy-departure-requires : tie.Need-copy-departure-requires
 copy-departure-requires c κs = let p = c .before .before .before .before .pre in omega (arith, p .1 .low (c .before .if1 .left))
 
--- src/lib.rt:47:1
 same-length : tie.Need-same-length
 same-length c = search needs
 
--- src/lib.rt:47:1
 returns-2 : tie.Need-returns-2
 returns-2 c = let a = c .before .before .before .before .before .before .before .args in let p = c .before .before .before .before .before .before .before .pre in c .before .before .copy-departure .ensures ∙ sym (shown-cell (now (a .departures)) (a .i) (p .0) (now (a .cells)) (p .1 .allowed) (a .space) (p .1 .low (c .before .before .before .before .if1 .left)))
 

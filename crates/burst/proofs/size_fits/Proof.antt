@@ -1,16 +1,14 @@
+-- `burst::size_fits` meets its contract: the two tests, one after the other.
+-- Assumes nothing.
 use borrow.Author.Tests.{eq-eqb, ne-eqb}
 use Rattle.burst.specs.Burst.{sizeFits}
 use Rattle.burst.proofs.size_fits.Statement.{statement}
 use Rattle.burst.proofs.size_fits.Tie as tie
-use Rattle.burst.proofs.size_fits.Reads as reads
-use Rattle.burst.proofs.size_fits.Lts as lts
 
--- src/lib.rt:29:9
 returns : tie.Need-returns
 unfolding sizeFits
 returns c = simp (eq-eqb (c .before .args .size) 0 (c .if1 .taken))
 
--- src/lib.rt:25:1
 returns-2 : tie.Need-returns-2
 unfolding sizeFits
 returns-2 c = simp (ne-eqb (c .before .args .size) 0 (c .if1 .left))
