@@ -4,3 +4,5 @@ pub mod TurnLaws
 pub mod Refusals
 pub mod Loop
 pub mod Once
+pub mod LengthLaws
+pub mod StopLaws

@@ -22,26 +22,26 @@ use Rattle.meaning.specs.Slot.{step1, step2, step3, step4, depart, step5, fiveS
 use Rattle.meaning.proofs.ListsLaws.{fit-head}
 
 -- what holds of an outcome that is not refused
-abbrev AllOut : {A : Type 0} → (A → Type 0) → Out A → Type 0
+abbrev pub AllOut : {A : Type 0} → (A → Type 0) → Out A → Type 0
 AllOut P refused = Unit {0}
 AllOut P (next x) = P x
 
-needs-all : {A : Type 0} (P : A → Type 0) (b : Bool) (x : Out A) → (b ≡ true → AllOut P x) → AllOut P (needs b x)
+pub needs-all : {A : Type 0} (P : A → Type 0) (b : Bool) (x : Out A) → (b ≡ true → AllOut P x) → AllOut P (needs b x)
 needs-all P true x h = h refl
 needs-all P false x h = tt
 
-if-all : {A : Type 0} (P : A → Type 0) (b : Bool) (x y : Out A) → (b ≡ true → AllOut P x) → (b ≡ false → AllOut P y)
+pub if-all : {A : Type 0} (P : A → Type 0) (b : Bool) (x y : Out A) → (b ≡ true → AllOut P x) → (b ≡ false → AllOut P y)
     → AllOut P (if b then x else y)
 if-all P true x y h k = h refl
 if-all P false x y h k = k refl
 
-then-all : {A B : Type 0} (P : A → Type 0) (Q : B → Type 0) (x : Out A) (f : A → Out B) → AllOut P x
+pub then-all : {A B : Type 0} (P : A → Type 0) (Q : B → Type 0) (x : Out A) (f : A → Out B) → AllOut P x
     → ((a : A) → P a → AllOut Q (f a))
     → AllOut Q (x andThen f)
 then-all P Q refused f p h = tt
 then-all P Q (next a) f p h = h a p
 
-any-all : {A B : Type 0} (Q : B → Type 0) (x : Out A) (f : A → Out B) → ((a : A) → AllOut Q (f a)) → AllOut Q (x andThen f)
+pub any-all : {A B : Type 0} (Q : B → Type 0) (x : Out A) (f : A → Out B) → ((a : A) → AllOut Q (f a)) → AllOut Q (x andThen f)
 any-all Q refused f h = tt
 any-all Q (next a) f h = h a
 
@@ -143,7 +143,7 @@ module _ (N z : ℕ) where
         head-low = joined-head (s .links) (outputList s) entry out-low entry-low;
       }))
 
-  taken-head : (links : List ℕ) (e : Ends) → AllOut (λ (t : Taken). t .space ≡ e .head) (takeHead N links e)
+  pub taken-head : (links : List ℕ) (e : Ends) → AllOut (λ (t : Taken). t .space ≡ e .head) (takeHead N links e)
   unfolding takeHead
   taken-head links e =
       if-all (λ (t : Taken). t .space ≡ e .head) (e .head =? e .tail) _ _ (λ _. refl)
@@ -170,7 +170,7 @@ module _ (N z : ℕ) where
         low = λ _. rw is (j .head-low (eqb-false (s .ctl .outhead) empty some));
       })))))
 
-  five-ended : (cell : List ℕ) (w : Work) → Going w → AllOut Ended (fiveSteps cell w)
+  pub five-ended : (cell : List ℕ) (w : Work) → Going w → AllOut Ended (fiveSteps cell w)
   unfolding fiveSteps
   five-ended cell w h =
       then-all Joined Ended (step1 w andThen step2 andThen step3 cell andThen step4) step5
