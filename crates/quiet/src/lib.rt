@@ -142,26 +142,6 @@ fn quiet_output(
     quiet_end(k, b, j, o, false, 0, links, words)
 }
 
-// No cell was accepted, and nothing departs.
-fn quiet_none(k: Record, b: Fall, j: Judged, words: &mut [u32]) -> Served
-    requires { ⌜ (b .on ≡ true → 7 * k .rotation + 7 ≤ length (now words)) ⌝ }
-    requires { ⌜ (j .verdict =? excess ≡ true → 7 * j .vci + 7 ≤ length (now words)) ⌝ }
-    ensures { λ s. ⌜ ((cells links calendar : List ℕ) → servedWork s cells links calendar (now (words .exit)) ≡ quietWork k j cells links calendar (rotated k b (now (words .entry)))) ⌝ }
-{
-    words_fall(k, b, j, words);
-    Served {
-        ctl: k,
-        answer: Answer {
-            number: 0,
-            verdict: j.verdict,
-            vci: j.vci,
-            d: 0,
-            space: 65535,
-            departing: 0,
-        },
-    }
-}
-
 // No cell was accepted.
 pub fn quiet(
     r: Record,
@@ -192,5 +172,16 @@ pub fn quiet(
     if k.outhead != 65535 {
         return quiet_output(r, k, b, j, cells, links, words);
     }
-    quiet_none(k, b, j, words)
+    words_fall(k, b, j, words);
+    Served {
+        ctl: k,
+        answer: Answer {
+            number: 0,
+            verdict: j.verdict,
+            vci: j.vci,
+            d: 0,
+            space: 65535,
+            departing: 0,
+        },
+    }
 }

@@ -1,6 +1,6 @@
 -- `quiet::quiet` meets its contract: entry T and the Output List say which case of steps 4 and 5 it is.
 -- Assumes nothing.
-use mathlib.Core.Path.{sym, _∙_, ap}
+use mathlib.Core.Path.{refl, sym, _∙_, ap}
 use native.Mathlib.Omega.{arith}
 use denote.Ref.{now}
 use Rattle.meaning.specs.State.{stateOf}
@@ -9,7 +9,7 @@ use Rattle.meaning.proofs.ListsLaws.{fit-head}
 use Rattle.plan.specs.Plan.{quietWork}
 use Rattle.plan.proofs.Cases.{unfit-entry, unfit-output, marked, output, none}
 use Rattle.plan.proofs.Ends.{as-came, went, shown, not-shown}
-use Rattle.plan.proofs.QuietCases.{quiet-work, quiet-entry}
+use Rattle.plan.proofs.QuietCases.{quiet-work, quiet-entry, quiet-served}
 use borrow.Author.Needs.{needs}
 use Rattle.quiet.proofs.quiet.Statement.{statement}
 use Rattle.quiet.proofs.quiet.Tie as tie
@@ -164,8 +164,8 @@ returns-4 c =
     (shown _ _ (at-pair .pair .ensures) (at-if1 .if1 .left))
     (shown _ _ (at-pair2 .pair2 .ensures) (at-if2 .if2 .left)) (at-if3 .if3 .left) (at-if4 .if4 .taken)))
 
-quiet-none-requires : tie.Need-quiet-none-requires
-quiet-none-requires c κs =
+words-fall-requires : tie.Need-words-fall-requires
+words-fall-requires c κs =
     let start = c .before .before .before .before .before .before .before .before .before .before .before .before .before .before .before in
     let pre = start .pre in (
       λ e. omega (arith, pre .0 .rotation-low, pre .0 .words-long),
@@ -179,8 +179,8 @@ same-length-6 c = search needs
 returns-5 : tie.Need-returns-5
 unfolding quietWork
 returns-5 c =
-    let at-quiet-none = c .before .before in
-    let at-if4 = at-quiet-none .before .before in
+    let at-words-fall = c .before .before in
+    let at-if4 = at-words-fall .before .before in
     let at-if3 = at-if4 .before .before in
     let at-if2 = at-if3 .before in
     let at-pair2 = at-if2 .before in
@@ -193,7 +193,8 @@ returns-5 c =
     (quiet-entry (a .k) (a .b) (a .j) (now (a .cells)) (now (a .links)) (now (a .calendar)) (now (a .words)))
     (shown _ _ (at-pair .pair .ensures) (at-if1 .if1 .left))
     (shown _ _ (at-pair2 .pair2 .ensures) (at-if2 .if2 .left)) (at-if3 .if3 .left) (at-if4 .if4 .left))
-    (at-quiet-none .quiet-none .ensures (now (a .cells)) (now (a .links)) (now (a .calendar)))
+    (quiet-served (a .k) (a .b) (a .j) (now (a .cells)) (now (a .links)) (now (a .calendar)) (now (a .words)) _ _ refl refl
+    (at-words-fall .words-fall .ensures))
 
 pub quiet-spec : {M : Type 1} → statement M
 quiet-spec =
@@ -221,6 +222,6 @@ quiet-spec =
     same-length-4
     same-length-5
     returns-4
-    quiet-none-requires
+    words-fall-requires
     same-length-6
     returns-5)
