@@ -1,5 +1,5 @@
 -- Document 01: setup, open and close. "Order: setup 1, 2; open 1, 2, 4, 3, 5, 6; close 1, 2, 4, 3, 7, 8. Each leaves
--- everything as it came."
+-- everything as it came." Close as request (ii) of document 02 has it.
 use Prim.Native.Nat.{ℕ, zero, suc, _+_, _-_, _*_}
 use mathlib.Core.Bool.{Bool, not, _&&_}
 use mathlib.Core.List.{List, [], _∷_, _++_}
@@ -9,7 +9,7 @@ use Rattle.meaning.specs.Plain.{if_then_else_, _<?_, _≤?_, _=?_}
 use Rattle.meaning.specs.Numbers.{rangesHold, octets, perEntry, wordsPerVc, empty, slotNumbers}
 use Rattle.meaning.specs.State.{State, stateOf, wordsLong, lengthsHold}
 use Rattle.meaning.specs.Bucket.{Bucket, bucketOf, obeysRules}
-use Rattle.meaning.specs.Words.{Vc, vcAt, writeVc, vcFits, openedVc, closedVc}
+use Rattle.meaning.specs.Words.{Vc, vcAt, writeVc, vcFits, openedVc, closedVc, debt}
 
 -- what setup gives back: the refusal number, and the record and memories afterwards
 pub record SetUp : Type 0 where
@@ -91,11 +91,12 @@ openCall r words vci m F C =
     else if not (obeysRules (r .n) b) then calledOf 6 words
     else calledOf 0 (writeVc words vci (openedVc (r .t) b))
 
--- close: then "7 not open", "8 waiting isn't 0"
+-- close: then "7 not open", and document 02 (ii): "8 is given when waiting or the updated S isn't 0". S is brought up to
+-- date in thought alone: nothing is stored where close is refused.
 unfoldable pub closeCall : Record → List ℕ → ℕ → Called
 closeCall r words vci =
     let k = sharedRefusal r words vci in
     if not (k =? 0) then calledOf k words
     else if vcAt words vci .opened =? 0 then calledOf 7 words
-    else if not (vcAt words vci .waiting =? 0) then calledOf 8 words
+    else if not (vcAt words vci .waiting =? 0 && debt (r .t) (vcAt words vci) =? 0) then calledOf 8 words
     else calledOf 0 (writeVc words vci closedVc)

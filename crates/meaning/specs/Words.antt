@@ -79,3 +79,7 @@ upToDate N t vc =
       last = t;
       waiting = vc .waiting;
     }))
+
+-- Document 02 (ii): "bring the VC up to date as of t": what is then left in its bucket, the stored S having been judged
+unfoldable pub debt : ℕ → Vc → ℕ
+debt t vc = fall (elapsed t (vc .last)) (vc .bucket) .S

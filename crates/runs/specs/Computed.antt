@@ -3,7 +3,7 @@
 use Prim.Native.Nat.{ℕ}
 use Rattle.meaning.specs.Numbers.{rangesHold, slotNumbers}
 use Rattle.meaning.specs.State.{wordsLong, lengthsHold, withRecord, withCells, withLinks, withCalendar, withWords, recordWith, withClock, withFreeList, withOutputList, writeCell}
-use Rattle.meaning.specs.Words.{vcAt, writeVc, openedVc, closedVc, openWordFits, bucketFits, vcFits, upToDate}
+use Rattle.meaning.specs.Words.{vcAt, writeVc, openedVc, closedVc, openWordFits, bucketFits, vcFits, upToDate, debt}
 use Rattle.meaning.specs.Bucket.{obeysRules, elapsed, fall, isExcess, delay, fill}
 use Rattle.meaning.specs.Header.{headerOf, headerAt, noUserCell, namesVc, namesOpenVc}
 use Rattle.meaning.specs.Lists.{endsFit, entryAt, writeEntry, takeHead, joinHead, joinTail, addTail}
@@ -17,5 +17,5 @@ use Rattle.runs.specs.Judged.{judgedBy}
 use Rattle.runs.specs.Seen.{cellsIn, departuresIn, cellsOf, departuresOf}
 
 unfoldable pub byComputation : ℕ
-unfolding rangesHold slotNumbers wordsLong lengthsHold withRecord withCells withLinks withCalendar withWords recordWith withClock withFreeList withOutputList writeCell vcAt writeVc openedVc closedVc openWordFits bucketFits vcFits upToDate obeysRules elapsed fall isExcess delay fill headerOf headerAt noUserCell namesVc namesOpenVc endsFit entryAt writeEntry takeHead joinHead joinTail addTail place accept judge step1 step2 step3 step4 step5 depart fiveSteps finish slot zeros freshRecord countUp freshState setup sharedRefusal openCall closeCall cellsAllowed linePart octetsOf lineCell calls call freshRun shown served dueTime dueSlot leakAccepts accepts openingOf judgedBy cellsIn departuresIn cellsOf departuresOf
+unfolding rangesHold slotNumbers wordsLong lengthsHold withRecord withCells withLinks withCalendar withWords recordWith withClock withFreeList withOutputList writeCell vcAt writeVc openedVc closedVc openWordFits bucketFits vcFits upToDate debt obeysRules elapsed fall isExcess delay fill headerOf headerAt noUserCell namesVc namesOpenVc endsFit entryAt writeEntry takeHead joinHead joinTail addTail place accept judge step1 step2 step3 step4 step5 depart fiveSteps finish slot zeros freshRecord countUp freshState setup sharedRefusal openCall closeCall cellsAllowed linePart octetsOf lineCell calls call freshRun shown served dueTime dueSlot leakAccepts accepts openingOf judgedBy cellsIn departuresIn cellsOf departuresOf
 byComputation = 0

@@ -5,15 +5,16 @@ use mathlib.Core.Path.{_≡_, refl}
 use mathlib.Core.Bool.{Bool, true, false, not, _&&_}
 use mathlib.Core.List.{List}
 use native.Mathlib.Omega.{arith}
-use borrow.Author.Tests.{eqb-true, ltb-true}
+use borrow.Author.Tests.{eqb-true, ne-eqb, ltb-true}
 use lib.ListN.{length}
 use Rattle.meaning.specs.declared.Record.{Record}
 use Rattle.meaning.specs.Plain.{if_then_else_, _<?_, _≤?_}
 use Rattle.meaning.specs.Numbers.{rangesHold}
 use Rattle.meaning.specs.State.{wordsLong}
-use Rattle.meaning.specs.Words.{vcAt, vcFits}
+use Rattle.meaning.specs.Words.{vcAt, openWordFits, bucketFits, vcFits}
 use Rattle.meaning.specs.Calls.{sharedRefusal}
 use Rattle.bucket.proofs.Rules.{both}
+use Rattle.words.proofs.Fits.{bucket-facts}
 use Rattle.refusal.specs.Order.{refuseOf, firstOf}
 
 -- refusals 1, 2 and 4
@@ -54,8 +55,9 @@ early-none false true false h = absurd (omega arith)
 early-none false false true h = absurd (omega arith)
 early-none false false false h = absurd (omega arith)
 
-shared-zero : (a b d e : Bool) → inOrder a b d e ≡ 0 → (b ≡ true) × (d ≡ true)
-shared-zero true true true e h = (refl, refl)
+shared-zero : (a b d e : Bool) → inOrder a b d e ≡ 0 → (b ≡ true) × (d ≡ true) × (e ≡ true)
+shared-zero true true true true h = (refl, refl, refl)
+shared-zero true true true false h = absurd (omega arith)
 shared-zero true true false e h = absurd (omega arith)
 shared-zero true false d e h = absurd (omega arith)
 shared-zero false b d e h = absurd (omega arith)
@@ -101,3 +103,14 @@ module _ (r : Record) (words : List ℕ) (vci : ℕ) where
   pub shared-lent : sharedRefusal r words vci ≡ 0 → 7 * vci + 7 ≤ length words
   unfolding sharedRefusal
   shared-lent h = let p = shared-zero inRange isLong isNamed fits h in lent (p .0) (p .1)
+
+  -- and an open VC's m is in its range
+  pub shared-m : sharedRefusal r words vci ≡ 0 → (vcAt words vci .opened ≡ 0 → ⊥) → vcAt words vci .bucket .m ≤ 15
+  unfolding sharedRefusal vcFits bucketFits
+  shared-m h o =
+      let vc = vcAt words vci in
+      let e : vcFits (r .n) vc ≡ true = shared-zero inRange isLong isNamed fits h .2 in
+      let f : openWordFits vc && bucketFits (r .n) (vc .bucket) && vc .waiting ≤? r .n ≡ true = rw (ne-eqb (vc .opened) 0 o) at e in
+      let g = both (openWordFits vc && bucketFits (r .n) (vc .bucket)) (vc .waiting ≤? r .n) f .0 in
+      let k = both (openWordFits vc) (bucketFits (r .n) (vc .bucket)) g .1 in
+      bucket-facts (r .n) (vc .bucket) k .rules .m-low

@@ -2,15 +2,17 @@
 -- Assumes nothing.
 use Prim.Native.Nat.{ℕ}
 use mathlib.Core.Path.{_≡_, refl}
-use mathlib.Core.Bool.{Bool, not}
+use mathlib.Core.Bool.{Bool, true, false, not, _&&_}
 use mathlib.Core.List.{List}
+use native.Mathlib.Omega.{arith}
 use borrow.Author.Tests.{eq-eqb, ne-eqb}
 use Rattle.meaning.specs.declared.Record.{Record}
 use Rattle.meaning.specs.Plain.{_=?_}
 use Rattle.meaning.specs.Bucket.{bucketOf, obeysRules}
-use Rattle.meaning.specs.Words.{vcAt, writeVc, openedVc, closedVc}
+use Rattle.meaning.specs.Words.{Vc, vcAt, writeVc, openedVc, closedVc, debt}
 use Rattle.meaning.specs.Calls.{Called, calledOf, sharedRefusal, openCall, closeCall}
 use Rattle.refusal.specs.Order.{refuseOf, firstOf}
+use Rattle.vc.specs.NotYet.{notYet}
 use Rattle.refusal.proofs.Two.{two-given, two-none}
 
 -- ---- open
@@ -49,35 +51,46 @@ module _ (r : Record) (words : List ℕ) (vci m F C : ℕ) where
   open-done e h = rw (eq-eqb (sharedRefusal r words vci) 0 e) (two-none 5 6 refl refl asItWas opening already against h)
 
 -- ---- close
+-- 8 is given exactly where one of its two halves is
+halves-given : (a b : Bool) → (firstOf (refuseOf 8 (not a)) (refuseOf 8 (not b)) ≡ 0 → ⊥)
+    → (firstOf (refuseOf 8 (not a)) (refuseOf 8 (not b)) ≡ 8) × (not (a && b) ≡ true)
+halves-given true true h = absurd (h refl)
+halves-given true false h = (refl, refl)
+halves-given false true h = (refl, refl)
+halves-given false false h = (refl, refl)
+
+halves-none : (a b : Bool) → firstOf (refuseOf 8 (not a)) (refuseOf 8 (not b)) ≡ 0 → not (a && b) ≡ false
+halves-none true true h = refl
+halves-none true false h = absurd (omega arith)
+halves-none false true h = absurd (omega arith)
+halves-none false false h = absurd (omega arith)
+
 module _ (r : Record) (words : List ℕ) (vci : ℕ) where
-  -- "not open"
-  abbrev closed : Bool
-  closed = vcAt words vci .opened =? 0
-
-  -- "waiting isn't 0"
-  abbrev waits : Bool
-  waits = not (vcAt words vci .waiting =? 0)
-
-  abbrev pub closeRefusal : ℕ
-  closeRefusal = firstOf (refuseOf 7 closed) (refuseOf 8 waits)
-
-  abbrev asItCame : ℕ → Called
-  asItCame k = calledOf k words
-
-  abbrev closing : Called
-  closing = calledOf 0 (writeVc words vci closedVc)
+  abbrev vc : Vc
+  vc = vcAt words vci
 
   pub close-shared : (sharedRefusal r words vci ≡ 0 → ⊥)
       → calledOf (sharedRefusal r words vci) words ≡ closeCall r words vci
   unfolding closeCall
   close-shared h = simp (ne-eqb (sharedRefusal r words vci) 0 h)
 
-  pub close-refused : sharedRefusal r words vci ≡ 0
-      → (closeRefusal ≡ 0 → ⊥)
-      → calledOf closeRefusal words ≡ closeCall r words vci
+  pub close-closed : sharedRefusal r words vci ≡ 0 → vc .opened ≡ 0 → calledOf 7 words ≡ closeCall r words vci
   unfolding closeCall
-  close-refused e h = rw (eq-eqb (sharedRefusal r words vci) 0 e) (two-given 7 8 refl refl asItCame closing closed waits h)
+  close-closed e o = rw (eq-eqb (sharedRefusal r words vci) 0 e, eq-eqb (vc .opened) 0 o)
 
-  pub close-done : sharedRefusal r words vci ≡ 0 → closeRefusal ≡ 0 → closing ≡ closeCall r words vci
+  pub close-not-yet : sharedRefusal r words vci ≡ 0 → (vc .opened ≡ 0 → ⊥) → (notYet (r .t) vc ≡ 0 → ⊥)
+      → calledOf (notYet (r .t) vc) words ≡ closeCall r words vci
   unfolding closeCall
-  close-done e h = rw (eq-eqb (sharedRefusal r words vci) 0 e) (two-none 7 8 refl refl asItCame closing closed waits h)
+  close-not-yet e o h =
+      let g = halves-given (vc .waiting =? 0) (debt (r .t) vc =? 0) h in
+      rw (eq-eqb (sharedRefusal r words vci) 0 e, ne-eqb (vc .opened) 0 o, g .0, g .1)
+
+  pub close-done : sharedRefusal r words vci ≡ 0 → (vc .opened ≡ 0 → ⊥) → notYet (r .t) vc ≡ 0
+      → calledOf 0 (writeVc words vci closedVc) ≡ closeCall r words vci
+  unfolding closeCall
+  close-done e o h =
+      rw (
+        eq-eqb (sharedRefusal r words vci) 0 e,
+        ne-eqb (vc .opened) 0 o,
+        halves-none (vc .waiting =? 0) (debt (r .t) vc =? 0) h,
+      )

@@ -1,9 +1,14 @@
 // Opening and closing a VC.
 ghost use mathlib.Core.Path.{_≡_};
 ghost use mathlib.Core.Bool.{_&&_};
+ghost use Prim.Native.Nat.{_+_, _*_, _≤_};
+ghost use lib.ListN.{length};
 ghost use Rattle.meaning.specs.Plain.{_<?_, _≤?_};
+ghost use Rattle.meaning.specs.Words.{vcAt, debt};
 ghost use Rattle.meaning.specs.Calls.{sharedRefusal};
 ghost use Rattle.meaning.specs.Promises.{openPromise, closePromise};
+ghost use Rattle.vc.specs.NotYet.{notYet};
+use bucket::fallen_to;
 use bucket::obeys_rules;
 use meaning::Record;
 use refusal::first;
@@ -56,7 +61,31 @@ pub fn open(ctl: Record, words: &mut [u32], vci: u16, m: u8, f: u32, c: u32) -> 
     0
 }
 
-// "Closing clears all seven words." Of a closed VC waiting decides nothing, since 7 comes before 8.
+// What is left in the VC's bucket once it is brought up to date as of t. It is worked out, not stored.
+fn debt_of(words: &[u32], vci: u16, t: u32) -> u32
+    requires { ⌜ (7 * vci + 7 ≤ length (now words)) × (vcAt (now words) vci .bucket .m ≤ 15) ⌝ }
+    ensures { λ r. ⌜ r ≡ debt t (vcAt (now (words .entry)) vci) ⌝ }
+{
+    let base = 7 * (vci as usize);
+    let m = words[base + 1];
+    let s = words[base + 4];
+    let last = words[base + 5];
+    fallen_to(s, m, last, t)
+}
+
+// Refusal 8 of an open VC, or 0: a cell of it waits, or it has a debt.
+fn not_yet(words: &[u32], vci: u16, t: u32) -> u16
+    requires { ⌜ (7 * vci + 7 ≤ length (now words)) × (vcAt (now words) vci .bucket .m ≤ 15) ⌝ }
+    ensures { λ r. ⌜ r ≡ notYet t (vcAt (now (words .entry)) vci) ⌝ }
+{
+    let waiting = words[7 * (vci as usize) + 6];
+    let waits = refuse(8, waiting != 0);
+    let owed = debt_of(words, vci, t);
+    let owes = refuse(8, owed != 0);
+    first(waits, owes)
+}
+
+// "Closing clears all seven words." Of a closed VC only the open word is read.
 pub fn close(ctl: Record, words: &mut [u32], vci: u16) -> u16
     ensures { λ r. ⌜ closePromise ctl (now (words .entry)) vci r (now (words .exit)) ⌝ }
 {
@@ -64,12 +93,11 @@ pub fn close(ctl: Record, words: &mut [u32], vci: u16) -> u16
     if shared != 0 {
         return shared;
     }
-    let base = 7 * (vci as usize);
-    let opened = words[base];
-    let waiting = words[base + 6];
-    let closed = refuse(7, opened == 0);
-    let waits = refuse(8, waiting != 0);
-    let k = first(closed, waits);
+    let opened = words[7 * (vci as usize)];
+    if opened == 0 {
+        return 7;
+    }
+    let k = not_yet(words, vci, ctl.t);
     if k != 0 {
         return k;
     }

@@ -8,8 +8,8 @@ use lib.ListN.{length}
 use Rattle.meaning.specs.Words.{vcAt, closedVc}
 use Rattle.meaning.specs.Calls.{calledOf, sharedRefusal}
 use Rattle.words.proofs.Fits.{opened-at}
-use Rattle.vc.proofs.Order.{shared-lent}
-use Rattle.vc.proofs.Second.{closeRefusal, close-shared, close-refused, close-done}
+use Rattle.vc.proofs.Order.{shared-lent, shared-m}
+use Rattle.vc.proofs.Second.{close-shared, close-closed, close-not-yet, close-done}
 use borrow.Author.Needs.{needs}
 use Rattle.vc.proofs.close.Statement.{statement}
 use Rattle.vc.proofs.close.Tie as tie
@@ -26,19 +26,13 @@ none-lent : (c : tie.Else1)
 none-lent c =
     let a = c .before .before .before .before .args in shared-lent (a .ctl) (a .words .now) (a .vci) (none-shared c)
 
--- the first of the two that are its own
-own-first : (c : tie.After-first)
-    → let a = c .before .before .before .before .before .before .before .before .before .args in
-    c .first .result ≡ closeRefusal (a .ctl) (a .words .now) (a .vci)
-unfolding vcAt
-own-first c =
-    let a = c .before .before .before .before .before .before .before .before .before .args in
-    simp (
-      opened-at (a .words .now) (a .vci),
-      c .first .ensures,
-      c .before .refuse2 .ensures,
-      c .before .before .refuse .ensures,
-    )
+-- and the VC is open
+is-open : (c : tie.Else2)
+    → let a = c .before .before .before .before .before .before .args in
+    vcAt (a .words .now) (a .vci) .opened ≡ 0 → ⊥
+is-open c e =
+    let a = c .before .before .before .before .before .before .args in
+    c .if2 .left (sym (opened-at (a .words .now) (a .vci)) ∙ e)
 
 shared-refusal-requires : tie.Need-shared-refusal-requires
 shared-refusal-requires c κs = search needs
@@ -53,60 +47,55 @@ returns c =
     ap (λ (k : ℕ). calledOf k (a .words .now)) e
     ∙ close-shared (a .ctl) (a .words .now) (a .vci) (λ z. c .if1 .taken (e ∙ z))
 
-mul-base : tie.Need-mul-base
-mul-base c = search needs
-
 mul-opened : tie.Need-mul-opened
 mul-opened c = search needs
 
+mul-opened-2 : tie.Need-mul-opened-2
+mul-opened-2 c = search needs
+
 slice-read-opened : tie.Need-slice-read-opened
 slice-read-opened c = omega (arith, none-lent (c .before))
-
-add-waiting : tie.Need-add-waiting
-add-waiting c = search needs
-
-mul-waiting : tie.Need-mul-waiting
-mul-waiting c = search needs
-
-slice-read-waiting : tie.Need-slice-read-waiting
-slice-read-waiting c = omega (arith, none-lent (c .before .before))
-
-refuse-requires : tie.Need-refuse-requires
-refuse-requires c κs = search needs
-
-refuse-requires-2 : tie.Need-refuse-requires-2
-refuse-requires-2 c κs = search needs
-
-first-requires : tie.Need-first-requires
-first-requires c κs = search needs
 
 same-length-2 : tie.Need-same-length-2
 same-length-2 c = search needs
 
 returns-2 : tie.Need-returns-2
 returns-2 c =
-    let a = c .before .before .before .before .before .before .before .before .before .before .args in
-    let e = own-first (c .before) in
-    ap (λ (k : ℕ). calledOf k (a .words .now)) e
-    ∙ close-refused (a .ctl) (a .words .now) (a .vci)
-    (none-shared (c .before .before .before .before .before .before))
-    (λ z. c .if2 .taken (e ∙ z))
+    let a = c .before .before .before .before .before .before .args in
+    close-closed (a .ctl) (a .words .now) (a .vci) (none-shared (c .before .before))
+    (opened-at (a .words .now) (a .vci) ∙ c .if2 .taken)
 
-write-vc-requires : tie.Need-write-vc-requires
-write-vc-requires c κs = none-lent (c .before .before .before .before .before .before .before)
+not-yet-requires : tie.Need-not-yet-requires
+not-yet-requires c κs =
+    let a = c .before .before .before .before .before .before .before .args in (
+      none-lent (c .before .before .before),
+      shared-m (a .ctl) (a .words .now) (a .vci) (none-shared (c .before .before .before)) (is-open (c .before)),
+    )
 
 same-length-3 : tie.Need-same-length-3
 same-length-3 c = search needs
 
 returns-3 : tie.Need-returns-3
-unfolding closedVc
 returns-3 c =
-    let a = c .before .before .before .before .before .before .before .before .before .before .before .before .before .before .args in
-    let e = own-first (c .before .before .before .before .before) in
+    let a = c .before .before .before .before .before .before .before .before .before .args in
+    let e = c .before .not-yet .ensures in
+    ap (λ (k : ℕ). calledOf k (a .words .now)) e
+    ∙ close-not-yet (a .ctl) (a .words .now) (a .vci) (none-shared (c .before .before .before .before .before)) (is-open (c .before .before .before))
+    (λ z. c .if3 .taken (e ∙ z))
+
+write-vc-requires : tie.Need-write-vc-requires
+write-vc-requires c κs = none-lent (c .before .before .before .before .before .before)
+
+same-length-4 : tie.Need-same-length-4
+same-length-4 c = search needs
+
+returns-4 : tie.Need-returns-4
+unfolding closedVc
+returns-4 c =
+    let a = c .before .before .before .before .before .before .before .before .before .before .before .before .before .args in
     ap (λ (w : List ℕ). calledOf 0 w) (c .before .before .write-vc .ensures)
-    ∙ close-done (a .ctl) (a .words .now) (a .vci)
-    (none-shared (c .before .before .before .before .before .before .before .before .before .before))
-    (sym e ∙ c .before .before .before .before .if2 .left)
+    ∙ close-done (a .ctl) (a .words .now) (a .vci) (none-shared (c .before .before .before .before .before .before .before .before .before)) (is-open (c .before .before .before .before .before .before .before))
+    (sym (c .before .before .before .before .before .not-yet .ensures) ∙ c .before .before .before .before .if3 .left)
 
 pub close-spec : {M : Type 1} → statement M
 close-spec =
@@ -115,17 +104,14 @@ close-spec =
     shared-refusal-requires
     same-length
     returns
-    mul-base
     mul-opened
+    mul-opened-2
     slice-read-opened
-    add-waiting
-    mul-waiting
-    slice-read-waiting
-    refuse-requires
-    refuse-requires-2
-    first-requires
     same-length-2
     returns-2
-    write-vc-requires
+    not-yet-requires
     same-length-3
-    returns-3)
+    returns-3
+    write-vc-requires
+    same-length-4
+    returns-4)
