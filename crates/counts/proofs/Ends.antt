@@ -15,7 +15,7 @@ use Rattle.meaning.specs.Plain.{if_then_else_, _<?_, _≤?_, _=?_}
 use Rattle.meaning.specs.Numbers.{rangesHold, slotNumbers, wordsPerVc, waitingPlace}
 use Rattle.meaning.specs.State.{State, stateOf, withWords, wordsLong, lengthsHold}
 use Rattle.meaning.specs.Bucket.{bucketOf, obeysRules}
-use Rattle.meaning.specs.Words.{Vc, vcAt, writeVc, openedVc, closedVc, openWordFits, bucketFits, vcFits}
+use Rattle.meaning.specs.Words.{Vc, vcAt, writeVc, openedVc, closedVc, openWordFits, bucketFits, vcFits, debt}
 use Rattle.meaning.proofs.WordsLaws.{write-read, write-read-other}
 use Rattle.meaning.specs.Calls.{SetUp, setUpOf, zeros, freshRecord, freshState, setup, Called, calledOf, sharedRefusal, openCall, closeCall}
 use Rattle.lines.specs.Lines.{stopLine}
@@ -131,8 +131,10 @@ close-balanced s h vci b =
     choose-called P (not (k =? 0)) _ _ (λ _. kept) (λ e.
     let p = passed r (s .words) vci (eqb-true k 0 (not-not (k =? 0) e)) in
     choose-called P (vcAt (s .words) vci .opened =? 0) _ _ (λ _. kept) (λ _.
-    choose-called P (not (vcAt (s .words) vci .waiting =? 0)) _ _ (λ _. kept) (λ w.
-    written-balanced s h vci closedVc b (p .long) (p .low) (sym (eqb-true _ 0 (not-not _ w))) (λ _. refl))))
+    let none = vcAt (s .words) vci .waiting =? 0 in
+    let paid = debt (r .t) (vcAt (s .words) vci) =? 0 in
+    choose-called P (not (none && paid)) _ _ (λ _. kept) (λ w.
+    written-balanced s h vci closedVc b (p .long) (p .low) (sym (eqb-true _ 0 (both none paid (not-not (none && paid) w) .0))) (λ _. refl))))
 
 -- no VC, no cell: a record of zeros
 zeros-balanced : (cells links calendar words : List ℕ) → Balanced (stateOf zeros cells links calendar words) []

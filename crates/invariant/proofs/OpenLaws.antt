@@ -11,7 +11,7 @@ use borrow.Author.Tests.{eq-eqb, ne-eqb, leb-true, ltb-true, eqb-true, eqb-false
 use Rattle.meaning.specs.Plain.{_<?_, _≤?_, _=?_}
 use Rattle.meaning.specs.State.{State, withWords}
 use Rattle.meaning.specs.Bucket.{bucketOf, obeysRules}
-use Rattle.meaning.specs.Words.{Vc, vcAt, writeVc, openedVc, closedVc}
+use Rattle.meaning.specs.Words.{Vc, vcAt, writeVc, openedVc, closedVc, debt}
 use Rattle.meaning.specs.Calls.{Called, calledOf, openCall, closeCall}
 use Rattle.runs.specs.Run.{Event, opened, closed, served}
 use Rattle.runs.specs.Leak.{Opening, openingWith, openingOf}
@@ -157,17 +157,25 @@ module _ (N z : ℕ) (h : List Event) (s : State) (i : Inv N z h s) where
 
     pub close-kept : Closes (closeCall (s .ctl) (s .words) u)
     unfolding closeCall
-    close-kept = go (1 ≤? u && u <? z) (vcAt (s .words) u .opened =? 0) (vcAt (s .words) u .waiting =? 0) refl refl refl
+    close-kept = go (1 ≤? u && u <? z) (vcAt (s .words) u .opened =? 0) none-waits paid refl refl refl refl
       where
-        go : (a b c : Bool) → 1 ≤? u && u <? z ≡ a → vcAt (s .words) u .opened =? 0 ≡ b
-            → vcAt (s .words) u .waiting =? 0 ≡ c → Closes (closeCall (s .ctl) (s .words) u)
-        go false b c e f g = rw (shared-out N z h s i u e) (ended 4 (λ y. omega arith) (λ y. omega arith))
-        go true true c e f g =
+        none-waits : Bool
+        none-waits = vcAt (s .words) u .waiting =? 0
+
+        paid : Bool
+        paid = debt (s .ctl .t) (vcAt (s .words) u) =? 0
+
+        go : (a b c d : Bool) → 1 ≤? u && u <? z ≡ a → vcAt (s .words) u .opened =? 0 ≡ b → none-waits ≡ c → paid ≡ d
+            → Closes (closeCall (s .ctl) (s .words) u)
+        go false b c d e f g p = rw (shared-out N z h s i u e) (ended 4 (λ y. omega arith) (λ y. omega arith))
+        go true true c d e f g p =
             rw (shared-in N z h s i u (low u e) (high u e), f) (ended 7 (λ y. omega arith) (λ y. omega arith))
-        go true false false e f g =
+        go true false false d e f g p =
             rw (shared-in N z h s i u (low u e) (high u e), f, g) (ended 8 (λ y. omega arith) (λ y. omega arith))
-        go true false true e f g =
-            rw (shared-in N z h s i u (low u e) (high u e), f, g)
+        go true false true false e f g p =
+            rw (shared-in N z h s i u (low u e) (high u e), f, g, p) (ended 8 (λ y. omega arith) (λ y. omega arith))
+        go true false true true e f g p =
+            rw (shared-in N z h s i u (low u e) (high u e), f, g, p)
             (record {
               inv = closes (low u e) (high u e) (eqb-false (vcAt (s .words) u .opened) 0 f)
                   (eqb-true (vcAt (s .words) u .waiting) 0 g);

@@ -12,7 +12,7 @@ use borrow.Author.Tests.{leb-true, le-leb, lt-leb, lt-ltb, le-ltb, eq-eqb}
 use Rattle.meaning.specs.Plain.{_<?_, _≤?_, next}
 use Rattle.meaning.specs.Numbers.{slotNumbers}
 use Rattle.meaning.specs.Bucket.{bucketOf, obeysRules, fall, isExcess, delay, fill}
-use Rattle.meaning.specs.Words.{Vc, withWaiting, withBucket, openedVc, openWordFits, bucketFits, vcFits, upToDate}
+use Rattle.meaning.specs.Words.{Vc, withWaiting, withBucket, openedVc, openWordFits, bucketFits, vcFits, upToDate, debt}
 use Rattle.runs.specs.Leak.{Opening, openingWith, parts, dueTime, dueSlot, leakAccepts}
 use Rattle.table.specs.Stored.{earliest, level, clock, stored, OpenVc, VcIs}
 use Rattle.table.proofs.ClockLaws.{clock-next, elapsed-is, gap-suc, gap-lt}
@@ -82,6 +82,9 @@ module _ (N z : ℕ) (few : z ≤ 1_024) where
       whole : (k + (now - k)) * parts o ≡ (suc now - 1) * parts o
       whole = ap (λ (i : ℕ). i * parts o) (omega arith)
 
+  level-fresh : (o : Opening) (k : ℕ) → earliest o ≡ 0 → level o k ≡ 0
+  level-fresh o k e = omega (arith, e)
+
   -- brought up to date in the slot `now`
   pub up-to-date : (now k v : ℕ) (vc : Vc) (q : ℕ) (o : Opening) → v < z → now ≤ k → k ≤ suc now → OpenVc N z k v vc q o
       → upToDate N (now % slotNumbers) vc ≡ next (stored o (suc now) q)
@@ -93,6 +96,20 @@ module _ (N z : ℕ) (few : z ≤ 1_024) where
         elapsed-is now (c .seen) (omega (arith, c .past)) (omega (arith, c .near, c .past, gap-lt z v k hv)),
         level-later o now (c .seen) (c .unused) (omega (arith, c .past)),
         clock-next now,
+      )
+
+  -- S as close works it out between two slots: what is left of the bucket at the last slot served
+  pub debt-is : (now v : ℕ) (vc : Vc) (q : ℕ) (o : Opening) → v < z → OpenVc N z now v vc q o
+      → debt (clock now) vc ≡ level o now
+  unfolding debt fall
+  debt-is zero v vc q o hv c =
+      rw (c .is) (omega (arith, c .unused (omega (arith, c .past)), level-fresh o (c .seen) (c .unused (omega (arith, c .past)))))
+  debt-is (suc now) v vc q o hv c =
+      rw (
+        c .is,
+        clock-next now,
+        elapsed-is now (c .seen) (c .past) (omega (arith, c .near, gap-lt z v (suc now) hv)),
+        level-later o now (c .seen) (c .unused) (c .past),
       )
 
   pub now-open : (now k v : ℕ) (vc : Vc) (q : ℕ) (o : Opening) → now ≤ k → k ≤ suc now → OpenVc N z k v vc q o

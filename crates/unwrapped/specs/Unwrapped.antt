@@ -13,8 +13,8 @@ use Rattle.meaning.specs.Numbers.{rangesHold, octets, unknown}
 use Rattle.meaning.specs.State.{State, lengthsHold, withClock}
 use Rattle.meaning.specs.Header.{headerAt, noUserCell, namesVc}
 use Rattle.meaning.specs.Bucket.{bucketOf, obeysRules, fall}
-use Rattle.meaning.specs.Words.{Vc, vcAt, writeVc, openedVc, openWordFits, bucketFits}
-use Rattle.meaning.specs.Calls.{Called, calledOf, sharedRefusal, closeCall, freshState}
+use Rattle.meaning.specs.Words.{Vc, vcAt, writeVc, openedVc, closedVc, openWordFits, bucketFits}
+use Rattle.meaning.specs.Calls.{Called, calledOf, sharedRefusal, freshState}
 use Rattle.meaning.specs.Work.{Work, workOf, bareAnswer, withState, withVc, withArrival}
 use Rattle.meaning.specs.Arrival.{judge}
 use Rattle.meaning.specs.Slot.{step4, step5, finish}
@@ -81,9 +81,18 @@ unwrappedOpen r words vci m F C =
     else if not (obeysRules (r .n) b) then calledOf 6 words
     else calledOf 0 (writeVc words vci (openedVc (r .t) b))
 
--- "Closing clears all seven words.": t, `last` and elapsed are not read
+-- "bring the VC up to date as of t": k slots have been served, so k - last have elapsed
+unfoldable pub unwrappedDebt : ℕ → Vc → ℕ
+unwrappedDebt k vc = fall (k - vc .last) (vc .bucket) .S
+
+-- "8 is given when waiting or the updated S isn't 0"; "Closing clears all seven words."
 unfoldable pub unwrappedClose : Record → List ℕ → ℕ → Called
-unwrappedClose r words vci = closeCall r words vci
+unwrappedClose r words vci =
+    let k = sharedRefusal r words vci in
+    if not (k =? 0) then calledOf k words
+    else if vcAt words vci .opened =? 0 then calledOf 7 words
+    else if not (vcAt words vci .waiting =? 0 && unwrappedDebt (r .t) (vcAt words vci) =? 0) then calledOf 8 words
+    else calledOf 0 (writeVc words vci closedVc)
 
 -- after setup no slot has been served; all else as setup leaves it
 unfoldable pub unwrappedFresh : ℕ → ℕ → State
