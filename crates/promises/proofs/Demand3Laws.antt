@@ -50,10 +50,10 @@ noLeft = record { slot = 0; cell = noCell }
 
 module _ (N z : ℕ) (h : List Event) (s : State) (i : Inv N z h s) where
   -- those of the VC v that left, and the cells of it that wait
-  abbrev gone : ℕ → List Left
+  abbrev pub gone : ℕ → List Left
   gone v = ofVc (λ p. p .cell .vci) v (i .left)
 
-  abbrev waiting : ℕ → List Cell
+  abbrev pub waiting : ℕ → List Cell
   waiting v = ofVc vciIn v (map cellIn (i .out ++ flat (i .cal)))
 
   departures-are : (v : ℕ) → departuresOf v h ≡ map seenAs (gone v)
@@ -67,10 +67,10 @@ module _ (N z : ℕ) (h : List Event) (s : State) (i : Inv N z h s) where
       ∙ ofVc-append vciIn v (map cellLeft (i .left)) (map cellIn (i .out ++ flat (i .cal)))
       ∙ ap (λ l. l ++ waiting v) (ofVc-map vciIn cellLeft v (i .left))
 
-  many-left : (v : ℕ) → length (departuresOf v h) ≡ length (gone v)
+  pub many-left : (v : ℕ) → length (departuresOf v h) ≡ length (gone v)
   many-left v = ap length (departures-are v) ∙ map-length seenAs (gone v)
 
-  many-cells : (v : ℕ) → length (cellsOf v h) ≡ length (gone v) + length (waiting v)
+  pub many-cells : (v : ℕ) → length (cellsOf v h) ≡ length (gone v) + length (waiting v)
   many-cells v =
       ap length (cells-are v) ∙ length-append (map cellLeft (gone v)) (waiting v)
       ∙ ap (λ (n : ℕ). n + length (waiting v)) (map-length cellLeft (gone v))
@@ -102,7 +102,7 @@ module _ (N z : ℕ) (h : List Event) (s : State) (i : Inv N z h s) where
       (all-image (λ (c : Cell). served h ≤ c .due + (N - 1)) cellIn (i .out ++ flat (i .cal))
       (still-in-time dueOf (N - 1) (served h) (i .cal) (i .out) (i .good)))
 
-  leaves-in-time : (v k : ℕ) → k < length (cellsOf v h) → cellAt v k h .due + (N - 1) < served h
+  pub leaves-in-time : (v k : ℕ) → k < length (cellsOf v h) → cellAt v k h .due + (N - 1) < served h
       → k < length (departuresOf v h)
   leaves-in-time v k low lasts = go (decLt k (length (departuresOf v h)))
     where

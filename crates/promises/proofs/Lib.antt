@@ -2,3 +2,5 @@ pub mod Demand3Laws
 pub mod Top
 pub mod ReachedLaws
 pub mod QuotedLaws
+pub mod WipedLaws
+pub mod DebtLaws

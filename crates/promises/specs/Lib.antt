@@ -3,3 +3,5 @@ pub mod Demand3
 pub mod Runs
 pub mod Reached
 pub mod Quoted
+pub mod Debt
+pub mod Wiped

@@ -1,0 +1,329 @@
+-- Request (ii) over runs: the words say what the exact leak rule owes, so close answers 0 exactly when all has left and
+-- last due + F is at most t × L; at every close that was so, and time only goes on. Assumes nothing.
+use Prim.Native.Nat.{ℕ, zero, suc, _+_, _-_, _*_, _/_, _≤_, _<_}
+use mathlib.Core.Path.{_≡_, refl, sym, ap, _∙_, subst}
+use mathlib.Core.Logic.{_≢_, _↔_}
+use mathlib.Core.Bool.{Bool, true, false, not, _&&_}
+use mathlib.Core.List.{List, [], _∷_, _++_, map}
+use mathlib.Core.Option.{Option, none, some}
+use native.Mathlib.Decide.{ℕ-discrete}
+use native.Mathlib.Nat.{add-mul, suc-mul, le-div-iff-mul-le, mul-comm, mul-assoc, mul-le-mul-right}
+use native.Mathlib.Omega.{arith}
+use lib.ListN.{length}
+use lib.Pow.{pow-pos}
+use borrow.Author.Tests.{eq-eqb, ne-eqb, eqb-true, leb-true, ltb-true}
+use Rattle.meaning.specs.Plain.{if_then_else_, _<?_, _≤?_, _=?_}
+use Rattle.meaning.specs.Numbers.{rangesHold}
+use Rattle.meaning.specs.State.{State}
+use Rattle.meaning.specs.Words.{Vc, vcAt, writeVc, closedVc, debt}
+use Rattle.meaning.specs.Calls.{calledOf, closeCall}
+use Rattle.runs.specs.Run.{Call, onOpen, onClose, onSlot, Event, opened, closed, ran, Run, call, calls, freshRun, served}
+use Rattle.runs.specs.Leak.{Opening, parts, dueTime, openingOf}
+use Rattle.runs.specs.Seen.{ofVc, cellsOf, departuresOf, cellAt}
+use Rattle.queues.specs.Queue.{sum, sums, flat, turn}
+use Rattle.queues.proofs.QueueLaws.{sum-append, sums-flat, turn-sums}
+use Rattle.queues.proofs.OrderLaws.{ofVc-yes, ofVc-no}
+use Rattle.chains.proofs.CountLaws.{is-yes, is-no}
+use Rattle.table.specs.Stored.{earliestAfter, earliest, level, clock, OpenVc, VcIs}
+use Rattle.table.proofs.LeakLaws.{and-left, and-right, due-time}
+use Rattle.table.proofs.VcLaws.{debt-is}
+use Rattle.memory.specs.Held.{Queued, vciOf}
+use Rattle.invariant.specs.Invariant.{cellIn, vciIn, isOf, waits, Inv}
+use Rattle.invariant.proofs.CallLaws.{shared-in, shared-out}
+use Rattle.invariant.proofs.RunLaws.{Kept, call-kept, calls-kept, run-kept}
+use Rattle.promises.specs.Demand3.{Demand3}
+use Rattle.promises.specs.Debt.{lastSlot, PaidAfter, Paid, AllLeft, Across, Debt, roundedUp, Refused}
+use Rattle.promises.proofs.Demand3Laws.{waiting, many-left, many-cells, demanded}
+
+-- ── what close answers of an open VC, by waiting and what is left of S ──
+abbrev answeredBy : Bool → Bool → ℕ
+answeredBy a b = if not (a && b) then 8 else 0
+
+abbrev answered : ℕ → ℕ → ℕ
+answered w d = answeredBy (w =? 0) (d =? 0)
+
+none-by : (a b : Bool) → answeredBy a b ≡ 0 → (a ≡ true) × (b ≡ true)
+none-by true true e = (refl, refl)
+none-by true false e = absurd (omega arith)
+none-by false b e = absurd (omega arith)
+
+eight-by : (a b : Bool) → answeredBy a b ≢ 0 → answeredBy a b ≡ 8
+eight-by true true ne = absurd (ne refl)
+eight-by true false ne = refl
+eight-by false b ne = refl
+
+answered-none : (w d : ℕ) → (answered w d ≡ 0) ↔ ((w ≡ 0) × (d ≡ 0))
+answered-none w d = (
+  λ e. let p = none-by (w =? 0) (d =? 0) e in (eqb-true w 0 (p .0), eqb-true d 0 (p .1)),
+  λ e. rw (eq-eqb w 0 (e .0), eq-eqb d 0 (e .1)),
+)
+
+-- nothing is left of S exactly when the next cell's earliest due time has come
+paid-after : (L F t : ℕ) (p : Option ℕ) → (earliestAfter F p - t * L ≡ 0) ↔ PaidAfter L F t p
+paid-after L F t none = (λ e. tt, λ e. omega arith)
+paid-after L F t (some p) = (λ e. omega (arith, e), λ e. omega (arith, e))
+
+-- cells of the VC v in a list of queued ones
+count-is : (v : ℕ) (q : List Queued) → length (ofVc vciIn v (map cellIn q)) ≡ sum (isOf v) q
+count-is v [] = refl
+count-is v (c ∷ q) = go (count-is v q) (ℕ-discrete (vciOf c) v)
+  where
+    go : length (ofVc vciIn v (map cellIn q)) ≡ sum (isOf v) q → Dec (vciOf c ≡ v)
+        → length (ofVc vciIn v (cellIn c ∷ map cellIn q)) ≡ isOf v c + sum (isOf v) q
+    go rest (yes e) =
+        ap length (ofVc-yes vciIn v (cellIn c) (map cellIn q) e)
+        ∙ omega (arith, rest, is-yes v (vciOf c) (sym e))
+    go rest (no ne) =
+        ap length (ofVc-no vciIn v (cellIn c) (map cellIn q) ne)
+        ∙ omega (arith, rest, is-no v (vciOf c) (λ e. ne (sym e)))
+
+-- ── after one run ──
+module _ (N z : ℕ) (h : List Event) (s : State) (i : Inv N z h s) where
+  many-waiting : (v : ℕ) → length (waiting N z h s i v) ≡ waits v (i .out) (turn (i .cal))
+  many-waiting v =
+      omega (
+        arith,
+        count-is v (i .out ++ flat (i .cal)),
+        sum-append (isOf v) (i .out) (flat (i .cal)),
+        sums-flat (isOf v) (i .cal),
+        turn-sums (isOf v) (i .cal),
+      )
+
+  module _ (v : ℕ) (o : Opening) (h1 : 1 ≤ v) (h2 : v < z) (e : openingOf v h ≡ some o) where
+    is-open : OpenVc N z (served h) v (vcAt (s .words) v) (waits v (i .out) (turn (i .cal))) o
+    is-open =
+        subst (λ (a : Option Opening). VcIs N z (served h) v (vcAt (s .words) v) (waits v (i .out) (turn (i .cal))) a) e
+        (i .stage .table v h1 h2)
+
+    pub counted : length (departuresOf v h) + vcAt (s .words) v .waiting ≡ length (cellsOf v h)
+    counted =
+        omega (
+          arith,
+          many-left N z h s i v,
+          many-cells N z h s i v,
+          many-waiting v,
+          ap (λ (c : Vc). c .waiting) (is-open .is),
+        )
+
+    -- what is left in the bucket as of the slot served last
+    pub owes : debt (s .ctl .t) (vcAt (s .words) v) ≡ level o (served h)
+    owes =
+        ap (λ (t : ℕ). debt t (vcAt (s .words) v)) (i .stage .t-is)
+        ∙ debt-is N z (i .stage .ranges .z-high) (served h) v (vcAt (s .words) v) (waits v (i .out) (turn (i .cal))) o h2
+        is-open
+
+    told : (b : Bool) (x : List ℕ) → (if b then calledOf 8 (s .words) else calledOf 0 x) .number ≡ (if b then 8 else 0)
+    told true x = refl
+    told false x = refl
+
+    number-is : closeCall (s .ctl) (s .words) v .number
+        ≡ answered (vcAt (s .words) v .waiting) (debt (s .ctl .t) (vcAt (s .words) v))
+    unfolding closeCall
+    number-is =
+        rw (
+          shared-in N z h s i v h1 h2,
+          ne-eqb (vcAt (s .words) v .opened) 0 (λ y. omega (arith, y, ap (λ (c : Vc). c .opened) (is-open .is))),
+        )
+        (told (not (vcAt (s .words) v .waiting =? 0 && debt (s .ctl .t) (vcAt (s .words) v) =? 0))
+        (writeVc (s .words) v closedVc))
+
+    abbrev w : ℕ
+    w = vcAt (s .words) v .waiting
+
+    abbrev d : ℕ
+    d = debt (s .ctl .t) (vcAt (s .words) v)
+
+    pub exactly : (closeCall (s .ctl) (s .words) v .number ≡ 0) ↔ (AllLeft v h × Paid o (lastSlot h))
+    exactly = (
+      λ e0.
+          let a = answered-none w d .0 (sym number-is ∙ e0) in (
+            omega (arith, counted, a .0),
+            paid-after (parts o) (o .F) (lastSlot h) (o .previous) .0 (sym owes ∙ a .1),
+          ),
+      λ g.
+          number-is
+          ∙ answered-none w d .1 (
+            omega (arith, counted, g .0),
+            owes ∙ paid-after (parts o) (o .F) (lastSlot h) (o .previous) .1 (g .1),
+          ),
+    )
+
+    pub or-eight : closeCall (s .ctl) (s .words) v .number ≢ 0 → closeCall (s .ctl) (s .words) v .number ≡ 8
+    or-eight ne = number-is ∙ eight-by (w =? 0) (d =? 0) (λ e0. ne (number-is ∙ e0))
+
+    -- before the first slot nothing is owed
+    pub unused : served h ≡ 0 → earliest o ≡ 0
+    unused e0 = is-open .unused (omega (arith, is-open .past, e0))
+
+  pub waited : (v k : ℕ) → length (cellsOf v h) ≡ suc k → cellAt v k h .arrival + cellAt v k h .D + (N - 1) < served h
+      → AllLeft v h
+  waited v k many late =
+      let d = demanded N z h s i in
+      omega (
+        arith,
+        many,
+        many-left N z h s i v,
+        many-cells N z h s i v,
+        d .leaves v k (omega (arith, many)) (omega (arith, late, d .delay v k (omega (arith, many)) .0)),
+      )
+
+  four : (v : ℕ) → 1 ≤? v && v <? z ≡ false → closeCall (s .ctl) (s .words) v .number ≡ 4
+  unfolding closeCall
+  four v e = rw (shared-out N z h s i v e)
+
+  -- close answers 0 only for a VC that is in its range
+  pub in-range : (v : ℕ) → closeCall (s .ctl) (s .words) v .number ≡ 0 → (1 ≤ v) × (v < z)
+  in-range v = go (1 ≤? v && v <? z) refl
+    where
+      go : (b : Bool) → 1 ≤? v && v <? z ≡ b → closeCall (s .ctl) (s .words) v .number ≡ 0 → (1 ≤ v) × (v < z)
+      go true e f = (leb-true 1 v (and-left (1 ≤? v) (v <? z) e), ltb-true v z (and-right (1 ≤? v) (v <? z) e))
+      go false e f = absurd (omega (arith, f, four v e))
+
+-- ── at every close of a run the debt was paid ──
+abbrev pub PaidAtCloses : List Event → Type 0
+PaidAtCloses [] = Unit {0}
+PaidAtCloses (opened vci m F C number ∷ h) = PaidAtCloses h
+PaidAtCloses (closed vci number ∷ h) =
+    (number ≡ 0 → (o : Opening) → openingOf vci h ≡ some o → Paid o (lastSlot h)) × PaidAtCloses h
+PaidAtCloses (ran cell a out ∷ h) = PaidAtCloses h
+
+module _ (N z : ℕ) where
+  call-paid : (r : Run) (c : Call) → Kept N z r → PaidAtCloses (r .events) → PaidAtCloses (call r c .events)
+  unfolding call
+  call-paid r (onOpen vci m F C) k p = p
+  call-paid r (onClose vci) k p = (
+    λ e o q.
+        let v = in-range N z (r .events) (r .state) (k .inv) vci e in
+        exactly N z (r .events) (r .state) (k .inv) vci o (v .0) (v .1) q .0 e .1,
+    p,
+  )
+  call-paid r (onSlot cell) k p = p
+
+  pub calls-paid : (r : Run) (cs : List Call) → Kept N z r → PaidAtCloses (r .events) → PaidAtCloses (calls r cs .events)
+  unfolding calls
+  calls-paid r [] k p = p
+  calls-paid r (c ∷ cs) k p = calls-paid (call r c) cs (call-kept N z r c k) (call-paid r c k p)
+
+  pub fresh-paid : rangesHold N z ≡ true → (cs : List Call) → PaidAtCloses (calls (freshRun N z) cs .events)
+  unfolding freshRun calls
+  fresh-paid range cs = calls-paid (freshRun N z) cs (run-kept N z range []) tt
+
+  -- slots are only added
+  call-more : (r : Run) (c : Call) → served (r .events) ≤ served (call r c .events)
+  unfolding call served
+  call-more r (onOpen vci m F C) = omega arith
+  call-more r (onClose vci) = omega arith
+  call-more r (onSlot cell) = omega arith
+
+  calls-more : (r : Run) (cs : List Call) → served (r .events) ≤ served (calls r cs .events)
+  unfolding calls
+  calls-more r [] = omega arith
+  calls-more r (c ∷ cs) = omega (arith, call-more r c, calls-more (call r c) cs)
+
+served-before : (later h : List Event) → served h ≤ served (later ++ h)
+unfolding served
+served-before [] h = omega arith
+served-before (opened vci m F C number ∷ later) h = served-before later h
+served-before (closed vci number ∷ later) h = served-before later h
+served-before (ran cell a out ∷ later) h = omega (arith, served-before later h)
+
+paid-before : (later before : List Event) (v : ℕ) (o : Opening) → PaidAtCloses (later ++ (closed v 0 ∷ before))
+    → openingOf v before ≡ some o → Paid o (lastSlot before)
+paid-before [] before v o p e = p .0 refl o e
+paid-before (opened vci m F C number ∷ later) before v o p e = paid-before later before v o p e
+paid-before (closed vci number ∷ later) before v o p e = paid-before later before v o (p .1) e
+paid-before (ran cell a out ∷ later) before v o p e = paid-before later before v o p e
+
+-- a debt x paid by slot t, and a later cell due at d in other parts
+crossed : (x t T d L M : ℕ) → x ≤ t * L → t ≤ T → T * M ≤ d → x * M ≤ d * L
+crossed x t T d L M a b c =
+    omega (
+      arith,
+      mul-le-mul-right M a,
+      mul-le-mul-right M (mul-le-mul-right L b),
+      mul-le-mul-right L c,
+      mul-assoc T L M,
+      mul-assoc T M L,
+      ap (λ (n : ℕ). T * n) (mul-comm L M),
+    )
+
+served-closed : (v : ℕ) (h : List Event) → served (closed v 0 ∷ h) ≡ served h
+unfolding served
+served-closed v h = refl
+
+pub across : (h : List Event) → PaidAtCloses h → Across h
+across h p v old new q later before e eo eq en =
+    crossed (q + old .F) (lastSlot before) (served h) (dueTime new (served h)) (parts old) (parts new) paid
+    (omega (arith, ap served e, served-before later (closed v 0 ∷ before), served-closed v before)) (omega (arith, due-time new (served h)))
+  where
+    paid : q + old .F ≤ lastSlot before * parts old
+    paid =
+        subst (λ (a : Option ℕ). PaidAfter (parts old) (old .F) (lastSlot before) a) eq
+        (paid-before later before v old (subst PaidAtCloses e p) eo)
+
+-- ── how long the S half of 8 lasts ──
+-- j slots more leave something of S exactly when they are fewer than S/L, rounded up
+fewer : (S L j : ℕ) → 0 < L → (j * L < S) ↔ (j < roundedUp S L)
+fewer S L j low = (
+  λ a. omega (arith, le-div-iff-mul-le {x = suc j} {y = S + (L - 1)} low .1 (omega (arith, a, suc-mul j L))),
+  λ b. omega (arith, suc-mul j L, le-div-iff-mul-le {x = suc j} {y = S + (L - 1)} low .0 (omega (arith, b))),
+)
+
+-- e is due at the earliest; k slots are served, then K
+half : (e L k K : ℕ) → 0 < L → (k ≡ 0 → e ≡ 0) → k ≤ K
+    → (e - (K - 1) * L ≢ 0) ↔ (K < k + roundedUp (e - (k - 1) * L) L)
+half e L zero K low unowed more = (
+  λ ne. absurd (ne (omega (arith, unowed refl))),
+  λ lt. absurd (omega (arith, unowed refl, fewer (e - (zero - 1) * L) L K low .1 (omega (arith, lt)))),
+)
+half e L (suc t) K low unowed more = (
+  λ ne. omega (arith, fewer S L j low .0 (omega (arith, whole, positive (e - (K - 1) * L) ne))),
+  λ lt z. omega (arith, whole, z, fewer S L j low .1 (omega (arith, lt))),
+)
+  where
+    S : ℕ
+    S = e - (suc t - 1) * L
+
+    j : ℕ
+    j = K - suc t
+
+    whole : (K - 1) * L ≡ (suc t - 1) * L + j * L
+    whole = ap (λ (n : ℕ). n * L) (omega arith) ∙ add-mul (suc t - 1) j L
+
+    positive : (n : ℕ) → n ≢ 0 → 0 < n
+    positive zero ne = absurd (ne refl)
+    positive (suc n) ne = omega arith
+
+-- ── of every run from a fresh state ──
+module _ (N z : ℕ) (r : Run) (k : Kept N z r) where
+  pub debts : PaidAtCloses (r .events) → Debt N z (r .events) (r .state)
+  debts p =
+      record {
+        closes-exactly = exactly N z (r .events) (r .state) (k .inv);
+        else-eight = or-eight N z (r .events) (r .state) (k .inv);
+        waiting-is = counted N z (r .events) (r .state) (k .inv);
+        across = across (r .events) p;
+        waiting-half = waited N z (r .events) (r .state) (k .inv);
+      }
+
+  pub refused : (cs : List Call) → Refused z r cs
+  refused cs = record { s-half = lasts }
+    where
+      later : Run
+      later = calls r cs
+
+      kept : Kept N z (calls r cs)
+      kept = calls-kept N z r cs k
+
+      lasts : (v : ℕ) (o : Opening) → 1 ≤ v → v < z → openingOf v (r .events) ≡ some o
+          → openingOf v (calls r cs .events) ≡ some o
+          → (debt (calls r cs .state .ctl .t) (vcAt (calls r cs .state .words) v) ≢ 0)
+          ↔ (served (calls r cs .events)
+          < served (r .events) + roundedUp (debt (r .state .ctl .t) (vcAt (r .state .words) v)) (parts o))
+      lasts v o h1 h2 e f =
+          rw (
+            owes N z (r .events) (r .state) (k .inv) v o h1 h2 e,
+            owes N z (calls r cs .events) (calls r cs .state) (kept .inv) v o h1 h2 f,
+          )
+          (half (earliest o) (parts o) (served (r .events)) (served (calls r cs .events)) (pow-pos (o .m))
+          (unused N z (r .events) (r .state) (k .inv) v o h1 h2 e) (calls-more N z r cs))

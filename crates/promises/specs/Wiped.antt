@@ -1,0 +1,51 @@
+-- Why request (ii) was made: close as document 01 had it before, kept for this one statement. With it a VC that is closed
+-- and reopened at once sends twice its peak.
+--
+--   closeWiping       == close that looks at waiting alone
+--   callWiping        == a call of a run, with that close
+--   reopenedAtOnce    == a cell in slot 0 (beforeClose), then close and open, at F 10 and L 1
+--   closedEveryFive   == the same again every 5 slots, 20 slots in all
+use Prim.Native.Nat.{ℕ}
+use mathlib.Core.Bool.{not}
+use mathlib.Core.List.{List, [], _∷_, _++_}
+use lib.ListN.{replicate}
+use Rattle.meaning.specs.declared.Record.{Record}
+use Rattle.meaning.specs.Plain.{if_then_else_, _=?_}
+use Rattle.meaning.specs.State.{withWords}
+use Rattle.meaning.specs.Words.{vcAt, writeVc, closedVc}
+use Rattle.meaning.specs.Calls.{Called, calledOf, sharedRefusal}
+use Rattle.runs.specs.Run.{Call, onOpen, onClose, onSlot, closed, Run, runOf, call}
+use Rattle.runs.specs.Eight.{cellFor}
+
+unfoldable pub closeWiping : Record → List ℕ → ℕ → Called
+closeWiping r words vci =
+    let k = sharedRefusal r words vci in
+    if not (k =? 0) then calledOf k words
+    else if vcAt words vci .opened =? 0 then calledOf 7 words
+    else if not (vcAt words vci .waiting =? 0) then calledOf 8 words
+    else calledOf 0 (writeVc words vci closedVc)
+
+unfoldable pub callWiping : Run → Call → Run
+callWiping r (onOpen vci m F C) = call r (onOpen vci m F C)
+callWiping r (onClose vci) =
+    let s = r .state in
+    let c = closeWiping (s .ctl) (s .words) vci in
+    runOf (withWords s (c .words)) (closed vci (c .number) ∷ r .events)
+callWiping r (onSlot cell) = call r (onSlot cell)
+
+unfoldable pub callsWiping : Run → List Call → Run
+callsWiping r [] = r
+callsWiping r (c ∷ cs) = callsWiping (callWiping r c) cs
+
+abbrev pub beforeClose : List Call
+beforeClose = onOpen 1 0 10 10 ∷ onSlot (cellFor 1) ∷ []
+
+abbrev pub reopenedAtOnce : List Call
+reopenedAtOnce = beforeClose ++ (onClose 1 ∷ onOpen 1 0 10 10 ∷ [])
+
+-- open, a cell and four empty slots, close
+abbrev fiveSlots : List Call
+fiveSlots = onOpen 1 0 10 10 ∷ onSlot (cellFor 1) ∷ (replicate 4 (onSlot []) ++ (onClose 1 ∷ []))
+
+abbrev pub closedEveryFive : List Call
+closedEveryFive = fiveSlots ++ (fiveSlots ++ (fiveSlots ++ fiveSlots))
