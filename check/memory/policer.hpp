@@ -196,9 +196,9 @@ protected:
     count("open", got);
     never_3(got);
   }
-  void close() {
+  void close() { close_of(any_vci()); }
+  void close_of(uint16_t vci) {
     begin_call("close");
-    const uint16_t vci = any_vci();
     const size_t lent = usual_lengths().vcs;
     const uint16_t expected = calls::close(record, memory.vcs.lend_ours(lent), vci);
     const uint16_t got = clurimoon_close(record, memory.vcs.lend_theirs(lent, random.once_in(2)), lent, vci);
