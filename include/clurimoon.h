@@ -65,7 +65,7 @@ enum clurimoon_number {
   CLURIMOON_ALREADY_OPEN = 5, /* open: already open */
   CLURIMOON_RULES = 6,        /* open: m, F or C against the rules */
   CLURIMOON_NOT_OPEN = 7,     /* close: not open */
-  CLURIMOON_WAITING = 8,      /* close: waiting isn't 0 */
+  CLURIMOON_WAITING = 8,      /* close: a cell of it waits, or it has a debt: not yet */
   CLURIMOON_CELL_LENGTH = 9,  /* slot: cell length neither 0 nor 53 */
   CLURIMOON_UNREADABLE = 10   /* trace: record unreadable */
 };
@@ -179,12 +179,21 @@ uint16_t clurimoon_open(clurimoon_record record, uint32_t *vcs, size_t vcs_lengt
                         uint16_t vci, uint8_t m, uint32_t f, uint32_t c);
 
 /*
- * Closes VC vci.
+ * Closes VC vci, unless cells of it wait or it has a debt. A debt is what is left
+ * of S when the VC is brought up to date as of the record's t, the last slot that
+ * was served: without it a VC closed and reopened at once could send twice its
+ * peak.
  *
- * Refusals, in this order: 1, 2, 4 and 3 as for open; 7 if it is not open; 8 if
- * cells of it wait.
+ * Refusals, in this order: 1, 2, 4 and 3 as for open, 3 on the words as they are
+ * stored; 7 if it is not open; 8 if waiting is not 0, or S brought up to date is
+ * not 0. A refusal writes nothing: neither S nor `last` moves.
  *
- * Done: the VC's seven words are 0. No other word changes.
+ * Done: the VC's seven words are 0. No other word changes. The record does not
+ * change and so isn't handed back.
+ *
+ * After an 8 ask again later. Once no further cell of the VC is accepted, the
+ * debt is gone after exactly ceil(S/L) more slots, S as of t; the last cell
+ * leaves at most D + N-1 slots after its arrival.
  */
 uint16_t clurimoon_close(clurimoon_record record, uint32_t *vcs, size_t vcs_length,
                          uint16_t vci);

@@ -163,14 +163,72 @@ static void every_number(void) {
         s.answer.space == CLURIMOON_NONE);
   r = s.record;
   CHECK(clurimoon_close(r, vcs, 7 * V, 1) == CLURIMOON_WAITING);
-  r = clurimoon_slot(r, MEMORY, NULL, 0).record;
-  CHECK(clurimoon_close(r, vcs, 7 * V, 1) == CLURIMOON_DONE);
   vcs[14] = 2;
   CHECK(clurimoon_open(r, vcs, 7 * V, 2, 2, 10, 26) == CLURIMOON_STORED);
   CHECK(clurimoon_close(r, vcs, 7 * V, 2) == CLURIMOON_STORED);
   CHECK(!clurimoon_audit(r, MEMORY));
   vcs[14] = 0;
   CHECK(clurimoon_audit(r, MEMORY));
+}
+
+/* A close that is refused leaves all words as they came: neither S nor last has moved. */
+static int close_keeps(clurimoon_record r, uint16_t vci, unsigned number) {
+  uint32_t before[7 * V];
+  memcpy(before, vcs, sizeof vcs);
+  return clurimoon_close(r, vcs, 7 * V, vci) == number && memcmp(before, vcs, sizeof vcs) == 0;
+}
+
+/* m 2, F 10, C 16, cells in slots 0 and 1: close is 8 up to slot 4, and 0 in slot 5,
+   where the debt of 16 parts is paid. */
+static void debts(void) {
+  uint8_t cell[53];
+  unsigned slot, k;
+  clurimoon_record r = clurimoon_setup(N, V, MEMORY).record;
+  clurimoon_served s;
+  put_cell(cell, 1, 0x11);
+  CHECK(clurimoon_open(r, vcs, 7 * V, 1, 2, 10, 16) == CLURIMOON_DONE);
+  for (slot = 0; slot < 5; ++slot) {
+    s = clurimoon_slot(r, MEMORY, slot < 2 ? cell : NULL, slot < 2 ? 53 : 0);
+    r = s.record;
+    /* The first cell leaves at once, the second in slot 2; the debt is left. */
+    CHECK(s.answer.space == (slot == 0 ? 0 : slot == 2 ? 1 : CLURIMOON_NONE));
+    CHECK(vcs[7 + CLURIMOON_WORD_WAITING] == (slot == 1));
+    CHECK(close_keeps(r, 1, CLURIMOON_WAITING));
+    CHECK(clurimoon_open(r, vcs, 7 * V, 1, 2, 10, 16) == CLURIMOON_ALREADY_OPEN);
+  }
+  /* The words still hold slot 1's S, and C is held against that: 3 comes before 8. */
+  CHECK(vcs[7 + CLURIMOON_WORD_S] == 16 && vcs[7 + CLURIMOON_WORD_LAST] == 1);
+  vcs[7 + CLURIMOON_WORD_S] = 17;
+  CHECK(close_keeps(r, 1, CLURIMOON_STORED));
+  vcs[7 + CLURIMOON_WORD_S] = 16;
+  r = clurimoon_slot(r, MEMORY, NULL, 0).record;
+  CHECK(clurimoon_close(r, vcs, 7 * V, 1) == CLURIMOON_DONE);
+  for (k = 0; k < 7; ++k) CHECK(vcs[7 + k] == 0);
+  CHECK(close_keeps(r, 1, CLURIMOON_NOT_OPEN));
+  /* Reopened at once, it owes nothing. */
+  CHECK(clurimoon_open(r, vcs, 7 * V, 1, 2, 10, 16) == CLURIMOON_DONE);
+  s = clurimoon_slot(r, MEMORY, cell, 53);
+  CHECK(s.answer.verdict == CLURIMOON_ACCEPTED && s.answer.d == 0 && s.answer.out_vci == 1);
+  CHECK(close_keeps(s.record, 1, CLURIMOON_WAITING));
+  CHECK(clurimoon_audit(s.record, MEMORY));
+}
+
+/* A cell that leaves late: its VC has no debt any more, and yet a cell of it waits. */
+static void waits_alone(void) {
+  static const uint8_t arrives[9] = {2, 2, 3, 3, 0, 1, 1, 0, 0};
+  uint8_t cell[53];
+  unsigned slot;
+  clurimoon_record r = clurimoon_setup(N, V, MEMORY).record;
+  CHECK(clurimoon_open(r, vcs, 7 * V, 1, 0, 1, 1) == CLURIMOON_DONE);
+  CHECK(clurimoon_open(r, vcs, 7 * V, 2, 0, 5, 9) == CLURIMOON_DONE);
+  CHECK(clurimoon_open(r, vcs, 7 * V, 3, 0, 3, 5) == CLURIMOON_DONE);
+  for (slot = 0; slot < 9; ++slot) {
+    put_cell(cell, arrives[slot], slot);
+    r = clurimoon_slot(r, MEMORY, cell, arrives[slot] ? 53 : 0).record;
+    /* Slot 6: a debt of 1, and a cell waits; slot 7: the cell alone; slot 8: it has left. */
+    if (slot == 6 || slot == 7) CHECK(close_keeps(r, 1, CLURIMOON_WAITING));
+  }
+  CHECK(clurimoon_close(r, vcs, 7 * V, 1) == CLURIMOON_DONE);
 }
 
 /* The four verdicts, and all six numbers of each answer. */
@@ -274,6 +332,8 @@ int main(void) {
   setup_fields();
   record_fields();
   every_number();
+  debts();
+  waits_alone();
   verdicts();
   line_parts();
   nulls();

@@ -14,6 +14,11 @@ const char *const fault_name[fault_count] = {
     CALLS_FAULTS(X)
 #undef X
 };
+const char *const close_name[close_count] = {
+#define X(name) #name,
+    CALLS_CLOSES(X)
+#undef X
+};
 Tally tally;
 
 namespace {
@@ -84,6 +89,16 @@ void need_rules(uint16_t n, const uint32_t *vc, Clause m_clause) {
   need(vc[w_S] <= vc[w_C], static_cast<Clause>(m_clause + 5));
 }
 
+// S falls by what leaked out since `last`; the words have been judged.
+uint64_t leaked_since(const uint32_t *vc, uint32_t t) {
+  return uint64_t{static_cast<uint32_t>(t - vc[w_last])} << vc[w_m];
+}
+void let_fall(uint32_t *vc, uint32_t t, Journal &journal) {
+  const uint64_t leaked = leaked_since(vc, t), s = vc[w_S];
+  journal.put(vc[w_S], static_cast<uint32_t>(s > leaked ? s - leaked : 0));
+  journal.put(vc[w_last], t);
+}
+
 // "A head and tail are both below N or both 65,535"; three clauses from `first`.
 void need_pair(uint16_t n, uint16_t head, uint16_t tail, Clause first) {
   need(head < n || head == empty, first);
@@ -134,11 +149,7 @@ private:
 
   void bring_up_to_date(uint32_t *words, Clause m_clause) {
     need_rules(n, words, m_clause);
-    const uint64_t elapsed = static_cast<uint32_t>(r.t - words[w_last]);
-    const uint64_t leaked = elapsed << words[w_m];
-    const uint64_t s = words[w_S];
-    journal.put(words[w_S], static_cast<uint32_t>(s > leaked ? s - leaked : 0));
-    journal.put(words[w_last], r.t);
+    let_fall(words, r.t, journal);
   }
 
   void update_named_by_rotation() {
@@ -290,11 +301,42 @@ uint16_t open(const clurimoon_record &record, Lent<uint32_t> vcs, uint16_t vci, 
   return 0;
 }
 
+namespace {
+
+void tally_3_of_close(const uint32_t *before, uint32_t t) {
+  if (before[w_open] == 1 && before[w_m] <= 15 && before[w_S] > before[w_C] &&
+      leaked_since(before, t) >= before[w_S])
+    tally.close[S_above_C_would_fall] += 1;
+}
+void tally_close(const uint32_t *before, uint32_t owed, uint32_t t) {
+  const uint64_t leaked = leaked_since(before, t);
+  const bool waits = before[w_waiting] != 0, fell = before[w_S] != owed;
+  if (waits) tally.close[owed ? refused_both : refused_waiting_only] += 1;
+  else if (owed) tally.close[refused_debt_only] += 1;
+  else if (!fell) tally.close[closed_S_was_0] += 1;
+  else tally.close[leaked == before[w_S] ? closed_S_fell_exactly : closed_S_fell_past] += 1;
+  if (owed && fell) tally.close[refused_last_not_t] += 1;
+  if (!waits && owed == 1) tally.close[refused_for_one_part] += 1;
+  if (!waits && leaked >> 32 && static_cast<uint32_t>(leaked) < before[w_S])
+    tally.close[closed_product_is_wide] += 1;
+}
+
+} // namespace
+
+// The VC is brought up to date in its words; a refusal takes that back.
 uint16_t close(const clurimoon_record &record, Lent<uint32_t> vcs, uint16_t vci) {
-  if (const uint16_t number = refuse_vc(record, vcs, vci, close_open)) return number;
+  const uint16_t number = refuse_vc(record, vcs, vci, close_open);
+  if (number == 3) tally_3_of_close(vcs.at + size_t{7} * vci, record.t);
+  if (number != 0) return number;
   uint32_t *words = vcs.at + size_t{7} * vci;
   if (words[w_open] == 0) return 7;
-  if (words[w_waiting] != 0) return 8;
+  uint32_t before[7];
+  std::copy(words, words + 7, before);
+  Journal journal;
+  let_fall(words, record.t, journal);
+  const uint32_t owed = words[w_S];
+  tally_close(before, owed, record.t);
+  if (owed != 0 || words[w_waiting] != 0) return journal.undo(), 8;
   std::fill_n(words, 7, 0u);
   return 0;
 }

@@ -1,5 +1,5 @@
-// A second implementation of the calls on lent memory, from document 01's words
-// on links, heads and tails. Each step writes at once, through a journal; where a
+// A second implementation of the calls on lent memory, from the words of documents
+// 01 and 02 on links, heads and tails. Each step writes at once, through a journal; where a
 // number that is read is out of its range, the journal is undone. So nothing here
 // plans ahead, and a refusal is known by the clause of refusal 3 that gave it.
 #pragma once
@@ -59,10 +59,32 @@ enum Fault {
 };
 extern const char *const fault_name[fault_count];
 
+// What decides a close of an open VC, by what is left of S as of t.
+#define CALLS_CLOSES(X)                                                                                      \
+  X(refused_waiting_only)                                                                                    \
+  X(refused_debt_only)                                                                                       \
+  X(refused_both)                                                                                            \
+  X(refused_last_not_t)     /* for a debt that has fallen: a close that stored it would be seen */           \
+  X(refused_for_one_part)   /* S is 1 */                                                                     \
+  X(closed_S_was_0)                                                                                          \
+  X(closed_S_fell_exactly)  /* elapsed x L is the stored S */                                                \
+  X(closed_S_fell_past)                                                                                      \
+  X(closed_product_is_wide) /* elapsed x L takes more than 32 bits, and their lower part is below S */       \
+  X(S_above_C_would_fall)   /* 3, though S as of t is 0 */
+
+enum Close {
+#define X(name) name,
+  CALLS_CLOSES(X)
+#undef X
+      close_count
+};
+extern const char *const close_name[close_count];
+
 // What was met, for the summary of a run.
 struct Tally {
   std::array<uint64_t, clause_count> clause{};
   std::array<uint64_t, fault_count> fault{};
+  std::array<uint64_t, close_count> close{};
 };
 extern Tally tally;
 

@@ -82,6 +82,7 @@ int main(int count_arguments, char **arguments) {
   summary.others();
   summary.clauses("refusal 3 by clause:", calls::clause_name, calls::tally.clause);
   summary.clauses("the audit's no by clause:", calls::fault_name, calls::tally.fault);
+  summary.clauses("close by what is left of S:", calls::close_name, calls::tally.close);
   std::printf("memories: %llu calls in %llu scenarios compared, all equal\n",
               static_cast<unsigned long long>(made), static_cast<unsigned long long>(scenario));
   if (!summary.complete) return std::fprintf(stderr, "memories: FAILED, something was met too seldom\n"), 1;

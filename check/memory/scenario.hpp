@@ -100,7 +100,7 @@ private:
     const uint32_t m = memory.vcs.get(at + 1), f = memory.vcs.get(at + 2), c = memory.vcs.get(at + 3);
     const uint32_t leak = m < 16 ? uint32_t{1} << m : 1;
     const uint32_t any = static_cast<uint32_t>(random.next());
-    switch (random.below(8)) {
+    switch (random.below(9)) {
     case 0: memory.vcs.set(at, random.pick<uint32_t>({0, 1, 2, 256, 65536, UINT32_MAX, any})); break;
     case 1:
       memory.vcs.set(at + 1, random.pick<uint32_t>({0, 15, 16, 31, 32, 64, 256, 65536, UINT32_MAX}));
@@ -125,7 +125,19 @@ private:
       memory.vcs.set(at + 6, random.pick<uint32_t>({0, 1, n - 1u, n, n + 1u, 65536u + n, UINT32_MAX}));
       break;
     case 7: memory.vcs.set(at + 6, random.pick<uint32_t>({0, n, n + 1u})), memory.vcs.set(at + 4, 0); break;
+    case 8: nearly_paid(at, c, leak); break;
     }
+  }
+  // No cell waits, and S as of t is 0, 1, or 0 with a part of the leak to spare; a
+  // close comes next. Now and then the stored S is above C.
+  void nearly_paid(size_t at, uint32_t c, uint32_t leak) {
+    const uint32_t elapsed = static_cast<uint32_t>(random.below(uint64_t{c} / leak + 1));
+    const uint32_t s = elapsed * leak + random.pick<uint32_t>({0, 0, 1, 1, leak, UINT32_MAX});
+    memory.vcs.set(at + 4, random.once_in(6) ? c + 1 : s);
+    memory.vcs.set(at + 5, random.once_in(6) ? record.t - static_cast<uint32_t>((uint64_t{1} << 32) / leak)
+                                             : record.t - elapsed);
+    memory.vcs.set(at + 6, 0);
+    close_of(static_cast<uint16_t>(at / 7));
   }
   // The head and tail of the Free List, the Output List or an entry.
   struct Pair {

@@ -191,7 +191,16 @@ bool met_enough(const second::Met &met) {
                                        "close 0",
                                        "close 4",
                                        "close 7",
-                                       "close 8",
+                                       "close 8: waiting only",
+                                       "close 8: debt only",
+                                       "close 8: both",
+                                       "close 8: a slot before the debt is paid",
+                                       "close 0: in the slot in which the debt is paid",
+                                       "close 0: later",
+                                       "close 0: no cell accepted",
+                                       "reopened at once",
+                                       "A: reopened",
+                                       "A: reopened, exactly a slot after the old debt",
                                        "6: m",
                                        "6: m 16",
                                        "6: F below L",
@@ -242,6 +251,10 @@ bool met_enough(const second::Met &met) {
     all = all && times >= 3;
   }
   std::printf("\n");
+  // What must never be met, whatever the spacer says.
+  for (const auto &[what, times] : met.times)
+    if (what.compare(0, 6, "FALSE:") == 0)
+      std::printf("    %s, %llu times\n", what.c_str(), static_cast<unsigned long long>(times)), all = false;
   return all;
 }
 
@@ -286,5 +299,5 @@ int main(int count, char **arguments) {
   std::printf("listings: %llu traces, %llu lines, %llu octets compared, all equal\n",
               static_cast<unsigned long long>(traces), static_cast<unsigned long long>(lines),
               static_cast<unsigned long long>(octets_compared));
-  if (!all) return std::printf("listings: FAILED, something was met too seldom\n"), 1;
+  if (!all) return std::printf("listings: FAILED, something was met too seldom, or must not be met\n"), 1;
 }

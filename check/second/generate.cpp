@@ -58,6 +58,7 @@ public:
         {"setup edges", &Generator::setups},    {"reader", &Generator::reader},
         {"limit", &Generator::limit},           {"latest departure", &Generator::latest},
         {"headers", &Generator::headers},       {"long pauses", &Generator::pauses},
+        {"debts", &Generator::debts},           {"late cells", &Generator::late},
     };
     const Kind &kind = kinds[index % (sizeof kinds / sizeof kinds[0])];
     trace.kind = kind.name;
@@ -302,6 +303,71 @@ private:
       add(ca(random, 0, 2));
     for (unsigned k = n - 1; k > 0; --k) add(ca(random, 0, random.once_in(40) ? 2 : 1));
     quiet(3 * n);
+  }
+  // A VC that sends, stops, and is closed and reopened: at once, a slot before its
+  // debt is paid, in the slot in which it is, and around it; then it sends again.
+  void debts() {
+    n = 1 + small(random.once_in(3) ? 60 : 8), v = 3 + small(10);
+    add(gm(n, v));
+    uint64_t now = 0, next_due = 0;
+    const bool crowd = random.once_in(3);
+    if (crowd) add(vo(2, 0, 1, 1));
+    for (unsigned openings = 1 + small(6); openings > 0; --openings) {
+      const unsigned m = random.percent(60) ? small(4) : small(16);
+      const uint64_t leak = uint64_t{1} << m;
+      const uint64_t f = leak + random.below(leak * random.pick({1u, 3u, 30u}) + 1);
+      const uint64_t spare = random.percent(60) ? n * leak - 1 : random.below(n * leak);
+      add(vo(1, m, static_cast<uint32_t>(f), static_cast<uint32_t>(f + spare)));
+      next_due = 0;
+      for (unsigned cells = small(9); cells > 0; --cells) {
+        const uint64_t due = std::max(now * leak, next_due);
+        if (due - now * leak <= spare) next_due = due + f;
+        add(ca(random, 0, 1)), now += 1;
+        if (random.once_in(6)) add(sl(1)), now += 1;
+        if (random.once_in(6)) add(vx(1));
+      }
+      add(vx(1));
+      if (random.once_in(3)) add(vo(1, m, static_cast<uint32_t>(f), static_cast<uint32_t>(f)));
+      now = wait_out(now, (next_due + leak - 1) / leak, crowd);
+    }
+  }
+  // Up to slot `paid`, where no debt is left, with closes on both sides of it.
+  uint64_t wait_out(uint64_t now, uint64_t paid, bool crowd) {
+    const uint64_t before = paid - std::min<uint64_t>(paid, small(4));
+    while (now < before) {
+      const uint64_t slots = crowd ? 1 : std::min<uint64_t>(before - now, 1 + random.below(9000));
+      if (crowd && random.percent(70)) add(ca(random, 0, 2));
+      else add(sl(static_cast<unsigned>(slots)));
+      now += slots;
+      if (crowd || random.once_in(4)) add(vx(1));
+    }
+    // Slot `now` comes next: closes from slot paid-1 to paid+1, mostly in each.
+    while (now <= paid + (random.once_in(3) ? 1 : 0)) {
+      if (random.percent(80)) add(vx(1));
+      add(sl(1)), now += 1;
+    }
+    add(vx(1));
+    return now;
+  }
+  // Cells that leave so late that their VC has no debt any more, with closes all the while.
+  void late() {
+    n = 4 + small(9), v = 3 + small(20);
+    add(gm(n, v));
+    unsigned m = 0;
+    while (1u << m < n - 1) ++m;
+    const uint32_t leak = 1u << m;
+    add(vo(1, m, leak, leak + small(2)));
+    add(vo(2, m, leak + 1, leak + 1 + n * leak - 1));
+    for (unsigned k = n * leak - small(4); k > 0; --k) add(ca(random, 0, 2));
+    for (unsigned k = n - 1; k > 0; --k) add(ca(random, 0, 1));
+    for (unsigned k = 2 * n; k > 0; --k) {
+      for (unsigned vci = 1; vci <= 2; ++vci)
+        if (random.percent(70)) add(vx(vci));
+      if (random.once_in(8)) add(vo(1 + small(2), m, leak, leak));
+      if (random.once_in(5)) add(ca(random, 0, 1 + small(2)));
+      else add(sl(1));
+    }
+    add(vx(1)), add(vx(2));
   }
   // Any VPI and VCI, idle and unassigned cells among them.
   void headers() {

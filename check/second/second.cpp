@@ -77,7 +77,7 @@ bool Spacer::setup(size_t place) {
   if (spaces == 0 || spaces == 1025) met("N one past an edge");
   if (vcs == 1 || vcs == 1025) met("V one past an edge");
   met(good ? "setup 0" : "setup 1");
-  if (good) openings.resize(vcs);
+  if (good) openings.resize(vcs), pasts.resize(vcs);
   return good;
 }
 
@@ -118,6 +118,7 @@ void Spacer::open(size_t place) {
     openings[vci] = Opening();
     openings[vci].open = true;
     openings[vci].m = static_cast<unsigned>(m), openings[vci].f = f, openings[vci].c = c;
+    if (pasts[vci].next_due != 0 && pasts[vci].closed_at == now) met("reopened at once");
   }
   met("open " + text(static_cast<uint64_t>(answer)));
   listing += "open " + text(vci) + " " + text(static_cast<uint64_t>(answer)) + "\n";
@@ -128,10 +129,27 @@ void Spacer::close(size_t place) {
   int answer = 0;
   if (vci < 1 || vci > vcs - 1) answer = 4;
   else if (!openings[vci].open) answer = 7;
-  else if (openings[vci].waiting != 0) answer = 8;
-  if (answer == 0) openings[vci] = Opening();
+  else if (!may_close(openings[vci])) answer = 8;
+  if (answer == 0) {
+    if (openings[vci].next_due != 0) pasts[vci] = {openings[vci].next_due, openings[vci].m, now};
+    openings[vci] = Opening();
+  }
   met("close " + text(static_cast<uint64_t>(answer)));
   listing += "close " + text(vci) + " " + text(static_cast<uint64_t>(answer)) + "\n";
+}
+
+// A VC may be closed when all its cells have left and a further cell, had it come in
+// the slot just served, would not have been early by any part of a slot.
+bool Spacer::may_close(const Opening &vc) {
+  if (vc.next_due == 0) return met("close 0: no cell accepted"), true;
+  // Slot now-1 was served, since a cell was accepted; `paid` is the first without debt.
+  const uint64_t leak = uint64_t{1} << vc.m, paid = (vc.next_due + leak - 1) / leak;
+  const bool owes = paid > now - 1;
+  if (owes && paid == now) met("close 8: a slot before the debt is paid");
+  if (owes) return met(vc.waiting ? "close 8: both" : "close 8: debt only"), false;
+  if (vc.waiting != 0) return met("close 8: waiting only"), false;
+  met(paid == now - 1 ? "close 0: in the slot in which the debt is paid" : "close 0: later");
+  return true;
 }
 
 void Spacer::slot(const uint8_t *cell) {
@@ -177,6 +195,7 @@ std::string Spacer::arrive_open(Opening &vc, unsigned vci) {
     return met("X"), "X " + text(vci) + " -";
   }
   if (due_time != arrival && due_time - arrival == vc.c - vc.f) met("A: just in time");
+  if (vc.next_due == 0 && pasts[vci].next_due != 0) meet_reopening(vc, pasts[vci], due_time);
   vc.next_due = due_time + vc.f;
   vc.waiting += 1;
   accepted += 1;
@@ -185,6 +204,15 @@ std::string Spacer::arrive_open(Opening &vc, unsigned vci) {
   if (spaces > 1 && due_slot - now == spaces - 1) met("A: D is N-1");
   if (due[due_slot].size() > 1) met("A: joins others");
   return met("A"), "A " + text(vci) + " " + text(due_slot - now);
+}
+
+// "The first due time is at least the last due time of the old opening plus its F",
+// in slots as fractions; close leaves a whole slot to spare.
+void Spacer::meet_reopening(const Opening &vc, const Past &past, uint64_t due_time) {
+  const uint64_t leak = uint64_t{1} << vc.m, past_leak = uint64_t{1} << past.m;
+  if (due_time * past_leak < past.next_due * leak) return met("FALSE: reopened before the old debt was paid");
+  const bool soonest = due_time * past_leak == past.next_due * leak + leak * past_leak;
+  met(soonest ? "A: reopened, exactly a slot after the old debt" : "A: reopened");
 }
 
 } // namespace second

@@ -1,7 +1,7 @@
-// A second spacer, written from document 01 and source 000 alone, on due times
-// and queues: each VC keeps the due time of its next cell in parts of 1/L slot on
-// a clock that never wraps; cells wait by due slot and then in one queue. There
-// are no links, heads, tails, spaces or buckets here.
+// A second spacer, written from documents 01 and 02 and source 000 alone, on due
+// times and queues: each VC keeps the due time of its next cell in parts of 1/L
+// slot on a clock that never wraps; cells wait by due slot and then in one queue.
+// There are no links, heads, tails, spaces or buckets here.
 #pragma once
 #include <array>
 #include <cstdint>
@@ -34,6 +34,12 @@ private:
     uint64_t next_due = 0; // the last accepted cell's due time plus F, or 0
     uint64_t waiting = 0;
   };
+  // A VC's last opening that accepted a cell and is closed, to hold the next against.
+  struct Past {
+    uint64_t next_due = 0; // 0 for none
+    unsigned m = 0;
+    uint64_t closed_at = 0; // `now` at its close
+  };
   // An accepted cell; the slot in which it is due is the queue that it is in.
   struct Cell {
     unsigned vci;
@@ -46,6 +52,7 @@ private:
   uint64_t spaces = 0, vcs = 0;
   uint64_t now = 0; // the next slot's number
   std::vector<Opening> openings;
+  std::vector<Past> pasts;
   std::map<uint64_t, std::vector<Cell>> due; // by due slot, in order of arrival
   std::deque<Cell> leaving;
   uint64_t accepted = 0, excess = 0, unknown = 0, sent = 0;
@@ -55,6 +62,8 @@ private:
   bool setup(size_t place);
   void open(size_t place);
   void close(size_t place);
+  bool may_close(const Opening &);
+  void meet_reopening(const Opening &, const Past &, uint64_t due_time);
   void slot(const uint8_t *cell);
   std::string arrive(const uint8_t *cell);
   std::string arrive_open(Opening &, unsigned vci);

@@ -119,16 +119,16 @@ tableII =
     ∷ noCell (answerOf 0 0 0 0 7 1)
     ∷ [])
 
--- "*Close with a cell waiting is 8, after its departure 0."
+-- "*Close with a cell waiting is 8, after its departure 0", moved by document 02 (ii) "to the slot where both are": the
+-- second cell leaves in slot 2, the debt of 16 parts is paid in slot 5.
 unfoldable pub closeWaiting : Row
 closeWaiting =
     run 5 2
     (opens 1 2 10 16 0
     ∷ cell 1 (answerOf 0 1 1 0 0 1)
-    ∷ cell 1 (answerOf 0 1 1 1 empty 0)
-    ∷ closes 1 8
-    ∷ noCell (answerOf 0 0 0 0 1 1)
-    ∷ closes 1 0
+    ∷ cell 1 (answerOf 0 1 1 1 empty 0) ∷ closes 1 8
+    ∷ noCell (answerOf 0 0 0 0 1 1) ∷ closes 1 8
+    ∷ pause 1 ∷ closes 1 8 ∷ pause 1 ∷ closes 1 8 ∷ pause 1 ∷ closes 1 0
     ∷ [])
 
 unfoldable pub starredTable : List Row
