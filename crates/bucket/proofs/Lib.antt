@@ -1,2 +1,3 @@
 pub mod Elapsed
+pub mod RoundedUp
 pub mod Rules

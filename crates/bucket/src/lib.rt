@@ -38,18 +38,28 @@ fn elapsed_slots(t: u32, last: u32) -> u32
     std::num::wrapping_sub_u32(t, last)
 }
 
-// S as it has fallen from slot last to slot t. The product has up to 47 bits, so it is taken in 64.
+// S/L rounded up: after so many slots S is 0. A rest that fills no slot takes one more. S/L plus one fits for every S, where
+// S plus L-1 would not.
+fn slots_to_empty(s: u32, m: u32) -> u32
+    requires { ⌜ m ≤ 15 ⌝ }
+    ensures { λ r. ⌜ r ≡ (s + (2 ^ m - 1)) / 2 ^ m ⌝ }
+{
+    let whole = s >> m;
+    if whole << m < s { whole + 1 } else { whole }
+}
+
+// S as it has fallen from slot last to slot t. The product has up to 47 bits, but it is wanted only where fewer slots have
+// elapsed than empty the bucket: there it is below S, and no bit of 32 is lost.
 pub fn fallen_to(s: u32, m: u32, last: u32, t: u32) -> u32
     requires { ⌜ m ≤ 15 ⌝ }
     ensures { λ r. ⌜ r ≡ s - elapsed t last * 2 ^ m ⌝ }
 {
     let slots = elapsed_slots(t, last);
-    let fall = (slots as u64) << m;
-    let full = s as u64;
-    if fall <= full {
-        (full - fall) as u32
-    } else {
+    if slots >= slots_to_empty(s, m) {
         0
+    } else {
+        let fall = slots << m;
+        s - fall
     }
 }
 
