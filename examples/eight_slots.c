@@ -24,8 +24,8 @@ static void put_vci(uint8_t *cell, unsigned vci) {
 }
 
 static void print_slot(uint32_t t, clurimoon_answer a) {
-  printf("%" PRIu32 " %c ", t, ".AXU"[a.verdict]);
-  if (a.verdict == CLURIMOON_NOTHING) printf("- ");
+  printf("%" PRIu32 " %c ", t, ".AXUH"[a.verdict]);
+  if (a.verdict == CLURIMOON_NOTHING || a.verdict == CLURIMOON_DROPPED) printf("- ");
   else printf("%u ", (unsigned)a.vci);
   if (a.verdict == CLURIMOON_ACCEPTED) printf("%u ", (unsigned)a.d);
   else printf("- ");
@@ -37,8 +37,9 @@ int main(void) {
   static const unsigned arrives[8] = {40, 40, 40, 40, 40, 41, 0, 0};
   static const uint8_t idle[CLURIMOON_CELL] = {0, 0, 0, 1, 0x52};
 
-  clurimoon_set set = clurimoon_setup(N, V, cells, sizeof cells, links, CLURIMOON_LINKS(N), calendar,
-                                      CLURIMOON_CALENDAR(N), vcs, CLURIMOON_VCS(V));
+  /* Not raw: octet 5 was checked before the cells came here, or is not ours to check. */
+  clurimoon_set set = clurimoon_setup(N, V, false, cells, sizeof cells, links, CLURIMOON_LINKS(N),
+                                      calendar, CLURIMOON_CALENDAR(N), vcs, CLURIMOON_VCS(V));
   if (set.number != CLURIMOON_DONE) return 1;
   clurimoon_record record = set.record;
 

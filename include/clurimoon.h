@@ -75,7 +75,8 @@ enum clurimoon_verdict {
   CLURIMOON_NOTHING = 0,  /* no cell, or VPI 0 with VCI 0: the slot counts as empty */
   CLURIMOON_ACCEPTED = 1, /* accepted; it is due D slots from now */
   CLURIMOON_EXCESS = 2,   /* beyond the VC's peak rate and tolerance; not stored */
-  CLURIMOON_UNKNOWN = 3   /* VPI not 0, VCI of V or more, or a VC not open; not stored */
+  CLURIMOON_UNKNOWN = 3,  /* VPI not 0, VCI of V or more, or a VC not open; not stored */
+  CLURIMOON_DROPPED = 4   /* the header check dropped it: its slot counts as empty */
 };
 
 /* The seven words of VC number x, from word 7 * x of the VC words on. */
@@ -99,17 +100,26 @@ enum clurimoon_answer_place {
   CLURIMOON_ANSWER_OUT_VCI = 5
 };
 
-/* The control record. The caller keeps it, hands it in and takes it back; it
-   need not look inside. t is the last slot's number, modulo 2^32. */
+/* The header check's modes. It runs where the policer is raw. */
+enum clurimoon_mode {
+  CLURIMOON_CORRECTION = 0, /* one wrong bit is mended, more than one drops the cell */
+  CLURIMOON_DETECTION = 1   /* every error drops the cell */
+};
+
+/* The control record, 24 octets. The caller keeps it, hands it in and takes it
+   back; it need not look inside. t is the last slot's number, modulo 2^32. raw is
+   1 where headers are checked, and mode is then the check's mode; raw is read only
+   by a slot that is lent a cell, mode only where raw is also 1. */
 typedef struct {
   uint16_t n, v;
   uint32_t t;
-  uint16_t T, rotation, free_head, free_tail, out_head, out_tail;
+  uint16_t T, rotation, free_head, free_tail, out_head, out_tail, raw, mode;
 } clurimoon_record;
 
-/* What a slot did: refusal number; verdict; VCI as read (0 for nothing); D (0
-   unless accepted); the departing space (65,535 for none); the departing VCI (0
-   for none). In a refusal all but the number are 0, and the space is 65,535. */
+/* What a slot did: refusal number; verdict; VCI as read, or as mended where the
+   header check mended it (0 for nothing and for a dropped cell); D (0 unless
+   accepted); the departing space (65,535 for none); the departing VCI (0 for
+   none). In a refusal all but the number are 0, and the space is 65,535. */
 typedef struct {
   uint16_t number, verdict, vci, d, space, out_vci;
 } clurimoon_answer;
@@ -145,7 +155,9 @@ extern "C" {
 #endif
 
 /*
- * Sets up a policer with n spaces and VCIs below v.
+ * Sets up a policer with n spaces and VCIs below v. Where raw is true, each cell
+ * that arrives has its header checked by octet 5 (clurimoon_slot says how); where
+ * it is false, octet 5 is neither read nor changed.
  *
  * Refusals, in this order: 1 if n is not 1 to 1,024 or v not 2 to 1,024; 2 if
  * the lengths are not 53 n octets of cells, n links, 2 n calendar numbers and
@@ -154,9 +166,10 @@ extern "C" {
  * Done: all four memories are cleared; spaces 0 to n-1 are chained into the Free
  * List in that order (link i is i+1, the last link stays 0); every calendar
  * number is 65,535; the Output List is empty. The record has t 2^32-1, T n-1 and
- * rotation v-1, so that the first slot is slot 0. No VC is open.
+ * rotation v-1, so that the first slot is slot 0; raw is 1 or 0, and the mode is
+ * 0, correction. No VC is open.
  */
-clurimoon_set clurimoon_setup(uint16_t n, uint16_t v,
+clurimoon_set clurimoon_setup(uint16_t n, uint16_t v, bool raw,
                               uint8_t *cells, size_t cells_length,
                               uint16_t *links, size_t links_length,
                               uint16_t *calendar, size_t calendar_length,
@@ -204,7 +217,22 @@ uint16_t clurimoon_close(clurimoon_record record, uint32_t *vcs, size_t vcs_leng
  * Refusals, in this order: 1 if the record's N or V is outside its range; 2 if
  * one of the four memories has another length than at setup; 9 if the cell's
  * length is neither 0 nor 53; 3 if the slot would read a stored number outside
- * its range. A refusal writes nothing and hands the record back as it came.
+ * its range, raw and mode among them: raw is read when 53 octets are lent, mode
+ * when raw is then 1, and each must be 0 or 1. A refusal writes nothing and hands
+ * the record back as it came, its mode too.
+ *
+ * The header check comes first, where raw is 1 and a cell is lent, idle and
+ * unassigned cells too. Octet 5 must be the remainder of the first four octets
+ * times x^8 by x^8 + x^2 + x + 1, with 01010101 added bit by bit (ITU-T I.432).
+ *  - It is: the cell goes on as it came, and the mode is correction from now on.
+ *  - One of the forty bits is wrong, in correction: that bit is mended, the cell
+ *    goes on so, and the mode is detection from now on.
+ *  - Any other error, and every error in detection: the cell is dropped, verdict 4
+ *    with VCI 0; the slot is an empty one otherwise, and the mode is detection
+ *    from now on.
+ * The caller's cell is not changed: what is stored, sent and shown is the mended
+ * cell. Mended to VPI 0 and VCI 0 it makes the slot empty, verdict 0. A slot that
+ * is lent no cell keeps the mode.
  *
  * Done: the clock, T and rotation grow by one; the VC that rotation names, if
  * open, is brought up to date; the arriving cell is judged and, if accepted,
@@ -242,9 +270,10 @@ clurimoon_part clurimoon_line(const uint8_t *cells, size_t cells_length,
  * True exactly when lengths and ranges hold throughout, each space is in exactly
  * one of the Free List, the Output List and the time slot queues, each chain
  * ends at its tail, entry T is empty, each queued header names an open VC, and
- * each open VC's waiting is the number of its queued cells. VC 0's words don't
- * matter. It is true after every call since a setup that answered 0, where each
- * call got record and memories as the call before left them.
+ * each open VC's waiting is the number of its queued cells; raw and mode are among
+ * the ranges, each 0 or 1 whatever the other is. VC 0's words don't matter. It is
+ * true after every call since a setup that answered 0, where each call got record
+ * and memories as the call before left them.
  */
 bool clurimoon_audit(clurimoon_record record,
                      const uint8_t *cells, size_t cells_length,
@@ -266,7 +295,8 @@ bool clurimoon_audit(clurimoon_record record,
  * Otherwise it is that many calls of clurimoon_slot, each followed by copying the
  * departing cell, if any, into the slot's own 53 octets of departures (since its
  * space may be taken again within the burst). Where nothing departs these octets
- * keep their values. The burst stops before the first slot that would be refused,
+ * keep their values. The header check's mode goes on from slot to slot; arrivals
+ * are not changed. The burst stops before the first slot that would be refused,
  * with 9 or 3: record and memories are those after `done` served slots, answers
  * and departures of these are written, and all others keep their values. If all
  * slots are served, and for no sizes, the number is 0.

@@ -1,9 +1,10 @@
-/* A program like spacer, written by hand: the slot of bench/slot/testing.c, digits by hand, a buffer of 64 KiB, one write
+/* A program like spacer, written by hand: the slot of bench/slot/checking.c, digits by hand, a buffer of 64 KiB, one write
    a fill. It lists legal traces whose records are all readable; it is there to be timed, not to be used. */
+#include <stdbool.h>
 #include <string.h>
 #include <unistd.h>
 
-#include "../slot/testing.c"
+#include "../slot/slots.h"
 
 static uint8_t input[65537], out[65536];
 static uint8_t cells[53 * 1024];
@@ -42,7 +43,7 @@ static inline uint8_t *number(uint8_t *p, uint32_t n, uint8_t after) {
   return *p = after, p + 1;
 }
 
-static inline uint8_t *word(uint8_t *p, bool shown, uint32_t n, uint8_t after) {
+static inline uint8_t *field(uint8_t *p, bool shown, uint32_t n, uint8_t after) {
   if (shown) return number(p, n, after);
   return p[0] = '-', p[1] = after, p + 2;
 }
@@ -50,9 +51,9 @@ static inline uint8_t *word(uint8_t *p, bool shown, uint32_t n, uint8_t after) {
 static inline void slot_line(uint32_t t, clurimoon_answer a) {
   uint8_t *p = number(out + used, t, ' ');
   *p++ = (uint8_t)(".AXU"[a.verdict & 3]), *p++ = ' ';
-  p = word(p, a.verdict != 0, a.vci, ' ');
-  p = word(p, a.verdict == 1, a.d, ' ');
-  p = word(p, a.space != 65535, a.out_vci, '\n');
+  p = field(p, a.verdict != 0, a.vci, ' ');
+  p = field(p, a.verdict == 1, a.d, ' ');
+  p = field(p, a.space != 65535, a.out_vci, '\n');
   used = (size_t)(p - out);
 }
 
@@ -74,6 +75,7 @@ int main(void) {
   clurimoon_record r = {.n = (uint16_t)n, .v = (uint16_t)v, .t = UINT32_MAX, .T = (uint16_t)(n - 1),
                         .rotation = (uint16_t)(v - 1), .free_head = 0, .free_tail = (uint16_t)(n - 1),
                         .out_head = 65535, .out_tail = 65535};
+  const lent_memory lent = {cells, links, calendar, vcs, 53 * n, n, 2 * n, 7 * v};
   memset(calendar, 255, sizeof calendar);
   for (uint32_t i = 0; i + 1 < n; i++) links[i] = (uint16_t)(i + 1);
   text_line("setup ", (uint32_t[]){n, v, 0}, 3);
@@ -93,11 +95,11 @@ int main(void) {
     else slots = be16(p + 2), at += 4;
     for (uint32_t i = 0; i < slots; i++) {
       if (sizeof out - used < 160) flush();
-      clurimoon_served s = testing_slot(r, cells, 53 * n, links, n, calendar, 2 * n, vcs, 7 * v, cell, cell_long);
-      r = s.record;
-      slot_line(r.t, s.answer);
-      tally[0] += s.answer.verdict == 1, tally[1] += s.answer.verdict == 2, tally[2] += s.answer.verdict == 3;
-      tally[3] += s.answer.space != 65535;
+      clurimoon_answer a;
+      checking_slot(&r, &lent, cell, cell_long, &a);
+      slot_line(r.t, a);
+      tally[0] += a.verdict == 1, tally[1] += a.verdict == 2, tally[2] += a.verdict == 3;
+      tally[3] += a.space != 65535;
     }
   }
   tally[4] = tally[0] - tally[3];

@@ -1,93 +1,213 @@
 /*
- * Drives one of four slot paths through the same traffic; callgrind counts the
- * instructions within that path alone.
+ * Drives the forms of the slot path through the same traffic.
  *
- *   drive trusting|testing|slot|burst N V LOAD SLOTS     (LOAD in percent)
+ *   drive count FORM N V LOAD SLOTS      one form, for callgrind; prints a sum over answers, departures and memory
+ *   drive time N V LOAD SLOTS REPEATS    all forms in turns; fails where the sums differ before or after; prints for each
+ *                                        form the median, the least and the quartiles of nanoseconds a slot, and the
+ *                                        median over the rounds of the archive's time to the C's
  *
- * Every VC is open at a peak of one cell in 8 slots with the greatest tolerance;
- * a slot brings a cell with the chance LOAD, of a VC drawn with equal chances. The
- * sum printed is over all answers and all memory: equal for all four paths.
+ * LOAD is in percent. SLOTS is a multiple of 64, the length of a burst.
  */
+#define _POSIX_C_SOURCE 199309L
 #include <stdio.h>
 #include <stdlib.h>
 #include <string.h>
+#include <time.h>
 
 #include "slots.h"
+#include "traffic.h"
 
-enum { block = 64 };
+enum { block = 64, forms = 6, most_repeats = 1001 };
+static const char *const names[forms] = {"trusting_slot",  "checking_slot",  "clurimoon_slot",
+                                         "trusting_burst", "checking_burst", "clurimoon_burst"};
 
-static uint8_t cells[CLURIMOON_CELLS(1024)], arrivals[53 * block], sizes[block], departures[53 * block];
-static uint16_t links[1024], calendar[2048], answers[6 * block];
-static uint32_t vcs[7 * 1024];
-static clurimoon_record record;
+/* A policer of its own for each form: record, memories and what its bursts give back. */
+typedef struct {
+  clurimoon_record record;
+  lent_memory lent;
+  uint8_t cells[53 * 1024], *departures;
+  uint16_t links[1024], calendar[2048], *answers;
+  uint32_t vcs[7 * 1024];
+} policer;
+static policer policers[forms];
+static uint8_t *arrivals, *sizes;
+static size_t slots;
 static unsigned n, v, load;
-static unsigned long long state = 1992, sum;
+static int show_cells; /* whether the departing cells of slots by themselves are taken down, too */
 
-typedef clurimoon_served (*slot_path)(clurimoon_record, uint8_t *, size_t, uint16_t *, size_t, uint16_t *,
-                                      size_t, uint32_t *, size_t, const uint8_t *, size_t);
+static void fail(const char *what) { fprintf(stderr, "bench: FAILED, %s\n", what), exit(1); }
 
-static unsigned drawn(unsigned bound) {
-  state = state * 6364136223846793005u + 1442695040888963407u;
-  return (unsigned)((state >> 33) % bound);
+static void *room(size_t octets) {
+  void *got = calloc(octets, 1);
+  if (got == NULL) fail("no memory");
+  return got;
 }
 
+static void begin(policer *p) {
+  p->lent = (lent_memory){p->cells, p->links, p->calendar, p->vcs, 53 * n, n, 2 * n, 7 * v};
+  const clurimoon_set set =
+      clurimoon_setup((uint16_t)n, (uint16_t)v, false, p->cells, 53 * n, p->links, n, p->calendar, 2 * n, p->vcs, 7 * v);
+  if (set.number != 0) fail("setup");
+  p->record = set.record;
+  for (unsigned vci = 1; vci < v; ++vci) {
+    const contract k = contract_of(vci, v);
+    if (k.open && clurimoon_open(p->record, p->vcs, 7 * v, (uint16_t)vci, k.m, k.f, k.c) != 0) fail("open");
+  }
+  p->departures = room(53 * slots), p->answers = room(6 * sizeof(uint16_t) * slots);
+}
+
+
+static void show(policer *p, size_t k) {
+  const uint16_t space = p->answers[6 * k + CLURIMOON_ANSWER_SPACE];
+  if (space != CLURIMOON_NONE) memcpy(p->departures + 53 * k, p->cells + 53 * space, 53);
+}
+
+#define SLOTS_BY(name, call)                                                                                           \
+  static void name(policer *p) {                                                                                       \
+    for (size_t k = 0; k < slots; ++k) {                                                                               \
+      call(&p->record, &p->lent, arrivals + 53 * k, sizes[k], (clurimoon_answer *)(p->answers + 6 * k));               \
+      if (show_cells) show(p, k);                                                                                      \
+    }                                                                                                                  \
+  }
+SLOTS_BY(by_trusting_slot, trusting_slot)
+SLOTS_BY(by_checking_slot, checking_slot)
+
+#define BURSTS_BY(name, call)                                                                                          \
+  static void name(policer *p) {                                                                                       \
+    for (size_t k = 0; k < slots; k += block) {                                                                        \
+      const lent_burst b = {arrivals + 53 * k, sizes + k, p->departures + 53 * k, p->answers + 6 * k,                  \
+                            53 * block,        block,     53 * block,             6 * block};                          \
+      if (call(&p->record, &p->lent, &b).number != 0) fail("a burst was refused");                                     \
+    }                                                                                                                  \
+  }
+BURSTS_BY(by_trusting_burst, trusting_burst)
+BURSTS_BY(by_checking_burst, checking_burst)
+
+#define MEMORY p->cells, 53 * n, p->links, n, p->calendar, 2 * n, p->vcs, 7 * v
+static void by_clurimoon_slot(policer *p) {
+  for (size_t k = 0; k < slots; ++k) {
+    const clurimoon_served s = clurimoon_slot(p->record, MEMORY, arrivals + 53 * k, sizes[k]);
+    p->record = s.record;
+    memcpy(p->answers + 6 * k, &s.answer, sizeof s.answer);
+    if (show_cells) show(p, k);
+  }
+}
+static void by_clurimoon_burst(policer *p) {
+  for (size_t k = 0; k < slots; k += block) {
+    const clurimoon_burst_end e = clurimoon_burst(p->record, MEMORY, arrivals + 53 * k, 53 * block, sizes + k, block,
+                                                  p->departures + 53 * k, 53 * block, p->answers + 6 * k, 6 * block);
+    if (e.number != 0) fail("a burst was refused");
+    p->record = e.record;
+  }
+}
+static void (*const serve_by[forms])(policer *) = {by_trusting_slot,  by_checking_slot,  by_clurimoon_slot,
+                                                   by_trusting_burst, by_checking_burst, by_clurimoon_burst};
+
+static uint64_t sum;
 static void add(const void *data, size_t octets) {
   const uint8_t *octet = data;
   while (octets-- > 0) sum = (sum ^ *octet++) * 1099511628211u;
 }
-
-static void prepare(void) {
-  for (unsigned k = 0; k < block; ++k) {
-    uint8_t *cell = arrivals + 53 * k;
-    const unsigned vci = 1 + drawn(v - 1);
-    for (unsigned octet = 0; octet < 53; ++octet) cell[octet] = (uint8_t)drawn(256);
-    cell[0] &= 0xf0, cell[1] = (uint8_t)(vci >> 12), cell[2] = (uint8_t)(vci >> 4);
-    cell[3] = (uint8_t)((vci & 15) << 4 | (cell[3] & 15));
-    sizes[k] = drawn(100) < load ? 53 : 0;
-  }
+/* Over answers, departing cells, record and all memory. */
+static uint64_t sum_of(const policer *p) {
+  sum = 14695981039346656037u;
+  add(p->answers, 12 * slots), add(p->departures, 53 * slots);
+  add(&p->record, sizeof p->record), add(p->cells, 53 * n), add(p->links, 2 * n), add(p->calendar, 4 * n);
+  add(p->vcs, 28 * v);
+  return sum;
 }
 
-#define MEMORY cells, 53 * (size_t)n, links, n, calendar, 2 * (size_t)n, vcs, 7 * (size_t)v
-
-static void serve_by(slot_path path) {
-  for (unsigned k = 0; k < block; ++k) {
-    const clurimoon_served s = path(record, MEMORY, arrivals + 53 * k, sizes[k]);
-    record = s.record;
-    const uint16_t numbers[6] = {s.answer.number, s.answer.verdict, s.answer.vci,
-                                 s.answer.d,      s.answer.space,   s.answer.out_vci};
-    memcpy(answers + 6 * k, numbers, sizeof numbers);
+/* What the traffic was like; no slot of it may be refused. */
+static void tally(const policer *p) {
+  unsigned long verdicts[4] = {0}, sent = 0, busy = 0, delayed = 0, worst = 0;
+  for (size_t k = 0; k < slots; ++k) {
+    const uint16_t *a = p->answers + 6 * k;
+    if (a[0] != 0) fail("a slot was refused");
+    verdicts[a[1] & 3] += 1, sent += a[4] != CLURIMOON_NONE, busy += sizes[k] != 0, delayed += a[3] != 0;
+    if (a[3] > worst) worst = a[3];
   }
+  const double part = 100.0 / (double)slots;
+  printf("of 100 slots: cells %.1f, accepted %.1f (D above 0: %.1f, greatest %lu), excess %.1f, unknown %.1f, sent %.1f\n",
+         busy * part, verdicts[1] * part, delayed * part, worst, verdicts[2] * part, verdicts[3] * part, sent * part);
 }
 
-static void serve_burst(void) {
-  const clurimoon_burst_end e = clurimoon_burst(record, MEMORY, arrivals, sizeof arrivals, sizes, block,
-                                                departures, sizeof departures, answers, 6 * block);
-  if (e.number != 0) exit(1);
-  record = e.record;
+static int form_of(const char *name) {
+  for (int form = 0; form < forms; ++form)
+    if (strcmp(names[form], name) == 0) return form;
+  fail("no such form");
+  return 0;
+}
+
+static uint64_t clock_ns(void) {
+  struct timespec now;
+  clock_gettime(CLOCK_MONOTONIC, &now);
+  return (uint64_t)now.tv_sec * 1000000000u + (uint64_t)now.tv_nsec;
+}
+static int by_size(const void *a, const void *b) {
+  const double x = *(const double *)a, y = *(const double *)b;
+  return (x > y) - (x < y);
+}
+
+static void agree(void) {
+  const uint64_t first = sum_of(policers);
+  for (int form = 1; form < forms; ++form)
+    if (sum_of(policers + form) != first) fprintf(stderr, "%s: ", names[form]), fail("answers, departures or memory differ");
+}
+
+static void time_all(unsigned repeats) {
+  static double each[forms][most_repeats];
+  show_cells = 1;
+  for (int form = 0; form < forms; ++form) begin(policers + form), serve_by[form](policers + form);
+  agree();
+  tally(policers);
+  show_cells = 0;
+  for (unsigned r = 0; r < repeats; ++r) {
+    for (unsigned turn = 0; turn < forms; ++turn) {
+      const unsigned form = (turn + r) % forms; /* each form follows each in turn */
+      const uint64_t from = clock_ns();
+      serve_by[form](policers + form);
+      each[form][r] = (double)(clock_ns() - from) / (double)slots;
+    }
+  }
+  show_cells = 1;
+  for (int form = 0; form < forms; ++form)
+    memset(policers[form].departures, 0, 53 * slots), serve_by[form](policers + form);
+  agree();
+  static double ratio[most_repeats];
+  for (int ours = 2; ours < forms; ours += 3)
+    for (int other = ours - 2; other < ours; ++other) {
+      for (unsigned r = 0; r < repeats; ++r) ratio[r] = each[ours][r] / each[other][r];
+      qsort(ratio, repeats, sizeof *ratio, by_size);
+      printf("%s/%s %.3f\n", names[ours], names[other], ratio[repeats / 2]);
+    }
+  for (int form = 0; form < forms; ++form) {
+    double *e = each[form];
+    qsort(e, repeats, sizeof *e, by_size);
+    printf("%s %.2f %.2f %.2f %.2f\n", names[form], e[repeats / 2], e[0], e[repeats / 4], e[repeats * 3 / 4]);
+  }
 }
 
 int main(int count, char **arguments) {
-  if (count != 6) return fprintf(stderr, "drive trusting|testing|slot|burst N V LOAD SLOTS\n"), 2;
-  n = (unsigned)atoi(arguments[2]), v = (unsigned)atoi(arguments[3]), load = (unsigned)atoi(arguments[4]);
-  const clurimoon_set set = clurimoon_setup((uint16_t)n, (uint16_t)v, MEMORY);
-  if (set.number != 0) return 1;
-  record = set.record;
-  for (unsigned vci = 1; vci < v; ++vci)
-    if (clurimoon_open(record, vcs, 7 * (size_t)v, (uint16_t)vci, 4, 128, 128 + 16 * n - 1) != 0) return 1;
-  const char *kind = arguments[1];
-  const slot_path path = strcmp(kind, "trusting") == 0  ? trusting_slot
-                         : strcmp(kind, "testing") == 0 ? testing_slot
-                                                        : clurimoon_slot;
-  unsigned long accepted = 0;
-  for (long done = 0; done < atol(arguments[5]); done += block) {
-    prepare();
-    if (strcmp(kind, "burst") == 0) serve_burst();
-    else serve_by(path);
-    add(answers, sizeof answers);
-    for (unsigned k = 0; k < block; ++k) accepted += answers[6 * k + 1] == CLURIMOON_ACCEPTED;
+  const int counting = count == 7 && strcmp(arguments[1], "count") == 0;
+  if (!counting && !(count == 7 && strcmp(arguments[1], "time") == 0))
+    return fprintf(stderr, "drive count FORM N V LOAD SLOTS | drive time N V LOAD SLOTS REPEATS\n"), 2;
+  char **sizes_of = arguments + (counting ? 3 : 2);
+  n = (unsigned)atoi(sizes_of[0]), v = (unsigned)atoi(sizes_of[1]), load = (unsigned)atoi(sizes_of[2]);
+  slots = (size_t)atol(sizes_of[3]);
+  if (slots == 0 || slots % block != 0) fail("SLOTS is not a multiple of 64");
+  sizes = room(slots), arrivals = room(53 * slots);
+  make_traffic(v, load, slots, sizes, arrivals);
+  if (counting) {
+    const int form = form_of(arguments[2]);
+    policer *p = policers + form;
+    show_cells = 1;
+    begin(p), serve_by[form](p);
+    printf("%016llx\n", (unsigned long long)sum_of(p));
+    tally(p);
+  } else {
+    const unsigned repeats = (unsigned)atoi(arguments[6]);
+    if (repeats < 1 || repeats > most_repeats) fail("REPEATS");
+    time_all(repeats);
   }
-  add(cells, 53 * (size_t)n), add(links, 2 * (size_t)n), add(calendar, 4 * (size_t)n),
-      add(vcs, 28 * (size_t)v);
-  printf("%016llx accepted %lu\n", sum, accepted);
   return 0;
 }

@@ -1,16 +1,35 @@
-/* Two hand-written slots with the interface of clurimoon_slot. */
+/* The slot path written by hand in C, in two forms: `trusting` makes no test, `checking` makes every test of refusals 1,
+   2, 9 and 3 before any write. Each as a call a slot, and as a burst that copies departing cells out. */
 #ifndef SLOTS_H
 #define SLOTS_H
 #include "clurimoon.h"
 
-/* Trusts its memory: no refusal at all. */
-clurimoon_served trusting_slot(clurimoon_record record, uint8_t *cells, size_t cells_length, uint16_t *links,
-                               size_t links_length, uint16_t *calendar, size_t calendar_length, uint32_t *vcs,
-                               size_t vcs_length, const uint8_t *cell, size_t cell_length);
+/* The four lent memories with their lengths, in elements. */
+typedef struct {
+  uint8_t *cells;
+  uint16_t *links, *calendar;
+  uint32_t *vcs;
+  size_t cells_length, links_length, calendar_length, vcs_length;
+} lent_memory;
 
-/* Makes every test of refusals 1, 2, 9 and 3 before any write. */
-clurimoon_served testing_slot(clurimoon_record record, uint8_t *cells, size_t cells_length, uint16_t *links,
-                              size_t links_length, uint16_t *calendar, size_t calendar_length, uint32_t *vcs,
-                              size_t vcs_length, const uint8_t *cell, size_t cell_length);
+/* What a burst is lent besides: an octet a slot in sizes, 53 in arrivals and departures, six numbers in answers. */
+typedef struct {
+  const uint8_t *arrivals, *sizes;
+  uint8_t *departures;
+  uint16_t *answers;
+  size_t arrivals_length, sizes_length, departures_length, answers_length;
+} lent_burst;
+
+typedef struct {
+  size_t done;
+  uint16_t number;
+} burst_end;
+
+void trusting_slot(clurimoon_record *record, const lent_memory *lent, const uint8_t *cell, size_t cell_length,
+                   clurimoon_answer *answer);
+void checking_slot(clurimoon_record *record, const lent_memory *lent, const uint8_t *cell, size_t cell_length,
+                   clurimoon_answer *answer);
+burst_end trusting_burst(clurimoon_record *record, const lent_memory *lent, const lent_burst *burst);
+burst_end checking_burst(clurimoon_record *record, const lent_memory *lent, const lent_burst *burst);
 
 #endif

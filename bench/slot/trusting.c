@@ -1,83 +1,115 @@
-/* The slot path of document 01 as one would write it for memory that is sound. */
-#include <string.h>
+/* The slot path of document 01 for memory that is sound: no test of what is stored, no refusal. */
+#include "path.h"
 
-#include "slots.h"
-
-typedef uint32_t u32;
-enum { w_open, w_m, w_F, w_C, w_S, w_last, w_waiting, words };
-static const u32 none = CLURIMOON_NONE;
-
-/* The first four octets of a cell: GFC, VPI, VCI, PTI and CLP. */
-static inline u32 header_of(const uint8_t *cell) {
-  return (u32)cell[0] << 24 | (u32)cell[1] << 16 | (u32)cell[2] << 8 | cell[3];
+/* Takes x, the head of the Free List, and joins it to the head of the entry d slots from now. */
+inlined void store(policer *p, index_t x, index_t d) {
+  if (unlikely(x == free_tail(p))) set_free_head(p, none), set_free_tail(p, none);
+  else set_free_head(p, links(p)[x]);
+  u16 *e = p->entry + 2 * d;
+  if (e >= calendar(p) + 2 * p->n) e -= 2 * p->n;
+  const u16 head = e[0];
+  e[0] = (u16)x;
+  if (head == none) e[1] = (u16)x;
+  else links(p)[x] = head;
 }
 
-static inline u32 fallen(const u32 *vc, u32 t) {
-  const uint64_t leaked = (uint64_t)(t - vc[w_last]) << vc[w_m];
-  return vc[w_S] > leaked ? vc[w_S] - (u32)leaked : 0;
-}
-
-clurimoon_served trusting_slot(clurimoon_record r, uint8_t *restrict cells, size_t cells_length,
-                               uint16_t *restrict links, size_t links_length, uint16_t *restrict calendar,
-                               size_t calendar_length, u32 *restrict vcs, size_t vcs_length,
-                               const uint8_t *restrict cell, size_t cell_length) {
-  (void)cells_length, (void)links_length, (void)calendar_length, (void)vcs_length;
-  const u32 n = r.n, v = r.v, t = r.t + 1;
-  const u32 T = r.T + 1u == n ? 0 : r.T + 1u, rotation = r.rotation + 1u == v ? 0 : r.rotation + 1u;
-  u32 free_head = r.free_head, free_tail = r.free_tail, out_head = r.out_head, out_tail = r.out_tail;
-  u32 verdict = CLURIMOON_NOTHING, d = 0, space = none, seen = 0, sent = 0;
-  if (rotation != 0) {
-    u32 *vc = vcs + words * rotation;
-    if (vc[w_open]) vc[w_S] = fallen(vc, t), vc[w_last] = t;
+/* Step 3; true where the cell leaves at once, since nothing waits for the line and D is 0. */
+inlined bool arrive(policer *p, const uint8_t *cell, given to) {
+  const index_t name = name_of(cell);
+  u32 *vc = vcs(p) + words * name;
+  to.answer[2] = (u16)name;
+  if (unlikely(name - 1 >= p->v - 1) || unlikely(vc[w_open] == 0)) {
+    put_pair(to.answer, (name == 0 ? CLURIMOON_NOTHING : CLURIMOON_UNKNOWN) << 16), to.answer[3] = 0;
+    return false;
   }
-  if (cell_length != 0) {
-    const u32 name = header_of(cell) >> 4 & 0xffffff; /* VPI, then VCI */
-    if (name != 0) {
-      seen = name & 0xffff;
-      verdict = CLURIMOON_UNKNOWN;
-      u32 *vc = vcs + words * name;
-      if (name < v && vc[w_open]) {
-        const u32 s = fallen(vc, t);
-        vc[w_last] = t;
-        if (s > vc[w_C] - vc[w_F]) {
-          vc[w_S] = s;
-          verdict = CLURIMOON_EXCESS;
-        } else {
-          verdict = CLURIMOON_ACCEPTED;
-          d = s >> vc[w_m];
-          vc[w_S] = s + vc[w_F];
-          vc[w_waiting] += 1;
-          const u32 x = free_head;
-          if (x == free_tail) free_head = free_tail = none;
-          else free_head = links[x];
-          memcpy(cells + CLURIMOON_CELL * x, cell, CLURIMOON_CELL);
-          const u32 e = T + d >= n ? T + d - n : T + d;
-          if (calendar[2 * e] == none) calendar[2 * e + 1] = (uint16_t)x;
-          else links[x] = calendar[2 * e];
-          calendar[2 * e] = (uint16_t)x;
-        }
-      }
+  const u32 s = fallen(vc, p->t), f = vc[w_F];
+  vc[w_last] = p->t;
+  if (unlikely(s > vc[w_C] - f)) {
+    put_pair(to.answer, CLURIMOON_EXCESS << 16), to.answer[3] = 0;
+    vc[w_S] = s;
+    return false;
+  }
+  const index_t d = s >> vc[w_m], x = free_head(p);
+  put_pair(to.answer, CLURIMOON_ACCEPTED << 16), to.answer[3] = (u16)d;
+  vc[w_S] = s + f;
+  copy_cell(cells(p) + 53 * x, cell);
+  if (d == 0 && out_head(p) == none && pair_at(p->entry) == no_pair) {
+    if (to.copied) copy_cell(to.departure, cell);
+    to.answer[4] = (u16)x, to.answer[5] = (u16)name;
+    const index_t tail = free_tail(p);
+    if (unlikely(x == tail)) return true;
+    set_free_head(p, links(p)[x]), set_free_tail(p, x);
+    links(p)[tail] = (u16)x;
+    return true;
+  }
+  vc[w_waiting] += 1;
+  store(p, x, d);
+  return false;
+}
+
+/* Steps 4 and 5. */
+inlined void leave(policer *p, given to) {
+  const u32 pair = pair_at(p->entry);
+  index_t y = out_head(p), tail;
+  if (pair != no_pair) {
+    if (y == none) y = pair & 0xffff;
+    else links(p)[out_tail(p)] = (u16)pair;
+    tail = pair >> 16;
+    put_pair(p->entry, no_pair);
+    set_out_tail(p, tail);
+  } else {
+    if (y == none) {
+      put_pair(to.answer + 4, none);
+      return;
     }
+    tail = out_tail(p);
   }
-  const u32 head = calendar[2 * T];
-  if (head != none) {
-    if (out_head == none) out_head = head;
-    else links[out_tail] = (uint16_t)head;
-    out_tail = calendar[2 * T + 1];
-    calendar[2 * T] = calendar[2 * T + 1] = (uint16_t)none;
+  if (y == tail) set_out_head(p, none), set_out_tail(p, none);
+  else set_out_head(p, links(p)[y]);
+  const uint8_t *cell = cells(p) + 53 * y;
+  const index_t sent = name_of(cell);
+  vcs(p)[words * sent + w_waiting] -= 1;
+  if (to.copied) copy_cell(to.departure, cell);
+  if (unlikely(free_head(p) == none)) set_free_head(p, y);
+  else links(p)[free_tail(p)] = (u16)y;
+  set_free_tail(p, y);
+  to.answer[4] = (u16)y, to.answer[5] = (u16)sent;
+}
+
+/* Steps 2 to 5. */
+inlined void serve(policer *p, const uint8_t *cell, size_t size, given to) {
+  if (likely(p->turn[w_open] != 0)) p->turn[w_S] = fallen(p->turn, p->t), p->turn[w_last] = p->t;
+  if (size == 0) memset(to.answer, 0, 8);
+  else if (arrive(p, cell, to)) return;
+  leave(p, to);
+}
+
+exported void trusting_slot(clurimoon_record *restrict r, const lent_memory *lent, const uint8_t *cell, size_t cell_length,
+                            clurimoon_answer *answer) {
+  policer p = {.n = r->n, .v = r->v, .lent = lent, .t = r->t + 1, .record = r};
+  index_t T = r->T + 1u, rotation = r->rotation + 1u;
+  if (unlikely(T == p.n)) T = 0;
+  p.turn = vcs(&p) + words * rotation;
+  if (unlikely(rotation == p.v)) rotation = 0, p.turn = (u32 *)closed;
+  p.entry = calendar(&p) + 2 * T;
+  r->t = p.t, r->T = (u16)T, r->rotation = (u16)rotation;
+  serve(&p, cell, cell_length, (given){(u16 *)answer, NULL, false});
+}
+
+exported burst_end trusting_burst(clurimoon_record *restrict r, const lent_memory *lent, const lent_burst *b) {
+  policer p = {.n = r->n, .v = r->v, .record = NULL, .kept_cells = lent->cells, .kept_links = lent->links,
+               .kept_calendar = lent->calendar, .kept_vcs = lent->vcs};
+  take(&p, r);
+  const uint8_t *cell = b->arrivals, *size = b->sizes, *const end = size + b->sizes_length;
+  given to = {b->answers, b->departures, true};
+  while (size != end) {
+    const uint8_t *const from = size, *const stop = size + begin_run(&p, (size_t)(end - size));
+    for (; size != stop; ++size, cell += 53, to.answer += 6, to.departure += 53, p.entry += 2, p.turn += words) {
+      p.t += 1;
+      serve(&p, cell, *size, to);
+    }
+    end_run(&p, (index_t)(stop - from));
   }
-  if (out_head != none) {
-    space = out_head;
-    if (space == out_tail) out_head = out_tail = none;
-    else out_head = links[space];
-    sent = header_of(cells + CLURIMOON_CELL * space) >> 4 & 0xffff;
-    vcs[words * sent + w_waiting] -= 1;
-    if (free_head == none) free_head = space;
-    else links[free_tail] = (uint16_t)space;
-    free_tail = space;
-  }
-  return (clurimoon_served){
-      {r.n, r.v, t, (uint16_t)T, (uint16_t)rotation, (uint16_t)free_head, (uint16_t)free_tail,
-       (uint16_t)out_head, (uint16_t)out_tail},
-      {0, (uint16_t)verdict, (uint16_t)seen, (uint16_t)d, (uint16_t)space, (uint16_t)sent}};
+  give(&p, r);
+  return (burst_end){b->sizes_length, 0};
 }

@@ -27,7 +27,7 @@ static void check(int holds, const char *what, int line) {
   CHECK(sizeof(((type *)0)->field) == (size))
 
 static void structs(void) {
-  CHECK(sizeof(clurimoon_record) == 20);
+  CHECK(sizeof(clurimoon_record) == 24);
   LAID(clurimoon_record, n, 0, 2);
   LAID(clurimoon_record, v, 2, 2);
   LAID(clurimoon_record, t, 4, 4);
@@ -37,6 +37,8 @@ static void structs(void) {
   LAID(clurimoon_record, free_tail, 14, 2);
   LAID(clurimoon_record, out_head, 16, 2);
   LAID(clurimoon_record, out_tail, 18, 2);
+  LAID(clurimoon_record, raw, 20, 2);
+  LAID(clurimoon_record, mode, 22, 2);
   CHECK(sizeof(clurimoon_answer) == 12);
   LAID(clurimoon_answer, number, 0, 2);
   LAID(clurimoon_answer, verdict, 2, 2);
@@ -44,20 +46,20 @@ static void structs(void) {
   LAID(clurimoon_answer, d, 6, 2);
   LAID(clurimoon_answer, space, 8, 2);
   LAID(clurimoon_answer, out_vci, 10, 2);
-  CHECK(sizeof(clurimoon_set) == 24);
+  CHECK(sizeof(clurimoon_set) == 28);
   LAID(clurimoon_set, number, 0, 2);
-  LAID(clurimoon_set, record, 4, 20);
-  CHECK(sizeof(clurimoon_served) == 32);
-  LAID(clurimoon_served, record, 0, 20);
-  LAID(clurimoon_served, answer, 20, 12);
+  LAID(clurimoon_set, record, 4, 24);
+  CHECK(sizeof(clurimoon_served) == 36);
+  LAID(clurimoon_served, record, 0, 24);
+  LAID(clurimoon_served, answer, 24, 12);
   CHECK(sizeof(clurimoon_part) == 3 * sizeof(size_t));
   LAID(clurimoon_part, from_idle, 0, 2);
   LAID(clurimoon_part, start, sizeof(size_t), sizeof(size_t));
   LAID(clurimoon_part, length, 2 * sizeof(size_t), sizeof(size_t));
-  CHECK(sizeof(clurimoon_burst_end) == 24 + sizeof(size_t));
-  LAID(clurimoon_burst_end, record, 0, 20);
-  LAID(clurimoon_burst_end, number, 20, 2);
-  LAID(clurimoon_burst_end, done, 24, sizeof(size_t));
+  CHECK(sizeof(clurimoon_burst_end) == 24 + 2 * sizeof(size_t));
+  LAID(clurimoon_burst_end, record, 0, 24);
+  LAID(clurimoon_burst_end, number, 24, 2);
+  LAID(clurimoon_burst_end, done, 24 + sizeof(size_t), sizeof(size_t));
 }
 
 static void macros(void) {
@@ -70,6 +72,7 @@ static void macros(void) {
   CHECK(CLURIMOON_VCI == 4 && CLURIMOON_ALREADY_OPEN == 5 && CLURIMOON_RULES == 6 && CLURIMOON_NOT_OPEN == 7);
   CHECK(CLURIMOON_WAITING == 8 && CLURIMOON_CELL_LENGTH == 9 && CLURIMOON_UNREADABLE == 10);
   CHECK(CLURIMOON_NOTHING == 0 && CLURIMOON_ACCEPTED == 1 && CLURIMOON_EXCESS == 2 && CLURIMOON_UNKNOWN == 3);
+  CHECK(CLURIMOON_DROPPED == 4 && CLURIMOON_CORRECTION == 0 && CLURIMOON_DETECTION == 1);
 }
 
 enum { N = 5, V = 8 };
@@ -92,16 +95,18 @@ static void put_cell(uint8_t *cell, unsigned vci, unsigned fill) {
   cell[3] = (uint8_t)((vci & 15) << 4);
 }
 
-static void setup_fields(void) {
+static void setup_fields(bool raw) {
   unsigned k;
   clurimoon_set set;
   memset(cells, 7, sizeof cells), memset(links, 7, sizeof links), memset(vcs, 7, sizeof vcs);
-  set = clurimoon_setup(N, V, MEMORY);
+  set = clurimoon_setup(N, V, raw, MEMORY);
   CHECK(set.number == CLURIMOON_DONE);
   CHECK(set.record.n == N && set.record.v == V && set.record.t == 4294967295u);
   CHECK(set.record.T == N - 1 && set.record.rotation == V - 1);
   CHECK(set.record.free_head == 0 && set.record.free_tail == N - 1);
   CHECK(set.record.out_head == CLURIMOON_NONE && set.record.out_tail == CLURIMOON_NONE);
+  CHECK(set.record.raw == (raw ? 1 : 0) && set.record.mode == CLURIMOON_CORRECTION);
+  CHECK(clurimoon_audit(set.record, MEMORY));
   for (k = 0; k < sizeof cells; ++k) CHECK(cells[k] == 0);
   for (k = 0; k < N; ++k) CHECK(links[k] == (k + 1 < N ? k + 1 : 0));
   for (k = 0; k < 2 * N; ++k) CHECK(calendar[k] == CLURIMOON_NONE);
@@ -110,7 +115,7 @@ static void setup_fields(void) {
 
 /* Each field of a record by value must arrive in its own place and come back so. */
 static void record_fields(void) {
-  clurimoon_record r = {1111, 2222, 3333333333u, 4444, 5555, 6666, 7777, 8888, 9999};
+  clurimoon_record r = {1111, 2222, 3333333333u, 4444, 5555, 6666, 7777, 8888, 9999, 1212, 1313};
   clurimoon_served s = clurimoon_slot(r, MEMORY, NULL, 0);
   clurimoon_burst_end e;
   CHECK(refused(s.answer, CLURIMOON_RANGE) && same_record(s.record, r));
@@ -129,20 +134,22 @@ static void record_fields(void) {
   CHECK(s.answer.number == CLURIMOON_DONE && s.record.t == 3333333334u && s.record.T == 3 &&
         s.record.rotation == 4);
   CHECK(s.record.n == N && s.record.v == V && s.record.free_head == 6666 && s.record.free_tail == 7777);
+  /* Nor are raw and mode, where no cell is lent. */
+  CHECK(s.record.raw == 1212 && s.record.mode == 1313);
   CHECK(s.record.out_head == CLURIMOON_NONE && s.record.out_tail == CLURIMOON_NONE);
   CHECK(clurimoon_audit(s.record, MEMORY) == false);
 }
 
 static void every_number(void) {
   uint8_t cell[54];
-  clurimoon_set set = clurimoon_setup(0, V, MEMORY);
+  clurimoon_set set = clurimoon_setup(0, V, true, MEMORY);
   clurimoon_record zeros, r;
   clurimoon_served s;
   memset(&zeros, 0, sizeof zeros), memset(cell, 0, sizeof cell);
   CHECK(set.number == CLURIMOON_RANGE && same_record(set.record, zeros));
-  set = clurimoon_setup(N, V, cells, sizeof cells - 1, links, N, calendar, 2 * N, vcs, 7 * V);
+  set = clurimoon_setup(N, V, true, cells, sizeof cells - 1, links, N, calendar, 2 * N, vcs, 7 * V);
   CHECK(set.number == CLURIMOON_LENGTH && same_record(set.record, zeros));
-  set = clurimoon_setup(N, V, MEMORY);
+  set = clurimoon_setup(N, V, false, MEMORY);
   r = set.record;
   CHECK(clurimoon_open(r, vcs, 7 * V - 1, 1, 2, 10, 26) == CLURIMOON_LENGTH);
   CHECK(clurimoon_open(r, vcs, 7 * V, V, 2, 10, 26) == CLURIMOON_VCI);
@@ -183,7 +190,7 @@ static int close_keeps(clurimoon_record r, uint16_t vci, unsigned number) {
 static void debts(void) {
   uint8_t cell[53];
   unsigned slot, k;
-  clurimoon_record r = clurimoon_setup(N, V, MEMORY).record;
+  clurimoon_record r = clurimoon_setup(N, V, false, MEMORY).record;
   clurimoon_served s;
   put_cell(cell, 1, 0x11);
   CHECK(clurimoon_open(r, vcs, 7 * V, 1, 2, 10, 16) == CLURIMOON_DONE);
@@ -218,7 +225,7 @@ static void waits_alone(void) {
   static const uint8_t arrives[9] = {2, 2, 3, 3, 0, 1, 1, 0, 0};
   uint8_t cell[53];
   unsigned slot;
-  clurimoon_record r = clurimoon_setup(N, V, MEMORY).record;
+  clurimoon_record r = clurimoon_setup(N, V, false, MEMORY).record;
   CHECK(clurimoon_open(r, vcs, 7 * V, 1, 0, 1, 1) == CLURIMOON_DONE);
   CHECK(clurimoon_open(r, vcs, 7 * V, 2, 0, 5, 9) == CLURIMOON_DONE);
   CHECK(clurimoon_open(r, vcs, 7 * V, 3, 0, 3, 5) == CLURIMOON_DONE);
@@ -240,7 +247,7 @@ static int answers_with(clurimoon_answer a, unsigned verdict, unsigned vci, unsi
 
 static void verdicts(void) {
   uint8_t cell[53];
-  clurimoon_record r = clurimoon_setup(N, V, MEMORY).record;
+  clurimoon_record r = clurimoon_setup(N, V, false, MEMORY).record;
   clurimoon_served s;
   CHECK(clurimoon_open(r, vcs, 7 * V, 3, 0, 2, 5) == CLURIMOON_DONE);
   put_cell(cell, 3, 0x33);
@@ -262,6 +269,172 @@ static void verdicts(void) {
   CHECK(answers_with(s.answer, 0, 0, 0, 3, 3));
 }
 
+/* The octet 5 that the first four ask for: long division, a bit at a time. */
+static unsigned octet_5(const uint8_t *cell) {
+  unsigned rest = 0, k;
+  for (k = 0; k < 40; ++k) {
+    rest = rest << 1 | (k < 32 ? cell[k / 8] >> (7 - k % 8) & 1u : 0);
+    if (rest & 256) rest ^= 0x107;
+  }
+  return rest ^ 0x55;
+}
+static void change_bit(uint8_t *cell, unsigned bit) {
+  cell[bit / 8] = (uint8_t)(cell[bit / 8] ^ 128 >> bit % 8);
+}
+
+/* A cell with its right octet 5, and then so many of its forty header bits wrong. */
+static void put_raw(uint8_t *cell, unsigned vci, unsigned fill, unsigned wrong, unsigned bit) {
+  unsigned k;
+  put_cell(cell, vci, fill);
+  cell[4] = (uint8_t)octet_5(cell);
+  for (k = 0; k < wrong; ++k) change_bit(cell, (bit + 7 * k) % 40);
+}
+
+/* A slot that is lent this cell, and must leave it as it came. */
+static clurimoon_served raw_slot(clurimoon_record r, const uint8_t *cell) {
+  uint8_t before[53];
+  clurimoon_served s;
+  memcpy(before, cell, 53);
+  s = clurimoon_slot(r, MEMORY, cell, 53);
+  CHECK(memcmp(before, cell, 53) == 0);
+  CHECK(s.record.raw == r.raw);
+  return s;
+}
+static int shown(clurimoon_answer a, const uint8_t *cell) {
+  clurimoon_part part = clurimoon_line(cells, sizeof cells, idle, 53, a.space);
+  return part.from_idle == 0 && part.length == 53 && memcmp(cells + part.start, cell, 53) == 0;
+}
+
+static void known_octets(void) {
+  static const uint8_t unassigned[4] = {0, 0, 0, 0}, idle_cell[4] = {0, 0, 0, 1};
+  CHECK(octet_5(unassigned) == 0x55 && octet_5(idle_cell) == 0x52);
+}
+
+/* Each of the forty bits wrong, in correction and in detection. */
+static void raw_single(unsigned bit) {
+  uint8_t clean[53], cell[53];
+  clurimoon_served s;
+  clurimoon_record r = clurimoon_setup(N, V, true, MEMORY).record;
+  CHECK(clurimoon_open(r, vcs, 7 * V, 3, 0, 1, 1) == CLURIMOON_DONE);
+  put_raw(clean, 3, 0x33, 0, 0), put_raw(cell, 3, 0x33, 1, bit);
+  s = raw_slot(r, cell);
+  CHECK(answers_with(s.answer, CLURIMOON_ACCEPTED, 3, 0, 0, 3) && s.record.mode == CLURIMOON_DETECTION);
+  CHECK(shown(s.answer, clean));
+  s = raw_slot(s.record, cell);
+  CHECK(answers_with(s.answer, CLURIMOON_DROPPED, 0, 0, CLURIMOON_NONE, 0) &&
+        s.record.mode == CLURIMOON_DETECTION);
+  /* No cell: the mode stays. */
+  s = clurimoon_slot(s.record, MEMORY, NULL, 0);
+  CHECK(answers_with(s.answer, 0, 0, 0, CLURIMOON_NONE, 0) && s.record.mode == CLURIMOON_DETECTION);
+  s = raw_slot(s.record, clean);
+  CHECK(answers_with(s.answer, CLURIMOON_ACCEPTED, 3, 0, 1, 3) && s.record.mode == CLURIMOON_CORRECTION);
+  s = raw_slot(s.record, cell);
+  CHECK(answers_with(s.answer, CLURIMOON_ACCEPTED, 3, 0, 2, 3) && shown(s.answer, clean));
+  CHECK(clurimoon_audit(s.record, MEMORY));
+}
+
+/* Two wrong bits drop the cell, though another of the VC departs; not raw, nothing is looked at. */
+static void raw_double(unsigned bit) {
+  uint8_t clean[53], cell[53];
+  clurimoon_served s;
+  clurimoon_record r = clurimoon_setup(N, V, true, MEMORY).record;
+  CHECK(clurimoon_open(r, vcs, 7 * V, 3, 0, 2, 5) == CLURIMOON_DONE);
+  put_raw(clean, 3, 0x33, 0, 0), put_raw(cell, 3, 0x33, 2, bit);
+  r = raw_slot(r, clean).record;
+  s = raw_slot(r, clean);
+  CHECK(answers_with(s.answer, CLURIMOON_ACCEPTED, 3, 1, CLURIMOON_NONE, 0));
+  s = raw_slot(s.record, cell);
+  CHECK(answers_with(s.answer, CLURIMOON_DROPPED, 0, 0, 1, 3) && s.record.mode == CLURIMOON_DETECTION);
+  CHECK(vcs[3 * 7 + CLURIMOON_WORD_WAITING] == 0);
+  r = clurimoon_setup(N, V, false, MEMORY).record;
+  put_cell(cell, 3, 0x33), cell[4] = (uint8_t)(octet_5(cell) ^ bit);
+  CHECK(clurimoon_open(r, vcs, 7 * V, 3, 0, 2, 5) == CLURIMOON_DONE);
+  s = raw_slot(r, cell);
+  CHECK(answers_with(s.answer, CLURIMOON_ACCEPTED, 3, 0, 0, 3) && shown(s.answer, cell));
+  CHECK(s.record.raw == 0 && s.record.mode == 0);
+}
+
+/* Idle and unassigned cells are checked, too: clean, mended, dropped. */
+static void raw_idle(void) {
+  uint8_t cell[53], wrong[53];
+  clurimoon_served s;
+  clurimoon_record r = clurimoon_setup(N, V, true, MEMORY).record;
+  unsigned last;
+  for (last = 0; last < 2; ++last) {
+    memset(cell, 0x6a, 53), memset(cell, 0, 4);
+    cell[3] = (uint8_t)last, cell[4] = last ? 0x52 : 0x55;
+    memcpy(wrong, cell, 53), change_bit(wrong, 26);
+    s = raw_slot(r, wrong);
+    CHECK(answers_with(s.answer, CLURIMOON_NOTHING, 0, 0, CLURIMOON_NONE, 0) && s.record.mode == 1);
+    s = raw_slot(s.record, wrong);
+    CHECK(answers_with(s.answer, CLURIMOON_DROPPED, 0, 0, CLURIMOON_NONE, 0) && s.record.mode == 1);
+    s = raw_slot(s.record, cell);
+    CHECK(answers_with(s.answer, CLURIMOON_NOTHING, 0, 0, CLURIMOON_NONE, 0) && s.record.mode == 0);
+    r = s.record;
+  }
+}
+
+/* raw is read when a cell is lent, mode when raw is 1: 3 then, and after 1, 2 and 9. */
+static void raw_unfit(void) {
+  uint8_t cell[54];
+  clurimoon_served s;
+  clurimoon_record good = clurimoon_setup(N, V, true, MEMORY).record, r = good;
+  put_raw(cell, 3, 0x33, 0, 0);
+  r.raw = 2;
+  CHECK(!clurimoon_audit(r, MEMORY));
+  s = raw_slot(r, cell);
+  CHECK(refused(s.answer, CLURIMOON_STORED) && same_record(s.record, r));
+  s = clurimoon_slot(r, MEMORY, NULL, 0);
+  CHECK(s.answer.number == CLURIMOON_DONE && s.record.raw == 2);
+  CHECK(refused(clurimoon_slot(r, MEMORY, cell, 52).answer, CLURIMOON_CELL_LENGTH));
+  CHECK(refused(clurimoon_slot(r, NULL, 0, links, N, calendar, 2 * N, vcs, 7 * V, cell, 53).answer,
+                CLURIMOON_LENGTH));
+  r.n = 0;
+  CHECK(refused(clurimoon_slot(r, MEMORY, cell, 53).answer, CLURIMOON_RANGE));
+  r = good, r.mode = 2;
+  CHECK(!clurimoon_audit(r, MEMORY));
+  s = raw_slot(r, cell);
+  CHECK(refused(s.answer, CLURIMOON_STORED) && same_record(s.record, r));
+  CHECK(clurimoon_slot(r, MEMORY, NULL, 0).answer.number == CLURIMOON_DONE);
+  r.raw = 0;
+  CHECK(!clurimoon_audit(r, MEMORY));
+  s = raw_slot(r, cell);
+  CHECK(s.answer.number == CLURIMOON_DONE && s.answer.verdict == CLURIMOON_UNKNOWN && s.record.mode == 2);
+  r = good, r.raw = 0, r.mode = 1;
+  CHECK(clurimoon_audit(r, MEMORY));
+  /* A slot that is refused keeps the mode, though its header would have moved it. */
+  r = good, r.T = N, change_bit(cell, 17);
+  s = raw_slot(r, cell);
+  CHECK(refused(s.answer, CLURIMOON_STORED) && same_record(s.record, r));
+}
+
+/* A burst goes on in the mode of the slot before; its departures are the mended cells. */
+static void raw_burst(void) {
+  enum { K = 6 };
+  static const unsigned wrong[K] = {1, 1, 0, 1, 0, 2}, verdict[K] = {1, 4, 1, 1, 1, 4};
+  static uint8_t arrivals[53 * K], before[53 * K], sizes[K], departures[53 * K];
+  static uint16_t answers[6 * K];
+  uint8_t clean[53];
+  unsigned k;
+  clurimoon_burst_end e;
+  clurimoon_record r = clurimoon_setup(N, V, true, MEMORY).record;
+  CHECK(clurimoon_open(r, vcs, 7 * V, 3, 0, 1, 1) == CLURIMOON_DONE);
+  for (k = 0; k < K; ++k) put_raw(arrivals + 53 * k, 3, 0x40 + k, wrong[k], 5 * k + 30), sizes[k] = 53;
+  memcpy(before, arrivals, sizeof before), memset(departures, 0xee, sizeof departures);
+  e = clurimoon_burst(r, MEMORY, arrivals, sizeof arrivals, sizes, K, departures, sizeof departures, answers,
+                      6 * K);
+  CHECK(e.number == CLURIMOON_DONE && e.done == K);
+  CHECK(e.record.mode == CLURIMOON_DETECTION && e.record.raw == 1);
+  CHECK(memcmp(before, arrivals, sizeof before) == 0);
+  for (k = 0; k < K; ++k) {
+    put_raw(clean, 3, 0x40 + k, 0, 0);
+    CHECK(answers[6 * k + CLURIMOON_ANSWER_VERDICT] == verdict[k]);
+    CHECK(answers[6 * k + CLURIMOON_ANSWER_VCI] == (verdict[k] == 1 ? 3 : 0));
+    if (verdict[k] == 1) CHECK(memcmp(departures + 53 * k, clean, 53) == 0);
+    else CHECK(departures[53 * k] == 0xee && departures[53 * k + 52] == 0xee);
+  }
+}
+
 static void line_parts(void) {
   clurimoon_part part = clurimoon_line(cells, sizeof cells, idle, 53, 4);
   CHECK(part.from_idle == 0 && part.start == 4 * 53 && part.length == 53);
@@ -275,12 +448,12 @@ static void line_parts(void) {
 
 /* Every slice, of length 0, as NULL. */
 static void nulls(void) {
-  clurimoon_set set = clurimoon_setup(N, V, NULL, 0, NULL, 0, NULL, 0, NULL, 0);
+  clurimoon_set set = clurimoon_setup(N, V, false, NULL, 0, NULL, 0, NULL, 0, NULL, 0);
   clurimoon_record r;
   clurimoon_part part;
   clurimoon_burst_end e;
   CHECK(set.number == CLURIMOON_LENGTH);
-  set = clurimoon_setup(N, V, MEMORY);
+  set = clurimoon_setup(N, V, false, MEMORY);
   r = set.record;
   CHECK(clurimoon_open(r, NULL, 0, 1, 2, 10, 26) == CLURIMOON_LENGTH);
   CHECK(clurimoon_close(r, NULL, 0, 1) == CLURIMOON_LENGTH);
@@ -301,7 +474,7 @@ static void bursts(void) {
   static uint8_t arrivals[53 * K], sizes[K], departures[53 * K];
   static uint16_t answers[6 * K];
   unsigned k;
-  clurimoon_record r = clurimoon_setup(1, 2, cells, 53, links, 1, calendar, 2, vcs, 14).record;
+  clurimoon_record r = clurimoon_setup(1, 2, false, cells, 53, links, 1, calendar, 2, vcs, 14).record;
   clurimoon_burst_end e;
   CHECK(clurimoon_open(r, vcs, 14, 1, 0, 1, 1) == CLURIMOON_DONE);
   memset(departures, 0xee, sizeof departures), memset(answers, 0xee, sizeof answers);
@@ -327,14 +500,21 @@ static void bursts(void) {
 }
 
 int main(void) {
+  unsigned bit;
   structs();
   macros();
-  setup_fields();
+  setup_fields(false);
+  setup_fields(true);
   record_fields();
   every_number();
   debts();
   waits_alone();
   verdicts();
+  known_octets();
+  for (bit = 0; bit < 40; ++bit) raw_single(bit), raw_double(bit);
+  raw_idle();
+  raw_unfit();
+  raw_burst();
   line_parts();
   nulls();
   bursts();

@@ -35,10 +35,18 @@ struct fence {
 static size_t page;
 static bool at_end; /* buffers end at an unreadable page, or begin after one */
 static unsigned now_n, now_v;
+static bool raw; /* the policer checks headers */
+
+/* A slot that has no header check, in the place of the archive's, is run with NOT_RAW defined. */
+#ifdef NOT_RAW
+enum { rounds = 2, damages = 10 };
+#else
+enum { rounds = 4, damages = 14 };
+#endif
 static const char *now_doing = "nothing";
 
 static void fail(const char *what) {
-  printf("guard: FAILED: N %u, V %u, %s, in %s: %s\n", now_n, now_v,
+  printf("guard: FAILED: N %u, V %u%s, %s, in %s: %s\n", now_n, now_v, raw ? ", raw" : "",
          at_end ? "buffers end at a guard page" : "buffers begin after a guard page", now_doing, what);
   exit(1);
 }
@@ -47,8 +55,9 @@ static void on_fault(int number) {
   static char text[200];
   int length = snprintf(
       text, sizeof text,
-      "guard: FAILED: N %u, V %u, %s, in %s: signal %d (touched memory that was not lent)\n", now_n, now_v,
-      at_end ? "buffers end at a guard page" : "buffers begin after a guard page", now_doing, number);
+      "guard: FAILED: N %u, V %u%s, %s, in %s: signal %d (touched memory that was not lent)\n", now_n, now_v,
+      raw ? ", raw" : "", at_end ? "buffers end at a guard page" : "buffers begin after a guard page",
+      now_doing, number);
   if (write(1, text, (size_t)length) < 0) _exit(3);
   _exit(2);
 }
@@ -91,7 +100,7 @@ static struct fence arrivals_fence, sizes_fence, departures_fence, answers_fence
 static uint8_t *cells, *cell, *idle, *arrivals, *sizes, *departures;
 static uint16_t *links, *calendar, *answers;
 static uint32_t *vcs;
-static unsigned long long slots_served, cells_sent, calls_made, refused;
+static unsigned long long slots_served, cells_sent, calls_made, refused, mended, dropped;
 static unsigned greatest_space, greatest_d;
 
 static void make_fences(void) {
@@ -128,18 +137,44 @@ static void all_untouched(void) {
 static void write_cell(uint8_t *to, unsigned vci, unsigned mark) {
   memset(to, (int)(mark & 255), 53);
   to[0] = 0, to[1] = (uint8_t)(vci >> 12), to[2] = (uint8_t)(vci >> 4), to[3] = (uint8_t)((vci & 15) << 4);
+  if (!raw) return;
+  unsigned rest = 0; /* octet 5, by long division */
+  for (unsigned k = 0; k < 40; ++k) {
+    rest = rest << 1 | (k < 32 ? to[k / 8] >> (7 - k % 8) & 1u : 0);
+    if (rest & 256) rest ^= 0x107;
+  }
+  to[4] = (uint8_t)(rest ^ 0x55);
+}
+
+/* One header bit wrong now and then, at each of forty places in turn, and two more seldom. */
+static unsigned damage_header(uint8_t *to, unsigned mark) {
+  const unsigned wrong = !raw ? 0 : mark % 5 == 3 ? 1 : mark % 23 == 22 ? 2 : 0;
+  for (unsigned k = 0; k < wrong; ++k) {
+    const unsigned bit = (mark / 5 + 11 * k) % 40;
+    to[bit / 8] = (uint8_t)(to[bit / 8] ^ 128 >> bit % 8);
+  }
+  return wrong;
 }
 
 #define MEMORY                                                                                               \
   cells, CLURIMOON_CELLS(n), links, CLURIMOON_LINKS(n), calendar, CLURIMOON_CALENDAR(n), vcs, CLURIMOON_VCS(v)
 
-static clurimoon_record one_slot(clurimoon_record r, unsigned n, unsigned v, size_t length) {
+/* What the check makes of a cell with so many wrong bits: mended, dropped, or let through as it is. */
+static void judge_check(unsigned verdict, unsigned mode, unsigned wrong, bool lent) {
+  const bool drops = lent && (wrong > 1 || (wrong == 1 && mode == CLURIMOON_DETECTION));
+  if ((verdict == CLURIMOON_DROPPED) != drops) fail("the header check took a cell otherwise");
+  dropped += drops, mended += lent && wrong == 1 && !drops;
+}
+
+static clurimoon_record one_slot(clurimoon_record r, unsigned n, unsigned v, size_t length, unsigned wrong) {
   /* An empty cell is lent as a pointer to unreadable memory. */
   const uint8_t *lent = length == 0 ? cell_fence.start + cell_fence.room : cell;
   now_doing = "slot";
   clurimoon_served s = clurimoon_slot(r, MEMORY, lent, length);
   if (s.answer.number != 0) fail("a slot was refused");
   ++slots_served, ++calls_made;
+  judge_check(s.answer.verdict, r.mode, wrong, length != 0);
+  if (s.record.mode != (length == 0 ? r.mode : wrong ? 1 : 0)) fail("the header check is in the wrong mode");
   now_doing = "line";
   clurimoon_part part = clurimoon_line(cells, CLURIMOON_CELLS(n), idle, 53, s.answer.space);
   ++calls_made;
@@ -157,15 +192,22 @@ static clurimoon_record one_slot(clurimoon_record r, unsigned n, unsigned v, siz
 }
 
 static clurimoon_record one_burst(clurimoon_record r, unsigned n, unsigned v, unsigned seed) {
+  unsigned wrong[slots_in_burst], mode = r.mode;
   for (unsigned k = 0; k < slots_in_burst; ++k) {
     sizes[k] = (k + seed) % 7 == 0 ? 0 : 53;
     write_cell(arrivals + 53 * k, 1 + (k + seed) % (v - 1), k);
+    wrong[k] = damage_header(arrivals + 53 * k, k + seed);
   }
   now_doing = "burst";
   clurimoon_burst_end e = clurimoon_burst(r, MEMORY, arrivals, 53 * slots_in_burst, sizes, slots_in_burst,
                                           departures, 53 * slots_in_burst, answers, 6 * slots_in_burst);
   if (e.number != 0 || e.done != slots_in_burst) fail("a burst was refused");
   slots_served += e.done, ++calls_made;
+  for (unsigned k = 0; k < slots_in_burst; ++k) {
+    judge_check(answers[6 * k + CLURIMOON_ANSWER_VERDICT], mode, wrong[k], sizes[k] != 0);
+    if (sizes[k] != 0) mode = wrong[k] ? 1 : 0;
+  }
+  if (e.record.mode != mode) fail("the header check is in the wrong mode");
   const uint8_t *nowhere = cells_fence.start + cells_fence.room;
   e = clurimoon_burst(e.record, MEMORY, nowhere, 0, nowhere, 0, (uint8_t *)(uintptr_t)nowhere, 0,
                       (uint16_t *)(uintptr_t)nowhere, 0);
@@ -177,7 +219,7 @@ static clurimoon_record one_burst(clurimoon_record r, unsigned n, unsigned v, un
 /* Numbers out of range, right where a careless call would follow them. */
 static void run_damaged(clurimoon_record good, unsigned n, unsigned v) {
   now_doing = "slot or audit in a damaged state";
-  for (unsigned kind = 0; kind < 10; ++kind) {
+  for (unsigned kind = 0; kind < damages; ++kind) {
     clurimoon_record r = good;
     const uint16_t bad = (uint16_t)(kind % 2 == 0 ? n : 65534);
     if (kind / 2 == 0) r.T = bad;
@@ -185,6 +227,8 @@ static void run_damaged(clurimoon_record good, unsigned n, unsigned v) {
     if (kind / 2 == 2) r.free_head = bad, r.free_tail = 0;
     if (kind / 2 == 3) r.out_head = 0, r.out_tail = bad;
     if (kind / 2 == 4) r.out_head = r.out_tail = bad;
+    if (kind / 2 == 5) r.raw = (uint16_t)(kind % 2 == 0 ? 2 : 65535);
+    if (kind / 2 == 6) r.mode = (uint16_t)(kind % 2 == 0 ? 2 : 65535);
     write_cell(cell, v - 1, kind);
     refused += clurimoon_slot(r, MEMORY, cell, 53).answer.number == CLURIMOON_STORED;
     if (clurimoon_audit(r, MEMORY)) fail("the audit says yes in a damaged state");
@@ -232,11 +276,11 @@ static clurimoon_record close_last(clurimoon_record r, unsigned n, unsigned v) {
   const uint16_t last = (uint16_t)(v - 1);
   unsigned k = 0;
   write_cell(cell, last, 0);
-  r = one_slot(r, n, v, 53);
+  r = one_slot(r, n, v, 53, 0);
   now_doing = "close";
   while (clurimoon_close(r, vcs, CLURIMOON_VCS(v), last) == CLURIMOON_WAITING) {
     if (++k > 2 * n + 4) fail("a close was refused for too long");
-    r = one_slot(r, n, v, 0);
+    r = one_slot(r, n, v, 0, 0);
     now_doing = "close";
     ++calls_made, ++refused;
   }
@@ -252,7 +296,7 @@ static void run_policer(unsigned n, unsigned v) {
   now_n = n, now_v = v;
   lend_all(n, v);
   now_doing = "setup";
-  clurimoon_set set = clurimoon_setup((uint16_t)n, (uint16_t)v, MEMORY);
+  clurimoon_set set = clurimoon_setup((uint16_t)n, (uint16_t)v, raw, MEMORY);
   if (set.number != 0) fail("setup was refused");
   clurimoon_record r = set.record;
   now_doing = "open";
@@ -267,7 +311,8 @@ static void run_policer(unsigned n, unsigned v) {
   for (unsigned k = 0; k < 3 * n + 40 || k < v + 2; ++k) {
     /* One VC alone first: its delays climb to N-1. */
     write_cell(cell, k % 3 == 0 || k < 5 * n / 8 + 8 ? v - 1 : 1 + k % (v > 2 ? 2 : 1), k);
-    r = one_slot(r, n, v, k % 11 == 10 ? 0 : 53);
+    const unsigned wrong = damage_header(cell, k);
+    r = one_slot(r, n, v, k % 11 == 10 ? 0 : 53, wrong);
   }
   r = one_burst(r, n, v, n);
   now_doing = "audit";
@@ -342,20 +387,19 @@ int main(void) {
   const unsigned bitten = bite();
   printf("guard: careless routines faulted %u times of %u, N 37 among them\n", bitten, bitten);
   signal(SIGSEGV, on_fault), signal(SIGBUS, on_fault);
-  for (int side = 0; side < 2; ++side) {
-    at_end = side == 0;
+  for (int side = 0; side < rounds; ++side) {
+    at_end = side % 2 == 0, raw = side >= 2;
     for (unsigned n = 1; n <= 1024; ++n) {
       static const unsigned edges[] = {2, 3, 64, 1023, 1024};
       run_policer(n, n % 8 == 0 ? edges[n / 8 % 5] : 2 + n * 7 % 121);
     }
     for (unsigned v = 2; v <= 1024; ++v) run_policer(1 + v % 9, v);
-    printf("  every N and every V with buffers %s\n",
+    printf("  every N and every V%s with buffers %s\n", raw ? ", raw," : "",
            at_end ? "ending at an unreadable page" : "beginning after one");
     fflush(stdout);
   }
-  printf("guard: N 1 to 1,024 and V 2 to 1,024, twice: %llu calls (%llu refused), %llu slots, %llu cells "
-         "sent, no octet "
-         "touched outside\n",
-         calls_made, refused, slots_served, cells_sent);
+  printf("guard: N 1 to 1,024 and V 2 to 1,024, twice%s: %llu calls (%llu refused), %llu slots, %llu "
+         "cells sent, %llu mended, %llu dropped, no octet touched outside\n",
+         rounds == 4 ? ", raw and not" : "", calls_made, refused, slots_served, cells_sent, mended, dropped);
   return 0;
 }

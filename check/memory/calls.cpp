@@ -1,5 +1,7 @@
 #include "calls.hpp"
 
+#include "../second/hec.hpp"
+
 #include <algorithm>
 
 namespace calls {
@@ -17,6 +19,11 @@ const char *const fault_name[fault_count] = {
 const char *const close_name[close_count] = {
 #define X(name) #name,
     CALLS_CLOSES(X)
+#undef X
+};
+const char *const check_name[check_count] = {
+#define X(name) #name,
+    CALLS_CHECKS(X)
 #undef X
 };
 Tally tally;
@@ -122,9 +129,15 @@ public:
       : r(record), lent(lent), journal(journal), n(record.n), v(record.v) {}
 
   clurimoon_served serve(Lent<const uint8_t> cell) {
+    bool lets_through = cell.length == 53;
+    if (lets_through) {
+      std::copy_n(cell.at, 53, arriving.begin());
+      need(r.raw <= 1, slot_raw);
+      if (r.raw == 1) lets_through = check_header();
+    }
     tick();
     if (r.rotation != 0) update_named_by_rotation();
-    if (cell.length == 53) arrive(cell.at);
+    if (lets_through) arrive(arriving.data());
     transfer();
     if (r.out_head != empty) depart();
     return {r, answer};
@@ -136,6 +149,22 @@ private:
   const Memory &lent;
   Journal &journal;
   const uint16_t n, v;
+  std::array<uint8_t, 53> arriving{}; // a copy of the lent cell, so that the lent one stays as it is
+
+  // Whether the cell goes on, mended where one bit is wrong in correction.
+  bool check_header() {
+    need(r.mode <= 1, slot_mode);
+    second::Header header;
+    std::copy_n(arriving.begin(), 5, header.begin());
+    const unsigned bit = second::wrong_bit(header);
+    const bool correcting = r.mode == CLURIMOON_CORRECTION;
+    r.mode = bit == 40 ? CLURIMOON_CORRECTION : CLURIMOON_DETECTION;
+    if (bit == 40) return true;
+    if (!correcting || bit == 41) return answer.verdict = CLURIMOON_DROPPED, false;
+    header = second::with_bit_changed(header, bit);
+    std::copy_n(header.begin(), 5, arriving.begin());
+    return true;
+  }
 
   uint32_t *vc(unsigned vci) const { return lent.vcs.at + size_t{7} * vci; }
 
@@ -272,7 +301,7 @@ clurimoon_served refused(const clurimoon_record &record, uint16_t number) {
 
 } // namespace
 
-clurimoon_set setup(uint16_t n, uint16_t v, Memory lent) {
+clurimoon_set setup(uint16_t n, uint16_t v, bool raw, Memory lent) {
   if (!sizes_in_range(n, v)) return {1, {}};
   if (!lengths_fit(n, v, lent)) return {2, {}};
   std::fill_n(lent.cells.at, lent.cells.length, uint8_t{0});
@@ -287,6 +316,7 @@ clurimoon_set setup(uint16_t n, uint16_t v, Memory lent) {
   record.rotation = static_cast<uint16_t>(v - 1);
   record.free_head = 0, record.free_tail = static_cast<uint16_t>(n - 1);
   record.out_head = record.out_tail = empty;
+  record.raw = raw ? 1 : 0, record.mode = CLURIMOON_CORRECTION;
   return {0, record};
 }
 
@@ -341,7 +371,49 @@ uint16_t close(const clurimoon_record &record, Lent<uint32_t> vcs, uint16_t vci)
   return 0;
 }
 
-clurimoon_served slot(const clurimoon_record &record, Memory lent, Lent<const uint8_t> cell) {
+namespace {
+
+// What the header check met, from the record and the cell as they came and from what the slot answered.
+void tally_check(const clurimoon_record &record, Lent<const uint8_t> cell, const clurimoon_answer &a) {
+  const bool done = a.number == 0, lent = cell.length == 53;
+  const auto met = [](Check check) { tally.check[check] += 1; };
+  if (record.raw > 1 && done) met(unfit_raw_not_read);
+  if (record.mode > 1 && done) met(unfit_mode_not_read);
+  if (record.raw > 1 && lent && (a.number == 1 || a.number == 2)) met(unfit_raw_after_1_2_9);
+  if (record.raw > 1 && a.number == 9) met(unfit_raw_after_1_2_9);
+  if (record.raw == 1 && record.mode == 1 && done && !lent) met(no_cell_in_detection);
+  if (!lent || record.raw > 1 || (record.raw == 1 && record.mode > 1) || (!done && a.number != 3)) return;
+  second::Header header;
+  std::copy_n(cell.at, 5, header.begin());
+  if (record.raw == 0) {
+    if (!second::is_clean(header) && done) met(not_raw_with_a_wrong_octet_5);
+    return;
+  }
+  const unsigned bit = second::wrong_bit(header);
+  const bool detecting = record.mode == CLURIMOON_DETECTION;
+  const Header read = read_header(header.data());
+  const bool user = read.vpi != 0 || read.vci != 0;
+  if (bit == 40) {
+    if (done) return met(detecting ? clean_in_detection : clean_in_correction);
+    if (detecting) met(clean_and_refused_in_detection);
+  } else if (detecting || bit == 41) {
+    if (!done) return met(dropped_and_refused);
+    met(!detecting ? dropped_in_correction
+        : bit < 40 ? dropped_in_detection_for_one_bit
+                   : dropped_in_detection);
+    if (a.space != empty) met(dropped_and_another_departs);
+    if (!user) met(dropped_no_user_cell);
+  } else {
+    if (!done) return met(mended_and_refused);
+    static const Check by_verdict[] = {mended_to_no_user_cell, mended_accepted, mended_excess, mended_unknown};
+    met(by_verdict[a.verdict]);
+    if (bit >= 32) met(mended_in_octet_5);
+    if (!user && a.verdict != CLURIMOON_NOTHING) met(mended_from_no_user_cell);
+    tally.mended_bit[bit] += 1;
+  }
+}
+
+clurimoon_served judged_slot(const clurimoon_record &record, Memory lent, Lent<const uint8_t> cell) {
   if (!sizes_in_range(record.n, record.v)) return refused(record, 1);
   if (!lengths_fit(record.n, record.v, lent)) return refused(record, 2);
   if (cell.length != 0 && cell.length != 53) return refused(record, 9);
@@ -354,6 +426,14 @@ clurimoon_served slot(const clurimoon_record &record, Memory lent, Lent<const ui
     journal.undo();
     return refused(record, 3);
   }
+}
+
+} // namespace
+
+clurimoon_served slot(const clurimoon_record &record, Memory lent, Lent<const uint8_t> cell) {
+  const clurimoon_served served = judged_slot(record, lent, cell);
+  tally_check(record, cell, served.answer);
+  return served;
 }
 
 clurimoon_part line(size_t cells_length, size_t idle_length, uint16_t number) {
@@ -382,6 +462,8 @@ public:
 
   void run() {
     must(r.T < r.n, no_T);
+    must(r.raw <= 1, no_raw);
+    must(r.mode <= 1, no_mode);
     must(r.rotation < r.v, no_rotation);
     for (unsigned vci = 1; vci < r.v; ++vci) judge_vc(lent.vcs.at + size_t{7} * vci);
     walk(r.free_head, r.free_tail, false);

@@ -15,6 +15,8 @@ namespace calls {
 
 // Every clause of refusal 3, by the place in a call that reads the number.
 #define CALLS_CLAUSES(X)                                                                                     \
+  X(slot_raw)                                                                                                \
+  X(slot_mode)                                                                                               \
   X(slot_T)                                                                                                  \
   X(slot_rotation)                                                                                           \
   X(rotation_open)                                                                                           \
@@ -46,6 +48,8 @@ extern const char *const clause_name[clause_count];
   X(no_range)                                                                                                \
   X(no_length)                                                                                               \
   X(no_T)                                                                                                    \
+  X(no_raw)                                                                                                  \
+  X(no_mode)                                                                                                 \
   X(no_rotation)                                                                                             \
   X(no_open_word)                                                                                            \
   X(no_rules) X(no_S) X(no_waiting_range) X(no_pair) X(no_link) X(no_space_twice) X(no_space_missing)        \
@@ -80,11 +84,45 @@ enum Close {
 };
 extern const char *const close_name[close_count];
 
+// What the header check made of a lent cell, and how its slot ended.
+#define CALLS_CHECKS(X)                                                                                      \
+  X(clean_in_correction)                                                                                     \
+  X(clean_in_detection)                                                                                      \
+  X(mended_accepted)                                                                                         \
+  X(mended_excess)                                                                                           \
+  X(mended_unknown)                                                                                          \
+  X(mended_to_no_user_cell)                                                                                  \
+  X(mended_from_no_user_cell) /* as it came, its slot would have been empty */                               \
+  X(mended_in_octet_5)                                                                                       \
+  X(mended_and_refused) /* with 3: the mode stays */                                                         \
+  X(dropped_in_correction)                                                                                   \
+  X(dropped_in_detection_for_one_bit)                                                                        \
+  X(dropped_in_detection)                                                                                    \
+  X(dropped_and_another_departs)                                                                             \
+  X(dropped_no_user_cell)                                                                                    \
+  X(dropped_and_refused)                                                                                     \
+  X(clean_and_refused_in_detection)                                                                          \
+  X(no_cell_in_detection)                                                                                    \
+  X(unfit_raw_not_read)                                                                                      \
+  X(unfit_mode_not_read)                                                                                     \
+  X(unfit_raw_after_1_2_9) /* another refusal comes first */                                                 \
+  X(not_raw_with_a_wrong_octet_5)
+
+enum Check {
+#define X(name) name,
+  CALLS_CHECKS(X)
+#undef X
+      check_count
+};
+extern const char *const check_name[check_count];
+
 // What was met, for the summary of a run.
 struct Tally {
   std::array<uint64_t, clause_count> clause{};
   std::array<uint64_t, fault_count> fault{};
   std::array<uint64_t, close_count> close{};
+  std::array<uint64_t, check_count> check{};
+  std::array<uint64_t, 40> mended_bit{};
 };
 extern Tally tally;
 
@@ -100,7 +138,7 @@ struct Memory {
   Lent<uint32_t> vcs;
 };
 
-clurimoon_set setup(uint16_t n, uint16_t v, Memory);
+clurimoon_set setup(uint16_t n, uint16_t v, bool raw, Memory);
 uint16_t open(const clurimoon_record &, Lent<uint32_t> vcs, uint16_t vci, uint8_t m, uint32_t f, uint32_t c);
 uint16_t close(const clurimoon_record &, Lent<uint32_t> vcs, uint16_t vci);
 clurimoon_served slot(const clurimoon_record &, Memory, Lent<const uint8_t> cell);

@@ -31,22 +31,37 @@ public:
   void others() {
     std::printf("  verdicts in served slots:");
     item(" nothing", verdicts[0]), item(", accepted", verdicts[1]), item(", excess", verdicts[2]);
-    item(", unknown", verdicts[3]), item("; sent", sent), item("; slots in bursts", burst_slots);
+    item(", unknown", verdicts[3]);
+    if (may_be_raw) item(", dropped", verdicts[4]);
+    item("; sent", sent), item("; slots in bursts", burst_slots);
     std::printf("\n  audits:");
     item(" yes", audits_yes), item(", no", audits_no), item("; line parts: empty", parts_empty);
     item(", idle", parts_idle), item(", space", parts_cell), item("; damages", damages);
     std::printf("\n");
   }
+  // Which of the forty bits were mended: the one least often, that is.
+  void bits() {
+    uint64_t least = UINT64_MAX;
+    for (uint64_t times : calls::tally.mended_bit) least = std::min(least, times);
+    std::printf("  header bits mended, of forty the least often:");
+    item("", least);
+    std::printf("\n");
+  }
   template <size_t size>
   void clauses(const char *title, const char *const (&names)[size], const std::array<uint64_t, size> &times) {
     std::printf("  %s", title);
-    for (size_t k = 0; k < size; ++k) item((k % 5 == 0 ? "\n    " : "; ") + std::string(names[k]), times[k]);
+    for (size_t k = 0; k < size; ++k)
+      if (may_be_raw || !of_the_header_check(names[k]))
+        item((k % 5 == 0 ? "\n    " : "; ") + std::string(names[k]), times[k]);
     std::printf("\n");
   }
 
 private:
   const uint64_t enough;
 
+  static bool of_the_header_check(const std::string &name) {
+    return name == "slot_raw" || name == "slot_mode" || name == "no_raw" || name == "no_mode";
+  }
   void item(const std::string &name, uint64_t times) {
     std::printf("%s %llu%s", name.c_str(), static_cast<unsigned long long>(times),
                 times < enough ? " (TOO SELDOM)" : "");
@@ -83,6 +98,7 @@ int main(int count_arguments, char **arguments) {
   summary.clauses("refusal 3 by clause:", calls::clause_name, calls::tally.clause);
   summary.clauses("the audit's no by clause:", calls::fault_name, calls::tally.fault);
   summary.clauses("close by what is left of S:", calls::close_name, calls::tally.close);
+  if (may_be_raw) summary.clauses("the header check:", calls::check_name, calls::tally.check), summary.bits();
   std::printf("memories: %llu calls in %llu scenarios compared, all equal\n",
               static_cast<unsigned long long>(made), static_cast<unsigned long long>(scenario));
   if (!summary.complete) return std::fprintf(stderr, "memories: FAILED, something was met too seldom\n"), 1;

@@ -1,10 +1,20 @@
 // One policer twice, in the archive and in the second implementation: each call is
 // made of both with the same arguments, and everything is compared after it.
 #pragma once
+#include <algorithm>
+
 #include "../random.hpp"
+#include "../second/hec.hpp"
 #include "twin.hpp"
 
 namespace memories {
+
+// A slot that has no header check, in the place of the archive's, is compared with NOT_RAW defined.
+#ifdef NOT_RAW
+constexpr bool may_be_raw = false;
+#else
+constexpr bool may_be_raw = true;
+#endif
 
 class Policer {
 protected:
@@ -21,6 +31,7 @@ protected:
   Memories memory;
   bool fresh = true; // since setup each call got what the call before left
   unsigned load = 90;
+  unsigned wrong = 10; // cells in a hundred that come with a wrong header, where it is checked
   std::vector<uint16_t> favourites;
 
   void choose_sizes() {
@@ -33,6 +44,7 @@ protected:
     else if (kind % 10 < 9) v = static_cast<uint16_t>(random.between(2, 70));
     else v = random.pick<uint16_t>({2, 3, 64, 255, 256, 1023, 1024});
     load = random.pick({20u, 60u, 90u, 100u, 100u});
+    wrong = random.pick({0u, 3u, 10u, 40u});
     for (uint64_t k = random.between(1, 5); k > 0; --k)
       favourites.push_back(static_cast<uint16_t>(random.between(1, v - 1u)));
   }
@@ -58,7 +70,7 @@ protected:
     if (random.once_in(12)) asked_n = random.pick<uint16_t>({0, 1025, 65535, 1024, 1});
     if (random.once_in(12)) asked_v = random.pick<uint16_t>({0, 1, 1025, 65535, 1024, 2});
     const Lengths lent = random.once_in(12) ? wrong_lengths() : lengths();
-    const clurimoon_set got = setup(asked_n, asked_v, lent);
+    const clurimoon_set got = setup(asked_n, asked_v, may_be_raw && random.once_in(2), lent);
     record = got.record;
     // Another size with just its lengths is done, too, and is not the policer that follows.
     if (got.number != 0 || asked_n != n || asked_v != v) return false;
@@ -82,7 +94,7 @@ protected:
     if (n <= 1024 && v == 2) v = 1025;
     favourites = {1};
     make_buffers();
-    setup(n, v, lengths());
+    setup(n, v, may_be_raw && random.once_in(2), lengths());
     for (uint16_t space = 0; space < n; ++space) memory.links.set(space, static_cast<uint16_t>(space + 1));
     for (size_t k = 0; k < memory.calendar.size(); ++k) memory.calendar.set(k, none);
     for (size_t k = 0; k < memory.vcs.size(); ++k) memory.vcs.set(k, 0);
@@ -94,7 +106,9 @@ protected:
               0,
               static_cast<uint16_t>(n - 1),
               none,
-              none};
+              none,
+              static_cast<uint16_t>(may_be_raw ? random.below(4) : 0),
+              static_cast<uint16_t>(may_be_raw ? random.below(3) : 0)};
     fresh = false;
   }
 
@@ -135,11 +149,11 @@ protected:
     made += 1;
   }
 
-  clurimoon_set setup(uint16_t asked_n, uint16_t asked_v, const Lengths &lent) {
+  clurimoon_set setup(uint16_t asked_n, uint16_t asked_v, bool raw, const Lengths &lent) {
     begin_call("setup");
-    const clurimoon_set expected = calls::setup(asked_n, asked_v, lend_ours(lent));
+    const clurimoon_set expected = calls::setup(asked_n, asked_v, raw, lend_ours(lent));
     const clurimoon_set got =
-        clurimoon_setup(asked_n, asked_v, memory.cells.lend_theirs(lent.cells, lent.null), lent.cells,
+        clurimoon_setup(asked_n, asked_v, raw, memory.cells.lend_theirs(lent.cells, lent.null), lent.cells,
                         memory.links.lend_theirs(lent.links, lent.null), lent.links,
                         memory.calendar.lend_theirs(lent.calendar, lent.null), lent.calendar,
                         memory.vcs.lend_theirs(lent.vcs, lent.null), lent.vcs);
@@ -226,6 +240,19 @@ protected:
     if (kind == 9)
       vpi = static_cast<uint32_t>(random.below(256)), vci = static_cast<uint32_t>(random.below(65536));
     put_header(cell, vpi, vci);
+    if (record.raw == 1) put_octet_5(cell);
+  }
+  // Where headers are checked octet 5 is mostly right; else some of the forty bits are wrong.
+  void put_octet_5(uint8_t *cell) {
+    second::Header header;
+    std::copy_n(cell, 5, header.begin());
+    header[4] = second::octet5(header);
+    if (random.percent(wrong)) {
+      const uint64_t kind = random.below(10);
+      for (uint64_t bits = kind < 7 ? 1 : kind < 8 ? 2 : kind < 9 ? 3 : random.between(4, 9); bits > 0; --bits)
+        header = second::with_bit_changed(header, static_cast<unsigned>(random.below(40)));
+    }
+    std::copy_n(header.begin(), 5, cell);
   }
   static void put_header(uint8_t *cell, uint32_t vpi, uint32_t vci) {
     cell[0] = static_cast<uint8_t>((cell[0] & 0xf0) | vpi >> 4);
@@ -260,7 +287,8 @@ protected:
     if (got.answer.number == 0) tally(got.answer.verdict, got.answer.space);
   }
   void tally(uint16_t verdict, uint16_t space) {
-    verdicts[verdict & 3] += 1;
+    if (verdict > 4) fail("a verdict above 4");
+    verdicts[verdict] += 1;
     sent += space != none;
   }
 

@@ -61,7 +61,7 @@ private:
   void damage() {
     fresh = false;
     damages += 1;
-    switch (random.below(15)) {
+    switch (random.below(may_be_raw ? 17 : 15)) {
     case 0: damage_record(); break;
     case 1: memory.links.set(likely_space(), edge_number()); break;
     case 2: memory.calendar.set(2 * likely_entry() + random.below(2), edge_number()); break;
@@ -79,6 +79,8 @@ private:
     case 14:
       (random.once_in(2) ? record.free_tail : record.free_head) = random.pick<uint16_t>({n, 65534});
       break;
+    case 15: record.raw = random.pick<uint16_t>({0, 1, 1, 2, 256, 65535}); break;
+    case 16: record.mode = random.pick<uint16_t>({0, 1, 1, 2, 256, 65535}); break;
     }
   }
   void damage_record() {

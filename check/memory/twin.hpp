@@ -76,7 +76,7 @@ inline std::string show(const clurimoon_record &r) {
   std::string text = "{";
   for (uint32_t number :
        {uint32_t{r.n}, uint32_t{r.v}, r.t, uint32_t{r.T}, uint32_t{r.rotation}, uint32_t{r.free_head},
-        uint32_t{r.free_tail}, uint32_t{r.out_head}, uint32_t{r.out_tail}})
+        uint32_t{r.free_tail}, uint32_t{r.out_head}, uint32_t{r.out_tail}, uint32_t{r.raw}, uint32_t{r.mode}})
     text += " " + std::to_string(number);
   return text + " }";
 }
@@ -96,13 +96,14 @@ inline void same_record(const clurimoon_record &expected, const clurimoon_record
   const bool equal = expected.n == got.n && expected.v == got.v && expected.t == got.t &&
                      expected.T == got.T && expected.rotation == got.rotation &&
                      expected.free_head == got.free_head && expected.free_tail == got.free_tail &&
-                     expected.out_head == got.out_head && expected.out_tail == got.out_tail;
+                     expected.out_head == got.out_head && expected.out_tail == got.out_tail &&
+                     expected.raw == got.raw && expected.mode == got.mode;
   if (!equal) same("record", expected, got);
 }
 
 // How often each call gave each number, and each verdict was met.
 inline std::map<std::string, std::array<uint64_t, 11>> met;
-inline std::array<uint64_t, 4> verdicts;
+inline std::array<uint64_t, 5> verdicts;
 inline uint64_t sent, audits_yes, audits_no, parts_empty, parts_idle, parts_cell, burst_slots, damages;
 
 inline void count(const char *call, unsigned number) {

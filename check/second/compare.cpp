@@ -232,8 +232,30 @@ bool met_enough(const second::Met &met) {
                                        "stop: one octet of a mark",
                                        "stop: first mark unknown",
                                        "stop: mark unknown",
-                                       "stop: first is not GM",
+                                       "stop: first is neither GM nor GR",
                                        "stop: a later GM",
+                                       "stop: a later GR",
+                                       "GR: setup 0",
+                                       "GR: setup 1",
+                                       "not raw: another octet 5",
+                                       "raw: clean in correction",
+                                       "raw: clean in detection",
+                                       "raw: idle, clean in correction",
+                                       "raw: idle, clean in detection",
+                                       "raw: unassigned, clean in correction",
+                                       "raw: unassigned, clean in detection",
+                                       "raw: mended A",
+                                       "raw: mended X",
+                                       "raw: mended U",
+                                       "raw: mended .",
+                                       "raw: mended from no user cell",
+                                       "H: more than one in correction",
+                                       "H: more than one in detection",
+                                       "H: one wrong bit in detection",
+                                       "H: after a pause in correction",
+                                       "H: after a pause in detection",
+                                       "H: another cell leaves",
+                                       "H: no user cell",
                                        "stop: record cut by the end",
                                        "stop: record cut by the limit",
                                        "stop: mark cut by the limit",
@@ -243,10 +265,12 @@ bool met_enough(const second::Met &met) {
                                        "plain end"};
   bool all = true;
   int shown = 0;
-  for (const char *what : needed) {
+  std::vector<std::string> all_needed(std::begin(needed), std::end(needed));
+  for (unsigned bit = 0; bit < 40; ++bit) all_needed.push_back("raw: bit " + std::to_string(bit) + " mended");
+  for (const std::string &what : all_needed) {
     const auto found = met.times.find(what);
     const uint64_t times = found == met.times.end() ? 0 : found->second;
-    std::printf("%s%s %llu%s", shown++ % 6 == 0 ? "\n    " : "; ", what,
+    std::printf("%s%s %llu%s", shown++ % 6 == 0 ? "\n    " : "; ", what.c_str(),
                 static_cast<unsigned long long>(times), times < 3 ? " (TOO SELDOM)" : "");
     all = all && times >= 3;
   }

@@ -2,6 +2,8 @@
 
 #include <algorithm>
 
+#include "hec.hpp"
+
 namespace second {
 
 namespace {
@@ -17,6 +19,10 @@ Octets gm(unsigned n, unsigned v) {
   Octets to = marked("GM");
   return put(to, n, 2), put(to, v, 2), to;
 }
+Octets gr(unsigned n, unsigned v) {
+  Octets to = marked("GR");
+  return put(to, n, 2), put(to, v, 2), to;
+}
 Octets vo(unsigned vci, unsigned m, uint32_t f, uint32_t c) {
   Octets to = marked("VO");
   return put(to, vci, 2), put(to, m, 1), put(to, f, 4), put(to, c, 4), to;
@@ -29,7 +35,7 @@ Octets sl(unsigned count) {
   Octets to = marked("SL");
   return put(to, count, 2), to;
 }
-// GFC, PTI, CLP, HEC and the payload are random: none of them matters.
+// GFC, PTI, CLP, HEC and the payload are random: none of them matters where headers aren't checked.
 Octets ca(Random &random, unsigned vpi, unsigned vci) {
   Octets to = marked("CA");
   const uint64_t rest = random.next();
@@ -59,6 +65,7 @@ public:
         {"limit", &Generator::limit},           {"latest departure", &Generator::latest},
         {"headers", &Generator::headers},       {"long pauses", &Generator::pauses},
         {"debts", &Generator::debts},           {"late cells", &Generator::late},
+        {"header bits", &Generator::bits},      {"raw traffic", &Generator::raw_traffic},
     };
     const Kind &kind = kinds[index % (sizeof kinds / sizeof kinds[0])];
     trace.kind = kind.name;
@@ -71,6 +78,8 @@ private:
   const uint64_t index;
   Trace trace;
   unsigned n = 1, v = 2;
+  bool raw = false;
+  unsigned wrong = 0; // cells in a hundred with a wrong header, in a raw trace
   std::vector<unsigned> in_use;
 
   void add(Octets record) { trace.records.push_back(std::move(record)); }
@@ -83,7 +92,7 @@ private:
     v = random.percent(50)   ? 2 + small(12)
         : random.percent(50) ? 2 + small(1023)
                              : random.pick({2u, 3u, 64u, 1023u, 1024u});
-    add(gm(n, v));
+    set_up(4);
   }
   unsigned some_vci() { return random.percent(10) ? random.pick({1u, v - 1}) : 1 + small(v - 1); }
 
@@ -102,7 +111,31 @@ private:
   void open_some(unsigned most, unsigned slowest) {
     for (unsigned k = 1 + small(most); k > 0; --k) open_good(some_vci(), slowest);
   }
-  void cell() { add(ca(random, 0, random.pick(in_use))); }
+  // The trace's first record: raw once in so many times, then with some wrong headers.
+  void set_up(unsigned times) {
+    raw = random.once_in(times);
+    wrong = random.pick({0u, 2u, 10u, 40u});
+    add(raw ? gr(n, v) : gm(n, v));
+  }
+  // A cell arrives. In a raw trace its octet 5 is right, but for some wrong bits now and then.
+  void arrive(unsigned vpi, unsigned vci) {
+    Octets record = ca(random, vpi, vci);
+    if (raw) put_octet_5(record), spoil(record);
+    add(std::move(record));
+  }
+  static void put_octet_5(Octets &record) {
+    record[6] = octet5({record[2], record[3], record[4], record[5], 0});
+  }
+  static void change_bit(Octets &record, unsigned bit) {
+    record[2 + bit / 8] = static_cast<uint8_t>(record[2 + bit / 8] ^ 128 >> bit % 8);
+  }
+  void spoil(Octets &record) {
+    if (!random.percent(wrong)) return;
+    const uint64_t kind = random.below(10);
+    for (uint64_t bits = kind < 6 ? 1 : kind < 8 ? 2 : kind < 9 ? 3 : random.between(4, 9); bits > 0; --bits)
+      change_bit(record, small(40));
+  }
+  void cell() { arrive(0, random.pick(in_use)); }
   void quiet(unsigned most) { add(sl(1 + small(most))); }
 
   void mixed() {
@@ -120,8 +153,8 @@ private:
     switch (random.below(6)) {
     case 0: add(vx(some_vci())); break;
     case 1: open_good(some_vci(), 6); break;
-    case 2: add(ca(random, 0, some_vci())); break;
-    case 3: add(ca(random, random.pick({0u, 1u, 255u}), random.pick({0u, v, 65535u}))); break;
+    case 2: arrive(0, some_vci()); break;
+    case 3: arrive(random.pick({0u, 1u, 255u}), random.pick({0u, v, 65535u})); break;
     case 4: quiet(200); break;
     case 5: add(vx(random.pick({0u, v, 65535u}))); break;
     }
@@ -140,7 +173,7 @@ private:
     const uint64_t f = std::max<uint64_t>(leak, leak * interval + random.between(0, leak) - leak / 2);
     add(vo(vci, m, static_cast<uint32_t>(f), static_cast<uint32_t>(f + random.below(n * leak))));
     for (unsigned k = small(400); k > 0; --k) {
-      add(ca(random, 0, vci));
+      arrive(0, vci);
       if (interval > 1) add(sl(interval - 1));
     }
   }
@@ -149,7 +182,7 @@ private:
     open_some(5, 8);
     for (unsigned k = small(30); k > 0; --k) {
       const unsigned vci = random.pick(in_use);
-      for (unsigned cells = small(40); cells > 0; --cells) add(ca(random, 0, vci));
+      for (unsigned cells = small(40); cells > 0; --cells) arrive(0, vci);
       quiet(random.pick({2u, 20u, 300u}));
     }
   }
@@ -163,7 +196,7 @@ private:
       case 1: open_good(vci, 4); break;
       case 2: quiet(n + 2); break;
       case 3: add(vx(vci)), open_good(vci, 4); break;
-      default: add(ca(random, 0, vci)); break;
+      default: arrive(0, vci); break;
       }
     }
   }
@@ -200,7 +233,7 @@ private:
   void setups() {
     n = random.pick({0u, 1u, 2u, 1023u, 1024u, 1025u, 65535u, 256u, 4u << 8});
     v = random.pick({0u, 1u, 2u, 3u, 1023u, 1024u, 1025u, 65535u, 512u});
-    add(gm(n, v));
+    set_up(3);
     const bool good = n >= 1 && n <= 1024 && v >= 2 && v <= 1024;
     if (!good) n = std::max(1u, std::min(n, 1024u)), v = std::max(2u, std::min(v, 1024u));
     open_good(random.pick({1u, v - 1}), 3);
@@ -212,7 +245,7 @@ private:
   void reader() {
     if (!random.once_in(8)) mixed_short();
     const size_t last = trace.records.size();
-    switch (random.below(12)) {
+    switch (random.below(14)) {
     case 0: trace.records.clear(); break;
     case 1: cut(); break;
     case 2: cut(); break;
@@ -227,6 +260,8 @@ private:
     case 9: add({random.pick<uint8_t>({'G', 'V', 'C', 'S', 0, 10})}); break;
     case 10: random_octets(); break;
     case 11: add(gm(n, v)); break;
+    case 12: add(gr(n, v)); break;
+    case 13: insert(gr(n, v)); break;
     }
   }
   void mixed_short() {
@@ -250,7 +285,8 @@ private:
   }
   Octets unknown_mark() {
     static const char *const marks[] = {"gm", "MG", "VV", "OV", "CX", "AC", "LS", "SX",
-                                        "VA", "GO", "CL", "  ", "ca", "VM", "SO"};
+                                        "VA", "GO", "CL", "  ", "ca", "VM", "SO", "GN",
+                                        "gr", "RG", "VR", "SR", "GX"};
     Octets record = marked(marks[random.below(sizeof marks / sizeof marks[0])]);
     record.resize(2 + random.below(55), 0);
     return record;
@@ -292,7 +328,7 @@ private:
   // The construction that makes a cell leave exactly N-1 slots after its due slot.
   void latest() {
     n = 2 + small(random.once_in(4) ? 28 : 9), v = 3 + small(60);
-    add(gm(n, v));
+    set_up(4);
     unsigned m = 0;
     while (1u << m < n - 1) ++m;
     const uint32_t leak = 1u << m;
@@ -300,15 +336,15 @@ private:
     add(vo(2, m, leak + 1, leak + 1 + n * leak - 1));
     const unsigned change = random.once_in(3) ? small(4) : 0;
     for (unsigned k = n * leak - std::min(change, n * leak); k > 0 && trace.records.size() < 1100; --k)
-      add(ca(random, 0, 2));
-    for (unsigned k = n - 1; k > 0; --k) add(ca(random, 0, random.once_in(40) ? 2 : 1));
+      arrive(0, 2);
+    for (unsigned k = n - 1; k > 0; --k) arrive(0, random.once_in(40) ? 2 : 1);
     quiet(3 * n);
   }
   // A VC that sends, stops, and is closed and reopened: at once, a slot before its
   // debt is paid, in the slot in which it is, and around it; then it sends again.
   void debts() {
     n = 1 + small(random.once_in(3) ? 60 : 8), v = 3 + small(10);
-    add(gm(n, v));
+    set_up(4);
     uint64_t now = 0, next_due = 0;
     const bool crowd = random.once_in(3);
     if (crowd) add(vo(2, 0, 1, 1));
@@ -322,7 +358,7 @@ private:
       for (unsigned cells = small(9); cells > 0; --cells) {
         const uint64_t due = std::max(now * leak, next_due);
         if (due - now * leak <= spare) next_due = due + f;
-        add(ca(random, 0, 1)), now += 1;
+        arrive(0, 1), now += 1;
         if (random.once_in(6)) add(sl(1)), now += 1;
         if (random.once_in(6)) add(vx(1));
       }
@@ -336,7 +372,7 @@ private:
     const uint64_t before = paid - std::min<uint64_t>(paid, small(4));
     while (now < before) {
       const uint64_t slots = crowd ? 1 : std::min<uint64_t>(before - now, 1 + random.below(9000));
-      if (crowd && random.percent(70)) add(ca(random, 0, 2));
+      if (crowd && random.percent(70)) arrive(0, 2);
       else add(sl(static_cast<unsigned>(slots)));
       now += slots;
       if (crowd || random.once_in(4)) add(vx(1));
@@ -352,22 +388,60 @@ private:
   // Cells that leave so late that their VC has no debt any more, with closes all the while.
   void late() {
     n = 4 + small(9), v = 3 + small(20);
-    add(gm(n, v));
+    set_up(4);
     unsigned m = 0;
     while (1u << m < n - 1) ++m;
     const uint32_t leak = 1u << m;
     add(vo(1, m, leak, leak + small(2)));
     add(vo(2, m, leak + 1, leak + 1 + n * leak - 1));
-    for (unsigned k = n * leak - small(4); k > 0; --k) add(ca(random, 0, 2));
-    for (unsigned k = n - 1; k > 0; --k) add(ca(random, 0, 1));
+    for (unsigned k = n * leak - small(4); k > 0; --k) arrive(0, 2);
+    for (unsigned k = n - 1; k > 0; --k) arrive(0, 1);
     for (unsigned k = 2 * n; k > 0; --k) {
       for (unsigned vci = 1; vci <= 2; ++vci)
         if (random.percent(70)) add(vx(vci));
       if (random.once_in(8)) add(vo(1 + small(2), m, leak, leak));
-      if (random.once_in(5)) add(ca(random, 0, 1 + small(2)));
+      if (random.once_in(5)) arrive(0, 1 + small(2));
       else add(sl(1));
     }
     add(vx(1)), add(vx(2));
+  }
+  // A raw trace with each of the forty bits wrong alone, then two, three or more, in both modes; idle
+  // and unassigned cells, clean and spoilt, lead back, are mended or are dropped like others.
+  void bits() {
+    begin();
+    raw = true, wrong = 0;
+    trace.records = {gr(n, v)};
+    open_some(4, 2);
+    const unsigned first = small(40);
+    for (unsigned k = 0; k < 40; ++k) {
+      wrong_bits(1, (first + k) % 40);
+      if (random.percent(30)) wrong_bits(1 + small(4), small(40));
+      if (random.once_in(4)) quiet(3);
+      if (random.once_in(4)) wrong_bits(1, small(40));
+      for (unsigned clean = random.pick({0u, 1u, 1u, 1u, 2u}); clean > 0; --clean) wrong_bits(0, 0);
+    }
+    quiet(2 * n + 2);
+  }
+  // A cell of a VC in use, or an idle or unassigned one, with so many wrong bits from `bit` on.
+  void wrong_bits(unsigned bits, unsigned bit) {
+    Octets record = ca(random, 0, random.pick(in_use));
+    if (random.once_in(5)) record[2] = record[3] = record[4] = 0, record[5] = random.pick<uint8_t>({0, 1});
+    put_octet_5(record);
+    for (unsigned k = 0; k < bits; ++k) change_bit(record, bit), bit = (bit + 1 + small(30)) % 40;
+    add(std::move(record));
+  }
+  void raw_traffic() {
+    begin();
+    raw = true;
+    trace.records = {gr(n, v)};
+    open_some(6, 6);
+    for (unsigned k = small(500); k > 0; --k) {
+      if (random.percent(85)) cell();
+      else quiet(3);
+      if (random.once_in(40)) odd_event();
+      if (random.once_in(60)) wrong = random.pick({0u, 2u, 10u, 40u, 100u});
+    }
+    if (random.percent(70)) quiet(2 * n + 5);
   }
   // Any VPI and VCI, idle and unassigned cells among them.
   void headers() {
@@ -378,7 +452,7 @@ private:
           random.percent(70) ? 0 : random.pick({1u, 2u, 4u, 8u, 15u, 16u, 32u, 64u, 128u, 240u, 255u});
       const unsigned vci = random.pick({0u, 1u, v - 1, v, v + 1, 65535u, 4096u, 256u, random.pick(in_use),
                                         random.pick(in_use), random.pick(in_use) | 4096u, small(65536)});
-      add(ca(random, vpi, vci));
+      arrive(vpi, vci);
     }
   }
   // Pauses up to the longest, and buckets that take long to fall.

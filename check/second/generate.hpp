@@ -1,4 +1,4 @@
-// Seeded traces of every kind that document 01 tells apart.
+// Seeded traces of every kind that document 01 and the landed requests tell apart.
 #pragma once
 #include <string>
 #include <vector>
@@ -20,6 +20,7 @@ struct Trace {
 };
 
 Octets gm(unsigned n, unsigned v);
+Octets gr(unsigned n, unsigned v);
 Octets vo(unsigned vci, unsigned m, uint32_t f, uint32_t c);
 Octets vx(unsigned vci);
 Octets ca(Random &, unsigned vpi, unsigned vci);

@@ -15,7 +15,8 @@ std::string text32(uint64_t number) { return std::to_string(number % (uint64_t{1
 size_t record_size(uint8_t first, uint8_t second) {
   const std::string mark{static_cast<char>(first), static_cast<char>(second)};
   static const std::map<std::string, size_t> sizes = {
-      {"GM", 2 + 2 + 2}, {"VO", 2 + 2 + 1 + 4 + 4}, {"VX", 2 + 2}, {"CA", 2 + 53}, {"SL", 2 + 2}};
+      {"GM", 2 + 2 + 2}, {"GR", 2 + 2 + 2}, {"VO", 2 + 2 + 1 + 4 + 4},
+      {"VX", 2 + 2},     {"CA", 2 + 53},    {"SL", 2 + 2}};
   const auto found = sizes.find(mark);
   return found == sizes.end() ? 0 : found->second;
 }
@@ -52,11 +53,12 @@ void Spacer::run(size_t readable, bool more) {
     if (left < 2) return stop(place, more ? "mark cut by the limit" : "one octet of a mark");
     if (size == 0) return stop(place, place == 0 ? "first mark unknown" : "mark unknown");
     const char mark = static_cast<char>(input[place + 1]);
-    if (place == 0 && mark != 'M') return stop(place, "first is not GM");
-    if (place != 0 && mark == 'M') return stop(place, "a later GM");
+    const bool sets_up = mark == 'M' || mark == 'R';
+    if (place == 0 && !sets_up) return stop(place, "first is neither GM nor GR");
+    if (place != 0 && sets_up) return stop(place, mark == 'M' ? "a later GM" : "a later GR");
     if (size > left) return stop(place, more ? "record cut by the limit" : "record cut by the end");
     if (mark == 'L' && number(place + 2, 2) == 0) return stop(place, "SL of 0");
-    if (mark == 'M' && !setup(place)) return;
+    if (sets_up && !setup(place)) return;
     if (mark == 'O') open(place);
     if (mark == 'X') close(place);
     if (mark == 'A') slot(&input[place + 2]);
@@ -70,6 +72,7 @@ void Spacer::run(size_t readable, bool more) {
 
 bool Spacer::setup(size_t place) {
   spaces = number(place + 2, 2), vcs = number(place + 4, 2);
+  raw = input[place + 1] == 'R';
   const bool good = spaces >= 1 && spaces <= 1024 && vcs >= 2 && vcs <= 1024;
   listing += "setup " + text(spaces) + " " + text(vcs) + (good ? " 0\n" : " 1\n");
   if (good && (spaces == 1 || spaces == 1024)) met("N at an edge");
@@ -77,6 +80,7 @@ bool Spacer::setup(size_t place) {
   if (spaces == 0 || spaces == 1025) met("N one past an edge");
   if (vcs == 1 || vcs == 1025) met("V one past an edge");
   met(good ? "setup 0" : "setup 1");
+  if (raw) met(good ? "GR: setup 0" : "GR: setup 1");
   if (good) openings.resize(vcs), pasts.resize(vcs);
   return good;
 }
@@ -153,7 +157,8 @@ bool Spacer::may_close(const Opening &vc) {
 }
 
 void Spacer::slot(const uint8_t *cell) {
-  listing += text32(now) + " " + (cell ? arrive(cell) : ". - -");
+  listing += text32(now) + " " + (cell ? take_in(cell) : ". - -");
+  paused = !cell;
   // What is due now goes out after what is already leaving, the latest arrival first.
   const auto queue = due.find(now);
   if (queue != due.end()) {
@@ -173,7 +178,39 @@ void Spacer::slot(const uint8_t *cell) {
   now += 1;
 }
 
-std::string Spacer::arrive(const uint8_t *cell) {
+// Where the trace is raw, the header check lets the cell through, mended or as it came, or drops it.
+std::string Spacer::take_in(const uint8_t *cell) {
+  const Header came = {cell[0], cell[1], cell[2], cell[3], cell[4]};
+  if (!raw) {
+    if (!is_clean(came)) met("not raw: another octet 5");
+    return arrive(came);
+  }
+  const bool correcting = header_check.in_correction();
+  Header header = came;
+  const bool taken = header_check.takes(header);
+  const std::string said = taken ? arrive(header) : "H - -";
+  meet_check(came, correcting, taken, said[0]);
+  return said;
+}
+
+void Spacer::meet_check(const Header &came, bool correcting, bool taken, char verdict) {
+  const std::string mode = correcting ? " in correction" : " in detection";
+  const unsigned bit = wrong_bit(came);
+  const bool no_user_cell = (came[0] & 15) == 0 && came[1] == 0 && came[2] == 0 && came[3] < 16;
+  if (bit == 40) met("raw: clean" + mode);
+  if (!taken) met("H: " + std::string(bit == 41 ? "more than one" : "one wrong bit") + mode);
+  if (!taken && paused) met("H: after a pause" + mode);
+  if (!taken && due.count(now) + leaving.size() > 0) met("H: another cell leaves");
+  if (!taken && no_user_cell) met("H: no user cell");
+  if (bit == 40 && came == Header{0, 0, 0, 0, 0x55}) met("raw: unassigned, clean" + mode);
+  if (bit == 40 && came == Header{0, 0, 0, 1, 0x52}) met("raw: idle, clean" + mode);
+  if (!taken || bit == 40) return;
+  met("raw: mended " + std::string(1, verdict));
+  met("raw: bit " + text(bit) + " mended");
+  if (no_user_cell && verdict != '.') met("raw: mended from no user cell");
+}
+
+std::string Spacer::arrive(const Header &cell) {
   const unsigned vpi = (cell[0] & 15u) * 16 + cell[1] / 16;
   const unsigned vci = (cell[1] & 15u) * 4096 + cell[2] * 16u + cell[3] / 16;
   if (vpi == 0 && vci == 0) return met("no user cell"), ". - -";

@@ -10,6 +10,8 @@
 #include <string>
 #include <vector>
 
+#include "hec.hpp"
+
 namespace second {
 
 // What a run met, so that the runner can say that every case was met.
@@ -50,6 +52,9 @@ private:
   Met &met;
   std::string listing;
   uint64_t spaces = 0, vcs = 0;
+  bool raw = false;
+  HeaderCheck header_check;
+  bool paused = false; // the slot before brought no cell
   uint64_t now = 0; // the next slot's number
   std::vector<Opening> openings;
   std::vector<Past> pasts;
@@ -65,7 +70,9 @@ private:
   bool may_close(const Opening &);
   void meet_reopening(const Opening &, const Past &, uint64_t due_time);
   void slot(const uint8_t *cell);
-  std::string arrive(const uint8_t *cell);
+  std::string take_in(const uint8_t *cell);
+  void meet_check(const Header &came, bool correcting, bool taken, char verdict);
+  std::string arrive(const Header &);
   std::string arrive_open(Opening &, unsigned vci);
   bool within_rules(uint64_t m, uint64_t f, uint64_t c);
   void stop(size_t place, const char *why);

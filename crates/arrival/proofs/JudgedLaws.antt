@@ -1,11 +1,12 @@
 -- Step 3 by cases, as its tests come one after the other: of a VC by its open word, of a cell by its length and name.
 -- Assumes nothing.
-use Prim.Native.Nat.{ℕ, _*_, _/_, _^_, _≤_, _<_}
+use Prim.Native.Nat.{ℕ, _*_, _/_, _%_, _^_, _≤_, _<_}
 use mathlib.Core.Path.{_≡_, refl, sym, _∙_, ap}
 use mathlib.Core.Logic.{_≢_}
 use mathlib.Core.Bool.{true, false}
 use mathlib.Core.List.{List}
 use native.Mathlib.Omega.{arith}
+use native.Mathlib.Decide.{ℕ-discrete}
 use native.Mathlib.Nat.{div-lt-iff-lt-mul}
 use borrow.Author.Tests.{eq-eqb, ne-eqb}
 use lib.ListN.{length, getD}
@@ -17,7 +18,7 @@ use Rattle.meaning.specs.Words.{vcAt, bucketFits}
 use Rattle.header.specs.Name.{nameOf}
 use Rattle.header.proofs.NameLaws.{name-none, name-user, name-names, name-past, names-vci}
 use Rattle.words.proofs.Fits.{opened-at}
-use Rattle.arrival.specs.Arrival.{judgedAs, outOfRange, judgedBucket, judgedVc, judgedOf}
+use Rattle.arrival.specs.Arrival.{Named, judgedAs, outOfRange, judgedBucket, judgedVc, judgedOf}
 use Rattle.arrival.proofs.BroughtLaws.{fallenS, now-bucket}
 
 -- D of an S up to C-F is at most that of C-F
@@ -84,3 +85,30 @@ module _ (N z t : ℕ) (words cell : List ℕ) where
       → judgedAs true unknown (h .vci) 0 0 0 ≡ judgedOf N z t words cell
   unfolding judgedOf
   judged-unknown some user past = simp (ne-eqb _ _ some, name-user h user, name-past z h past)
+
+  -- by the number that stands for the cell
+  pub named-none : (name : ℕ) → Named cell name → name ≡ 0 → judgedAs true nothing 0 0 0 0 ≡ judgedOf N z t words cell
+  named-none name named e = go (ℕ-discrete (length cell) 0)
+    where
+      go : Dec (length cell ≡ 0) → judgedAs true nothing 0 0 0 0 ≡ judgedOf N z t words cell
+      go (yes none) = judged-absent none
+      go (no some) = judged-idle some (sym (named .present some .0) ∙ e)
+
+  named-there : (name : ℕ) → Named cell name → name ≢ 0 → length cell ≢ 0
+  named-there name named user none = user (named .absent none)
+
+  pub named-known : (name : ℕ) → Named cell name → z ≤ 65536 → name ≢ 0 → name < z
+      → judgedVc N t words name ≡ judgedOf N z t words cell
+  named-known name named few user below =
+      let some = named-there name named user in
+      let is = named .present some .0 in
+      ap (judgedVc N t words) is
+      ∙ judged-known some few (λ e. user (is ∙ e)) (omega (arith, is, below))
+
+  pub named-unknown : (name : ℕ) → Named cell name → name ≢ 0 → z ≤ name
+      → judgedAs true unknown (name % 65536) 0 0 0 ≡ judgedOf N z t words cell
+  named-unknown name named user past =
+      let some = named-there name named user in
+      let is = named .present some in
+      ap (λ (u : ℕ). judgedAs true unknown u 0 0 0) (is .1)
+      ∙ judged-unknown some (λ e. user (is .0 ∙ e)) (omega (arith, is .0, past))

@@ -3,13 +3,16 @@
 --   broughtOf   == step 2: whether the words that are read are in range, whether S and last are to be written, and S
 --   judgedOf    == step 3: whether the words that are read are in range; verdict, VCI and D of the answer; the VC's new S
 --                  and, of an accepted cell, its new waiting
-use Prim.Native.Nat.{ℕ, _+_, _-_}
+use Prim.Native.Nat.{ℕ, _+_, _-_, _%_}
+use mathlib.Core.Path.{_≡_}
+use mathlib.Core.Logic.{_≢_}
 use mathlib.Core.Bool.{Bool, true, false, not, _||_}
 use mathlib.Core.List.{List}
 use lib.ListN.{length, getD, set}
 use Rattle.meaning.specs.Plain.{if_then_else_, _<?_, _=?_}
 use Rattle.meaning.specs.Numbers.{nothing, accepted, excess, unknown, sPlace, lastPlace, waitingPlace}
 use Rattle.meaning.specs.Header.{headerAt, noUserCell, namesVc}
+use Rattle.header.specs.Name.{nameOf}
 use Rattle.meaning.specs.Bucket.{Bucket, elapsed, fall, isExcess, delay, fill}
 use Rattle.meaning.specs.Words.{Vc, vcAt, bucketFits}
 use Rattle.arrival.specs.declared.Fall.{Fall}
@@ -52,6 +55,11 @@ judgedVc N t words vci =
     else if vc .opened =? 1
     then (if bucketFits N (vc .bucket) then judgedBucket N vci (bucketNow t vc) (vc .waiting) else outOfRange)
     else outOfRange
+
+-- the number that stands for a cell: VPI and VCI of its header, or 0 where it has no octets
+pub record Named (cell : List ℕ) (name : ℕ) : Type 0 where
+  pub absent : length cell ≡ 0 → name ≡ 0
+  pub present : length cell ≢ 0 → (name ≡ nameOf (headerAt cell 0)) × (name % 65536 ≡ headerAt cell 0 .vci)
 
 unfoldable pub judgedOf : ℕ → ℕ → ℕ → List ℕ → List ℕ → Judged
 judgedOf N z t words cell =

@@ -1,11 +1,12 @@
 // Steps 2 and 3 of a slot, up to the VC words: what is read and decided, before anything is written.
 ghost use mathlib.Core.Path.{_≡_};
 ghost use mathlib.Core.Bool.{true};
-ghost use Prim.Native.Nat.{_+_, _-_, _*_, _/_, _^_, _≤_, _<_};
+ghost use mathlib.Core.List.{List};
+ghost use Prim.Native.Nat.{ℕ, _+_, _-_, _*_, _/_, _^_, _≤_, _<_};
 ghost use lib.ListN.{length, getD};
 ghost use Rattle.meaning.specs.Numbers.{nothing, unknown, waitingPlace};
 ghost use Rattle.meaning.specs.Bucket.{bucketOf};
-ghost use Rattle.arrival.specs.Arrival.{broughtOf, judgedAs, outOfRange, judgedBucket, judgedVc, judgedOf, fallen, filled, oneLess};
+ghost use Rattle.arrival.specs.Arrival.{Named, broughtOf, judgedAs, outOfRange, judgedBucket, judgedVc, judgedOf, fallen, filled, oneLess};
 
 // What step 2 found: ok where all that it reads is in range; on where S and last are to be written, S being s.
 pub struct Fall {
@@ -158,15 +159,22 @@ pub fn judge_vc(n: u16, words: &[u32], vci: u16, t: u32) -> Judged
     out_of_range()
 }
 
-// Step 3 of a cell of 0 or 53 octets.
-pub fn judge(n: u16, v: u16, words: &[u32], cell: &[u8], t: u32) -> Judged
-    requires { ⌜ (7 * v ≡ length (now words)) × (v ≤ 1024) × ((length (now cell) ≡ 0 → ⊥) → length (now cell) ≡ 53) ⌝ }
-    ensures { λ r. ⌜ r ≡ judgedOf n v t (now (words .entry)) (now (cell .entry)) ⌝ }
+// VPI and VCI of a cell of 0 or 53 octets as one number; 0 where there is none.
+pub fn name_of(cell: &[u8]) -> u32
+    requires { ⌜ ((length (now cell) ≡ 0 → ⊥) → length (now cell) ≡ 53) ⌝ }
+    ensures { λ r. ⌜ Named (now (cell .entry)) r ⌝ }
 {
     if cell.len() == 0 {
-        return no_cell();
+        return 0;
     }
-    let name = header::name_at(cell, 0);
+    header::name_at(cell, 0)
+}
+
+// Step 3 of a cell with this name. Apart from the name's reading, so that each of the two is laid into both of its users.
+pub fn judge(n: u16, v: u16, words: &[u32], name: u32, t: u32) -> Judged
+    requires { ⌜ (7 * v ≡ length (now words)) × (v ≤ 1024) ⌝ }
+    ensures { λ r. ⌜ ((cell : List ℕ) → Named cell name → r ≡ judgedOf n v t (now (words .entry)) cell) ⌝ }
+{
     if name == 0 {
         return no_cell();
     }

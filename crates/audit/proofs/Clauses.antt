@@ -87,6 +87,8 @@ module _ (r : Record) (cells links calendar words b w : List ℕ)
         lengths = h .lengths;
         turn-low = h .turn-low;
         rotation-low = h .rotation-low;
+        raw-low = h .raw-low;
+        mode-low = h .mode-low;
         vcs-fit = f;
         free = s .free;
         output = s .output;

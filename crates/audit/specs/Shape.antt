@@ -1,12 +1,19 @@
 -- The clauses that need no walk: "lengths and ranges hold" but for the VC words, as one test of the state.
+--
+--   recordFits r    == T, rotation, raw and mode are in their ranges
+--   shapeHolds s    == they are, and so are N, V and the four lengths
 use mathlib.Core.Bool.{Bool, _&&_}
-use Rattle.meaning.specs.Plain.{_<?_}
+use Rattle.meaning.specs.declared.Record.{Record}
+use Rattle.meaning.specs.Plain.{_<?_, _≤?_}
 use Rattle.meaning.specs.Numbers.{rangesHold}
 use Rattle.meaning.specs.State.{State, lengthsHold}
+
+-- document 02 (i): raw and mode are each 0 or 1
+unfoldable pub recordFits : Record → Bool
+recordFits r = r .turn <? r .n && r .rotation <? r .v && r .raw ≤? 1 && r .mode ≤? 1
 
 unfoldable pub shapeHolds : State → Bool
 shapeHolds s =
     rangesHold (s .ctl .n) (s .ctl .v)
     && lengthsHold (s .ctl .n) (s .ctl .v) (s .cells) (s .links) (s .calendar) (s .words)
-    && s .ctl .turn <? s .ctl .n
-    && s .ctl .rotation <? s .ctl .v
+    && recordFits (s .ctl)

@@ -9,7 +9,7 @@ ghost use Rattle.meaning.specs.Words.{vcAt, vcFits};
 ghost use Rattle.meaning.specs.Promises.{AuditPromise};
 ghost use Rattle.walks.specs.Budget.{Gone};
 ghost use Rattle.audit.specs.Budgets.{inside, waitsOf, waitsAt};
-ghost use Rattle.audit.specs.Shape.{shapeHolds};
+ghost use Rattle.audit.specs.Shape.{recordFits, shapeHolds};
 use meaning::Record;
 use refusal::lengths_hold;
 use refusal::ranges_hold;
@@ -58,7 +58,23 @@ fn fill_waits(n: u16, v: u16, words: &[u32], waits: &mut [u32]) -> bool
     true
 }
 
-// N, V, the four lengths, T and rotation.
+// T is below N and rotation below V; raw and mode are each 0 or 1.
+fn record_fits(r: Record) -> bool
+    ensures { λ a. ⌜ a ≡ recordFits r ⌝ }
+{
+    if r.turn >= r.n {
+        return false;
+    }
+    if r.rotation >= r.v {
+        return false;
+    }
+    if r.raw > 1 {
+        return false;
+    }
+    r.mode <= 1
+}
+
+// N, V, the four lengths, and the record's numbers that name no space.
 fn shaped(r: Record, cells: &[u8], links: &[u16], calendar: &[u16], words: &[u32]) -> bool
     ensures { λ a. ⌜ a ≡ shapeHolds (stateOf r (now (cells .entry)) (now (links .entry)) (now (calendar .entry)) (now (words .entry))) ⌝ }
 {
@@ -75,10 +91,7 @@ fn shaped(r: Record, cells: &[u8], links: &[u16], calendar: &[u16], words: &[u32
     ) {
         return false;
     }
-    if r.turn < r.n {
-        return r.rotation < r.v;
-    }
-    false
+    record_fits(r)
 }
 
 // Do the clauses of the audit hold? Linear in N + V: each list is walked once, and no space twice.

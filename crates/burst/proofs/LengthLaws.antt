@@ -21,7 +21,7 @@ use Rattle.meaning.specs.Slot.{step1, step2, step3, step4, depart, step5, fiveS
 use Rattle.meaning.proofs.ListsLaws.{fit-head, entry-length}
 use Rattle.meaning.proofs.WordsLaws.{write-length}
 use Rattle.meaning.proofs.CellsLaws.{cell-length}
-use Rattle.burst.proofs.SlotLaws.{AllOut, needs-all, if-all, then-all, any-all, both-true, taken-head}
+use Rattle.unchecked.proofs.EndLaws.{AllOut, needs-all, if-all, then-all, any-all, both-true, taken-head}
 
 -- links that a list has grown into
 head-links : (links : List ℕ) (e : Ends) (x : ℕ) → length (joinHead links e x .links) ≡ length links
@@ -91,7 +91,7 @@ module _ (N z : ℕ) where
       (λ _. needs-all Long (endsFit (s .ctl .n) (freeList s) && not (isEmpty (freeList s))) _
       (λ e. let f = both-true (endsFit (s .ctl .n) (freeList s)) (not (isEmpty (freeList s))) e in
       then-all (λ (t : Taken). t .space ≡ s .ctl .freehead) Long (takeHead (s .ctl .n) (s .links) (freeList s)) _
-      (taken-head (s .ctl .n) z (s .links) (freeList s))
+      (taken-head (s .ctl .n) (s .links) (freeList s))
       (λ taken is. let e = (s .ctl .turn + delay (vc .bucket)) % s .ctl .n in
       let low = fit-head (s .ctl .n) (freeList s) (f .0) (eqb-false (s .ctl .freehead) empty (not-true _ (f .1))) in
       needs-all Long (endsFit (s .ctl .n) (entryAt (s .calendar) e)) _

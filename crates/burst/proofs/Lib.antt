@@ -1,4 +1,3 @@
-pub mod SlotLaws
 pub mod ShowLaws
 pub mod TurnLaws
 pub mod Refusals

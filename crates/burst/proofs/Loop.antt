@@ -1,14 +1,16 @@
 -- The burst's loop: what is left of the sizes gives the rest of what all of them give. Assumes nothing.
 use Prim.Native.Nat.{ℕ, _+_, _≤_, _<_}
 use mathlib.Core.Path.{_≡_, refl, sym, _∙_, ap}
+use mathlib.Core.Bool.{true}
 use mathlib.Core.List.{List, []}
 use native.Mathlib.Nat.{add-sub-cancel-left}
 use lib.ListN.{length, take, drop, getD, drop-of-length-le}
 use Prim.Native.Nat.{_*_, _-_}
 use Rattle.meaning.specs.State.{State, stateOf}
+use Rattle.unchecked.specs.Runs.{runs}
 use Rattle.burst.specs.Burst.{Stretch, stretchOf, cellLent, oneSlot, slots}
 use Rattle.burst.specs.declared.BurstEnd.{BurstEnd}
-use Rattle.burst.proofs.TurnLaws.{slots-on, slots-counted}
+use Rattle.burst.proofs.TurnLaws.{slot-runs, slots-on, slots-counted}
 
 -- the part that is lent to slot i, as its ends give it
 pub lent-part : (arrivals : List ℕ) (i size : ℕ) → take (53 * i + size - 53 * i) (drop (53 * i) arrivals) ≡ cellLent arrivals i size
@@ -30,6 +32,7 @@ pub record Turning (arrivals sizes cells₀ links₀ calendar₀ words₀ depart
   pub words-kept : length words ≡ length words₀
   pub departures-kept : length departures ≡ length departures₀
   pub answers-kept : length answers ≡ length answers₀
+  pub running : runs (end .ctl) ≡ true
   pub rest : slots arrivals (drop (end .done) sizes) (reached end cells links calendar words departures answers)
       ≡ slots arrivals sizes (reached end₀ cells₀ links₀ calendar₀ words₀ departures₀ answers₀)
 
@@ -37,6 +40,11 @@ pub record Turning (arrivals sizes cells₀ links₀ calendar₀ words₀ depart
 module _ (arrivals sizes : List ℕ) (b : Stretch) (low : b .done < length sizes) (s : State) (departures answers : List ℕ) (number done : ℕ) (e : stretchOf s departures answers number done ≡ oneSlot arrivals (getD sizes (b .done) 0) b) (z : number ≡ 0) where
   pub turn-counted : done ≡ b .done + 1
   turn-counted = slots-counted arrivals sizes (b .done) low b (stretchOf s departures answers number done) e z
+
+  pub turn-runs : runs (s .ctl) ≡ true
+  turn-runs =
+      ap (λ (x : Stretch). runs (x .state .ctl)) e
+      ∙ slot-runs arrivals (getD sizes (b .done) 0) b (sym (ap (λ (x : Stretch). x .number) e) ∙ z)
 
   pub turn-on : slots arrivals (drop done sizes) (stretchOf s departures answers 0 done) ≡ slots arrivals (drop (b .done) sizes) b
   turn-on =

@@ -17,7 +17,7 @@ use Rattle.refusal.specs.Order.{refuseOf, firstOf}
 use Rattle.refusal.proofs.Two.{two-given, two-none}
 use Rattle.burst.specs.Burst.{Stretch, stretchOf, stopped, slots, answerLong, lengthsFit, burst}
 use Rattle.burst.specs.Promise.{BurstLent}
-use Rattle.burst.proofs.SlotLaws.{both-true}
+use Rattle.unchecked.proofs.EndLaws.{both-true}
 
 module _ (long each k : ℕ) where
   pub times-rest : long % each ≢ 0 → (long =? each * k) ≡ false
@@ -88,6 +88,14 @@ module _ (s : State) (arrivals sizes departures answers : List ℕ) (k : ℕ) (e
   unfolding burst stopped
   burst-goes z =
       two-none 1 2 refl refl (λ n. stretchOf s departures answers n 0) (slots arrivals sizes (stretchOf s departures answers 0 0)) (not (rangesHold (s .ctl .n) (s .ctl .v))) (not (fitOf s arrivals sizes departures answers)) (sym e ∙ z)
+
+  pub burst-ranges : k ≡ 0 → rangesHold (s .ctl .n) (s .ctl .v) ≡ true
+  burst-ranges z = go (rangesHold (s .ctl .n) (s .ctl .v)) (fitOf s arrivals sizes departures answers) (sym e ∙ z)
+    where
+      go : (a b : Bool) → worked (not a) (not b) ≡ 0 → a ≡ true
+      go true b h = refl
+      go false true h = absurd (omega arith)
+      go false false h = absurd (omega arith)
 
   pub burst-fits : k ≡ 0 → fitOf s arrivals sizes departures answers ≡ true
   burst-fits z = go (rangesHold (s .ctl .n) (s .ctl .v)) (fitOf s arrivals sizes departures answers) (sym e ∙ z)

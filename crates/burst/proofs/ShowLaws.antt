@@ -16,7 +16,7 @@ use Rattle.meaning.specs.Work.{Work}
 use Rattle.meaning.specs.Line.{cellsAllowed, linePart, octetsOf, lineCell}
 use Rattle.burst.specs.Burst.{sizeFits, ownOctets, shownInto}
 use Rattle.burst.specs.Promise.{Shows}
-use Rattle.burst.proofs.SlotLaws.{both-true, Answered}
+use Rattle.unchecked.proofs.EndLaws.{both-true, Answered}
 
 module _ (departures : List ℕ) (i : ℕ) (inside : 53 * i + 53 ≤ length departures) where
   own-long : length (ownOctets departures i) ≡ 53
@@ -53,7 +53,7 @@ module _ (departures : List ℕ) (i : ℕ) (inside : 53 * i + 53 ≤ length depa
 
 -- ---- what a served slot leaves to be shown
 
-ranges-n : (N z : ℕ) → rangesHold N z ≡ true → (1 ≤ N) × (N ≤ 1024)
+pub ranges-n : (N z : ℕ) → rangesHold N z ≡ true → (1 ≤ N) × (N ≤ 1024)
 unfolding rangesHold
 ranges-n N z r =
     let a = both-true (1 ≤? N && N ≤? mostN && leastV ≤? z) (z ≤? mostV) r .0 in

@@ -1,20 +1,26 @@
 -- "the only later stops with a number are 9 (a size neither 0 nor 53) and 3": once the ranges and lengths hold, each slot
 -- of a burst is served, or stops it with one of these. Assumes nothing.
 use Prim.Native.Nat.{ℕ, _+_, _*_, _≤_}
-use mathlib.Core.Path.{_≡_, refl, _∙_}
-use mathlib.Core.Logic.{_⊎_, inl, inr, ⊎-elim}
-use mathlib.Core.Bool.{Bool, true, false, not, _&&_, _||_}
+use mathlib.Core.Path.{_≡_, refl, sym, _∙_, subst}
+use mathlib.Core.Logic.{_≢_, _⊎_, inl, inr, ⊎-elim}
+use mathlib.Core.Bool.{Bool, true, false, not, _&&_, _||_, true≢false}
 use mathlib.Core.List.{List, [], _∷_}
 use native.Mathlib.Omega.{arith}
 use borrow.Author.Tests.{eq-eqb, ne-eqb, eqb-true}
 use lib.ListN.{length, length-take, length-drop}
 use Rattle.meaning.specs.Plain.{if_then_else_, _=?_, Out, refused, next}
 use Rattle.meaning.specs.Numbers.{rangesHold, octets}
-use Rattle.meaning.specs.State.{State, wordsLong, lengthsHold}
+use Rattle.meaning.specs.State.{State, wordsLong, lengthsHold, withRecord, recordInMode, withMode}
 use Rattle.meaning.specs.Work.{Work, workOf, bareAnswer}
-use Rattle.meaning.specs.Slot.{finish, slot}
-use Rattle.burst.specs.Burst.{Stretch, stretchOf, sizeFits, cellLent, served, stopped, slotDone, oneSlot, slots, lengthsFit, burst}
-use Rattle.burst.proofs.SlotLaws.{AllOut, both-true, Ended, five-ended}
+use Rattle.meaning.specs.Slot.{finish, uncheckedSlot, slot}
+use Rattle.meaning.proofs.CheckedLaws.{isLent, through-lent}
+use Rattle.hec.specs.Modes.{Arriving, arriving, arrivingFits}
+use Rattle.unchecked.specs.Runs.{runs}
+use Rattle.unchecked.proofs.EndLaws.{AllOut, both-true, Ended, begun, five-ended}
+use Rattle.slot.specs.Back.{back}
+use Rattle.slot.proofs.Front.{by-unchecked}
+use Rattle.slot.proofs.Answered.{slot-answered}
+use Rattle.burst.specs.Burst.{Stretch, stretchOf, sizeFits, stallOf, cellLent, served, stopped, slotDone, oneSlot, slots, lengthsFit, burst}
 use Rattle.burst.proofs.LengthLaws.{Long, five-long}
 
 -- a policer of which refusals 1 and 2 are not given
@@ -65,19 +71,49 @@ long-of cell e ne =
     ⊎-elim (λ z. absurd (ne (eqb-true (length cell) 0 z))) (λ f. eqb-true (length cell) 53 f)
     (either (length cell =? 0) (length cell =? octets) e)
 
-ended : (s : State) → Fit s → (x : Out Work) → AllOut (Ended (s .ctl .n) (s .ctl .v)) x → AllOut (Long (s .ctl .n) (s .ctl .v)) x → ServedOr3 (finish s x)
+fit-in-mode : (s : State) (mode : ℕ) → Fit s → Fit (withMode s mode)
+unfolding withMode withRecord recordInMode
+fit-in-mode s mode f = record { ranges = f .ranges; lengths = f .lengths }
+
+unfit-three : (s : State) (cell : List ℕ) → Fit s → isLent cell ≡ true → arrivingFits (s .ctl .raw) (s .ctl .mode) cell ≡ false
+    → slot s cell .answer .number ≡ 3
+unfolding slot finish
+unfit-three s cell f c e = rw (f .ranges, f .lengths, c, e)
+
+ended : (s : State) → Fit s → (x : Out Work) → AllOut (Ended (s .ctl)) x → AllOut (Long (s .ctl .n) (s .ctl .v)) x → ServedOr3 (finish s x)
 unfolding finish
 ended s f refused a l = inr refl
 ended s f (next w) a l =
     inl (a .number, record { ranges = rw (l .n-is, l .v-is) (f .ranges); lengths = lengths-again (s .ctl .n) (s .ctl .v) w l })
 
-pub slot-or-3 : (s : State) (cell : List ℕ) → Fit s → length cell =? 0 || length cell =? octets ≡ true → ServedOr3 (slot s cell)
-unfolding slot
-slot-or-3 s cell f c =
+unchecked-or-3 : (s : State) (cell : List ℕ) → Fit s → isLent cell ≡ true → ServedOr3 (uncheckedSlot s cell)
+unfolding uncheckedSlot
+unchecked-or-3 s cell f c =
     rw (f .ranges, f .lengths, c)
     (ended s f _
-    (five-ended (s .ctl .n) (s .ctl .v) cell (workOf s (bareAnswer 0)) (record { n-is = refl; v-is = refl; number = refl; unsent = refl }))
+    (five-ended (s .ctl) cell (workOf s (bareAnswer 0)) (begun (s .ctl) s refl))
     (five-long (s .ctl .n) (s .ctl .v) cell (long-of cell c) (workOf s (bareAnswer 0)) (lengths-plain s (f .lengths))))
+
+-- with the header check in front: told, or as it came
+back-or-3 : (s : State) (b : Bool) (w : Work) → ServedOr3 w → ServedOr3 (back s b w)
+unfolding back
+back-or-3 s true w (inl p) = rw (eq-eqb (w .answer .number) 0 (p .0)) (inl p)
+back-or-3 s false w (inl p) = rw (eq-eqb (w .answer .number) 0 (p .0)) (inl p)
+back-or-3 s b w (inr e) = rw (ne-eqb (w .answer .number) 0 (λ z. omega (arith, e, z))) (inr e)
+
+pub slot-or-3 : (s : State) (cell : List ℕ) → Fit s → length cell =? 0 || length cell =? octets ≡ true → ServedOr3 (slot s cell)
+slot-or-3 s cell f c = go (arrivingFits (s .ctl .raw) (s .ctl .mode) cell) refl
+  where
+    a : Arriving
+    a = arriving (s .ctl .raw) (s .ctl .mode) cell
+
+    go : (p : Bool) → arrivingFits (s .ctl .raw) (s .ctl .mode) cell ≡ p → ServedOr3 (slot s cell)
+    go true e =
+        subst ServedOr3 (sym (by-unchecked s cell c e))
+        (back-or-3 s (a .dropped) (uncheckedSlot (withMode s (a .mode)) (a .cell))
+        (unchecked-or-3 (withMode s (a .mode)) (a .cell) (fit-in-mode s (a .mode) f)
+        (through-lent (s .ctl .raw) (s .ctl .mode) cell c)))
+    go false e = inr (unfit-three s cell f c e)
 
 -- ---- the cell lent to a slot of a burst has its size
 fits-either : (size : ℕ) → sizeFits size ≡ true → (size ≡ 0) ⊎ (size ≡ 53)
@@ -145,7 +181,7 @@ slots-stop arrivals (size ∷ sizes) b z f e =
     go (inr (inr e3)) rest = rw (ne-eqb (after .number) 0 (λ q. omega (arith, e3))) (inr (inr e3))
 
 -- what the lengths of a burst's buffers say of a policer and of arrivals
-fit-burst : (s : State) (a d n : ℕ) (sizes : ℕ) → rangesHold (s .ctl .n) (s .ctl .v) ≡ true
+pub fit-burst : (s : State) (a d n : ℕ) (sizes : ℕ) → rangesHold (s .ctl .n) (s .ctl .v) ≡ true
     → lengthsFit (s .ctl .n) (s .ctl .v) (length (s .cells)) (length (s .links)) (length (s .calendar)) (length (s .words)) a sizes d n ≡ true
     → Fit s × (a ≡ 53 * sizes)
 unfolding lengthsFit lengthsHold wordsLong
@@ -156,6 +192,61 @@ fit-burst s a d n sizes r e =
     let y = both-true (four && a =? 53 * sizes) (d =? 53 * sizes) (x .0) in
     let m = both-true four (a =? 53 * sizes) (y .0) in
     (record { ranges = r; lengths = m .0 }, eqb-true a (53 * sizes) (m .1))
+
+-- ---- a policer that does not run stops its first slot
+module _ (arrivals departures answers : List ℕ) (s : State) (f : Fit s) (off : runs (s .ctl) ≡ false) where
+  abbrev start : Stretch
+  start = stretchOf s departures answers 0 0
+
+  stuck : (w : Work) → ServedOr3 w → (w .answer .number ≡ 0 → runs (s .ctl) ≡ true) → slotDone start w ≡ stopped start 3
+  unfolding slotDone stopped
+  stuck w (inl p) ran = absurd (true≢false (sym (ran (p .0)) ∙ off))
+  stuck w (inr e) ran = rw (ne-eqb (w .answer .number) 0 (λ q. omega (arith, e))) (rw e)
+
+  first : (size : ℕ) → 53 ≤ length arrivals → (x : Bool) → sizeFits size ≡ x
+      → (if not x then stopped start 9 else slotDone start (slot s (cellLent arrivals 0 size))) ≡ stopped start (if x then 3 else 9)
+  first size room true e =
+      stuck (slot s (cellLent arrivals 0 size))
+      (slot-or-3 s (cellLent arrivals 0 size) f (lent-fits arrivals 0 size (omega arith) e))
+      (slot-answered s (cellLent arrivals 0 size) .ran-before)
+  first size room false e = refl
+
+  -- the first slot was stopped, and with it the burst
+  over : (rest : List ℕ) (after : Stretch) (k : ℕ) → k ≢ 0 → after ≡ stopped start k
+      → (if after .number =? 0 then slots arrivals rest after else after) ≡ stopped start k
+  unfolding stopped
+  over rest after k ne e = rw e (rw (ne-eqb k 0 ne))
+
+  one : (size : ℕ) (x : Bool) → sizeFits size ≡ x → 53 ≤ length arrivals → oneSlot arrivals size start ≡ stopped start (if x then 3 else 9)
+  unfolding oneSlot
+  one size x e room = rw e (first size room x e)
+
+  opened : (size : ℕ) (sizes : List ℕ)
+      → slots arrivals (size ∷ sizes) start
+      ≡ (let after = oneSlot arrivals size start in if after .number =? 0 then slots arrivals sizes after else after)
+  unfolding slots
+  opened size sizes = refl
+
+  stalls : (size : ℕ) (sizes : List ℕ) (x : Bool) → sizeFits size ≡ x
+      → stopped start (if x then 3 else 9) ≡ stretchOf s departures answers (stallOf (size ∷ sizes)) 0
+  unfolding stallOf stopped
+  stalls size sizes x e = rw e (simp (ne-eqb (length (size ∷ sizes)) 0 (λ q. omega (arith, q))))
+
+  none : slots arrivals [] start ≡ stretchOf s departures answers (stallOf []) 0
+  unfolding slots stallOf
+  none = refl
+
+  pub slots-stalled : (sizes : List ℕ) → 53 * length sizes ≡ length arrivals → slots arrivals sizes start ≡ stretchOf s departures answers (stallOf sizes) 0
+  slots-stalled [] room = none
+  slots-stalled (size ∷ sizes) room = opened size sizes ∙ go (sizeFits size) refl
+    where
+      after : Stretch
+      after = oneSlot arrivals size start
+
+      go : (x : Bool) → sizeFits size ≡ x
+          → (if after .number =? 0 then slots arrivals sizes after else after) ≡ stretchOf s departures answers (stallOf (size ∷ sizes)) 0
+      go true e = over sizes after 3 (λ q. omega (arith, q)) (one size true e (omega arith)) ∙ stalls size sizes true e
+      go false e = over sizes after 9 (λ q. omega (arith, q)) (one size false e (omega arith)) ∙ stalls size sizes false e
 
 -- A burst that is not refused with 1 or 2 ends with 0, 9 or 3.
 pub later-stops : (s : State) (arrivals sizes departures answers : List ℕ)

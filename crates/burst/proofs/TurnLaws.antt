@@ -6,7 +6,7 @@ use mathlib.Core.Bool.{Bool, true, false, not}
 use mathlib.Core.List.{List, _∷_}
 use native.Mathlib.Omega.{arith}
 use native.Mathlib.Numerals.{add-one}
-use borrow.Author.Tests.{eq-eqb, ne-eqb, eqb-false, not-true}
+use borrow.Author.Tests.{eq-eqb, ne-eqb, eqb-true, eqb-false, not-true}
 use lib.ListN.{length, getD, drop}
 use lib.Seq.{drop-cons}
 use Rattle.meaning.specs.Plain.{if_then_else_, _=?_}
@@ -14,7 +14,9 @@ use Rattle.meaning.specs.State.{State}
 use Rattle.meaning.specs.Work.{Work}
 use Rattle.meaning.specs.Slot.{slot}
 use Rattle.burst.specs.Burst.{Stretch, stretchOf, sizeFits, cellLent, shownInto, writeAnswer, served, stopped, slotDone, oneSlot, slots}
-use Rattle.burst.proofs.SlotLaws.{Answered, slot-answered}
+use Rattle.unchecked.specs.Runs.{runs}
+use Rattle.unchecked.proofs.EndLaws.{Answered}
+use Rattle.slot.proofs.Answered.{slot-answered}
 
 -- slot i, of this size, after these departures and answers
 module _ (arrivals : List ℕ) (size : ℕ) (s : State) (departures answers : List ℕ) (i : ℕ) where
@@ -71,6 +73,27 @@ slot-counted arrivals size b = go (sizeFits size)
     go : (t : Bool) → (if not t then stopped b 9 else slotDone b w) .number ≡ 0
         → (if not t then stopped b 9 else slotDone b w) .done ≡ b .done + 1
     go true h = counted b w (w .answer .number =? 0) refl h
+    go false h = absurd (omega arith)
+
+-- and leaves a record that runs
+served-runs : (b : Stretch) (w : Work) (t : Bool) → (w .answer .number =? 0) ≡ t → (w .answer .number ≡ 0 → runs (w .state .ctl) ≡ true)
+    → (if not t then stopped b (w .answer .number) else served b w) .number ≡ 0
+    → runs ((if not t then stopped b (w .answer .number) else served b w) .state .ctl) ≡ true
+unfolding stopped served
+served-runs b w true e on h = on (eqb-true (w .answer .number) 0 e)
+served-runs b w false e on h = absurd (eqb-false (w .answer .number) 0 e h)
+
+pub slot-runs : (arrivals : List ℕ) (size : ℕ) (b : Stretch) → oneSlot arrivals size b .number ≡ 0
+    → runs (oneSlot arrivals size b .state .ctl) ≡ true
+unfolding oneSlot slotDone stopped
+slot-runs arrivals size b = go (sizeFits size)
+  where
+    w : Work
+    w = slot (b .state) (cellLent arrivals (b .done) size)
+
+    go : (t : Bool) → (if not t then stopped b 9 else slotDone b w) .number ≡ 0
+        → runs ((if not t then stopped b 9 else slotDone b w) .state .ctl) ≡ true
+    go true h = served-runs b w (w .answer .number =? 0) refl (slot-answered (b .state) (cellLent arrivals (b .done) size) .runs-after) h
     go false h = absurd (omega arith)
 
 -- the sizes from the i-th on

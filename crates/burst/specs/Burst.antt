@@ -3,7 +3,7 @@
 use Prim.Native.Nat.{ℕ, _+_, _*_}
 use mathlib.Core.Bool.{Bool, not, _&&_, _||_}
 use mathlib.Core.List.{List, [], _∷_}
-use lib.ListN.{length, take, drop, set}
+use lib.ListN.{length, getD, take, drop, set}
 use Rattle.meaning.specs.declared.Answer.{Answer}
 use Rattle.meaning.specs.Plain.{if_then_else_, _=?_}
 use Rattle.meaning.specs.Numbers.{rangesHold, octets, perEntry, wordsPerVc, cellStart}
@@ -80,6 +80,10 @@ slots arrivals [] b = b
 slots arrivals (size ∷ sizes) b =
     let after = oneSlot arrivals size b in
     if after .number =? 0 then slots arrivals sizes after else after
+
+-- the number that stops a burst where T, rotation or the Output List is out of range: its first slot's, if it has one
+unfoldable pub stallOf : List ℕ → ℕ
+stallOf sizes = if length sizes =? 0 then 0 else if sizeFits (getD sizes 0 0) then 3 else 9
 
 -- buffers of these lengths, for N, V and so many sizes: the four memories, arrivals, departures and answers
 unfoldable pub lengthsFit : ℕ → ℕ → ℕ → ℕ → ℕ → ℕ → ℕ → ℕ → ℕ → ℕ → Bool

@@ -7,15 +7,19 @@ ghost use Prim.Native.Nat.{_+_, _*_, _≤_, _<_};
 ghost use lib.ListN.{length, take, drop};
 ghost use Rattle.meaning.specs.Plain.{_=?_};
 ghost use Rattle.meaning.specs.State.{stateOf, writeCell};
-ghost use Rattle.burst.specs.Burst.{Stretch, stretchOf, sizeFits, shownInto, writeAnswer, oneSlot, slots, lengthsFit};
+ghost use Rattle.meaning.specs.Promises.{slotPromise};
+ghost use Rattle.unchecked.specs.Runs.{runs};
+ghost use Rattle.burst.specs.Burst.{Stretch, stretchOf, sizeFits, stallOf, shownInto, writeAnswer, oneSlot, slots, lengthsFit};
 ghost use Rattle.burst.specs.Promise.{burstPromise, Shows, Lent, BurstLent};
 use cell::copy_cell;
 use meaning::Answer;
 use meaning::Record;
+use meaning::Served;
 use refusal::first;
 use refusal::lengths_hold;
 use refusal::ranges_hold;
 use refusal::refuse;
+use spaces::pair;
 
 // What a burst gives back: the record, the number that ended it (0 for none), and how many slots were served.
 #[repr(C)]
@@ -83,6 +87,91 @@ fn put_answer(answers: &mut [u16], i: usize, a: Answer)
     answers[at + 5] = a.departing;
 }
 
+// The same record, field by field.
+fn copied(r: Record) -> Record
+    ensures { λ k. ⌜ k ≡ r ⌝ }
+{
+    Record {
+        n: r.n,
+        v: r.v,
+        t: r.t,
+        turn: r.turn,
+        rotation: r.rotation,
+        freehead: r.freehead,
+        freetail: r.freetail,
+        outhead: r.outhead,
+        outtail: r.outtail,
+        raw: r.raw,
+        mode: r.mode,
+    }
+}
+
+// What a slot gave back, field by field. N, V and raw are those before it, so what was tested of them holds for all slots.
+fn copied_back(ctl: Record, s: Served) -> Served
+    requires { ⌜ (s .ctl .n ≡ ctl .n) × (s .ctl .v ≡ ctl .v) × (s .ctl .raw ≡ ctl .raw) ⌝ }
+    ensures { λ k. ⌜ k ≡ s ⌝ }
+{
+    let a = s.answer;
+    let r = s.ctl;
+    Served {
+        ctl: Record {
+            n: ctl.n,
+            v: ctl.v,
+            t: r.t,
+            turn: r.turn,
+            rotation: r.rotation,
+            freehead: r.freehead,
+            freetail: r.freetail,
+            outhead: r.outhead,
+            outtail: r.outtail,
+            raw: ctl.raw,
+            mode: r.mode,
+        },
+        answer: Answer {
+            number: a.number,
+            verdict: a.verdict,
+            vci: a.vci,
+            d: a.d,
+            space: a.space,
+            departing: a.departing,
+        },
+    }
+}
+
+// One slot as the call has it. It is not laid in place, so it is lent a copy of the record: the burst's own stays in registers.
+fn serve_checked(
+    ctl: Record,
+    cells: &mut [u8],
+    links: &mut [u16],
+    calendar: &mut [u16],
+    words: &mut [u32],
+    cell: &[u8],
+) -> Served
+    ensures { λ s. ⌜ slotPromise (stateOf ctl (now (cells .entry)) (now (links .entry)) (now (calendar .entry)) (now (words .entry))) (now (cell .entry)) s (now (cells .exit)) (now (links .exit)) (now (calendar .exit)) (now (words .exit)) ⌝ }
+{
+    let k = copied(ctl);
+    let s = slot::slot(k, cells, links, calendar, words, cell);
+    copied_back(ctl, s)
+}
+
+// One slot of a policer that runs. Without a header check it goes the burst's own way; with one it is the slot as the call has it.
+fn serve(
+    ctl: Record,
+    cells: &mut [u8],
+    links: &mut [u16],
+    calendar: &mut [u16],
+    words: &mut [u32],
+    cell: &[u8],
+) -> Served
+    requires { ⌜ runs ctl ≡ true ⌝ }
+    ensures { λ s. ⌜ slotPromise (stateOf ctl (now (cells .entry)) (now (links .entry)) (now (calendar .entry)) (now (words .entry))) (now (cell .entry)) s (now (cells .exit)) (now (links .exit)) (now (calendar .exit)) (now (words .exit)) ⌝ }
+{
+    if ctl.raw == 0 {
+        return burst_slot::slot(ctl, cells, links, calendar, words, cell);
+    }
+    serve_checked(ctl, cells, links, calendar, words, cell)
+}
+
 // Slot i of a burst: served and written, or stopped with its number.
 fn turn(
     ctl: Record,
@@ -97,6 +186,7 @@ fn turn(
     i: usize,
 ) -> BurstEnd
     requires { ⌜ Lent (now arrivals) (now departures) (now answers) i ⌝ }
+    requires { ⌜ runs ctl ≡ true ⌝ }
     ensures { λ r. ⌜ stretchOf (stateOf (r .ctl) (now (cells .exit)) (now (links .exit)) (now (calendar .exit)) (now (words .exit))) (now (departures .exit)) (now (answers .exit)) (r .number) (r .done) ≡ oneSlot (now (arrivals .entry)) size (stretchOf (stateOf ctl (now (cells .entry)) (now (links .entry)) (now (calendar .entry)) (now (words .entry))) (now (departures .entry)) (now (answers .entry)) 0 i) ⌝ }
 {
     if !size_fits(size) {
@@ -105,7 +195,7 @@ fn turn(
     let a = 53 * i;
     let e = a + (size as usize);
     let done = i + 1;
-    let served = slot::slot(ctl, cells, links, calendar, words, &arrivals[a..e]);
+    let served = serve(ctl, cells, links, calendar, words, &arrivals[a..e]);
     let answer = served.answer;
     let after = served.ctl;
     if answer.number != 0 {
@@ -114,6 +204,33 @@ fn turn(
     show(departures, i, cells, answer.space);
     put_answer(answers, i, answer);
     ended(after, 0, done)
+}
+
+// Whether T, rotation and the Output List's ends are in range: tested once, since every served slot leaves them so.
+fn running(ctl: Record) -> bool
+    requires { ⌜ ctl .n ≤ 1024 ⌝ }
+    ensures { λ r. ⌜ r ≡ runs ctl ⌝ }
+{
+    if ctl.turn >= ctl.n {
+        return false;
+    }
+    if ctl.rotation >= ctl.v {
+        return false;
+    }
+    pair(ctl.n, ctl.outhead, ctl.outtail)
+}
+
+// The number that stops a burst before its first slot, where they are not.
+fn stall(sizes: &[u8]) -> u16
+    ensures { λ r. ⌜ r ≡ stallOf (now (sizes .entry)) ⌝ }
+{
+    if sizes.len() == 0 {
+        return 0;
+    }
+    if size_fits(sizes[0]) {
+        return 3;
+    }
+    9
 }
 
 // All slots of a burst that was not refused.
@@ -129,6 +246,7 @@ fn run(
     answers: &mut [u16],
 ) -> BurstEnd
     requires { ⌜ BurstLent (now arrivals) (now sizes) (now departures) (now answers) ⌝ }
+    requires { ⌜ runs ctl ≡ true ⌝ }
     ensures { λ r. ⌜ stretchOf (stateOf (r .ctl) (now (cells .exit)) (now (links .exit)) (now (calendar .exit)) (now (words .exit))) (now (departures .exit)) (now (answers .exit)) (r .number) (r .done) ≡ slots (now (arrivals .entry)) (now (sizes .entry)) (stretchOf (stateOf ctl (now (cells .entry)) (now (links .entry)) (now (calendar .entry)) (now (words .entry))) (now (departures .entry)) (now (answers .entry)) 0 0) ⌝ }
 {
     let mut end = BurstEnd {
@@ -226,6 +344,9 @@ pub fn burst(
     let number = first(ranges, lengths);
     if number != 0 {
         return ended(ctl, number, 0);
+    }
+    if !running(ctl) {
+        return ended(ctl, stall(sizes), 0);
     }
     run(
         ctl,

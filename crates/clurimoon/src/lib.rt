@@ -16,14 +16,15 @@ use meaning::Served;
 pub extern "C" fn clurimoon_setup(
     n: u16,
     v: u16,
+    raw: bool,
     cells: &mut [u8],
     links: &mut [u16],
     calendar: &mut [u16],
     words: &mut [u32],
 ) -> Fresh
-    ensures { λ r. ⌜ setupPromise n v (now (cells .entry)) (now (links .entry)) (now (calendar .entry)) (now (words .entry)) r (now (cells .exit)) (now (links .exit)) (now (calendar .exit)) (now (words .exit)) ⌝ }
+    ensures { λ r. ⌜ setupPromise n v raw (now (cells .entry)) (now (links .entry)) (now (calendar .entry)) (now (words .entry)) r (now (cells .exit)) (now (links .exit)) (now (calendar .exit)) (now (words .exit)) ⌝ }
 {
-    setup::setup(n, v, cells, links, calendar, words)
+    setup::setup(n, v, raw, cells, links, calendar, words)
 }
 
 #[no_mangle]

@@ -150,26 +150,26 @@ unfolding sumWaiting
 cleared-sum k zero = refl
 cleared-sum k (suc z) = omega (arith, cleared-sum k z, cleared-vc k z)
 
-fresh-balanced : (N z : ℕ) → Balanced (freshState N z) []
+fresh-balanced : (N z : ℕ) (raw : Bool) → Balanced (freshState N z raw) []
 unfolding freshState freshRecord manyOf
-fresh-balanced N z = record { even = omega (arith, cleared-sum (wordsPerVc * z) z); closed = λ vci l o. cleared-vc (wordsPerVc * z) vci }
+fresh-balanced N z raw = record { even = omega (arith, cleared-sum (wordsPerVc * z) z); closed = λ vci l o. cleared-vc (wordsPerVc * z) vci }
 
 choose-set-up : (P : SetUp → Type 0) (b : Bool) (x y : SetUp) → P x → P y → P (if b then x else y)
 choose-set-up P true x y p q = p
 choose-set-up P false x y p q = q
 
-pub setup-balanced : (N z : ℕ) (cells links calendar words : List ℕ) → Balanced (setup N z cells links calendar words .state) []
+pub setup-balanced : (N z : ℕ) (raw : Bool) (cells links calendar words : List ℕ) → Balanced (setup N z raw cells links calendar words .state) []
 unfolding setup
-setup-balanced N z cells links calendar words =
+setup-balanced N z raw cells links calendar words =
     let P : SetUp → Type 0 = λ x. Balanced (x .state) [] in
     choose-set-up P (not (rangesHold N z)) _ _ (zeros-balanced cells links calendar words)
-    (choose-set-up P (not (lengthsHold N z cells links calendar words)) _ _ (zeros-balanced cells links calendar words) (fresh-balanced N z))
+    (choose-set-up P (not (lengthsHold N z cells links calendar words)) _ _ (zeros-balanced cells links calendar words) (fresh-balanced N z raw))
 
 -- ---- every listing
 
 pub call-balanced : (s : State) (h : List Answer) (c : Call) → Balanced s h → Balanced (stateAfter s c) (answersAfter s h c)
 unfolding stateAfter answersAfter
-call-balanced s h (setUp N z) b = setup-balanced N z (s .cells) (s .links) (s .calendar) (s .words)
+call-balanced s h (setUp N z raw) b = setup-balanced N z raw (s .cells) (s .links) (s .calendar) (s .words)
 call-balanced s h (openVc vci m F C) b = open-balanced s h vci m F C b
 call-balanced s h (closeVc vci) b = close-balanced s h vci b
 call-balanced s h (serve cell) b = slot-balanced s cell h b
@@ -177,7 +177,7 @@ call-balanced s h (serve cell) b = slot-balanced s cell h b
 -- a run that ends with a call ends with a refused setup: no slot was served
 ends-balanced : (s : State) (h : List Answer) (c : Call) → Balanced s h → endsRun s c ≡ true → Balanced (stateAfter s c) []
 unfolding endsRun stateAfter
-ends-balanced s h (setUp N z) b e = setup-balanced N z (s .cells) (s .links) (s .calendar) (s .words)
+ends-balanced s h (setUp N z raw) b e = setup-balanced N z raw (s .cells) (s .links) (s .calendar) (s .words)
 ends-balanced s h (openVc vci m F C) b e = absurd (let z : _≡_ {A = ℕ} 0 1 = cc in omega arith)
 ends-balanced s h (closeVc vci) b e = absurd (let z : _≡_ {A = ℕ} 0 1 = cc in omega arith)
 ends-balanced s h (serve cell) b e = absurd (let z : _≡_ {A = ℕ} 0 1 = cc in omega arith)
@@ -207,7 +207,7 @@ lent-balanced : (cs : Calls) → Balanced (lentFor cs) []
 unfolding lentFor
 lent-balanced finished = zeros-balanced [] [] [] []
 lent-balanced (stopped place) = zeros-balanced [] [] [] []
-lent-balanced (call (setUp N z) rest) = zeros-balanced _ _ _ _
+lent-balanced (call (setUp N z raw) rest) = zeros-balanced _ _ _ _
 lent-balanced (call (openVc vci m F C) rest) = zeros-balanced [] [] [] []
 lent-balanced (call (closeVc vci) rest) = zeros-balanced [] [] [] []
 lent-balanced (call (serve cell) rest) = zeros-balanced [] [] [] []

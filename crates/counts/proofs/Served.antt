@@ -1,27 +1,30 @@
--- A slot keeps the balance: an accepted cell waits, a sent one no longer does. A slot is served or refused with 3.
+-- A slot keeps the balance: an accepted cell waits, a sent one no longer does, and a dropped one never did.
 -- Assumes nothing.
 use Prim.Native.Nat.{ℕ, _+_, _-_, _*_, _≤_, _<_}
 use mathlib.Core.Path.{_≡_, refl, sym, ap, subst, _∙_}
 use mathlib.Core.Bool.{Bool, true, false, not, _&&_, _||_}
-use mathlib.Core.Logic.{_⊎_, inl, inr, _≢_}
+use mathlib.Core.Logic.{_≢_}
 use mathlib.Core.List.{List, _∷_}
 use native.Mathlib.Omega.{arith}
 use borrow.Author.Tests.{eqb-true, eqb-false, leb-true, ne-eqb}
 use lib.ListN.{length, getD}
+use Rattle.hec.specs.Modes.{Arriving, arriving, arrivingFits}
 use Rattle.meaning.specs.declared.Answer.{Answer}
 use Rattle.meaning.specs.Plain.{if_then_else_, _<?_, _≤?_, _=?_, Out, refused, next, needs, _andThen_}
 use Rattle.meaning.specs.Numbers.{octets, perEntry, wordsPerVc, empty, nothing, rangesHold, cellStart}
-use Rattle.meaning.specs.State.{State, Ends, freeList, outputList, lengthsHold, wordsLong, withRecord, withLinks, withCalendar, withWords, recordWith, withFreeList, withOutputList}
+use Rattle.meaning.specs.State.{State, Ends, freeList, outputList, lengthsHold, wordsLong, withRecord, withLinks, withCalendar, withWords, recordWith, withFreeList, withOutputList, recordInMode, withMode}
 use Rattle.meaning.specs.Header.{headerAt, namesVc, namesOpenVc}
 use Rattle.meaning.specs.Words.{vcAt, withWaiting}
 use Rattle.meaning.specs.Lists.{emptyList, isEmpty, Taken, takeHead, entryAt, writeEntry, joinTail, addTail, endsFit}
 use Rattle.meaning.specs.Work.{Work, workOf, bareAnswer, withState, withVc, withDeparture}
-use Rattle.meaning.specs.Slot.{step1, step2, step3, step4, depart, step5, fiveSteps, finish, slot}
+use Rattle.meaning.specs.Slot.{step1, step2, step3, step4, depart, step5, fiveSteps, finish, told, slot}
+use Rattle.meaning.proofs.CheckedLaws.{dropped-none}
 use Rattle.listing.specs.Listing.{manyOf, isAccepted, hasSent}
 use Rattle.counts.specs.Waiting.{sumWaiting, Balanced}
 use Rattle.counts.proofs.Sums.{sum-part}
 use Rattle.counts.proofs.Balance.{Holds, holds-then, holds-if, holds-needs, both, not-not, one, Quiet, Fresh, Done, write-words}
 use Rattle.counts.proofs.Arrives.{step1-even, step2-even, step3-even, names-low}
+use Rattle.counts.proofs.Silent.{Silent, five-silent, told-holds}
 
 module _ (z base : ℕ) where
   -- ---- steps 4 and 5
@@ -141,6 +144,35 @@ choose-work : (P : Work → Type 0) (b : Bool) (x y : Work) → P x → (b ≡ f
 choose-work P true x y p f = p
 choose-work P false x y p f = f refl
 
+-- the header check, the five steps over what it lets through, and the verdict of a dropped cell
+module _ (s : State) (cell : List ℕ) (h : List Answer) (b : Balanced s h)
+    (l : lengthsHold (s .ctl .n) (s .ctl .v) (s .cells) (s .links) (s .calendar) (s .words) ≡ true) where
+  abbrev a : Arriving
+  a = arriving (s .ctl .raw) (s .ctl .mode) cell
+
+  abbrev entered : Work
+  entered = workOf (withMode s (a .mode)) (bareAnswer 0)
+
+  entered-even : Fresh (s .ctl .v) (sumWaiting (s .ctl .v) (s .words)) entered
+  unfolding withMode withRecord recordInMode
+  entered-even =
+      record {
+        v-is = refl;
+        words = record { long = lengths-words (s .ctl .n) (s .ctl .v) (s .cells) (s .links) (s .calendar) (s .words) l; sum = refl; closed = b .closed };
+        bare = refl;
+      }
+
+  abbrev checkedSteps : Out Work
+  checkedSteps = needs (arrivingFits (s .ctl .raw) (s .ctl .mode) cell) (fiveSteps (a .cell) entered andThen λ w. next (told (a .dropped) w))
+
+  pub checked-even : Holds (Done (s .ctl .v) (sumWaiting (s .ctl .v) (s .words))) checkedSteps
+  checked-even =
+      let z = s .ctl .v in
+      let base = sumWaiting z (s .words) in
+      holds-needs (Done z base) (arrivingFits (s .ctl .raw) (s .ctl .mode) cell) _
+      (λ _. told-holds z base (a .dropped) (fiveSteps (a .cell) entered) (five-even z base (a .cell) entered entered-even)
+      (λ e. subst (λ (c : List ℕ). Holds Silent (fiveSteps c entered)) (sym (dropped-none (s .ctl .raw) (s .ctl .mode) cell e)) (five-silent entered refl)))
+
 pub slot-balanced : (s : State) (cell : List ℕ) (h : List Answer) → Balanced s h
     → Balanced (slot s cell .state) (slot s cell .answer ∷ h)
 unfolding slot
@@ -151,31 +183,4 @@ slot-balanced s cell h b =
     choose-work P (not (rangesHold N z)) _ _ (stay-balanced s h 1 b) (λ _.
     choose-work P (not (lengthsHold N z (s .cells) (s .links) (s .calendar) (s .words))) _ _ (stay-balanced s h 2 b) (λ l.
     choose-work P (not (length cell =? 0 || length cell =? octets)) _ _ (stay-balanced s h 9 b) (λ _.
-    finish-balanced s h _ b
-    (five-even z (sumWaiting z (s .words)) cell (workOf s (bareAnswer 0))
-    (record {
-      v-is = refl;
-      words = record { long = lengths-words N z (s .cells) (s .links) (s .calendar) (s .words) (not-not _ l); sum = refl; closed = b .closed };
-      bare = refl;
-    })))))
-
--- a slot that is refused for neither ranges, lengths nor its cell is served or refused with 3
-pub slot-number : (s : State) (cell : List ℕ) (h : List Answer) → Balanced s h → rangesHold (s .ctl .n) (s .ctl .v) ≡ true
-    → lengthsHold (s .ctl .n) (s .ctl .v) (s .cells) (s .links) (s .calendar) (s .words) ≡ true
-    → length cell =? 0 || length cell =? octets ≡ true
-    → (slot s cell .answer .number ≡ 0) ⊎ (slot s cell .answer .number ≡ 3)
-unfolding slot finish
-slot-number s cell h b r l c =
-    let z = s .ctl .v in
-    let base = sumWaiting z (s .words) in
-    simp (r, l, c)
-    (number (fiveSteps cell (workOf s (bareAnswer 0)))
-    (five-even z base cell (workOf s (bareAnswer 0)) (record { v-is = refl; words = record { long = long; sum = refl; closed = b .closed }; bare = refl })))
-  where
-    long : length (s .words) ≡ 7 * s .ctl .v
-    long = lengths-words (s .ctl .n) (s .ctl .v) (s .cells) (s .links) (s .calendar) (s .words) l
-
-    number : (x : Out Work) → Holds (Done (s .ctl .v) (sumWaiting (s .ctl .v) (s .words))) x
-        → (finish s x .answer .number ≡ 0) ⊎ (finish s x .answer .number ≡ 3)
-    number refused d = inr refl
-    number (next w) d = inl (d .number)
+    finish-balanced s h _ b (checked-even s cell h b (not-not _ l)))))

@@ -54,6 +54,8 @@ pub fn left(k: Record, verdict: u16, vci: u16, d: u16, o: Off) -> Served
             freetail: o.space,
             outhead: o.head,
             outtail: o.tail,
+            raw: k.raw,
+            mode: k.mode,
         },
         answer: Answer {
             number: 0,

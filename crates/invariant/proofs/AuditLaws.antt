@@ -222,12 +222,10 @@ module _ (N z : ℕ) (h : List Event) (s : State) (i : Inv N z h s) where
         ranges = ranges-at N z h s i;
         lengths = lengths-at N z h s i;
         turn-low = omega (arith, i .stage .turn-low, i .stage .n-is);
-        rotation-low = omega (
-          arith,
-          i .stage .rotation-is,
-          i .stage .v-is,
-          mod-lt (served h + (z - 1)) {m = z} (omega (arith, i .stage .ranges .z-low)),
-        );
+        rotation-low = rw (i .stage .rotation-is, i .stage .v-is)
+            (mod-lt (served h + (z - 1)) {m = z} (omega (arith, i .stage .ranges .z-low)));
+        raw-low = i .raw-low;
+        mode-low = i .mode-low;
         vcs-fit = λ v h1 h2. ap (λ (n : ℕ). vcFits n (vcAt (s .words) v)) (i .stage .n-is)
             ∙ fits N z h s i v h1 (omega (arith, i .stage .v-is));
         free = i .free;

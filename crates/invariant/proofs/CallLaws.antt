@@ -47,7 +47,7 @@ pub sums-away : (u : ℕ) (r : List (List Queued)) → sums (isOf u) r ≡ 0 →
 sums-away u [] e = tt
 sums-away u (q ∷ r) e = (sum-away u q (omega arith), sums-away u r (omega arith))
 
--- events that serve no slot
+-- events that serve no slot more, accept no cell more and send none more
 pub record Still (h h′ : List Event) : Type 0 where
   pub slots : served h′ ≡ served h
   pub cells : cellsIn h′ ≡ cellsIn h
@@ -60,7 +60,7 @@ module _ (N z : ℕ) (h : List Event) (s : State) (i : Inv N z h s) where
   abbrev op : ℕ → Option Opening
   op v = openingOf v h
 
-  -- a refused call changes nothing
+  -- a refused call changes nothing; nor does another verdict that accepts no cell
   pub unchanged : (h′ : List Event) → Still h h′ → ((v : ℕ) → openingOf v h′ ≡ openingOf v h) → Inv N z h′ s
   unchanged h′ same e =
       record {
@@ -79,6 +79,8 @@ module _ (N z : ℕ) (h : List Event) (s : State) (i : Inv N z h s) where
           words-long = i .stage .words-long;
           table = λ v h1 h2. rw (same .slots, e v) (i .stage .table v h1 h2);
         };
+        raw-low = i .raw-low;
+        mode-low = i .mode-low;
         good = rw (same .slots) (i .good);
         sits-out = all-map (Sits z op) (Sits z (λ v. openingOf v h′)) sits (i .out) (i .sits-out);
         sits-cal = alls-map (Sits z op) (Sits z (λ v. openingOf v h′)) sits (i .cal) (i .sits-cal);
@@ -131,6 +133,8 @@ module _ (N z : ℕ) (h : List Event) (s : State) (i : Inv N z h s) where
             words-long = write-length (s .words) u vc′ ∙ i .stage .words-long;
             table = λ v h1 h2. each v h1 h2 (ℕ-discrete v u);
           };
+          raw-low = i .raw-low;
+          mode-low = i .mode-low;
           good = rw (same .slots) (i .good);
           sits-out = all-map (λ c. Sits z op c × Away u c) (Sits z (λ v. openingOf v h′)) sits-on (i .out)
               (all-both (Sits z op) (Away u) (i .out) (i .sits-out) away-out);

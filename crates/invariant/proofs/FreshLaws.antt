@@ -13,7 +13,7 @@ use Rattle.meaning.specs.Numbers.{rangesHold, mostN, leastV, mostV, empty, slot
 use Rattle.meaning.specs.State.{State, stateOf, freeList, outputList, lengthsHold}
 use Rattle.meaning.specs.Words.{vcAt}
 use Rattle.meaning.specs.Lists.{entryAt}
-use Rattle.meaning.specs.Calls.{SetUp, setUpOf, zeros, freshRecord, countUp, freshState, setup}
+use Rattle.meaning.specs.Calls.{SetUp, setUpOf, zeros, rawNumber, freshRecord, countUp, freshState, setup}
 use Rattle.runs.specs.Run.{served}
 use Rattle.runs.specs.Leak.{openingOf}
 use Rattle.runs.specs.Seen.{cellsIn, departuresIn}
@@ -93,7 +93,12 @@ unfolding countUp
 up-last zero i = omega arith
 up-last (suc m) i = up-last m (i + 1) ∙ omega arith
 
-module _ (N z : ℕ) (r : Ranges N z) where
+-- "Raw is a yes or no at setup"
+number-low : (raw : Bool) → rawNumber raw ≤ 1
+number-low true = omega arith
+number-low false = omega arith
+
+module _ (N z : ℕ) (raw : Bool) (r : Ranges N z) where
   size : N ≡ suc (N - 1)
   size = omega (arith, r .N-low)
 
@@ -101,7 +106,7 @@ module _ (N z : ℕ) (r : Ranges N z) where
   w = N - 1
 
   abbrev s : State
-  s = freshState N z
+  s = freshState N z raw
 
   long : length (replicate (2 * N) empty) ≡ 2 * N
   long = length-replicate (2 * N) empty
@@ -142,7 +147,7 @@ module _ (N z : ℕ) (r : Ranges N z) where
       whole : 1 + w ≡ N
       whole = omega (arith, size)
 
-  pub fresh-inv : Inv N z [] (freshState N z)
+  pub fresh-inv : Inv N z [] (freshState N z raw)
   unfolding freshState freshRecord served openingOf cellsIn departuresIn vcAt
   fresh-inv =
       record {
@@ -162,6 +167,8 @@ module _ (N z : ℕ) (r : Ranges N z) where
           words-long = length-replicate (7 * z) 0;
           table = λ v h1 h2. getD-replicate (7 * z) (7 * v + 0) 0 0 (omega arith);
         };
+        raw-low = number-low raw;
+        mode-low = omega arith;
         good = fresh-good dueOf w;
         sits-out = tt;
         sits-cal = alls-bare (Sits z (λ v. openingOf v [])) w;
@@ -180,19 +187,20 @@ module _ (N z : ℕ) (r : Ranges N z) where
       first = omega arith
 
 -- a setup that answers 0 leaves a fresh state, whatever the memory held
-pub setup-fresh : (N z : ℕ) (cells links calendar words : List ℕ) → setup N z cells links calendar words .number ≡ 0
-    → (rangesHold N z ≡ true) × (setup N z cells links calendar words .state ≡ freshState N z)
+pub setup-fresh : (N z : ℕ) (raw : Bool) (cells links calendar words : List ℕ)
+    → setup N z raw cells links calendar words .number ≡ 0
+    → (rangesHold N z ≡ true) × (setup N z raw cells links calendar words .state ≡ freshState N z raw)
 unfolding setup
-setup-fresh N z cells links calendar words e = go (rangesHold N z) (lengthsHold N z cells links calendar words) refl e
+setup-fresh N z raw cells links calendar words e = go (rangesHold N z) (lengthsHold N z cells links calendar words) refl e
   where
     asItCame : State
     asItCame = stateOf zeros cells links calendar words
 
     after : Bool → Bool → SetUp
-    after a b = if not a then setUpOf 1 asItCame else if not b then setUpOf 2 asItCame else setUpOf 0 (freshState N z)
+    after a b = if not a then setUpOf 1 asItCame else if not b then setUpOf 2 asItCame else setUpOf 0 (freshState N z raw)
 
     go : (a b : Bool) → rangesHold N z ≡ a → after a b .number ≡ 0
-        → (rangesHold N z ≡ true) × (after a b .state ≡ freshState N z)
+        → (rangesHold N z ≡ true) × (after a b .state ≡ freshState N z raw)
     go false b p q = absurd (omega (arith, q))
     go true false p q = absurd (omega (arith, q))
     go true true p q = (p, refl)

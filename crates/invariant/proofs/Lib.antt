@@ -9,6 +9,7 @@ pub mod LengthLaws
 pub mod EndLaws
 pub mod SlotLaws
 pub mod CallLaws
+pub mod CheckLaws
 pub mod OpenLaws
 pub mod FreshLaws
 pub mod RunLaws

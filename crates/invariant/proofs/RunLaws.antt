@@ -12,13 +12,13 @@ use Rattle.meaning.specs.State.{State}
 use Rattle.meaning.specs.Calls.{freshState}
 use Rattle.meaning.specs.Work.{Work, workOf, bareAnswer}
 use Rattle.meaning.specs.Slot.{slot}
-use Rattle.runs.specs.Run.{Call, onOpen, onClose, onSlot, Event, numberOf, Run, runOf, call, calls, freshRun, served}
+use Rattle.runs.specs.Run.{Call, onOpen, onClose, onSlot, Event, numberOf, Run, runOf, letIn, call, calls, freshRun, served}
 use Rattle.runs.specs.Leak.{accepts, openingOf}
 use Rattle.runs.specs.Seen.{cellsIn, departuresIn}
 use Rattle.queues.specs.Queue.{All}
 use Rattle.invariant.specs.Invariant.{Inv}
 use Rattle.invariant.proofs.EndLaws.{eventOf}
-use Rattle.invariant.proofs.SlotLaws.{slot-served, slot-refused}
+use Rattle.invariant.proofs.CheckLaws.{slot-served, slot-refused}
 use Rattle.invariant.proofs.CallLaws.{unchanged}
 use Rattle.invariant.proofs.OpenLaws.{open-kept, close-kept}
 use Rattle.invariant.proofs.FreshLaws.{ranges-are, fresh-inv}
@@ -36,15 +36,16 @@ module _ (N z : ℕ) where
       (record { slots = omega arith; cells = refl; departures = refl }) (λ v. refl)
 
   slot-kept : (h : List Event) (s : State) (cell : List ℕ) → Inv N z h s
-      → Inv N z (eventOf cell (slot s cell) ∷ h) (slot s cell .state) × (slot s cell .answer .number ≢ 3)
+      → Inv N z (eventOf (letIn s cell .cell) (slot s cell) ∷ h) (slot s cell .state) × (slot s cell .answer .number ≢ 3)
   slot-kept h s cell i = go (length cell =? 0 || length cell =? 53) refl
     where
       go : (b : Bool) → length cell =? 0 || length cell =? 53 ≡ b
-          → Inv N z (eventOf cell (slot s cell) ∷ h) (slot s cell .state) × (slot s cell .answer .number ≢ 3)
+          → Inv N z (eventOf (letIn s cell .cell) (slot s cell) ∷ h) (slot s cell .state) × (slot s cell .answer .number ≢ 3)
       go true e = let g = slot-served N z h s i cell e in (g .inv, λ y. omega (arith, g .number))
       go false e =
           let is = slot-refused N z h s i cell e in (
-            subst (λ (w : Work). Inv N z (eventOf cell w ∷ h) (w .state)) (sym is) (nine h s cell i),
+            subst (λ (w : Work). Inv N z (eventOf (letIn s cell .cell) w ∷ h) (w .state)) (sym is)
+                (nine h s (letIn s cell .cell) i),
             λ y. omega (arith, ap (λ (w : Work). w .answer .number) is),
           )
 
@@ -65,6 +66,7 @@ module _ (N z : ℕ) where
   calls-kept r [] k = k
   calls-kept r (c ∷ cs) k = calls-kept (call r c) cs (call-kept r c k)
 
-  pub run-kept : rangesHold N z ≡ true → (cs : List Call) → Kept N z (calls (freshRun N z) cs)
+  pub run-kept : rangesHold N z ≡ true → (raw : Bool) (cs : List Call) → Kept N z (calls (freshRun N z raw) cs)
   unfolding freshRun
-  run-kept e cs = calls-kept (runOf (freshState N z) []) cs (record { inv = fresh-inv N z (ranges-are N z e); never = tt })
+  run-kept e raw cs =
+      calls-kept (runOf (freshState N z raw) []) cs (record { inv = fresh-inv N z raw (ranges-are N z e); never = tt })

@@ -1,22 +1,24 @@
--- A slot keeps the invariant, is never refused with 3, and says of the arrival what the exact leak rule says. Steps 1 to 5
--- one after the other. Assumes nothing.
+-- Document 01's slot keeps the invariant, is never refused with 3, and says of the arrival what the exact leak rule says.
+-- Steps 1 to 5 one after the other. Assumes nothing.
 use Prim.Native.Nat.{ℕ, suc, _+_, _-_}
-use mathlib.Core.Path.{_≡_, sym, ap, _∙_, subst, subst₂}
+use mathlib.Core.Path.{_≡_, refl, sym, ap, _∙_, subst, subst₂}
 use mathlib.Core.Bool.{true, false, _||_}
 use mathlib.Core.List.{List, _∷_, _++_, map, tail}
 use mathlib.Core.Option.{Option}
 use native.Mathlib.Omega.{arith}
 use lib.ListN.{length}
 use Rattle.meaning.specs.declared.Answer.{Answer}
-use Rattle.meaning.specs.Plain.{_=?_}
+use Rattle.meaning.specs.Plain.{_=?_, next}
 use Rattle.meaning.specs.Numbers.{rangesHold}
 use Rattle.meaning.specs.State.{State, lengthsHold}
 use Rattle.meaning.specs.Work.{Work, workOf, bareAnswer}
-use Rattle.meaning.specs.Slot.{step1, step2, step3, step4, step5, fiveSteps, finish, slot}
+use Rattle.meaning.specs.Slot.{step1, step2, step3, step4, step5, fiveSteps, finish, uncheckedSlot}
 use Rattle.runs.specs.Run.{Event, ran, shown, served}
 use Rattle.runs.specs.Leak.{Opening, openingOf}
 use Rattle.runs.specs.Seen.{Cell, cellsIn, ofVc}
 use Rattle.runs.specs.Judged.{judgedOf, judged}
+use Rattle.runs.proofs.OutLaws.{AllOut}
+use Rattle.runs.proofs.ModeLaws.{Moded, steps-moded}
 use Rattle.queues.specs.Queue.{one, All, Alls, flat, first, turn, Rising, Good, Moved}
 use Rattle.queues.proofs.QueueLaws.{map-append, all-append, all-tail, alls-first, alls-tail, turn-sums}
 use Rattle.queues.proofs.LineLaws.{move, leave}
@@ -64,7 +66,8 @@ module _ (N z : ℕ) (h : List Event) (s : State) (i : Inv N z h s) where
       abbrev op′ : ℕ → Option Opening
       op′ v = after now (came .verdict) (came .vci) op v
 
-      module _ (gone : Gone N z now (λ v. op′ v) o1 (turn (tail (came .r))) w4 w5) where
+      module _ (gone : Gone N z now (λ v. op′ v) o1 (turn (tail (came .r))) w4 w5)
+          (moded : Moded (s .ctl .raw) (s .ctl .mode) w5) where
         departs : Departs N o1 (half (came .verdict) (came .vci) (came .D)) w5
         departs = subst (λ (a : Answer). Departs N o1 a w5) (kept ∙ came .says) (gone .departs)
 
@@ -98,6 +101,8 @@ module _ (N z : ℕ) (h : List Event) (s : State) (i : Inv N z h s) where
               left = i .left ++ leaving now o1;
               stage = subst₂ (λ (k : ℕ) (f : ℕ → Option Opening). Stage N z k k (w5 .state .ctl .turn + 1) (w5 .state) f
                   (gone .free) (tail o1) (turn (tail (came .r)))) (sym slots-are) (sym openings-are) (gone .stage);
+              raw-low = omega (arith, moded .raw-is, i .raw-low);
+              mode-low = omega (arith, moded .mode-is, i .mode-low);
               good = subst (λ (k : ℕ). Good dueOf (N - 1) k (tail (came .r)) (tail o1)) (sym slots-are)
                   (leave dueOf (N - 1) now (tail (came .r)) o1 line-moved);
               sits-out = subst (λ (f : ℕ → Option Opening). All (Sits z f) (tail o1)) (sym openings-are)
@@ -139,8 +144,8 @@ module _ (N z : ℕ) (h : List Event) (s : State) (i : Inv N z h s) where
     five-steps fits =
         record {
           work = g5 .work;
-          goes = rw (g1 .goes, g2 .goes, g3 .goes, g4 .goes, g5 .goes);
-          holds = ran-all (g3 .work) (g4 .work) (g5 .work) (g3 .holds) (g4 .holds .answer-kept) (g5 .holds);
+          goes = through;
+          holds = ran-all (g3 .work) (g4 .work) (g5 .work) (g3 .holds) (g4 .holds .answer-kept) (g5 .holds) moded;
         }
       where
         w0 : Work
@@ -174,15 +179,23 @@ module _ (N z : ℕ) (h : List Event) (s : State) (i : Inv N z h s) where
             (all-append (Sits z op3) (i .out) (first (c .r)) (c .sits-out) (alls-first (Sits z op3) (c .r) (c .sits-cal)))
             (omega (arith, turn-sums one (tail (c .r)), mv .room, i .stage .ranges .N-low))
 
+        through : fiveSteps cell w0 ≡ next (g5 .work)
+        through = rw (g1 .goes, g2 .goes, g3 .goes, g4 .goes, g5 .goes)
+
+        moded : Moded (s .ctl .raw) (s .ctl .mode) (g5 .work)
+        moded =
+            subst (AllOut (Moded (s .ctl .raw) (s .ctl .mode))) through
+            (steps-moded (s .ctl .raw) (s .ctl .mode) cell w0 (record { raw-is = refl; mode-is = refl; done = refl }))
+
     -- a slot that is served, and one that is refused, with 9
-    pub slot-served : length cell =? 0 || length cell =? 53 ≡ true → Ran N z h cell (slot s cell)
-    unfolding slot finish
-    slot-served fits = subst (Ran N z h cell) (sym is) (five-steps fits .holds)
+    pub unchecked-served : length cell =? 0 || length cell =? 53 ≡ true → Ran N z h cell (uncheckedSlot s cell)
+    unfolding uncheckedSlot finish
+    unchecked-served fits = subst (Ran N z h cell) (sym is) (five-steps fits .holds)
       where
-        is : slot s cell ≡ five-steps fits .work
+        is : uncheckedSlot s cell ≡ five-steps fits .work
         is = rw (ranges-at, lengths-at, fits, five-steps fits .goes)
 
-    pub slot-refused : length cell =? 0 || length cell =? 53 ≡ false → slot s cell ≡ workOf s (bareAnswer 9)
-    unfolding slot
-    slot-refused fits =
+    pub unchecked-refused : length cell =? 0 || length cell =? 53 ≡ false → uncheckedSlot s cell ≡ workOf s (bareAnswer 9)
+    unfolding uncheckedSlot
+    unchecked-refused fits =
         rw (ranges-at, lengths-at, fits)

@@ -90,6 +90,9 @@ pub record Inv (N z : ℕ) (h : List Event) (s : State) : Type 0 where
   pub cal : List (List Queued)
   pub left : List Left
   pub stage : Stage N z (served h) (served h) (s .ctl .turn + 1) s (λ v. openingOf v h) free out (turn cal)
+  -- document 02 (i): raw and mode are each 0 or 1
+  pub raw-low : s .ctl .raw ≤ 1
+  pub mode-low : s .ctl .mode ≤ 1
   pub good : Good dueOf (N - 1) (served h) cal out
   pub sits-out : All (Sits z (λ v. openingOf v h)) out
   pub sits-cal : Alls (Sits z (λ v. openingOf v h)) cal

@@ -17,6 +17,10 @@ pub shown-no : {b : Bool} (n a : ℕ) → b ≡ false → shown b n ++ (a ∷ []
 unfolding shown
 shown-no n a e = rw e
 
+-- the same number, shown by the same test
+pub shown-same : {a b : Bool} (n x : ℕ) → b ≡ a → shown a n ++ (x ∷ []) ≡ shown b n ++ (x ∷ [])
+shown-same n x e = rw e
+
 -- a slot's line, word by word
 pub slot-words : (a : List ℕ) (x : ℕ) (b c d : List ℕ)
     → line (a ∷ (x ∷ []) ∷ b ∷ c ∷ d ∷ []) ≡ ((((a ++ (32 ∷ [])) ++ (x ∷ 32 ∷ [])) ++ (b ++ (32 ∷ []))) ++ (c ++ (32 ∷ []))) ++ (d ++ (10 ∷ []))

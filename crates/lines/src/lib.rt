@@ -6,7 +6,7 @@ ghost use lib.ListN.{length};
 ghost use Rattle.lines.specs.Text.{decimalOf, shown};
 ghost use Rattle.lines.specs.Put.{Put, fourOf};
 ghost use Rattle.lines.specs.Lines.{setupLine, openLine, closeLine, servedLine, refusedLine, slotLine, stopLine, endLine};
-ghost use Rattle.lines.specs.Lines.{letter as Lines·letter};
+ghost use Rattle.lines.specs.Lines.{letter as Lines·letter, showsVci};
 use meaning::Answer;
 
 // Exactly four digits. Only constants divide, so each division is a product and a shift.
@@ -120,9 +120,21 @@ fn letter(verdict: u16) -> u8
         88
     } else if verdict == 3 {
         85
+    } else if verdict == 4 {
+        72
     } else {
         46
     }
+}
+
+// A VCI is shown unless nothing arrived or the header check dropped it.
+fn shows_vci(verdict: u16) -> bool
+    ensures { λ r. ⌜ r ≡ showsVci verdict ⌝ }
+{
+    if verdict == 0 {
+        return false;
+    }
+    verdict != 4
 }
 
 // `t verdict VCI D out`
@@ -141,9 +153,10 @@ fn served_line(
     ensures { λ r. ⌜ r ≤ at + 64 ⌝ }
 {
     let l = letter(verdict);
+    let shows = shows_vci(verdict);
     let b = number(out, at, t, 32);
     let e = pair(out, b, l, 32);
-    let f = word(out, e, verdict != 0, vci as u32, 32);
+    let f = word(out, e, shows, vci as u32, 32);
     let g = word(out, f, verdict == 1, d as u32, 32);
     word(out, g, space != 65535, departing as u32, 10)
 }

@@ -4,7 +4,8 @@ use Prim.Native.Nat.{ℕ, _+_}
 use mathlib.Core.Path.{_≡_, refl}
 use mathlib.Core.List.{List, [], _∷_, _++_}
 use lib.ListN.{replicate}
-use Rattle.meaning.specs.State.{wordsLong, lengthsHold, withRecord, withCells, withLinks, withCalendar, withWords, recordWith, withClock, withFreeList, withOutputList, writeCell}
+use Rattle.hec.specs.Modes.{arriving, arrivingFits}
+use Rattle.meaning.specs.State.{wordsLong, lengthsHold, withRecord, withCells, withLinks, withCalendar, withWords, recordWith, withClock, withFreeList, withOutputList, recordInMode, withMode, writeCell}
 use Rattle.meaning.specs.Numbers.{rangesHold, slotNumbers}
 use Rattle.meaning.specs.Header.{headerOf, headerAt, noUserCell, namesVc, namesOpenVc}
 use Rattle.meaning.specs.Bucket.{obeysRules, elapsed, fall, isExcess, delay, fill}
@@ -14,7 +15,7 @@ use Rattle.meaning.specs.Calls.{zeros, freshRecord, countUp, freshState, setup,
 use Rattle.meaning.specs.Arrival.{place, accept, judge}
 use Rattle.meaning.specs.Slot.{step1, step2, step3, step4, depart, step5, fiveSteps, finish, slot}
 use Rattle.lines.specs.Text.{decimal, decimalOf, line, shown}
-use Rattle.lines.specs.Lines.{setupLine, openLine, closeLine, letter, servedLine, refusedLine, slotLine, stopLine, endLine}
+use Rattle.lines.specs.Lines.{setupLine, openLine, closeLine, letter, showsVci, servedLine, refusedLine, slotLine, stopLine, endLine}
 use Rattle.trace.specs.Trace.{be16, be32, whole, setupAt, openAt, closeAt, cellAt, pauseAt, firstAt, laterAt, standsAt}
 use Rattle.listing.specs.Trace.{pauses, cellOf, recordCalls, callsAt, callsFrom, goesOn, callsOf}
 use Rattle.listing.specs.Listing.{manyOf, recount, lessModulo, endOf, lineOf, stateAfter, answersAfter, endsRun, linesOf, lentFor, listingOf}
@@ -48,5 +49,5 @@ pub eight-slots : listingOf eightSlots
     ++ ((54 ∷ 32 ∷ 46 ∷ 32 ∷ 45 ∷ 32 ∷ 45 ∷ 32 ∷ 52 ∷ 48 ∷ 10 ∷ [])
     ++ ((55 ∷ 32 ∷ 46 ∷ 32 ∷ 45 ∷ 32 ∷ 45 ∷ 32 ∷ 52 ∷ 48 ∷ 10 ∷ [])
     ++ ((101 ∷ 110 ∷ 100 ∷ 32 ∷ 53 ∷ 32 ∷ 49 ∷ 32 ∷ 48 ∷ 32 ∷ 53 ∷ 32 ∷ 48 ∷ 10 ∷ []))))))))))))
-unfolding wordsLong lengthsHold withRecord withCells withLinks withCalendar withWords recordWith withClock withFreeList withOutputList writeCell rangesHold slotNumbers headerOf headerAt noUserCell namesVc namesOpenVc obeysRules elapsed fall isExcess delay fill vcAt writeVc openedVc closedVc openWordFits bucketFits vcFits upToDate endsFit entryAt writeEntry takeHead joinHead joinTail addTail zeros freshRecord countUp freshState setup sharedRefusal openCall closeCall place accept judge step1 step2 step3 step4 depart step5 fiveSteps finish slot decimal decimalOf line shown setupLine openLine closeLine letter servedLine refusedLine slotLine stopLine endLine be16 be32 whole setupAt openAt closeAt cellAt pauseAt firstAt laterAt standsAt pauses cellOf recordCalls callsAt callsFrom goesOn callsOf manyOf recount lessModulo endOf lineOf stateAfter answersAfter endsRun linesOf lentFor listingOf
+unfolding wordsLong lengthsHold withRecord withCells withLinks withCalendar withWords recordWith withClock withFreeList withOutputList writeCell rangesHold slotNumbers headerOf headerAt noUserCell namesVc namesOpenVc obeysRules elapsed fall isExcess delay fill vcAt writeVc openedVc closedVc openWordFits bucketFits vcFits upToDate endsFit entryAt writeEntry takeHead joinHead joinTail addTail zeros freshRecord countUp freshState setup sharedRefusal openCall closeCall place accept judge step1 step2 step3 step4 depart step5 fiveSteps finish slot decimal decimalOf line shown setupLine openLine closeLine letter servedLine refusedLine slotLine stopLine endLine be16 be32 whole setupAt openAt closeAt cellAt pauseAt firstAt laterAt standsAt pauses cellOf recordCalls callsAt callsFrom goesOn callsOf manyOf recount lessModulo endOf lineOf stateAfter answersAfter endsRun linesOf lentFor listingOf recordInMode withMode showsVci arriving arrivingFits
 eight-slots = refl

@@ -35,7 +35,7 @@ isUnknown a = a .verdict =? unknown
 abbrev pub hasSent : Answer → Bool
 hasSent a = not (a .space =? empty)
 
--- "accepted excess unknown sent .., each modulo 2^32"
+-- "accepted excess unknown sent .., each modulo 2^32"; document 02 (i), of a dropped cell: "no end count includes it"
 unfoldable pub recount : List Answer → Tally
 recount h =
     record {
@@ -53,32 +53,32 @@ lessModulo a b = (a + slotNumbers - b) % slotNumbers
 unfoldable pub endOf : Tally → List ℕ
 endOf t = endLine (t .accepted) (t .excess) (t .unknown) (t .sent) (lessModulo (t .accepted) (t .sent))
 
-abbrev pub setupOn : State → ℕ → ℕ → SetUp
-setupOn s N z = setup N z (s .cells) (s .links) (s .calendar) (s .words)
+abbrev pub setupOn : State → ℕ → ℕ → Bool → SetUp
+setupOn s N z raw = setup N z raw (s .cells) (s .links) (s .calendar) (s .words)
 
--- the line of a call in state s
+-- the line of a call in state s; whether a policer is raw doesn't show
 unfoldable pub lineOf : State → Call → List ℕ
-lineOf s (setUp N z) = setupLine N z (setupOn s N z .number)
+lineOf s (setUp N z raw) = setupLine N z (setupOn s N z raw .number)
 lineOf s (openVc vci m F C) = openLine vci (openCall (s .ctl) (s .words) vci m F C .number)
 lineOf s (closeVc vci) = closeLine vci (closeCall (s .ctl) (s .words) vci .number)
 lineOf s (serve cell) = slotLine (slot s cell .state .ctl .t) (slot s cell .answer)
 
 unfoldable pub stateAfter : State → Call → State
-stateAfter s (setUp N z) = setupOn s N z .state
+stateAfter s (setUp N z raw) = setupOn s N z raw .state
 stateAfter s (openVc vci m F C) = withWords s (openCall (s .ctl) (s .words) vci m F C .words)
 stateAfter s (closeVc vci) = withWords s (closeCall (s .ctl) (s .words) vci .words)
 stateAfter s (serve cell) = slot s cell .state
 
 -- the answers of the slots since setup, newest first
 unfoldable pub answersAfter : State → List Answer → Call → List Answer
-answersAfter s h (setUp N z) = []
+answersAfter s h (setUp N z raw) = []
 answersAfter s h (openVc vci m F C) = h
 answersAfter s h (closeVc vci) = h
 answersAfter s h (serve cell) = slot s cell .answer ∷ h
 
 -- "After a refused setup .. only the end line follows"; "a refused open or close does not" end the run
 unfoldable pub endsRun : State → Call → Bool
-endsRun s (setUp N z) = not (setupOn s N z .number =? 0)
+endsRun s (setUp N z raw) = not (setupOn s N z raw .number =? 0)
 endsRun s (openVc vci m F C) = false
 endsRun s (closeVc vci) = false
 endsRun s (serve cell) = false
@@ -91,7 +91,7 @@ linesOf s h (call c rest) =
 
 -- memory as document 01 sizes it for the setup that comes first
 unfoldable pub lentFor : Calls → State
-lentFor (call (setUp N z) rest) =
+lentFor (call (setUp N z raw) rest) =
     stateOf zeros
     (replicate (octets * N) 0)
     (replicate N 0)

@@ -1,7 +1,7 @@
 -- Document 01, "Trace and listing": what a trace asks of the policer, call after call. A pause is so many empty slots, so
 -- every call has its line.
 --
---   Call           == one call: setup, open, close, or a slot with the octets lent to it (none or 53)
+--   Call           == one call: setup, raw or not, open, close, or a slot with the octets lent to it (none or 53)
 --   Calls          == the calls of a trace, one after the other, and how it ends: at its end, or where it can't be read
 --   callsOf input  == the calls of what the program is given
 use Prim.Native.Nat.{ℕ, zero, suc, _+_}
@@ -13,7 +13,7 @@ use Rattle.meaning.specs.Numbers.{octets}
 use Rattle.trace.specs.Trace.{TraceRecord, GM, VO, VX, CA, SL, Stands, event, finish, refusal, standsAt}
 
 pub data Call : Type 0 where
-  setUp : (N z : ℕ) → Call
+  setUp : (N z : ℕ) (raw : Bool) → Call
   openVc : (vci m F C : ℕ) → Call
   closeVc : (vci : ℕ) → Call
   serve : (cell : List ℕ) → Call
@@ -34,7 +34,7 @@ cellOf trace start = take octets (drop start trace)
 
 -- the calls of one record, before the rest
 unfoldable pub recordCalls : List ℕ → TraceRecord → Calls → Calls
-recordCalls trace (GM N z) rest = call (setUp N z) rest
+recordCalls trace (GM N z raw) rest = call (setUp N z raw) rest
 recordCalls trace (VO vci m F C) rest = call (openVc vci m F C) rest
 recordCalls trace (VX vci) rest = call (closeVc vci) rest
 recordCalls trace (CA start) rest = call (serve (cellOf trace start)) rest

@@ -40,11 +40,11 @@ served w =
       words = w .state .words;
     }
 
-pub setup-once : (N z : ℕ) (cells links calendar words : List ℕ) (a b : After Fresh)
-    → setupPromise N z cells links calendar words (a .answer) (a .cells) (a .links) (a .calendar) (a .words)
-    → setupPromise N z cells links calendar words (b .answer) (b .cells) (b .links) (b .calendar) (b .words)
+pub setup-once : (N z : ℕ) (raw : Bool) (cells links calendar words : List ℕ) (a b : After Fresh)
+    → setupPromise N z raw cells links calendar words (a .answer) (a .cells) (a .links) (a .calendar) (a .words)
+    → setupPromise N z raw cells links calendar words (b .answer) (b .cells) (b .links) (b .calendar) (b .words)
     → a ≡ b
-setup-once N z cells links calendar words a b p q = ap set-up (p ∙ sym q)
+setup-once N z raw cells links calendar words a b p q = ap set-up (p ∙ sym q)
 
 pub open-once : (r : Record) (words : List ℕ) (vci m F C : ℕ) (a b : Called)
     → openPromise r words vci m F C (a .number) (a .words)

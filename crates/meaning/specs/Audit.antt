@@ -46,6 +46,9 @@ pub record AuditHolds (s : State) : Type 0 where
   pub lengths : lengthsHold (s .ctl .n) (s .ctl .v) (s .cells) (s .links) (s .calendar) (s .words) ≡ true
   pub turn-low : s .ctl .turn < s .ctl .n
   pub rotation-low : s .ctl .rotation < s .ctl .v
+  -- document 02 (i): raw and mode are each 0 or 1
+  pub raw-low : s .ctl .raw ≤ 1
+  pub mode-low : s .ctl .mode ≤ 1
   pub vcs-fit : (vci : ℕ) → 1 ≤ vci → vci < s .ctl .v → vcFits (s .ctl .n) (vcAt (s .words) vci) ≡ true
   -- the spaces of the Free List, of the Output List and of each time slot queue: "each chain ends at its tail"
   pub free : List ℕ

@@ -4,6 +4,7 @@ use Prim.Native.Nat.{ℕ, zero, suc, _+_, _-_, _*_}
 use mathlib.Core.Bool.{Bool, not, _&&_}
 use mathlib.Core.List.{List, [], _∷_, _++_}
 use lib.ListN.{replicate}
+use Rattle.hec.specs.Modes.{correction}
 use Rattle.meaning.specs.declared.Record.{Record}
 use Rattle.meaning.specs.Plain.{if_then_else_, _<?_, _≤?_, _=?_}
 use Rattle.meaning.specs.Numbers.{rangesHold, octets, perEntry, wordsPerVc, empty, slotNumbers}
@@ -21,11 +22,28 @@ setUpOf number s = record { number = number; state = s }
 
 -- "a refused one gives back a record of zeros"
 unfoldable pub zeros : Record
-zeros = record { n = 0; v = 0; t = 0; turn = 0; rotation = 0; freehead = 0; freetail = 0; outhead = 0; outtail = 0 }
+zeros =
+    record {
+      n = 0;
+      v = 0;
+      t = 0;
+      turn = 0;
+      rotation = 0;
+      freehead = 0;
+      freetail = 0;
+      outhead = 0;
+      outtail = 0;
+      raw = 0;
+      mode = 0;
+    }
 
--- "t is 2^32-1, T is N-1, rotation is V-1"; the Free List from 0 to N-1, the Output List empty
-unfoldable pub freshRecord : ℕ → ℕ → Record
-freshRecord N z =
+-- document 02 (i): "Raw is a yes or no at setup"; the record holds 1 or 0
+abbrev pub rawNumber : Bool → ℕ
+rawNumber raw = if raw then 1 else 0
+
+-- "t is 2^32-1, T is N-1, rotation is V-1"; the Free List from 0 to N-1, the Output List empty; "correction mode, the first"
+unfoldable pub freshRecord : ℕ → ℕ → Bool → Record
+freshRecord N z raw =
     record {
       n = N;
       v = z;
@@ -36,6 +54,8 @@ freshRecord N z =
       freetail = N - 1;
       outhead = empty;
       outtail = empty;
+      raw = rawNumber raw;
+      mode = correction;
     }
 
 -- k numbers, from first on
@@ -45,23 +65,23 @@ countUp (suc k) first = first ∷ countUp k (first + 1)
 
 -- "Setup clears all lent memory, then chains spaces 0 to N-1 into the Free List in that order and empties the
 -- calendar"; "the last link of a chain keeps what it held", here a cleared link
-unfoldable pub freshState : ℕ → ℕ → State
-freshState N z =
+unfoldable pub freshState : ℕ → ℕ → Bool → State
+freshState N z raw =
     record {
-      ctl = freshRecord N z;
+      ctl = freshRecord N z raw;
       cells = replicate (octets * N) 0;
       links = countUp (N - 1) 1 ++ (0 ∷ []);
       calendar = replicate (perEntry * N) empty;
       words = replicate (wordsPerVc * z) 0;
     }
 
--- "Setup is handed no record": N, V and the four memories
-unfoldable pub setup : ℕ → ℕ → List ℕ → List ℕ → List ℕ → List ℕ → SetUp
-setup N z cells links calendar words =
+-- "Setup is handed no record": N, V, whether cells come raw, and the four memories
+unfoldable pub setup : ℕ → ℕ → Bool → List ℕ → List ℕ → List ℕ → List ℕ → SetUp
+setup N z raw cells links calendar words =
     let asItCame = stateOf zeros cells links calendar words in
     if not (rangesHold N z) then setUpOf 1 asItCame
     else if not (lengthsHold N z cells links calendar words) then setUpOf 2 asItCame
-    else setUpOf 0 (freshState N z)
+    else setUpOf 0 (freshState N z raw)
 
 -- what open and close give back: the refusal number, and the VC words afterwards. They are lent no other memory,
 -- and the record stays as it is.

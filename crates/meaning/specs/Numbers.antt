@@ -88,3 +88,7 @@ excess = 2
 
 abbrev pub unknown : ℕ
 unknown = 3
+
+-- document 02 (i): "A dropped cell (verdict 4, H)"
+abbrev pub dropped : ℕ
+dropped = 4

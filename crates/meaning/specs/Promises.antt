@@ -15,9 +15,9 @@ use Rattle.meaning.specs.Slot.{slot}
 use Rattle.meaning.specs.Line.{Slice, cellMemory, idleCell, linePart, lineCell}
 use Rattle.meaning.specs.Audit.{AuditHolds}
 
-abbrev pub setupPromise : ℕ → ℕ → List ℕ → List ℕ → List ℕ → List ℕ → Fresh → List ℕ → List ℕ → List ℕ → List ℕ → Type 0
-setupPromise N z cells links calendar words r cells′ links′ calendar′ words′ =
-    setUpOf (r .number) (stateOf (r .ctl) cells′ links′ calendar′ words′) ≡ setup N z cells links calendar words
+abbrev pub setupPromise : ℕ → ℕ → Bool → List ℕ → List ℕ → List ℕ → List ℕ → Fresh → List ℕ → List ℕ → List ℕ → List ℕ → Type 0
+setupPromise N z raw cells links calendar words r cells′ links′ calendar′ words′ =
+    setUpOf (r .number) (stateOf (r .ctl) cells′ links′ calendar′ words′) ≡ setup N z raw cells links calendar words
 
 abbrev pub openPromise : Record → List ℕ → ℕ → ℕ → ℕ → ℕ → ℕ → List ℕ → Type 0
 openPromise r words vci m F C number words′ = calledOf number words′ ≡ openCall r words vci m F C

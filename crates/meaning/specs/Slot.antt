@@ -1,13 +1,14 @@
 -- Document 01, "One slot, in this order". "A slot reads what its five steps name, as earlier steps changed it, and no
 -- other number." A step that would read a number outside its range is refused, with 3.
 use Prim.Native.Nat.{ℕ, _+_, _-_, _%_}
-use mathlib.Core.Bool.{not, _&&_, _||_}
+use mathlib.Core.Bool.{Bool, not, _&&_, _||_}
 use mathlib.Core.List.{List}
 use lib.ListN.{length}
+use Rattle.hec.specs.Modes.{Arriving, arriving, arrivingFits}
 use Rattle.meaning.specs.Plain.{if_then_else_, _<?_, _≤?_, _=?_, Out, refused, next, needs, _andThen_}
-use Rattle.meaning.specs.Numbers.{rangesHold, octets, cellStart, slotNumbers, unknown}
+use Rattle.meaning.specs.Numbers.{rangesHold, octets, cellStart, slotNumbers, unknown, dropped}
 use Rattle.meaning.specs.State.{State, freeList, outputList, lengthsHold}
-use Rattle.meaning.specs.State.{withLinks, withCalendar, withClock, withFreeList, withOutputList}
+use Rattle.meaning.specs.State.{withLinks, withCalendar, withClock, withFreeList, withOutputList, withMode}
 use Rattle.meaning.specs.Header.{headerAt, noUserCell, namesVc, namesOpenVc}
 use Rattle.meaning.specs.Words.{vcAt, withWaiting, openWordFits, upToDate}
 use Rattle.meaning.specs.Lists.{emptyList, isEmpty, endsFit, entryAt, writeEntry, Taken, takeHead, joinTail, addTail}
@@ -95,12 +96,29 @@ unfoldable pub finish : State → Out Work → Work
 finish s refused = workOf s (bareAnswer 3)
 finish s (next w) = w
 
--- "slot 1, 2, 9, 3": the state and the answer after one slot; cell is the octets lent, none or 53
-unfoldable pub slot : State → List ℕ → Work
-slot s cell =
+-- "slot 1, 2, 9, 3", as document 01 has it: the state and the answer after one slot; cell is none or 53 octets
+unfoldable pub uncheckedSlot : State → List ℕ → Work
+uncheckedSlot s cell =
     let N = s .ctl .n in
     let z = s .ctl .v in
     if not (rangesHold N z) then workOf s (bareAnswer 1)
     else if not (lengthsHold N z (s .cells) (s .links) (s .calendar) (s .words)) then workOf s (bareAnswer 2)
     else if not (length cell =? 0 || length cell =? octets) then workOf s (bareAnswer 9)
     else finish s (fiveSteps cell (workOf s (bareAnswer 0)))
+
+-- Document 02 (i): "A dropped cell (verdict 4, H) makes its slot empty for steps 1 to 5; its answer has VCI 0".
+abbrev pub told : Bool → Work → Work
+told drop w = if drop then withArrival w dropped 0 0 else w
+
+-- Document 02 (i): the header check comes in front of the five steps, which go on with what it lets through. The mode
+-- moves with the slot; "Each leaves everything as it came" covers it too.
+unfoldable pub slot : State → List ℕ → Work
+slot s cell =
+    let N = s .ctl .n in
+    let z = s .ctl .v in
+    let a = arriving (s .ctl .raw) (s .ctl .mode) cell in
+    if not (rangesHold N z) then workOf s (bareAnswer 1)
+    else if not (lengthsHold N z (s .cells) (s .links) (s .calendar) (s .words)) then workOf s (bareAnswer 2)
+    else if not (length cell =? 0 || length cell =? octets) then workOf s (bareAnswer 9)
+    else finish s (needs (arrivingFits (s .ctl .raw) (s .ctl .mode) cell)
+    (fiveSteps (a .cell) (workOf (withMode s (a .mode)) (bareAnswer 0)) andThen λ w. next (told (a .dropped) w)))

@@ -68,6 +68,8 @@ recordWith r t T rotation free output =
       freetail = free .tail;
       outhead = output .head;
       outtail = output .tail;
+      raw = r .raw;
+      mode = r .mode;
     }
 
 -- t, T and rotation changed
@@ -83,6 +85,26 @@ unfoldable pub withOutputList : State → Ends → State
 withOutputList s e =
     let r = s .ctl in
     withRecord s (recordWith r (r .t) (r .turn) (r .rotation) (freeList s) e)
+
+-- the mode of the header check changed
+unfoldable pub recordInMode : Record → ℕ → Record
+recordInMode r mode =
+    record {
+      n = r .n;
+      v = r .v;
+      t = r .t;
+      turn = r .turn;
+      rotation = r .rotation;
+      freehead = r .freehead;
+      freetail = r .freetail;
+      outhead = r .outhead;
+      outtail = r .outtail;
+      raw = r .raw;
+      mode = mode;
+    }
+
+unfoldable pub withMode : State → ℕ → State
+withMode s mode = withRecord s (recordInMode (s .ctl) mode)
 
 -- "The cell is written into its own 53 octets of the cell memory, and every other octet keeps its value."
 unfoldable pub writeCell : List ℕ → ℕ → List ℕ → List ℕ

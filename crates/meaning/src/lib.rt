@@ -1,6 +1,7 @@
 // The structs that pass by value, as C sees them too; what every call does with them stands in specs/.
 
-// The control record: N, V, t, T (turn), rotation, head and tail of the Free List and of the Output List.
+// The control record: N, V, t, T (turn), rotation, head and tail of the Free List and of the Output List; whether cells
+// come raw, 0 or 1, and the mode of the header check, 0 correction, 1 detection.
 #[repr(C)]
 pub struct Record {
     pub n: u16,
@@ -12,6 +13,8 @@ pub struct Record {
     pub freetail: u16,
     pub outhead: u16,
     pub outtail: u16,
+    pub raw: u16,
+    pub mode: u16,
 }
 
 // The answer to one slot: number, verdict, VCI, D, departing space, departing VCI.

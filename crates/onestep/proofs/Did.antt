@@ -87,9 +87,9 @@ module _ (run run′ : Run) (next : ℕ) (cells links calendar words words′ ou
 
 -- ---- setup
 
-module _ (run : Run) (N z next : ℕ) (cells links calendar words out : List ℕ) (used : ℕ)
+module _ (run : Run) (N z : ℕ) (raw : Bool) (next : ℕ) (cells links calendar words out : List ℕ) (used : ℕ)
     (r : Fresh) (cells′ links′ calendar′ words′ : List ℕ)
-    (e : setupPromise N z cells links calendar words r cells′ links′ calendar′ words′) where
+    (e : setupPromise N z raw cells links calendar words r cells′ links′ calendar′ words′) where
   setupText : SetUp → List ℕ
   setupText x = setupLine N z (x .number) ++ (if not (x .number =? 0) then endOf noTally else [])
 
@@ -98,7 +98,7 @@ module _ (run : Run) (N z next : ℕ) (cells links calendar words out : List ℕ
 
   pub setup-did : (out′ : List ℕ) (used′ : ℕ) → r .number ≡ 0
       → Put out used (setupLine N z (r .number)) out′ used′ → used′ ≤ used + 64
-      → Did (called (worldOf run cells links calendar words) (setUp N z) next 0) room out used
+      → Did (called (worldOf run cells links calendar words) (setUp N z raw) next 0) room out used
       (worldOf (onward (r .ctl) next 0 false noTally) cells′ links′ calendar′ words′) out′ used′
   unfolding called lineOf stateAfter endsRun tallyAfter setupText setupWorld
   setup-did out′ used′ q p f =
@@ -114,7 +114,7 @@ module _ (run : Run) (N z next : ℕ) (cells links calendar words out : List ℕ
   pub setup-ends : (out″ : List ℕ) (line : ℕ) (out′ : List ℕ) (used′ : ℕ) → (r .number ≡ 0 → ⊥)
       → Put out used (setupLine N z (r .number)) out″ line → line ≤ used + 64
       → Put out″ line (endOf noTally) out′ used′ → used′ ≤ line + 80
-      → Did (called (worldOf run cells links calendar words) (setUp N z) next 0) room out used
+      → Did (called (worldOf run cells links calendar words) (setUp N z raw) next 0) room out used
       (worldOf (onward (r .ctl) next 0 true noTally) cells′ links′ calendar′ words′) out′ used′
   unfolding called lineOf stateAfter endsRun tallyAfter setupText setupWorld
   setup-ends out″ line out′ used′ q p f p2 f2 =

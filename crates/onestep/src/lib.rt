@@ -87,10 +87,11 @@ fn end_tally(out: &mut [u8], at: usize, t: Tally) -> usize
     lines::end_line(out, at, t.accepted, t.excess, t.unknown, t.sent, waiting)
 }
 
-// A setup with its line; a refused one ends the run.
+// A setup, raw or not, with its line; a refused one ends the run.
 fn set_up(
     n: u16,
     v: u16,
+    raw: bool,
     next: u32,
     cells: &mut [u8],
     links: &mut [u16],
@@ -100,9 +101,9 @@ fn set_up(
     used: usize,
 ) -> Filled
     requires { ⌜ used + room ≤ length (now out) ⌝ }
-    ensures { λ r. ⌜ ((run : declared·Run) → Did (called (worldOf run (now (cells .entry)) (now (links .entry)) (now (calendar .entry)) (now (words .entry))) (setUp n v) next 0) room (now (out .entry)) used (worldOf (r .run) (now (cells .exit)) (now (links .exit)) (now (calendar .exit)) (now (words .exit))) (now (out .exit)) (r .used)) ⌝ }
+    ensures { λ r. ⌜ ((run : declared·Run) → Did (called (worldOf run (now (cells .entry)) (now (links .entry)) (now (calendar .entry)) (now (words .entry))) (setUp n v raw) next 0) room (now (out .entry)) used (worldOf (r .run) (now (cells .exit)) (now (links .exit)) (now (calendar .exit)) (now (words .exit))) (now (out .exit)) (r .used)) ⌝ }
 {
-    let fresh = setup::setup(n, v, cells, links, calendar, words);
+    let fresh = setup::setup(n, v, raw, cells, links, calendar, words);
     let ctl = fresh.ctl;
     let line = lines::setup_line(out, used, n, v, fresh.number);
     let tally = Tally {
@@ -242,7 +243,9 @@ fn happen(
     ensures { λ r. ⌜ Did (recordStep (now (trace .entry)) (worldOf run (now (cells .entry)) (now (links .entry)) (now (calendar .entry)) (now (words .entry))) (recordOf event) next) room (now (out .entry)) used (worldOf (r .run) (now (cells .exit)) (now (links .exit)) (now (calendar .exit)) (now (words .exit))) (now (out .exit)) (r .used) ⌝ }
 {
     match event {
-        Event::Setup { n, v } => set_up(n, v, next, cells, links, calendar, words, out, used),
+        Event::Setup { n, v, raw } => {
+            set_up(n, v, raw, next, cells, links, calendar, words, out, used)
+        }
         Event::Open { vci, m, f, c } => open_vc(run, vci, m, f, c, next, words, out, used),
         Event::Close { vci } => close_vc(run, vci, next, words, out, used),
         Event::Cell { start } => {

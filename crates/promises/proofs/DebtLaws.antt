@@ -204,9 +204,9 @@ module _ (N z : ℕ) where
   calls-paid r [] k p = p
   calls-paid r (c ∷ cs) k p = calls-paid (call r c) cs (call-kept N z r c k) (call-paid r c k p)
 
-  pub fresh-paid : rangesHold N z ≡ true → (cs : List Call) → PaidAtCloses (calls (freshRun N z) cs .events)
+  pub fresh-paid : rangesHold N z ≡ true → (raw : Bool) (cs : List Call) → PaidAtCloses (calls (freshRun N z raw) cs .events)
   unfolding freshRun calls
-  fresh-paid range cs = calls-paid (freshRun N z) cs (run-kept N z range []) tt
+  fresh-paid range raw cs = calls-paid (freshRun N z raw) cs (run-kept N z range raw []) tt
 
   -- slots are only added
   call-more : (r : Run) (c : Call) → served (r .events) ≤ served (call r c .events)

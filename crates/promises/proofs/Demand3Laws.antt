@@ -2,26 +2,18 @@
 -- wait, so the k-th that left is the k-th accepted; one that waits can still be in time. Assumes nothing.
 use Prim.Native.Nat.{ℕ, zero, suc, _+_, _-_, _≤_, _<_}
 use mathlib.Core.Path.{_≡_, refl, sym, ap, _∙_}
-use mathlib.Core.Logic.{_↔_}
-use mathlib.Core.Bool.{Bool, true, false, _&&_, _||_}
+use mathlib.Core.Bool.{false}
 use mathlib.Core.List.{List, [], _∷_, _++_, map}
-use mathlib.Core.Option.{some}
 use native.Mathlib.Decide.{decLt}
 use native.Mathlib.Nat.{not-suc-le-zero, le-of-suc-le-suc}
 use native.Mathlib.Omega.{arith}
-use borrow.Author.Tests.{ne-eqb}
 use lib.ListN.{length, getD, length-append, List·getD-append}
 use lib.Seq.{getD-append-add}
-use Rattle.meaning.specs.Plain.{if_then_else_, _=?_}
-use Rattle.meaning.specs.Numbers.{accepted, excess}
 use Rattle.meaning.specs.State.{State, freeList, outputList}
-use Rattle.meaning.specs.Header.{Header, headerAt, noUserCell, namesVc}
 use Rattle.meaning.specs.Lists.{isEmpty}
 use Rattle.meaning.specs.Slot.{slot}
 use Rattle.runs.specs.Run.{Event, served}
-use Rattle.runs.specs.Leak.{Opening, leakAccepts, openingOf}
 use Rattle.runs.specs.Seen.{Cell, Departure, ofVc, cellsIn, cellsOf, departuresOf, noCell, noDeparture, cellAt, departureAt}
-use Rattle.runs.specs.Judged.{Judged, judgedOf, judgedBy, judged}
 use Rattle.queues.specs.Queue.{one, All, flat, turn}
 use Rattle.queues.proofs.QueueLaws.{map-length, turn-sums}
 use Rattle.queues.proofs.LineLaws.{still-in-time}
@@ -30,8 +22,8 @@ use Rattle.queues.proofs.RisingLaws.{rising-of, rising-at}
 use Rattle.memory.specs.Held.{dueOf, Has}
 use Rattle.memory.proofs.HasLaws.{SomeFree, some-free, free-marked}
 use Rattle.invariant.specs.Invariant.{Left, seenAs, cellLeft, cellIn, vciIn, InTime, Delayed, Inv}
-use Rattle.invariant.proofs.SlotLaws.{slot-served}
 use Rattle.promises.specs.Demand3.{Demand3}
+use Rattle.promises.proofs.VerdictLaws.{says, accepts}
 
 -- the k-th of a list
 map-at : {A B : Type 0} (f : A → B) (l : List A) (k : ℕ) (a : A) (b : B) → k < length l
@@ -163,43 +155,6 @@ module _ (N z : ℕ) (h : List Event) (s : State) (i : Inv N z h s) where
             (rising-of (λ p. p .slot) (λ p. p .cell .vci) v 0 (served h) (i .left) (i .left-rise)),
       )
 
-  says : (cell : List ℕ) → length cell =? 0 || length cell =? 53 ≡ true
-      → judgedOf (slot s cell .answer .verdict) (slot s cell .answer .vci) (slot s cell .answer .d) ≡ judged z h cell
-  says cell e = slot-served N z h s i cell e .says
-
-  lent : (cell : List ℕ) → length cell ≡ 53 → length cell =? 0 || length cell =? 53 ≡ true
-  lent cell e = rw (e)
-
-  -- a header that names a VC is a user cell's
-  user : (cell : List ℕ) → length cell ≡ 53 → namesVc z (headerAt cell 0) ≡ true
-      → length cell =? 0 || noUserCell (headerAt cell 0) ≡ false
-  unfolding noUserCell
-  user cell e n = rw e (go (headerAt cell 0) (Rattle.invariant.proofs.ArriveLaws.names-facts z (headerAt cell 0) n .0))
-    where
-      go : (h : Header) → 1 ≤ h .vci → h .vpi =? 0 && h .vci =? 0 ≡ false
-      go h low = rw (ne-eqb (h .vci) 0 (λ y. omega arith)) (last (h .vpi =? 0))
-        where
-          last : (b : Bool) → b && false ≡ false
-          last true = refl
-          last false = refl
-
-  verdict-is : (cell : List ℕ) (o : Opening) → length cell ≡ 53 → namesVc z (headerAt cell 0) ≡ true
-      → openingOf (headerAt cell 0 .vci) h ≡ some o
-      → slot s cell .answer .verdict ≡ (if leakAccepts o (served h) then accepted else excess)
-  unfolding judgedBy
-  verdict-is cell o e n q =
-      ap (λ (j : Judged). j .verdict) (says cell (lent cell e)) ∙ rw (user cell e n, n, q) (go (leakAccepts o (served h)))
-    where
-      go : (b : Bool) → (if b then judgedOf accepted (headerAt cell 0 .vci)
-          (Rattle.runs.specs.Leak.dueSlot o (served h) - served h) else judgedOf excess (headerAt cell 0 .vci) 0) .verdict
-          ≡ (if b then accepted else excess)
-      go true = refl
-      go false = refl
-
-  exactly : (x : ℕ) (b : Bool) → x ≡ (if b then accepted else excess) → (x ≡ accepted) ↔ (b ≡ true)
-  exactly x true e = (λ p. refl, λ p. e)
-  exactly x false e = (λ p. absurd (omega (arith, p, e)), λ p. absurd (let y : _≡_ {A = ℕ} 0 1 = cc in omega arith))
-
   pub demanded : Demand3 N z h s
   demanded =
       record {
@@ -223,7 +178,6 @@ module _ (N z : ℕ) (h : List Event) (s : State) (i : Inv N z h s) where
         in-order = λ v j k less low.
             (arrivals-rise v j k less (omega (arith, many-left v, many-cells v)), departures-rise v j k less low);
         delay = λ v k low. let d = all-at (Delayed N) (cellsOf v h) k noCell (delays v) low in (d .0, omega (arith, d .1));
-        accepts-exactly = λ cell o e n q. exactly (slot s cell .answer .verdict) (leakAccepts o (served h))
-            (verdict-is cell o e n q);
-        judges = says;
+        accepts-exactly = accepts N z h s i;
+        judges = says N z h s i;
       }

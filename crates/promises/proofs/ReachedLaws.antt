@@ -2,7 +2,7 @@
 -- come closer than F/L, as the eight slots of document 01 show: 6 and 7 of VC 40. By computation. Assumes nothing.
 use Prim.Native.Nat.{ℕ, _-_, _*_, _≤_}
 use mathlib.Core.Path.{_≡_, refl}
-use mathlib.Core.Bool.{true}
+use mathlib.Core.Bool.{Bool, true, false}
 use mathlib.Core.List.{List}
 use mathlib.Core.Option.{some}
 use native.Mathlib.Omega.{arith}
@@ -15,17 +15,20 @@ use Rattle.runs.specs.Eight.{eightCalls, eightEvents}
 use Rattle.runs.specs.Computed.{byComputation}
 use Rattle.promises.specs.Reached.{Reached, Within, lateAtTwo, lateAtFive, PeakKept}
 
-pub reached-at-two : Reached 2 3 lateAtTwo 2 1
+pub reached-at-two : (raw : Bool) → Reached 2 3 raw lateAtTwo 2 1
 unfolding byComputation
-reached-at-two = record { leaves = lit< tt; late = refl }
+reached-at-two true = record { leaves = lit< tt; late = refl }
+reached-at-two false = record { leaves = lit< tt; late = refl }
 
-pub reached-at-five : Reached 5 3 lateAtFive 2 19
+pub reached-at-five : (raw : Bool) → Reached 5 3 raw lateAtFive 2 19
 unfolding byComputation
-reached-at-five = record { leaves = lit< tt; late = refl }
+reached-at-five true = record { leaves = lit< tt; late = refl }
+reached-at-five false = record { leaves = lit< tt; late = refl }
 
 -- so no smaller bound holds there
-pub not-within : (N z w : ℕ) (cs : List Call) (v k : ℕ) → rangesHold N z ≡ true → Reached N z cs v k → Within N w → N - 1 ≤ w
-not-within N z w cs v k e r b = omega (arith, b z e cs v k (r .leaves), r .late)
+pub not-within : (N z w : ℕ) (raw : Bool) (cs : List Call) (v k : ℕ) → rangesHold N z ≡ true → Reached N z raw cs v k
+    → Within N raw w → N - 1 ≤ w
+not-within N z w raw cs v k e r b = omega (arith, b z e cs v k (r .leaves), r .late)
 
 two-allowed : rangesHold 2 3 ≡ true
 unfolding rangesHold
@@ -35,11 +38,11 @@ five-allowed : rangesHold 5 3 ≡ true
 unfolding rangesHold
 five-allowed = refl
 
-pub least-at-two : (w : ℕ) → Within 2 w → 1 ≤ w
-least-at-two w b = not-within 2 3 w lateAtTwo 2 1 two-allowed reached-at-two b
+pub least-at-two : (raw : Bool) (w : ℕ) → Within 2 raw w → 1 ≤ w
+least-at-two raw w b = not-within 2 3 w raw lateAtTwo 2 1 two-allowed (reached-at-two raw) b
 
-pub least-at-five : (w : ℕ) → Within 5 w → 4 ≤ w
-least-at-five w b = not-within 5 3 w lateAtFive 2 19 five-allowed reached-at-five b
+pub least-at-five : (raw : Bool) (w : ℕ) → Within 5 raw w → 4 ≤ w
+least-at-five raw w b = not-within 5 3 w raw lateAtFive 2 19 five-allowed (reached-at-five raw) b
 
 -- departures 6 and 7, though F/L is 2.5
 pub departures-six-seven : (departureAt 40 2 eightEvents .slot ≡ 6) × (departureAt 40 3 eightEvents .slot ≡ 7)
@@ -48,7 +51,7 @@ departures-six-seven = (refl, refl)
 
 closer : PeakKept → 10 ≤ (departureAt 40 3 eightEvents .slot - departureAt 40 2 eightEvents .slot) * 4
 unfolding byComputation
-closer p = p 5 64 refl eightCalls 40 2 (openingWith 2 10 26 (some 30)) refl (lit< tt)
+closer p = p 5 64 false refl eightCalls 40 2 (openingWith 2 10 26 (some 30)) refl (lit< tt)
 
 pub peak-not-kept : PeakKept → ⊥
 peak-not-kept p = omega (arith, closer p, departures-six-seven .0, departures-six-seven .1)

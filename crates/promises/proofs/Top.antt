@@ -1,8 +1,8 @@
 -- The theorems that readers are sent to: each from the invariant of runs, in one line. Assumes nothing.
 use Prim.Native.Nat.{ℕ}
-use mathlib.Core.Path.{_≡_, sym, subst}
+use mathlib.Core.Path.{_≡_, sym, ap, _∙_, subst}
 use mathlib.Core.Logic.{_≢_}
-use mathlib.Core.Bool.{true}
+use mathlib.Core.Bool.{Bool, true, false}
 use mathlib.Core.List.{List, [], _∷_}
 use Rattle.meaning.specs.Numbers.{rangesHold}
 use Rattle.meaning.specs.State.{State}
@@ -18,23 +18,26 @@ use Rattle.promises.specs.Demand3.{Demand3, Demand3Holds}
 use Rattle.promises.specs.Debt.{Debt, Refused, DebtHolds}
 use Rattle.promises.specs.Runs.{NeverThree, InOrder, InOrderAlways}
 use Rattle.promises.proofs.Demand3Laws.{demanded}
+use Rattle.promises.specs.Checked.{HeaderCheck, HeaderCheckHolds, NotRawAsBefore}
 use Rattle.promises.proofs.DebtLaws.{debts, refused, fresh-paid}
+use Rattle.promises.proofs.CheckedRuns.{fresh-raw, raw-always, check-kept, as-before}
 
 -- a run after a setup that answered 0 is a run from a fresh state
-after-setup : (P : ℕ → ℕ → Run → Type 0)
-    → ((N z : ℕ) → rangesHold N z ≡ true → (cs : List Call) → P N z (calls (freshRun N z) cs))
-    → (N z : ℕ) (cells links calendar words : List ℕ) → setup N z cells links calendar words .number ≡ 0
-    → (cs : List Call) → P N z (calls (runOf (setup N z cells links calendar words .state) []) cs)
+after-setup : (P : ℕ → ℕ → Bool → Run → Type 0)
+    → ((N z : ℕ) (raw : Bool) → rangesHold N z ≡ true → (cs : List Call) → P N z raw (calls (freshRun N z raw) cs))
+    → (N z : ℕ) (raw : Bool) (cells links calendar words : List ℕ) → setup N z raw cells links calendar words .number ≡ 0
+    → (cs : List Call) → P N z raw (calls (runOf (setup N z raw cells links calendar words .state) []) cs)
 unfolding freshRun
-after-setup P f N z cells links calendar words e cs =
-    let fresh = setup-fresh N z cells links calendar words e in
-    subst (λ (s : State). P N z (calls (runOf s []) cs)) (sym (fresh .1)) (f N z (fresh .0) cs)
+after-setup P f N z raw cells links calendar words e cs =
+    let fresh = setup-fresh N z raw cells links calendar words e in
+    subst (λ (s : State). P N z raw (calls (runOf s []) cs)) (sym (fresh .1)) (f N z raw (fresh .0) cs)
 
 -- and keeps the invariant
 from-setup : (P : ℕ → ℕ → Run → Type 0) → ((N z : ℕ) (r : Run) → Kept N z r → P N z r)
-    → (N z : ℕ) (cells links calendar words : List ℕ) → setup N z cells links calendar words .number ≡ 0
-    → (cs : List Call) → P N z (calls (runOf (setup N z cells links calendar words .state) []) cs)
-from-setup P f = after-setup P (λ N z range cs. f N z (calls (freshRun N z) cs) (run-kept N z range cs))
+    → (N z : ℕ) (raw : Bool) (cells links calendar words : List ℕ) → setup N z raw cells links calendar words .number ≡ 0
+    → (cs : List Call) → P N z (calls (runOf (setup N z raw cells links calendar words .state) []) cs)
+from-setup P f =
+    after-setup (λ N z raw r. P N z r) (λ N z raw range cs. f N z (calls (freshRun N z raw) cs) (run-kept N z range raw cs))
 
 never-three : (h : List Event) → All (λ e. numberOf e ≢ 3) h → NeverThree h
 never-three [] a = a
@@ -61,7 +64,21 @@ in-order =
 -- REQUEST (ii): closing must not wipe a debt
 pub debt-kept : DebtHolds
 debt-kept =
-    after-setup (λ N z r. Debt N z (r .events) (r .state) × ((more : List Call) → Refused z r more))
-    (λ N z range cs.
-    let k = run-kept N z range cs in
-    (debts N z (calls (freshRun N z) cs) k (fresh-paid N z range cs), λ more. refused N z (calls (freshRun N z) cs) k more))
+    after-setup (λ N z raw r. Debt N z (r .events) (r .state) × ((more : List Call) → Refused z r more))
+    (λ N z raw range cs.
+    let r = calls (freshRun N z raw) cs in
+    let k = run-kept N z range raw cs in
+    (debts N z r k (fresh-paid N z range raw cs), λ more. refused N z r k more))
+
+-- REQUEST (i): header error control
+pub header-check : HeaderCheckHolds
+header-check =
+    after-setup (λ N z raw r. HeaderCheck raw r)
+    (λ N z raw range cs. check-kept N z raw (calls (freshRun N z raw) cs) (run-kept N z range raw cs) (raw-always N z raw cs))
+
+-- "A policer that is not raw behaves octet for octet as before"
+pub not-raw-as-before : NotRawAsBefore
+not-raw-as-before N z cells links calendar words e cs =
+    let fresh = setup-fresh N z false cells links calendar words e in
+    as-before (runOf (setup N z false cells links calendar words .state) []) cs
+    (ap (λ (s : State). s .ctl .raw) (fresh .1) ∙ fresh-raw N z false)

@@ -9,6 +9,7 @@
 --   Refused         == how long close goes on being refused, of a run and the calls after it
 use Prim.Native.Nat.{ℕ, suc, _+_, _-_, _*_, _/_, _≤_, _<_}
 use mathlib.Core.Path.{_≡_}
+use mathlib.Core.Bool.{Bool}
 use mathlib.Core.List.{List, [], _∷_, _++_}
 use mathlib.Core.Logic.{_≢_, _↔_}
 use mathlib.Core.Option.{Option, none, some}
@@ -75,8 +76,8 @@ pub record Refused (z : ℕ) (r : Run) (cs : List Call) : Type 0 where
       < served (r .events) + roundedUp (debt (r .state .ctl .t) (vcAt (r .state .words) v)) (parts o))
 
 abbrev pub DebtHolds : Type 0
-DebtHolds = (N z : ℕ) (cells links calendar words : List ℕ)
-    → setup N z cells links calendar words .number ≡ 0
+DebtHolds = (N z : ℕ) (raw : Bool) (cells links calendar words : List ℕ)
+    → setup N z raw cells links calendar words .number ≡ 0
     → (cs : List Call)
-    → let r = calls (runOf (setup N z cells links calendar words .state) []) cs in
+    → let r = calls (runOf (setup N z raw cells links calendar words .state) []) cs in
     Debt N z (r .events) (r .state) × ((more : List Call) → Refused z r more)

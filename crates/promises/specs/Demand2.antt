@@ -1,16 +1,18 @@
 -- DEMAND 2 over runs. A setup has answered 0, whatever the memory held before. Then the 32-bit slot number, which wraps,
 -- decides as a clock that never does: of any calls, refused ones among them, the answers, the line cells and the memories
 -- are those of a policer (crate unwrapped, specs/Unwrapped.antt) whose clock is the number of slots served, t and `last`
--- being that policer's modulo 2^32. NeverWraps has a clause for each.
+-- being that policer's modulo 2^32. NeverWraps has a clause for each. Both have the header check of document 02 (i) in
+-- front, so what is decided of is the mended header.
 use Prim.Native.Nat.{ℕ}
 use mathlib.Core.Path.{_≡_}
+use mathlib.Core.Bool.{Bool}
 use mathlib.Core.List.{List}
 use Rattle.meaning.specs.Calls.{setup}
 use Rattle.runs.specs.Run.{Call, freshRun}
 use Rattle.unwrapped.specs.UnwrappedRun.{NeverWraps}
 
 abbrev pub Demand2Holds : Type 0
-Demand2Holds = (N z : ℕ) (cells links calendar words : List ℕ)
-    → setup N z cells links calendar words .number ≡ 0
+Demand2Holds = (N z : ℕ) (raw : Bool) (cells links calendar words : List ℕ)
+    → setup N z raw cells links calendar words .number ≡ 0
     → (cs : List Call)
-    → (setup N z cells links calendar words .state ≡ freshRun N z .state) × NeverWraps N z cs
+    → (setup N z raw cells links calendar words .state ≡ freshRun N z raw .state) × NeverWraps N z raw cs

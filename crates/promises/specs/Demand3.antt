@@ -10,11 +10,14 @@
 --                        whatever idle cell is lent. There are `length (departuresOf v h)`
 --   openingOf v h        the m, F, C and last due time of the VC v, if it is open
 --   leakAccepts o t      the leak rule's verdict on a cell that arrives in slot t
---   judged z h cell      verdict, VCI and D by the header and the exact leak rule
+--   letIn s cell         what the header check of document 02 (i) lets through of the octets lent: all of them, where the
+--                        policer is not raw; of a raw one the cell as it came or mended, or none where it is dropped
+--   judgedAs z h a       verdict, VCI and D by the header let through and the exact leak rule; of a dropped cell 4, 0, 0
+-- An accepted cell's octets are those let through: the mended ones.
 -- Signs: (v k : ℕ) → .. for all v and k; A → B where A holds, B; × and; ↔ exactly when; ≡ equals; x .due, the due of x.
 use Prim.Native.Nat.{ℕ, _+_, _-_, _≤_, _<_}
 use mathlib.Core.Path.{_≡_}
-use mathlib.Core.Bool.{true, false, _||_}
+use mathlib.Core.Bool.{Bool, true, false, _||_}
 use mathlib.Core.List.{List, []}
 use mathlib.Core.Logic.{_↔_}
 use mathlib.Core.Option.{some}
@@ -26,10 +29,10 @@ use Rattle.meaning.specs.Header.{headerAt, namesVc}
 use Rattle.meaning.specs.Lists.{isEmpty}
 use Rattle.meaning.specs.Calls.{setup}
 use Rattle.meaning.specs.Slot.{slot}
-use Rattle.runs.specs.Run.{Call, Event, runOf, calls, served}
+use Rattle.runs.specs.Run.{Call, Event, runOf, letIn, calls, served}
 use Rattle.runs.specs.Leak.{Opening, leakAccepts, openingOf}
 use Rattle.runs.specs.Seen.{cellsOf, departuresOf, cellAt, departureAt}
-use Rattle.runs.specs.Judged.{judgedOf, judged}
+use Rattle.runs.specs.Judged.{judgedOf, judgedAs}
 
 pub record Demand3 (N z : ℕ) (h : List Event) (s : State) : Type 0 where
   -- 6, 1 and 4: the k-th departure of a VC is its k-th accepted cell. So nothing leaves that was not accepted, no cell
@@ -38,7 +41,7 @@ pub record Demand3 (N z : ℕ) (h : List Event) (s : State) : Type 0 where
   pub in-order : (v j k : ℕ) → j < k → k < length (departuresOf v h)
       → (cellAt v j h .arrival < cellAt v k h .arrival)
       × (departureAt v j h .slot < departureAt v k h .slot)
-  -- 3: with its octets unchanged, as the line cell shows them in that slot
+  -- 3: with its octets unchanged, as mended, as the line cell shows them in that slot
   pub unchanged : (v k : ℕ) → k < length (departuresOf v h)
       → departureAt v k h .octets ≡ cellAt v k h .octets
   -- 2: not before its due slot, and at most N-1 slots after it
@@ -55,17 +58,18 @@ pub record Demand3 (N z : ℕ) (h : List Event) (s : State) : Type 0 where
   pub delay : (v k : ℕ) → k < length (cellsOf v h)
       → (cellAt v k h .due ≡ cellAt v k h .arrival + cellAt v k h .D)
       × (cellAt v k h .D ≤ N - 1)
-  -- 8: the next slot accepts a cell of an open VC exactly when the leak rule does
-  pub accepts-exactly : (cell : List ℕ) (o : Opening) → length cell ≡ octets → namesVc z (headerAt cell 0) ≡ true
-      → openingOf (headerAt cell 0 .vci) h ≡ some o
+  -- 8: the next slot accepts a cell that is let through with the header of an open VC exactly when the leak rule does
+  pub accepts-exactly : (cell : List ℕ) (o : Opening) → length cell ≡ octets
+      → namesVc z (headerAt (letIn s cell .cell) 0) ≡ true
+      → openingOf (headerAt (letIn s cell .cell) 0 .vci) h ≡ some o
       → (slot s cell .answer .verdict ≡ accepted) ↔ (leakAccepts o (served h) ≡ true)
-  -- and whatever arrives, verdict, VCI and D are those of the header and the leak rule
+  -- and whatever arrives, verdict, VCI and D are those of the header let through and the leak rule, or 4, 0 and 0
   pub judges : (cell : List ℕ) → length cell =? 0 || length cell =? octets ≡ true
-      → judgedOf (slot s cell .answer .verdict) (slot s cell .answer .vci) (slot s cell .answer .d) ≡ judged z h cell
+      → judgedOf (slot s cell .answer .verdict) (slot s cell .answer .vci) (slot s cell .answer .d) ≡ judgedAs z h (letIn s cell)
 
 -- of every run from a fresh state
 abbrev pub Demand3Holds : Type 0
-Demand3Holds = (N z : ℕ) (cells links calendar words : List ℕ)
-    → setup N z cells links calendar words .number ≡ 0
+Demand3Holds = (N z : ℕ) (raw : Bool) (cells links calendar words : List ℕ)
+    → setup N z raw cells links calendar words .number ≡ 0
     → (cs : List Call)
-    → let r = calls (runOf (setup N z cells links calendar words .state) []) cs in Demand3 N z (r .events) (r .state)
+    → let r = calls (runOf (setup N z raw cells links calendar words .state) []) cs in Demand3 N z (r .events) (r .state)

@@ -5,3 +5,4 @@ pub mod Reached
 pub mod Quoted
 pub mod Debt
 pub mod Wiped
+pub mod Checked

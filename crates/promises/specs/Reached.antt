@@ -1,42 +1,48 @@
 -- Why demand 3 can't promise less than N-1, and what else can't be promised: runs in which it happens.
 --
---   Reached      == in this run a cell of the VC v leaves exactly N-1 slots after its due slot
---   Within N w   == at this N no cell of any run leaves more than w slots after its due slot
---   PeakKept     == source 000's claim, that one VC's departures never come closer than its peak rate allows
+--   Reached         == in this run a cell of the VC v leaves exactly N-1 slots after its due slot
+--   Within N raw w  == at this N no cell of any run, of a raw policer or of one that is not, leaves more than w slots
+--                      after its due slot
+--   cleanFor vci    == a cell of a VC with the octet 5 that belongs to its header, which both kinds let through as it is
+--   PeakKept        == source 000's claim, that one VC's departures never come closer than its peak rate allows
 use Prim.Native.Nat.{ℕ, _+_, _-_, _*_, _≤_, _<_}
 use mathlib.Core.Path.{_≡_}
-use mathlib.Core.Bool.{true}
+use mathlib.Core.Bool.{Bool, true}
 use mathlib.Core.List.{List, [], _∷_, _++_}
 use mathlib.Core.Option.{some}
-use lib.ListN.{length, replicate}
+use lib.ListN.{length, replicate, set}
+use Rattle.hec.specs.Check.{hecOf}
 use Rattle.meaning.specs.Numbers.{rangesHold}
 use Rattle.runs.specs.Run.{Call, onOpen, onSlot, calls, freshRun}
 use Rattle.runs.specs.Leak.{Opening, parts, openingOf}
 use Rattle.runs.specs.Seen.{departuresOf, cellAt, departureAt}
 use Rattle.runs.specs.Eight.{cellFor}
 
-pub record Reached (N z : ℕ) (cs : List Call) (v k : ℕ) : Type 0 where
-  pub leaves : k < length (departuresOf v (calls (freshRun N z) cs .events))
-  pub late : let h = calls (freshRun N z) cs .events in
+pub record Reached (N z : ℕ) (raw : Bool) (cs : List Call) (v k : ℕ) : Type 0 where
+  pub leaves : k < length (departuresOf v (calls (freshRun N z raw) cs .events))
+  pub late : let h = calls (freshRun N z raw) cs .events in
       departureAt v k h .slot ≡ cellAt v k h .due + (N - 1)
 
-abbrev pub Within : ℕ → ℕ → Type 0
-Within N w = (z : ℕ) → rangesHold N z ≡ true → (cs : List Call) (v k : ℕ)
-    → let h = calls (freshRun N z) cs .events in
+abbrev pub Within : ℕ → Bool → ℕ → Type 0
+Within N raw w = (z : ℕ) → rangesHold N z ≡ true → (cs : List Call) (v k : ℕ)
+    → let h = calls (freshRun N z raw) cs .events in
     k < length (departuresOf v h) → departureAt v k h .slot ≤ cellAt v k h .due + w
+
+abbrev pub cleanFor : ℕ → List ℕ
+cleanFor vci = set (cellFor vci) 4 (hecOf (cellFor vci))
 
 -- N 2: VC 1 with m 0, F 1, C 2; VC 2 with m 0, F 2, C 3; cells of 2, 2, 1, and an empty slot
 abbrev pub lateAtTwo : List Call
-lateAtTwo = onOpen 1 0 1 2 ∷ onOpen 2 0 2 3 ∷ onSlot (cellFor 2) ∷ onSlot (cellFor 2) ∷ onSlot (cellFor 1) ∷ onSlot [] ∷ []
+lateAtTwo = onOpen 1 0 1 2 ∷ onOpen 2 0 2 3 ∷ onSlot (cleanFor 2) ∷ onSlot (cleanFor 2) ∷ onSlot (cleanFor 1) ∷ onSlot [] ∷ []
 
 -- N 5, with L 4: VC 2 with F 5, C 24 sends 20 cells, then VC 1 with F and C 4 sends 4, and 4 empty slots follow
 abbrev pub lateAtFive : List Call
 lateAtFive =
     onOpen 1 2 4 4 ∷ onOpen 2 2 5
-    24 ∷ (replicate 20 (onSlot (cellFor 2)) ++ (replicate 4 (onSlot (cellFor 1)) ++ replicate 4 (onSlot [])))
+    24 ∷ (replicate 20 (onSlot (cleanFor 2)) ++ (replicate 4 (onSlot (cleanFor 1)) ++ replicate 4 (onSlot [])))
 
 abbrev pub PeakKept : Type 0
-PeakKept = (N z : ℕ) → rangesHold N z ≡ true → (cs : List Call) (v k : ℕ) (o : Opening)
-    → let h = calls (freshRun N z) cs .events in
+PeakKept = (N z : ℕ) (raw : Bool) → rangesHold N z ≡ true → (cs : List Call) (v k : ℕ) (o : Opening)
+    → let h = calls (freshRun N z raw) cs .events in
     openingOf v h ≡ some o → k + 1 < length (departuresOf v h)
     → o .F ≤ (departureAt v (k + 1) h .slot - departureAt v k h .slot) * parts o

@@ -14,7 +14,7 @@ use Rattle.trace.specs.Fits.{Fits, stands-fits}
 use Rattle.listing.specs.Trace.{Call, setUp, openVc, closeVc, serve, Calls, finished, stopped, call, pauses, cellOf, recordCalls, callsAt, callsFrom}
 
 abbrev pub LaterCall : Call → Type 0
-LaterCall (setUp N z) = ⊥
+LaterCall (setUp N z raw) = ⊥
 LaterCall (openVc vci m F C) = 0 ≤ 0
 LaterCall (closeVc vci) = 0 ≤ 0
 LaterCall (serve cell) = length cell =? 0 || length cell =? octets ≡ true
@@ -40,7 +40,7 @@ cell-later n e = simp (ne-eqb n 0 (λ z. omega arith), eq-eqb n octets e)
 record-later : (trace : List ℕ) (at : ℕ) (r : TraceRecord) (next : ℕ) (cs : Calls) → 0 < at → Fits trace at (event r next) → Later cs
     → Later (recordCalls trace r cs)
 unfolding recordCalls
-record-later trace at (GM N z) next cs p f l = absurd (omega (arith, p, f .2))
+record-later trace at (GM N z raw) next cs p f l = absurd (omega (arith, p, f .2))
 record-later trace at (VO vci m F C) next cs p f l = (omega arith, l)
 record-later trace at (VX vci) next cs p f l = (omega arith, l)
 record-later trace at (CA start) next cs p f l =
@@ -48,7 +48,7 @@ record-later trace at (CA start) next cs p f l =
 record-later trace at (SL count) next cs p f l = pauses-later count cs l
 
 event-next : (trace : List ℕ) (at : ℕ) (r : TraceRecord) (next : ℕ) → Fits trace at (event r next) → 0 < next
-event-next trace at (GM N z) next f = omega (arith, f .0)
+event-next trace at (GM N z raw) next f = omega (arith, f .0)
 event-next trace at (VO vci m F C) next f = omega (arith, f .0)
 event-next trace at (VX vci) next f = omega (arith, f .0)
 event-next trace at (CA start) next f = omega (arith, f .0)

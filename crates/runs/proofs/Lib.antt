@@ -1,2 +1,5 @@
 pub mod EightLaws
 pub mod LineLaws
+pub mod OutLaws
+pub mod ModeLaws
+pub mod RawSixLaws

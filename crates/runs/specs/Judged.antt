@@ -1,14 +1,17 @@
--- What a slot answers of its arrival, from the header and the exact leak rule alone: no S, no wrapped clock.
+-- What a slot answers of its arrival, from the header and the exact leak rule alone: no S, no wrapped clock. The header is
+-- that of the octets that the header check let through.
 --
 --   Judged          == verdict, VCI and D, as an answer holds them
---   judged z h cell == those of a cell that is lent after the events h, V being z
+--   judged z h cell == those of a cell that is let through after the events h, V being z
+--   judgedAs z h a  == those of what the header check answered, a: of a dropped cell verdict 4, VCI 0 and D 0
 use Prim.Native.Nat.{ℕ, _-_}
 use mathlib.Core.Bool.{not, _||_}
 use mathlib.Core.List.{List}
 use mathlib.Core.Option.{Option, none, some}
 use lib.ListN.{length}
+use Rattle.hec.specs.Modes.{Arriving}
 use Rattle.meaning.specs.Plain.{if_then_else_, _=?_}
-use Rattle.meaning.specs.Numbers.{nothing, accepted, excess, unknown}
+use Rattle.meaning.specs.Numbers.{nothing, accepted, excess, unknown, dropped}
 use Rattle.meaning.specs.Header.{headerAt, noUserCell, namesVc}
 use Rattle.runs.specs.Run.{Event, served}
 use Rattle.runs.specs.Leak.{Opening, dueSlot, leakAccepts, openingOf}
@@ -37,3 +40,7 @@ judgedBy z t openings cell =
 
 abbrev pub judged : ℕ → List Event → List ℕ → Judged
 judged z h cell = judgedBy z (served h) (λ v. openingOf v h) cell
+
+-- document 02 (i): "A dropped cell (verdict 4, H) .. its answer has VCI 0"
+abbrev pub judgedAs : ℕ → List Event → Arriving → Judged
+judgedAs z h a = if a .dropped then judgedOf dropped 0 0 else judged z h (a .cell)

@@ -4,3 +4,4 @@ pub mod Seen
 pub mod Eight
 pub mod Judged
 pub mod Computed
+pub mod RawSix

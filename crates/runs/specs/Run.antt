@@ -6,12 +6,15 @@
 --   Run           == the state after some calls, and their events, the newest first
 --   call r c      == the run r, and then the call c
 --   calls r cs    == the run r, and then the calls cs, in this order
---   freshRun N z  == after a setup that answered 0, before any other call
+--   letIn s cell  == what the header check of request (i) lets through in the state s: of a policer that is not raw, all
+--   freshRun N z raw  == after a setup that answered 0, before any other call
 --   numberOf e    == the number that a call answered
 --   served h      == how many slots the events h served: the number of the next slot, which never wraps
 use Prim.Native.Nat.{ℕ, _+_}
+use mathlib.Core.Bool.{Bool}
 use mathlib.Core.List.{List, [], _∷_}
 use lib.ListN.{replicate}
+use Rattle.hec.specs.Modes.{Arriving, arriving}
 use Rattle.meaning.specs.declared.Answer.{Answer}
 use Rattle.meaning.specs.Plain.{if_then_else_, _=?_}
 use Rattle.meaning.specs.Numbers.{octets, empty}
@@ -34,7 +37,7 @@ pub data Event : Type 0 where
   opened : ℕ → ℕ → ℕ → ℕ → ℕ → Event
   -- VCI, and the number answered
   closed : ℕ → ℕ → Event
-  -- the octets lent, the answer, and the octets of the line cell shown after it
+  -- the octets that the header check let through, the answer, and the octets of the line cell shown after it
   ran : List ℕ → Answer → List ℕ → Event
 
 abbrev pub numberOf : Event → ℕ
@@ -57,6 +60,11 @@ idle = replicate octets 0
 unfoldable pub shown : Work → List ℕ
 shown w = if w .answer .space =? empty then [] else lineCell (w .state .cells) idle (w .answer .space)
 
+-- Document 02 (i): what is judged, stored and sent is the mended cell, so that is what an event notes: "octets unchanged"
+-- and due times speak of it. Of a dropped cell nothing is noted.
+abbrev pub letIn : State → List ℕ → Arriving
+letIn s cell = arriving (s .ctl .raw) (s .ctl .mode) cell
+
 unfoldable pub call : Run → Call → Run
 call r (onOpen vci m F C) =
     let s = r .state in
@@ -68,15 +76,15 @@ call r (onClose vci) =
     runOf (withWords s (c .words)) (closed vci (c .number) ∷ r .events)
 call r (onSlot cell) =
     let w = slot (r .state) cell in
-    runOf (w .state) (ran cell (w .answer) (shown w) ∷ r .events)
+    runOf (w .state) (ran (letIn (r .state) cell .cell) (w .answer) (shown w) ∷ r .events)
 
 unfoldable pub calls : Run → List Call → Run
 calls r [] = r
 calls r (c ∷ cs) = calls (call r c) cs
 
 -- "'From a fresh state' means that a setup has answered 0, no other setup follows"
-unfoldable pub freshRun : ℕ → ℕ → Run
-freshRun N z = runOf (freshState N z) []
+unfoldable pub freshRun : ℕ → ℕ → Bool → Run
+freshRun N z raw = runOf (freshState N z raw) []
 
 -- A refused slot is not served. "The first slot after setup is slot 0."
 unfoldable pub served : List Event → ℕ

@@ -13,7 +13,7 @@ use Rattle.meaning.specs.Numbers.{rangesHold}
 use Rattle.meaning.specs.State.{stateOf, wordsLong, lengthsHold}
 use Rattle.meaning.specs.Words.{vcAt, vcFits}
 use Rattle.meaning.specs.Lists.{entryAt}
-use Rattle.meaning.specs.Calls.{SetUp, setUpOf, zeros, setup, countUp, freshRecord, freshState}
+use Rattle.meaning.specs.Calls.{SetUp, setUpOf, zeros, rawNumber, setup, countUp, freshRecord, freshState}
 use Rattle.meaning.specs.Promises.{setupPromise}
 use Rattle.meaning.specs.Audit.{Chain, count, joined, AuditHolds}
 use Rattle.refusal.proofs.Ranges.{InRange, ranges-facts}
@@ -75,15 +75,22 @@ module _ (N z : ℕ) (r : InRange N z) where
   unfolding vcFits
   fits vci = simp (closed vci)
 
-pub fresh-audit : (N z : ℕ) → rangesHold N z ≡ true → AuditHolds (freshState N z)
+-- raw is 1 or 0 in the record
+raw-low : (raw : Bool) → rawNumber raw ≤ 1
+raw-low true = omega arith
+raw-low false = omega arith
+
+pub fresh-audit : (N z : ℕ) (raw : Bool) → rangesHold N z ≡ true → AuditHolds (freshState N z raw)
 unfolding freshState freshRecord
-fresh-audit N z h =
+fresh-audit N z raw h =
     let r = ranges-facts N z h in
     record {
       ranges = h;
       lengths = lengths-hold N z r;
       turn-low = omega (arith, r .N-least);
       rotation-low = omega (arith, r .V-least);
+      raw-low = raw-low raw;
+      mode-low = omega arith;
       vcs-fit = λ vci a b. fits N z r vci;
       free = countUp N 0;
       output = [];
@@ -100,12 +107,12 @@ fresh-audit N z h =
     }
 
 -- what setup's promise allows with number 0 meets the audit's clauses
-pub setup-audit : (N z : ℕ) (cells links calendar words : List ℕ) (r : Fresh) (cells′ links′ calendar′ words′ : List ℕ)
-    → setupPromise N z cells links calendar words r cells′ links′ calendar′ words′
+pub setup-audit : (N z : ℕ) (raw : Bool) (cells links calendar words : List ℕ) (r : Fresh) (cells′ links′ calendar′ words′ : List ℕ)
+    → setupPromise N z raw cells links calendar words r cells′ links′ calendar′ words′
     → r .number ≡ 0
     → AuditHolds (stateOf (r .ctl) cells′ links′ calendar′ words′)
 unfolding setup
-setup-audit N z cells links calendar words r cells′ links′ calendar′ words′ p e =
+setup-audit N z raw cells links calendar words r cells′ links′ calendar′ words′ p e =
     subst AuditHolds (sym (ap (λ (s : SetUp). s .state) p)) (go inRange long refl (sym (ap (λ (s : SetUp). s .number) p) ∙ e))
   where
     inRange : Bool
@@ -117,9 +124,9 @@ setup-audit N z cells links calendar words r cells′ links′ calendar′ words
     after : Bool → Bool → SetUp
     after a b =
         let asItCame = stateOf zeros cells links calendar words in
-        if not a then setUpOf 1 asItCame else if not b then setUpOf 2 asItCame else setUpOf 0 (freshState N z)
+        if not a then setUpOf 1 asItCame else if not b then setUpOf 2 asItCame else setUpOf 0 (freshState N z raw)
 
     go : (a b : Bool) → inRange ≡ a → after a b .number ≡ 0 → AuditHolds (after a b .state)
-    go true true h k = fresh-audit N z h
+    go true true h k = fresh-audit N z raw h
     go true false h k = absurd (omega arith)
     go false b h k = absurd (omega arith)

@@ -29,13 +29,13 @@ module _ (N z : ℕ) (cells links calendar words : List ℕ) where
   abbrev refusedWith : ℕ → SetUp
   refusedWith k = setUpOf k (stateOf zeros cells links calendar words)
 
-  pub setup-refused : (setupRefusal ≡ 0 → ⊥) → refusedWith setupRefusal ≡ setup N z cells links calendar words
+  pub setup-refused : (raw : Bool) → (setupRefusal ≡ 0 → ⊥) → refusedWith setupRefusal ≡ setup N z raw cells links calendar words
   unfolding setup lengthsHold wordsLong
-  setup-refused h = two-given 1 2 refl refl refusedWith (setUpOf 0 (freshState N z)) (not inRange) (not long) h
+  setup-refused raw h = two-given 1 2 refl refl refusedWith (setUpOf 0 (freshState N z raw)) (not inRange) (not long) h
 
-  pub setup-done : setupRefusal ≡ 0 → setUpOf 0 (freshState N z) ≡ setup N z cells links calendar words
+  pub setup-done : (raw : Bool) → setupRefusal ≡ 0 → setUpOf 0 (freshState N z raw) ≡ setup N z raw cells links calendar words
   unfolding setup lengthsHold wordsLong
-  setup-done h = two-none 1 2 refl refl refusedWith (setUpOf 0 (freshState N z)) (not inRange) (not long) h
+  setup-done raw h = two-none 1 2 refl refl refusedWith (setUpOf 0 (freshState N z raw)) (not inRange) (not long) h
 
   -- where neither is given
   pub record Lent : Type 0 where
@@ -64,13 +64,13 @@ module _ (N z : ℕ) (cells links calendar words : List ℕ) where
       }
 
   -- the four memories as the fills leave them, and the record, are the fresh state
-  pub fresh-is : Lent → (r : Record) (cells′ links′ calendar′ words′ : List ℕ)
-      → r ≡ freshRecord N z
+  pub fresh-is : Lent → (raw : Bool) (r : Record) (cells′ links′ calendar′ words′ : List ℕ)
+      → r ≡ freshRecord N z raw
       → cells′ ≡ replicate (length cells) 0
       → links′ ≡ countUp (length links - 1) 1 ++ (0 ∷ [])
       → calendar′ ≡ replicate (length calendar) 65535
       → words′ ≡ replicate (length words) 0
-      → stateOf r cells′ links′ calendar′ words′ ≡ freshState N z
+      → stateOf r cells′ links′ calendar′ words′ ≡ freshState N z raw
   unfolding freshState
-  fresh-is l r cells′ links′ calendar′ words′ a b d e f =
+  fresh-is l raw r cells′ links′ calendar′ words′ a b d e f =
       simp (a, b, d, e, f, l .cells-long, l .links-long, l .calendar-long, l .words-long)

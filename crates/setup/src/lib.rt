@@ -16,6 +16,9 @@ use refusal::lengths_hold;
 use refusal::ranges_hold;
 use refusal::refuse;
 
+// The mode of the header check in which a single wrong bit is mended.
+const CORRECTION: u16 = 0;
+
 // All octets of the cell memory 0.
 fn clear_cells(cells: &mut [u8])
     ensures { λ r. ⌜ now (cells .exit) ≡ replicate (length (now (cells .entry))) 0 ⌝ }
@@ -86,13 +89,15 @@ fn no_record() -> Record
         freetail: 0,
         outhead: 0,
         outtail: 0,
+        raw: 0,
+        mode: 0,
     }
 }
 
-// "t is 2^32-1, T is N-1, rotation is V-1"
-fn fresh_record(n: u16, v: u16) -> Record
+// "t is 2^32-1, T is N-1, rotation is V-1"; "correction mode, the first"
+fn fresh_record(n: u16, v: u16, raw: bool) -> Record
     requires { ⌜ (1 ≤ n) × (1 ≤ v) ⌝ }
-    ensures { λ r. ⌜ r ≡ freshRecord n v ⌝ }
+    ensures { λ r. ⌜ r ≡ freshRecord n v raw ⌝ }
 {
     Record {
         n: n,
@@ -104,6 +109,8 @@ fn fresh_record(n: u16, v: u16) -> Record
         freetail: n - 1,
         outhead: 65535,
         outtail: 65535,
+        raw: raw as u16,
+        mode: CORRECTION,
     }
 }
 
@@ -111,12 +118,13 @@ fn fresh_record(n: u16, v: u16) -> Record
 pub fn setup(
     n: u16,
     v: u16,
+    raw: bool,
     cells: &mut [u8],
     links: &mut [u16],
     calendar: &mut [u16],
     words: &mut [u32],
 ) -> Fresh
-    ensures { λ r. ⌜ setupPromise n v (now (cells .entry)) (now (links .entry)) (now (calendar .entry)) (now (words .entry)) r (now (cells .exit)) (now (links .exit)) (now (calendar .exit)) (now (words .exit)) ⌝ }
+    ensures { λ r. ⌜ setupPromise n v raw (now (cells .entry)) (now (links .entry)) (now (calendar .entry)) (now (words .entry)) r (now (cells .exit)) (now (links .exit)) (now (calendar .exit)) (now (words .exit)) ⌝ }
 {
     let number = setup_refusal(n, v, cells.len(), links.len(), calendar.len(), words.len());
     if number != 0 {
@@ -130,7 +138,7 @@ pub fn setup(
     chain_links(links);
     empty_calendar(calendar);
     clear_words(words);
-    let fresh = fresh_record(n, v);
+    let fresh = fresh_record(n, v, raw);
     Fresh {
         number: 0,
         ctl: fresh,

@@ -1,1 +1,1 @@
-pub mod Slot
+pub mod Back

@@ -1,111 +1,180 @@
-// One slot: all that it reads is read and judged first, as numbers; then each case writes, so that a refusal leaves
-// everything as it came.
+// One slot: the header check of a raw policer comes in front, and the five steps go on with what it lets through.
 ghost use mathlib.Core.Path.{_≡_};
-ghost use Prim.Native.Nat.{_+_, _%_, _<_};
-ghost use lib.ListN.{length};
-ghost use Rattle.meaning.specs.Plain.{_andThen_};
-ghost use Rattle.meaning.specs.State.{stateOf};
-ghost use Rattle.meaning.specs.Work.{workOf, bareAnswer};
-ghost use Rattle.meaning.specs.Slot.{step2, step3, step4, step5, finish};
+ghost use mathlib.Core.Bool.{true, false};
+ghost use mathlib.Core.List.{[], _++_};
+ghost use Prim.Native.Nat.{_≤_};
+ghost use lib.ListN.{length, drop};
+ghost use Rattle.hec.specs.Word.{octetsOf};
+ghost use Rattle.meaning.specs.State.{stateOf, recordInMode};
+ghost use Rattle.meaning.specs.Work.{workOf};
+ghost use Rattle.meaning.specs.Slot.{uncheckedSlot};
 ghost use Rattle.meaning.specs.Promises.{slotPromise};
-ghost use Rattle.plan.specs.Plan.{clocked, servedWork};
-ghost use Rattle.plan.specs.Facts.{Sized};
-ghost use Rattle.slot.specs.Slot.{shapeOf};
+ghost use Rattle.slot.specs.Back.{backServed, back, unfitOf, headWritten};
+use hec::Checked;
+use meaning::Answer;
 use meaning::Record;
 use meaning::Served;
 
-// One more, modulo n, without a division.
-fn after(x: u16, n: u16) -> u16
-    requires { ⌜ x < n ⌝ }
-    ensures { λ r. ⌜ r ≡ (x + 1) % n ⌝ }
+// The record in this mode of the check.
+fn in_mode(r: Record, mode: u16) -> Record
+    ensures { λ k. ⌜ k ≡ recordInMode r mode ⌝ }
 {
-    let y = x + 1;
-    if y == n { 0 } else { y }
-}
-
-// Step 1.
-fn clock(r: Record) -> Record
-    requires { ⌜ (r .turn < r .n) × (r .rotation < r .v) ⌝ }
-    ensures { λ k. ⌜ k ≡ clocked r ⌝ }
-{
-    let t = std::num::wrapping_add_u32(r.t, 1);
-    let turn = after(r.turn, r.n);
-    let rotation = after(r.rotation, r.v);
     Record {
         n: r.n,
         v: r.v,
-        t: t,
-        turn: turn,
-        rotation: rotation,
+        t: r.t,
+        turn: r.turn,
+        rotation: r.rotation,
         freehead: r.freehead,
         freetail: r.freetail,
         outhead: r.outhead,
         outtail: r.outtail,
+        raw: r.raw,
+        mode: mode,
     }
 }
 
-// Steps 2 to 5, the clock having moved.
-fn steps(
+// A refused slot gives the record back as it came, in its old mode. "A dropped cell: verdict 4, H".
+fn back_to(r: Record, dropped: bool, s: Served) -> Served
+    ensures { λ b. ⌜ b ≡ backServed r dropped s ⌝ }
+{
+    let a = s.answer;
+    let after = s.ctl;
+    if a.number != 0 {
+        return Served { ctl: r, answer: a };
+    }
+    if dropped {
+        return Served {
+            ctl: after,
+            answer: Answer {
+                number: a.number,
+                verdict: 4,
+                vci: 0,
+                d: 0,
+                space: a.space,
+                departing: a.departing,
+            },
+        };
+    }
+    s
+}
+
+// The first four octets of a cell written anew, from one number.
+fn put_head(part: &mut [u8], head: u32)
+    requires { ⌜ length (now part) ≡ 53 ⌝ }
+    ensures { λ r. ⌜ now (part .exit) ≡ headWritten head (now (part .entry)) ⌝ }
+{
+    part[0] = (head / 16777216) as u8;
+    part[1] = (head / 65536 % 256) as u8;
+    part[2] = (head / 256 % 256) as u8;
+    part[3] = (head % 256) as u8;
+}
+
+// The header of a cell written anew, from its first four octets as one number and its fifth.
+fn put_header(part: &mut [u8], head: u32, fifth: u8)
+    requires { ⌜ length (now part) ≡ 53 ⌝ }
+    ensures { λ r. ⌜ now (part .exit) ≡ octetsOf head fifth ++ drop 5 (now (part .entry)) ⌝ }
+{
+    put_head(part, head);
+    part[4] = fifth;
+}
+
+// A slot with a mended cell. The lent cell stays as it is: what is stored, sent and shown is the copy with the new header.
+fn mended_slot(
     r: Record,
-    k: Record,
+    c: Checked,
     cells: &mut [u8],
     links: &mut [u16],
     calendar: &mut [u16],
     words: &mut [u32],
     cell: &[u8],
 ) -> Served
-    requires { ⌜ Sized k (now cells) (now links) (now calendar) (now words) ⌝ }
-    requires { ⌜ ((length (now cell) ≡ 0 → ⊥) → length (now cell) ≡ 53) ⌝ }
-    ensures { λ s. ⌜ servedWork s (now (cells .exit)) (now (links .exit)) (now (calendar .exit)) (now (words .exit)) ≡ finish (stateOf r (now (cells .entry)) (now (links .entry)) (now (calendar .entry)) (now (words .entry))) (step2 (workOf (stateOf k (now (cells .entry)) (now (links .entry)) (now (calendar .entry)) (now (words .entry))) (bareAnswer 0)) andThen step3 (now (cell .entry)) andThen step4 andThen step5) ⌝ }
+    requires { ⌜ length (now cell) ≡ 53 ⌝ }
+    ensures { λ s. ⌜ workOf (stateOf (s .ctl) (now (cells .exit)) (now (links .exit)) (now (calendar .exit)) (now (words .exit))) (s .answer) ≡ back (stateOf r (now (cells .entry)) (now (links .entry)) (now (calendar .entry)) (now (words .entry))) false (uncheckedSlot (stateOf (recordInMode r (c .mode)) (now (cells .entry)) (now (links .entry)) (now (calendar .entry)) (now (words .entry))) (octetsOf (c .head) (c .fifth) ++ drop 5 (now (cell .entry)))) ⌝ }
 {
-    let b = arrival::bring(k.n, words, k.rotation, k.t);
-    if !b.ok {
-        return departure::refuse(r, 3);
-    }
-    let j = arrival::judge(k.n, k.v, words, cell, k.t);
-    if !j.ok {
-        return departure::refuse(r, 3);
-    }
-    if j.verdict == 1 {
-        return accept::accept(r, k, b, j, cells, links, calendar, words, cell);
-    }
-    quiet::quiet(r, k, b, j, cells, links, calendar, words)
+    let mut held = [0u8; 53];
+    cell::copy_cell(&mut held, cell);
+    put_header(&mut held, c.head, c.fifth);
+    let k = in_mode(r, c.mode);
+    let s = unchecked::slot(k, cells, links, calendar, words, &held);
+    back_to(r, false, s)
 }
 
-// Refusals 1, 2 and 9.
-fn shape(
+// A slot with a dropped cell: empty for the five steps.
+fn dropped_slot(
+    r: Record,
+    mode: u16,
+    cells: &mut [u8],
+    links: &mut [u16],
+    calendar: &mut [u16],
+    words: &mut [u32],
+    cell: &[u8],
+) -> Served
+    ensures { λ s. ⌜ workOf (stateOf (s .ctl) (now (cells .exit)) (now (links .exit)) (now (calendar .exit)) (now (words .exit))) (s .answer) ≡ back (stateOf r (now (cells .entry)) (now (links .entry)) (now (calendar .entry)) (now (words .entry))) true (uncheckedSlot (stateOf (recordInMode r mode) (now (cells .entry)) (now (links .entry)) (now (calendar .entry)) (now (words .entry))) []) ⌝ }
+{
+    let k = in_mode(r, mode);
+    let s = unchecked::slot(k, cells, links, calendar, words, &cell[0..0]);
+    back_to(r, true, s)
+}
+
+// A slot with a clean cell, which leads to correction.
+fn clean_slot(
+    r: Record,
+    cells: &mut [u8],
+    links: &mut [u16],
+    calendar: &mut [u16],
+    words: &mut [u32],
+    cell: &[u8],
+) -> Served
+    ensures { λ s. ⌜ workOf (stateOf (s .ctl) (now (cells .exit)) (now (links .exit)) (now (calendar .exit)) (now (words .exit))) (s .answer) ≡ back (stateOf r (now (cells .entry)) (now (links .entry)) (now (calendar .entry)) (now (words .entry))) false (uncheckedSlot (stateOf (recordInMode r 0) (now (cells .entry)) (now (links .entry)) (now (calendar .entry)) (now (words .entry))) (now (cell .entry))) ⌝ }
+{
+    let k = in_mode(r, 0);
+    let s = unchecked::slot(k, cells, links, calendar, words, cell);
+    back_to(r, false, s)
+}
+
+// A slot of a policer that is raw, its mode in range, with a cell. A clean header is the common case.
+fn raw_slot(
+    r: Record,
+    cells: &mut [u8],
+    links: &mut [u16],
+    calendar: &mut [u16],
+    words: &mut [u32],
+    cell: &[u8],
+) -> Served
+    requires { ⌜ (r .raw ≡ 1) × (r .mode ≤ 1) × (length (now cell) ≡ 53) ⌝ }
+    ensures { λ s. ⌜ slotPromise (stateOf r (now (cells .entry)) (now (links .entry)) (now (calendar .entry)) (now (words .entry))) (now (cell .entry)) s (now (cells .exit)) (now (links .exit)) (now (calendar .exit)) (now (words .exit)) ⌝ }
+{
+    let c = hec::check_cell(r.mode, cell);
+    if c.mode == 0 {
+        return clean_slot(r, cells, links, calendar, words, cell);
+    }
+    if c.through {
+        return mended_slot(r, c, cells, links, calendar, words, cell);
+    }
+    dropped_slot(r, c.mode, cells, links, calendar, words, cell)
+}
+
+// A raw or a mode that is neither 0 nor 1: 3, after 1 and 2.
+fn unfit_slot(
     r: Record,
     cells: &[u8],
     links: &[u16],
     calendar: &[u16],
     words: &[u32],
     cell: &[u8],
-) -> u16
-    ensures { λ x. ⌜ x ≡ shapeOf r (now (cells .entry)) (now (links .entry)) (now (calendar .entry)) (now (words .entry)) (now (cell .entry)) ⌝ }
+) -> Served
+    requires { ⌜ length (now cell) ≡ 53 ⌝ }
+    ensures { λ s. ⌜ s ≡ unfitOf r (now (cells .entry)) (now (links .entry)) (now (calendar .entry)) (now (words .entry)) ⌝ }
 {
-    if !refusal::ranges_hold(r.n, r.v) {
-        return 1;
+    let number = unchecked::shape(r, cells, links, calendar, words, cell);
+    if number != 0 {
+        return departure::refuse(r, number);
     }
-    if !refusal::lengths_hold(
-        r.n,
-        r.v,
-        cells.len(),
-        links.len(),
-        calendar.len(),
-        words.len(),
-    ) {
-        return 2;
-    }
-    if cell.len() == 0 {
-        return 0;
-    }
-    if cell.len() == 53 {
-        return 0;
-    }
-    9
+    departure::refuse(r, 3)
 }
 
-// "One slot, in this order", of a cell of 0 or 53 octets.
+// "One slot, in this order", of a cell of 0 or 53 octets. raw is read only where a cell is lent, mode only where raw is 1.
 pub fn slot(
     r: Record,
     cells: &mut [u8],
@@ -116,16 +185,17 @@ pub fn slot(
 ) -> Served
     ensures { λ s. ⌜ slotPromise (stateOf r (now (cells .entry)) (now (links .entry)) (now (calendar .entry)) (now (words .entry))) (now (cell .entry)) s (now (cells .exit)) (now (links .exit)) (now (calendar .exit)) (now (words .exit)) ⌝ }
 {
-    let number = shape(r, cells, links, calendar, words, cell);
-    if number != 0 {
-        return departure::refuse(r, number);
+    if cell.len() != 53 {
+        return unchecked::slot(r, cells, links, calendar, words, cell);
     }
-    if r.turn >= r.n {
-        return departure::refuse(r, 3);
+    if r.raw == 0 {
+        return unchecked::slot(r, cells, links, calendar, words, cell);
     }
-    if r.rotation >= r.v {
-        return departure::refuse(r, 3);
+    if r.raw > 1 {
+        return unfit_slot(r, cells, links, calendar, words, cell);
     }
-    let k = clock(r);
-    steps(r, k, cells, links, calendar, words, cell)
+    if r.mode > 1 {
+        return unfit_slot(r, cells, links, calendar, words, cell);
+    }
+    raw_slot(r, cells, links, calendar, words, cell)
 }

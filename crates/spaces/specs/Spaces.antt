@@ -39,7 +39,15 @@ seatAs ok x free e entry =
 abbrev pub noSeat : Seat
 noSeat = seatAs false 0 (endsOf 0 0) 0 (endsOf 0 0)
 
--- the Free List has two ends below N; the cell joins entry e
+-- the Free List has two ends below N; the cell joins entry e, whose ends fit
+unfoldable pub seatIn : ℕ → List ℕ → Ends → ℕ → Ends → Seat
+seatIn N links free e entry =
+    let follower = getD links (free .head) 0 in
+    if free .head =? free .tail then seatAs true (free .head) (endsOf empty empty) e entry
+    else if follower <? N then seatAs true (free .head) (endsOf follower (free .tail)) e entry
+    else noSeat
+
+-- the same, whether they fit or not
 unfoldable pub seatAt : ℕ → List ℕ → List ℕ → Ends → ℕ → Seat
 seatAt N links calendar free e =
     let entry = entryAt calendar e in

@@ -5,7 +5,7 @@ ghost use mathlib.Core.List.{List};
 ghost use Prim.Native.Nat.{ℕ, _+_, _-_, _*_, _≤_, _<_};
 ghost use lib.ListN.{length, getD, set};
 ghost use Rattle.meaning.specs.Lists.{endsFit, writeEntry};
-ghost use Rattle.spaces.specs.Spaces.{endsOf, linked, noSeat, seatAt, seatOf, offOf, Stored, Counted};
+ghost use Rattle.spaces.specs.Spaces.{endsOf, linked, noSeat, seatIn, seatAt, seatOf, offOf, Stored, Counted};
 ghost use Rattle.spaces.specs.Leaver.{mayGo, namedVc, leaverOf, offFrom};
 
 // Where an accepted cell goes: its space x, the Free List without it, its entry e and that entry's head and tail.
@@ -56,7 +56,47 @@ fn no_seat() -> Seat
     }
 }
 
-// The seat of a cell that joins entry e, where the Free List is not empty.
+// The seat of a cell that joins entry e, from head to tail, which fit, where the Free List is not empty.
+fn seat_in(
+    n: u16,
+    links: &[u16],
+    freehead: u16,
+    freetail: u16,
+    e: u16,
+    head: u16,
+    tail: u16,
+) -> Seat
+    requires { ⌜ (length (now links) ≡ n) × (freehead < n) ⌝ }
+    ensures { λ r. ⌜ r ≡ seatIn n (now (links .entry)) (endsOf freehead freetail) e (endsOf head tail) ⌝ }
+{
+    if freehead == freetail {
+        return Seat {
+            ok: true,
+            x: freehead,
+            freehead: 65535,
+            freetail: 65535,
+            e: e,
+            head: head,
+            tail: tail,
+        };
+    }
+    let after = links[freehead as usize];
+    if after < n {
+        return Seat {
+            ok: true,
+            x: freehead,
+            freehead: after,
+            freetail: freetail,
+            e: e,
+            head: head,
+            tail: tail,
+        };
+    }
+    no_seat()
+}
+
+// The same, the entry's head and tail read and judged: one number after the other, since a pair's test as one truth value
+// costs twice as much.
 pub fn seat_at(
     n: u16,
     links: &[u16],
@@ -70,32 +110,19 @@ pub fn seat_at(
 {
     let head = calendar[2 * (e as usize)];
     let tail = calendar[2 * (e as usize) + 1];
-    if pair(n, head, tail) {
-        if freehead == freetail {
-            return Seat {
-                ok: true,
-                x: freehead,
-                freehead: 65535,
-                freetail: 65535,
-                e: e,
-                head: head,
-                tail: tail,
-            };
+    if head == 65535 {
+        if tail == 65535 {
+            return seat_in(n, links, freehead, freetail, e, head, tail);
         }
-        let after = links[freehead as usize];
-        if after < n {
-            return Seat {
-                ok: true,
-                x: freehead,
-                freehead: after,
-                freetail: freetail,
-                e: e,
-                head: head,
-                tail: tail,
-            };
-        }
+        return no_seat();
     }
-    no_seat()
+    if head >= n {
+        return no_seat();
+    }
+    if tail >= n {
+        return no_seat();
+    }
+    seat_in(n, links, freehead, freetail, e, head, tail)
 }
 
 // The seat of a cell with delay d: it joins entry (T+D) modulo N, which one comparison gives.

@@ -37,19 +37,19 @@ later-tag k (inr (inr (inr h))) z = omega arith
 
 pub no-setup : (e : Event) (next : ℕ) → (tagOf Event·laws.the-type e ≡ 0 → ⊥) → noSizes ≡ sizesAt (event (recordOf e) next)
 unfolding sizesAt
-no-setup (Setup n v) next h = absurd (h refl)
+no-setup (Setup n v raw) next h = absurd (h refl)
 no-setup (Open vci m f c) next h = refl
 no-setup (Close vci) next h = refl
 no-setup (Cell start) next h = refl
 no-setup (Pause slots) next h = refl
 
-pub setup-fits : (N z next : ℕ) → rangesHold N z ≡ true → record { n = N; v = z } ≡ sizesAt (event (GM N z) next)
+pub setup-fits : (N z : ℕ) (raw : Bool) (next : ℕ) → rangesHold N z ≡ true → record { n = N; v = z } ≡ sizesAt (event (GM N z raw) next)
 unfolding sizesAt
-setup-fits N z next e = rw e
+setup-fits N z raw next e = rw e
 
-pub setup-large : (N z next : ℕ) → rangesHold N z ≡ false → noSizes ≡ sizesAt (event (GM N z) next)
+pub setup-large : (N z : ℕ) (raw : Bool) (next : ℕ) → rangesHold N z ≡ false → noSizes ≡ sizesAt (event (GM N z raw) next)
 unfolding sizesAt
-setup-large N z next e = rw e
+setup-large N z raw next e = rw e
 
 both : (a b : Bool) → a && b ≡ true → (a ≡ true) × (b ≡ true)
 both true true h = (refl, refl)
@@ -76,7 +76,7 @@ setup-small N z false e = no-small
 
 pub sizes-small : (s : Stands) → Small (sizesAt s)
 unfolding sizesAt
-sizes-small (event (GM N z) next) = setup-small N z (rangesHold N z) refl
+sizes-small (event (GM N z raw) next) = setup-small N z (rangesHold N z) refl
 sizes-small (event (VO vci m F C) next) = no-small
 sizes-small (event (VX vci) next) = no-small
 sizes-small (event (CA start) next) = no-small

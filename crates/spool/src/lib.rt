@@ -147,6 +147,8 @@ pub fn start() -> Run
         freetail: 0,
         outhead: 0,
         outtail: 0,
+        raw: 0,
+        mode: 0,
     };
     let tally = Tally {
         accepted: 0,
@@ -170,7 +172,7 @@ fn sizes_at(found: Found) -> Sizes
     let Found::Read { event, next: _ } = found else {
         return Sizes { n: 0, v: 0 };
     };
-    let Event::Setup { n, v } = event else {
+    let Event::Setup { n, v, raw: _ } = event else {
         return Sizes { n: 0, v: 0 };
     };
     if refusal::ranges_hold(n, v) {

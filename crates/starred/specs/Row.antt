@@ -1,6 +1,7 @@
 -- A row of the table of starred cases: what is called, and what each call must say. `says` computes it by the definitions
 -- of setup, open, close and slot; `expects` is what document 01 gives.
 use Prim.Native.Nat.{ℕ, zero, suc, _*_, _/_, _%_}
+use mathlib.Core.Bool.{false}
 use mathlib.Core.List.{List, [], _∷_, _++_}
 use mathlib.Core.Option.{Option, none, some}
 use lib.ListN.{replicate}
@@ -90,9 +91,9 @@ pub data Row : Type 0 where
   -- N; m, F, C of VC 1: its opening must answer 0, and the cells are judged by the leak rule alone, however far apart
   leak : ℕ → ℕ → ℕ → ℕ → List Arrival → Row
 
--- setup over memories that held other numbers
+-- setup of a policer that is not raw, over memories that held other numbers
 abbrev pub ready : ℕ → ℕ → SetUp
-ready N z = setup N z (replicate (octets * N) 7) (replicate N 7) (replicate (perEntry * N) 7) (replicate (wordsPerVc * z) 7)
+ready N z = setup N z false (replicate (octets * N) 7) (replicate N 7) (replicate (perEntry * N) 7) (replicate (wordsPerVc * z) 7)
 
 abbrev pub says : Row → List Said
 says (run N z steps) = number (ready N z .number) ∷ saysFrom (ready N z .state) steps

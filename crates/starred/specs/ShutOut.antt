@@ -1,9 +1,10 @@
 -- Document 01, "Judging the promises": the policers that must be shut out. A policer here is any function that is handed
--- what a slot is handed and gives back what a slot gives back; it may do as it likes with states that no run reaches.
+-- what a slot is handed and gives back what a slot gives back; it may do as it likes with states that no run reaches. Each is
+-- shut out of the raw policers (document 02 (i)) and of those that are not raw.
 use Prim.Native.Nat.{ℕ, _-_}
 use mathlib.Core.Path.{_≡_}
 use mathlib.Core.Logic.{_≢_}
-use mathlib.Core.Bool.{true}
+use mathlib.Core.Bool.{Bool, true}
 use mathlib.Core.List.{List}
 use Rattle.meaning.specs.declared.Served.{Served}
 use Rattle.meaning.specs.Numbers.{rangesHold, accepted, empty, slotNumbers}
@@ -25,47 +26,47 @@ abbrev pub Policer : Type 0
 Policer = State → List ℕ → Given
 
 -- a state that some calls after setup lead to
-pub data Reached : State → Type 0 where
-  after : (N z : ℕ) → rangesHold N z ≡ true → (cs : List Call) → Reached (calls (freshRun N z) cs .state)
+pub data Reached (raw : Bool) : State → Type 0 where
+  after : (N z : ℕ) → rangesHold N z ≡ true → (cs : List Call) → Reached raw (calls (freshRun N z raw) cs .state)
 
 -- demand 2, of the slot
-pub record Meets (f : Policer) : Type 0 where
-  pub promise : (s : State) → Reached s → (cell : List ℕ)
+pub record Meets (raw : Bool) (f : Policer) : Type 0 where
+  pub promise : (s : State) → Reached raw s → (cell : List ℕ)
       → slotPromise s cell (f s cell .served) (f s cell .cells) (f s cell .links) (f s cell .calendar) (f s cell .words)
 
 -- "a policer that always refuses"
-abbrev pub AlwaysRefuses : Policer → Type 0
-AlwaysRefuses f = (s : State) → Reached s → (cell : List ℕ) → f s cell .served .answer .number ≢ 0
+abbrev pub AlwaysRefuses : Bool → Policer → Type 0
+AlwaysRefuses raw f = (s : State) → Reached raw s → (cell : List ℕ) → f s cell .served .answer .number ≢ 0
 
 -- "one whose verdict never varies": on one and the same cell
-abbrev pub VerdictNeverVaries : Policer → Type 0
-VerdictNeverVaries f = (s s′ : State) → Reached s → Reached s′ → (cell : List ℕ)
+abbrev pub VerdictNeverVaries : Bool → Policer → Type 0
+VerdictNeverVaries raw f = (s s′ : State) → Reached raw s → Reached raw s′ → (cell : List ℕ)
     → f s cell .served .answer .verdict ≡ f s′ cell .served .answer .verdict
 
 -- "one that fills the first slot properly and later only moves t"
-abbrev pub LaterOnlyMovesT : Policer → Type 0
-LaterOnlyMovesT f = (s : State) → Reached s → s .ctl .t ≢ slotNumbers - 1 → (cell : List ℕ)
+abbrev pub LaterOnlyMovesT : Bool → Policer → Type 0
+LaterOnlyMovesT raw f = (s : State) → Reached raw s → s .ctl .t ≢ slotNumbers - 1 → (cell : List ℕ)
     → (f s cell .cells ≡ s .cells) × (f s cell .links ≡ s .links) × (f s cell .calendar ≡ s .calendar) × (f s cell .words ≡ s .words)
 
 -- "one that reports an invented D": in some slot another D than the five steps give
-pub record InventsD (f : Policer) : Type 0 where
+pub record InventsD (raw : Bool) (f : Policer) : Type 0 where
   pub state : State
-  pub reached : Reached state
+  pub reached : Reached raw state
   pub cell : List ℕ
   pub other : f state cell .served .answer .d ≢ slot state cell .answer .d
 
 -- "or tally": of some VC another count of waiting cells than the five steps leave
-pub record InventsTally (f : Policer) : Type 0 where
+pub record InventsTally (raw : Bool) (f : Policer) : Type 0 where
   pub state : State
-  pub reached : Reached state
+  pub reached : Reached raw state
   pub cell : List ℕ
   pub vci : ℕ
   pub other : vcAt (f state cell .words) vci .waiting ≢ vcAt (slot state cell .state .words) vci .waiting
 
 -- "One that stores and never sends"
-abbrev pub NeverSends : Policer → Type 0
-NeverSends f = (s : State) → Reached s → (cell : List ℕ) → f s cell .served .answer .space ≡ empty
+abbrev pub NeverSends : Bool → Policer → Type 0
+NeverSends raw f = (s : State) → Reached raw s → (cell : List ℕ) → f s cell .served .answer .space ≡ empty
 
 -- "discarding everything would meet 3 alone, so 3 is stated over 2's rules"
-abbrev pub DiscardsAll : Policer → Type 0
-DiscardsAll f = (s : State) → Reached s → (cell : List ℕ) → f s cell .served .answer .verdict ≢ accepted
+abbrev pub DiscardsAll : Bool → Policer → Type 0
+DiscardsAll raw f = (s : State) → Reached raw s → (cell : List ℕ) → f s cell .served .answer .verdict ≢ accepted

@@ -88,7 +88,7 @@ module _ (more : Bool) (trace : List ℕ) where
     record-left : (r : TraceRecord) (next k : ℕ) → length trace - next < k
         → Left more trace (recordStep trace w r next) (linesOf (w .state) h (recordCalls trace r (callsFrom k more trace next)))
     unfolding recordStep recordCalls pauses paused
-    record-left (GM N z) next k n = called-left w h (setUp N z) next 0 k n counts
+    record-left (GM N z raw) next k n = called-left w h (setUp N z raw) next 0 k n counts
     record-left (VO vci m F C) next k n = called-left w h (openVc vci m F C) next 0 k n counts
     record-left (VX vci) next k n = called-left w h (closeVc vci) next 0 k n counts
     record-left (CA start) next k n = called-left w h (serve (cellOf trace start)) next 0 k n counts

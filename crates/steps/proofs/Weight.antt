@@ -53,7 +53,7 @@ module _ (more : Bool) (trace : List ℕ) where
   record-onward : (w : World) (r : TraceRecord) (next : ℕ) → (w .at < next) × (next ≤ length trace)
       → Onward (length trace) w (recordStep trace w r next .world)
   unfolding recordStep called paused
-  record-onward w (GM N z) next h = inr (inl h)
+  record-onward w (GM N z raw) next h = inr (inl h)
   record-onward w (VO vci m F C) next h = inr (inl h)
   record-onward w (VX vci) next h = inr (inl h)
   record-onward w (CA start) next h = inr (inl h)

@@ -40,37 +40,37 @@ sized-holds N z cells links calendar words s =
     simp (eq-eqb _ _ (s .cells-long), eq-eqb _ _ (s .links-long), eq-eqb _ _ (s .calendar-long), eq-eqb _ _ (s .words-long))
 
 -- setup on any memory of the right sizes
-setup-fresh : (N z : ℕ) (cells links calendar words : List ℕ) → rangesHold N z ≡ true
+setup-fresh : (N z : ℕ) (raw : Bool) (cells links calendar words : List ℕ) → rangesHold N z ≡ true
     → lengthsHold N z cells links calendar words ≡ true
-    → setup N z cells links calendar words ≡ setUpOf 0 (freshState N z)
+    → setup N z raw cells links calendar words ≡ setUpOf 0 (freshState N z raw)
 unfolding setup
-setup-fresh N z cells links calendar words r l = simp (r, l)
+setup-fresh N z raw cells links calendar words r l = simp (r, l)
 
-setup-ranges : (N z : ℕ) (cells links calendar words : List ℕ) → rangesHold N z ≡ false
-    → setup N z cells links calendar words ≡ setUpOf 1 (stateOf zeros cells links calendar words)
+setup-ranges : (N z : ℕ) (raw : Bool) (cells links calendar words : List ℕ) → rangesHold N z ≡ false
+    → setup N z raw cells links calendar words ≡ setUpOf 1 (stateOf zeros cells links calendar words)
 unfolding setup
-setup-ranges N z cells links calendar words r = simp r
+setup-ranges N z raw cells links calendar words r = simp r
 
 -- the lines of a setup and of what follows, by what setup gives back
 setupLines : (N z : ℕ) → Calls → SetUp → List ℕ
 setupLines N z rest x =
     setupLine N z (x .number) ++ (if not (x .number =? 0) then endOf (recount []) else linesOf (x .state) [] rest)
 
-lines-setup : (s : State) (N z : ℕ) (rest : Calls)
-    → linesOf s [] (call (setUp N z) rest) ≡ setupLines N z rest (setup N z (s .cells) (s .links) (s .calendar) (s .words))
+lines-setup : (s : State) (N z : ℕ) (raw : Bool) (rest : Calls)
+    → linesOf s [] (call (setUp N z raw) rest) ≡ setupLines N z rest (setup N z raw (s .cells) (s .links) (s .calendar) (s .words))
 unfolding linesOf lineOf endsRun stateAfter answersAfter setupLines
-lines-setup s N z rest = refl
+lines-setup s N z raw rest = refl
 
 refused-lines : (N z : ℕ) (rest : Calls) (a b : State) → setupLines N z rest (setUpOf 1 a) ≡ setupLines N z rest (setUpOf 1 b)
 unfolding setupLines
 refused-lines N z rest a b = refl
 
 module _ (cells links calendar words : List ℕ) where
-  setup-lines : (N z : ℕ) (rest : Calls) (b : Bool) → rangesHold N z ≡ b
+  setup-lines : (N z : ℕ) (raw : Bool) (rest : Calls) (b : Bool) → rangesHold N z ≡ b
       → Sized (if b then record { n = N; v = z } else record { n = 0; v = 0 }) cells links calendar words
-      → linesOf (stateOf zeros cells links calendar words) [] (call (setUp N z) rest) ≡ linesOf (lentFor (call (setUp N z) rest)) [] (call (setUp N z) rest)
+      → linesOf (stateOf zeros cells links calendar words) [] (call (setUp N z raw) rest) ≡ linesOf (lentFor (call (setUp N z raw) rest)) [] (call (setUp N z raw) rest)
   unfolding lentFor
-  setup-lines N z rest true r s =
+  setup-lines N z raw rest true r s =
       let c : List ℕ = replicate (octets * N) 0 in
       let l : List ℕ = replicate N 0 in
       let k : List ℕ = replicate (perEntry * N) 0 in
@@ -82,25 +82,25 @@ module _ (cells links calendar words : List ℕ) where
         calendar-long = length-replicate {A = ℕ} (perEntry * N) 0;
         words-long = length-replicate {A = ℕ} (wordsPerVc * z) 0;
       } in
-      lines-setup (stateOf zeros cells links calendar words) N z rest
-      ∙ ap (setupLines N z rest) (setup-fresh N z cells links calendar words r (sized-holds N z cells links calendar words s) ∙ sym (setup-fresh N z c l k w r (sized-holds N z c l k w h)))
-      ∙ sym (lines-setup (stateOf zeros c l k w) N z rest)
-  setup-lines N z rest false r s =
+      lines-setup (stateOf zeros cells links calendar words) N z raw rest
+      ∙ ap (setupLines N z rest) (setup-fresh N z raw cells links calendar words r (sized-holds N z cells links calendar words s) ∙ sym (setup-fresh N z raw c l k w r (sized-holds N z c l k w h)))
+      ∙ sym (lines-setup (stateOf zeros c l k w) N z raw rest)
+  setup-lines N z raw rest false r s =
       let c : List ℕ = replicate (octets * N) 0 in
       let l : List ℕ = replicate N 0 in
       let k : List ℕ = replicate (perEntry * N) 0 in
       let w : List ℕ = replicate (wordsPerVc * z) 0 in
-      lines-setup (stateOf zeros cells links calendar words) N z rest
-      ∙ ap (setupLines N z rest) (setup-ranges N z cells links calendar words r)
+      lines-setup (stateOf zeros cells links calendar words) N z raw rest
+      ∙ ap (setupLines N z rest) (setup-ranges N z raw cells links calendar words r)
       ∙ refused-lines N z rest (stateOf zeros cells links calendar words) (stateOf zeros c l k w)
-      ∙ sym (ap (setupLines N z rest) (setup-ranges N z c l k w r))
-      ∙ sym (lines-setup (stateOf zeros c l k w) N z rest)
+      ∙ sym (ap (setupLines N z rest) (setup-ranges N z raw c l k w r))
+      ∙ sym (lines-setup (stateOf zeros c l k w) N z raw rest)
 
   stands-lines : (more : Bool) (trace : List ℕ) (go : ℕ → Calls) (s : Stands) → Fits trace 0 s
       → Sized (sizesAt s) cells links calendar words
       → linesOf (stateOf zeros cells links calendar words) [] (callsAt more trace go 0 s) ≡ linesOf (lentFor (callsAt more trace go 0 s)) [] (callsAt more trace go 0 s)
   unfolding callsAt recordCalls sizesAt linesOf
-  stands-lines more trace go (event (GM N z) next) f s = setup-lines N z (go next) (rangesHold N z) refl s
+  stands-lines more trace go (event (GM N z raw) next) f s = setup-lines N z raw (go next) (rangesHold N z) refl s
   stands-lines more trace go (event (VO vci m F C) next) f s = absurd (omega (arith, f .2))
   stands-lines more trace go (event (VX vci) next) f s = absurd (omega (arith, f .2))
   stands-lines more trace go (event (CA start) next) f s = absurd (omega (arith, f .2 .0))

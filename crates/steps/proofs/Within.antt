@@ -11,7 +11,7 @@ use Rattle.steps.specs.Fill.{CellWithin}
 
 pub within : (trace : List ℕ) (at : ℕ) (r : TraceRecord) (next : ℕ) → Fits trace at (event r next)
     → (at < next) × (next ≤ length trace) × CellWithin trace r
-within trace at (GM N z) next h = (omega arith, h .1, omega arith)
+within trace at (GM N z raw) next h = (omega arith, h .1, omega arith)
 within trace at (VO vci m F C) next h = (omega arith, h .1, omega arith)
 within trace at (VX vci) next h = (omega arith, h .1, omega arith)
 within trace at (CA start) next h = (omega arith, h .1, omega (arith, h .0, h .1, h .2 .1))

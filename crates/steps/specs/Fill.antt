@@ -60,7 +60,7 @@ pub data Fills (input : List ℕ) : World → List ℕ → World → Type 0 wher
 
 -- a cell that a record names lies within the trace
 abbrev pub CellWithin : List ℕ → TraceRecord → Type 0
-CellWithin trace (GM N z) = 0 ≤ 0
+CellWithin trace (GM N z raw) = 0 ≤ 0
 CellWithin trace (VO vci m F C) = 0 ≤ 0
 CellWithin trace (VX vci) = 0 ≤ 0
 CellWithin trace (CA start) = start + octets ≤ length trace
@@ -72,7 +72,7 @@ startRun = record { ctl = zeros; at = 0; left = 0; done = false; tally = noTally
 
 -- N and V for which memory is to be lent: those of the first record, where they are in their ranges
 unfoldable pub sizesAt : Stands → Sizes
-sizesAt (event (GM N z) next) = if rangesHold N z then record { n = N; v = z } else record { n = 0; v = 0 }
+sizesAt (event (GM N z raw) next) = if rangesHold N z then record { n = N; v = z } else record { n = 0; v = 0 }
 sizesAt (event (VO vci m F C) next) = record { n = 0; v = 0 }
 sizesAt (event (VX vci) next) = record { n = 0; v = 0 }
 sizesAt (event (CA start) next) = record { n = 0; v = 0 }

@@ -59,7 +59,7 @@ abbrev pub noTally : Tally
 noTally = record { accepted = 0; excess = 0; unknown = 0; sent = 0 }
 
 unfoldable pub tallyAfter : State → Tally → Call → Tally
-tallyAfter s t (setUp N z) = noTally
+tallyAfter s t (setUp N z raw) = noTally
 tallyAfter s t (openVc vci m F C) = t
 tallyAfter s t (closeVc vci) = t
 tallyAfter s t (serve cell) = counted t (slot s cell .answer)
@@ -99,7 +99,7 @@ ended w before =
     }
 
 unfoldable pub recordStep : List ℕ → World → TraceRecord → ℕ → Step
-recordStep trace w (GM N z) next = called w (setUp N z) next 0
+recordStep trace w (GM N z raw) next = called w (setUp N z raw) next 0
 recordStep trace w (VO vci m F C) next = called w (openVc vci m F C) next 0
 recordStep trace w (VX vci) next = called w (closeVc vci) next 0
 recordStep trace w (CA start) next = called w (serve (cellOf trace start)) next 0

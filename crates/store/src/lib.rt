@@ -47,6 +47,8 @@ pub fn seated(k: Record, a: Seat) -> Record
         freetail: a.freetail,
         outhead: k.outhead,
         outtail: k.outtail,
+        raw: k.raw,
+        mode: k.mode,
     }
 }
 

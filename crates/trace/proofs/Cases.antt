@@ -10,7 +10,7 @@ use native.Mathlib.Omega.{arith}
 use Rattle.meaning.specs.Plain.{if_then_else_, _≤?_, _=?_}
 use Rattle.trace.specs.Trace.{TraceRecord, SL, Stands, event, finish, unreadable}
 use Rattle.trace.specs.Trace.{be16, whole, setupAt, openAt, closeAt, cellAt, pauseAt, firstAt, laterAt, standsAt}
-use Rattle.trace.specs.Trace.{markGM, markVO, markVX, markCA, markSL, longSL}
+use Rattle.trace.specs.Trace.{markGM, markGR, markVO, markVX, markCA, markSL, longSL}
 
 -- a record q as it was read, whose numbers are those of r
 module _ (s : List ℕ) (at long : ℕ) (r : TraceRecord) where
@@ -48,9 +48,13 @@ module _ (s : List ℕ) (at : ℕ) where
 
 -- by the mark
 module _ (s : List ℕ) (at m : ℕ) {x : Stands} where
-  pub first-gm : m ≡ markGM → x ≡ setupAt s at → x ≡ firstAt s at m
+  pub first-gm : m ≡ markGM → x ≡ setupAt s at false → x ≡ firstAt s at m
   unfolding firstAt
   first-gm h e = simp (eq-eqb m markGM h) e
+
+  pub first-gr : (m ≡ markGM → ⊥) → m ≡ markGR → x ≡ setupAt s at true → x ≡ firstAt s at m
+  unfolding firstAt
+  first-gr gm h e = simp (ne-eqb m markGM gm, eq-eqb m markGR h) e
 
   pub later-cell : m ≡ markCA → x ≡ cellAt s at → x ≡ laterAt s at m
   unfolding laterAt
@@ -72,9 +76,9 @@ module _ (s : List ℕ) (at m : ℕ) {x : Stands} where
         later-close h e = simp (ne-eqb m markCA ca, ne-eqb m markSL sl, ne-eqb m markVO vo, eq-eqb m markVX h) e
 
 module _ (s : List ℕ) (at m : ℕ) where
-  pub first-other : (m ≡ markGM → ⊥) → unreadable at ≡ firstAt s at m
+  pub first-other : (m ≡ markGM → ⊥) → (m ≡ markGR → ⊥) → unreadable at ≡ firstAt s at m
   unfolding firstAt
-  first-other h = simp (ne-eqb m markGM h)
+  first-other gm gr = simp (ne-eqb m markGM gm, ne-eqb m markGR gr)
 
   pub later-unknown : (m ≡ markCA → ⊥) → (m ≡ markSL → ⊥) → (m ≡ markVO → ⊥) → (m ≡ markVX → ⊥)
       → unreadable at ≡ laterAt s at m

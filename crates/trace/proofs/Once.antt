@@ -12,7 +12,7 @@ use Rattle.trace.specs.declared.Found.the-variants.{Read, End, Unreadabl
 
 -- the answer that means so much
 abbrev eventOf : TraceRecord → Event
-eventOf (GM N z) = Setup N z
+eventOf (GM N z raw) = Setup N z raw
 eventOf (VO vci m F C) = Open vci m F C
 eventOf (VX vci) = Close vci
 eventOf (CA start) = Cell start
@@ -24,7 +24,7 @@ foundOf finish = End
 foundOf (refusal number place) = Unreadable place
 
 pub found-of-said : (r : Found) → foundOf (saidOf r) ≡ r
-found-of-said (Read (Setup n v) next) = refl
+found-of-said (Read (Setup n v raw) next) = refl
 found-of-said (Read (Open vci m f c) next) = refl
 found-of-said (Read (Close vci) next) = refl
 found-of-said (Read (Cell start) next) = refl

@@ -2,6 +2,7 @@
 -- computed. Assumes nothing.
 use Prim.Native.Nat.{ℕ}
 use mathlib.Core.Path.{_≡_, refl}
+use mathlib.Core.Bool.{true, false}
 use mathlib.Core.List.{List, [], _∷_, _++_, map}
 use lib.ListN.{replicate, take}
 use Rattle.trace.specs.Trace.{GM, VO, VX, CA, SL, Stands, event, finish, unreadable}
@@ -15,9 +16,12 @@ pub record Case : Type 0 where
 abbrev row : ℕ → List ℕ → Stands → Case
 row p l x = record { trace = l; place = p; stands = x }
 
--- records in letters: 67 C, 65 A, 71 G, 76 L, 77 M, 79 O, 83 S, 86 V, 88 X
+-- records in letters: 67 C, 65 A, 71 G, 76 L, 77 M, 79 O, 82 R, 83 S, 86 V, 88 X
 abbrev gm : List ℕ
 gm = 71 ∷ 77 ∷ 0 ∷ 5 ∷ 0 ∷ 64 ∷ []
+
+abbrev gr : List ℕ
+gr = 71 ∷ 82 ∷ 0 ∷ 5 ∷ 0 ∷ 64 ∷ []
 
 abbrev vo : ℕ → ℕ → ℕ → ℕ → List ℕ
 vo vci m F C = 86 ∷ 79 ∷ 0 ∷ vci ∷ m ∷ 0 ∷ 0 ∷ 0 ∷ F ∷ 0 ∷ 0 ∷ 0 ∷ C ∷ []
@@ -37,7 +41,7 @@ eight = gm ++ (vo 40 2 10 26 ++ (vo 41 2 4 4 ++ (ca 128 ++ (ca 128 ++ (ca 128 ++
 
 abbrev pub table : List Case
 table =
-    row 0 eight (event (GM 5 64) 6)
+    row 0 eight (event (GM 5 64 false) 6)
     ∷ row 6 eight (event (VO 40 2 10 26) 19)
     ∷ row 19 eight (event (VO 41 2 4 4) 32)
     ∷ row 32 eight (event (CA 34) 87)
@@ -51,6 +55,13 @@ table =
     ∷ row 0 (take 5 gm) (unreadable 0)
     ∷ row 0 vx (unreadable 0)
     ∷ row 6 (gm ++ gm) (unreadable 6)
+    ∷ row 0 gr (event (GM 5 64 true) 6)
+    ∷ row 0 (take 5 gr) (unreadable 0)
+    ∷ row 6 (gm ++ gr) (unreadable 6)
+    ∷ row 6 (gr ++ gr) (unreadable 6)
+    ∷ row 6 (gr ++ gm) (unreadable 6)
+    ∷ row 0 (71 ∷ 83 ∷ 0 ∷ 5 ∷ 0 ∷ 64 ∷ []) (unreadable 0)
+    ∷ row 6 (gr ++ vx) (event (VX 258) 10)
     ∷ row 6 (gm ++ vx) (event (VX 258) 10)
     ∷ row 6 (gm ++ take 3 vx) (unreadable 6)
     ∷ row 6 (gm ++ sl 255 255) (event (SL 65_535) 10)

@@ -1,5 +1,5 @@
--- What every answer of `standsAt` fits: a record lies wholly within the trace and leads on, only place 0 has a GM, the end
--- is the end, and a refusal is 10 at the very place. Whoever goes on from an answer needs no more. Assumes nothing.
+-- What every answer of `standsAt` fits: a record lies wholly within the trace and leads on, only place 0 has a GM or GR,
+-- the end is the end, and a refusal is 10 at the very place. Whoever goes on from an answer needs no more. Assumes nothing.
 use Prim.Native.Nat.{ℕ, _+_, _≤_, _<_}
 use mathlib.Core.Path.{_≡_, refl}
 use mathlib.Core.Bool.{Bool, true, false, _&&_}
@@ -10,10 +10,10 @@ use native.Mathlib.Omega.{arith}
 use Rattle.meaning.specs.Plain.{if_then_else_, _<?_, _≤?_, _=?_}
 use Rattle.trace.specs.Trace.{TraceRecord, GM, VO, VX, CA, SL, Stands, event, finish, refusal, unreadable}
 use Rattle.trace.specs.Trace.{be16, whole, setupAt, openAt, closeAt, cellAt, pauseAt, firstAt, laterAt, standsAt}
-use Rattle.trace.specs.Trace.{markOctets, markGM, markVO, markVX, markCA, markSL, longGM, longVO, longVX, longCA, longSL}
+use Rattle.trace.specs.Trace.{markOctets, markGM, markGR, markVO, markVX, markCA, markSL, longGM, longVO, longVX, longCA, longSL}
 
 abbrev pub longOf : TraceRecord → ℕ
-longOf (GM N z) = longGM
+longOf (GM N z raw) = longGM
 longOf (VO vci m F C) = longVO
 longOf (VX vci) = longVX
 longOf (CA start) = longCA
@@ -21,7 +21,7 @@ longOf (SL count) = longSL
 
 -- "first and only first"; "CA: 53 octets"; "a count of empty slots, at least 1"
 abbrev pub Allowed : ℕ → TraceRecord → Type 0
-Allowed at (GM N z) = at ≡ 0
+Allowed at (GM N z raw) = at ≡ 0
 Allowed at (VO vci m F C) = 0 < at
 Allowed at (VX vci) = 0 < at
 Allowed at (CA start) = (0 < at) × (start ≡ at + markOctets)
@@ -56,7 +56,9 @@ module _ (s : List ℕ) (at : ℕ) where
 
   first-fits : at ≡ 0 → (m : ℕ) → Fits s at (firstAt s at m)
   unfolding firstAt setupAt
-  first-fits z m = choose (Fits s at) (m =? markGM) (λ _. whole-fits (GM _ _) z) (λ _. refused-fits)
+  first-fits z m =
+      choose (Fits s at) (m =? markGM) (λ _. whole-fits (GM _ _ _) z)
+      (λ _. choose (Fits s at) (m =? markGR) (λ _. whole-fits (GM _ _ _) z) (λ _. refused-fits))
 
   module _ (later : 0 < at) where
     pause-fits : Fits s at (pauseAt s at)

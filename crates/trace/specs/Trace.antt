@@ -6,7 +6,7 @@
 --   saidOf r             == document 01's values of the reader's answer r, by case
 --   numberOf x           == document 01's number of it
 use Prim.Native.Nat.{ℕ, _+_, _*_}
-use mathlib.Core.Bool.{_&&_}
+use mathlib.Core.Bool.{Bool, true, false, _&&_}
 use mathlib.Core.List.{List}
 use lib.ListN.{length, getD}
 use Rattle.meaning.specs.Plain.{if_then_else_, _<?_, _≤?_, _=?_}
@@ -17,9 +17,9 @@ use Rattle.trace.specs.declared.Found.{Found}
 use Rattle.trace.specs.declared.Found.the-variants.{Read, End, Unreadable}
 
 -- "GM: N, V .. VO: VCI, m, F, C. VX: VCI. CA: 53 octets, one slot. SL: a count of empty slots": a CA names the place
--- where its 53 octets start
+-- where its 53 octets start. Document 02 (i): "a trace beginning GR instead of GM is raw": a GR is a GM that is raw
 pub data TraceRecord : Type 0 where
-  GM : (N z : ℕ) → TraceRecord
+  GM : (N z : ℕ) (raw : Bool) → TraceRecord
   VO : (vci m F C : ℕ) → TraceRecord
   VX : (vci : ℕ) → TraceRecord
   CA : (start : ℕ) → TraceRecord
@@ -48,6 +48,9 @@ markOctets = 2
 abbrev pub markGM : ℕ
 markGM = 0x474d
 
+abbrev pub markGR : ℕ
+markGR = 0x4752
+
 abbrev pub markVO : ℕ
 markVO = 0x564f
 
@@ -60,7 +63,7 @@ markCA = 0x4341
 abbrev pub markSL : ℕ
 markSL = 0x534c
 
--- the octets of a record, mark included: GM 16 and 16 bits; VO 16, 8, 32 and 32; VX 16; CA 53 octets; SL 16
+-- the octets of a record, mark included: GM and GR 16 and 16 bits; VO 16, 8, 32 and 32; VX 16; CA 53 octets; SL 16
 abbrev pub longGM : ℕ
 longGM = markOctets + 4
 
@@ -80,8 +83,8 @@ longSL = markOctets + 2
 unfoldable pub whole : List ℕ → ℕ → ℕ → TraceRecord → Stands
 whole trace at long r = if at + long ≤? length trace then event r (at + long) else unreadable at
 
-unfoldable pub setupAt : List ℕ → ℕ → Stands
-setupAt trace at = whole trace at longGM (GM (be16 trace (at + 2)) (be16 trace (at + 4)))
+unfoldable pub setupAt : List ℕ → ℕ → Bool → Stands
+setupAt trace at raw = whole trace at longGM (GM (be16 trace (at + 2)) (be16 trace (at + 4)) raw)
 
 unfoldable pub openAt : List ℕ → ℕ → Stands
 openAt trace at =
@@ -100,9 +103,13 @@ pauseAt trace at =
     if be16 trace (at + 2) =? 0 then unreadable at
     else whole trace at longSL (SL (be16 trace (at + 2)))
 
--- "GM .. first and only first .. An unknown mark .. a first record that isn't GM or a later GM is refused with 10"
+-- "GM .. first and only first .. An unknown mark .. a first record that isn't GM or a later GM is refused with 10"; so is
+-- a later GR
 unfoldable pub firstAt : List ℕ → ℕ → ℕ → Stands
-firstAt trace at mark = if mark =? markGM then setupAt trace at else unreadable at
+firstAt trace at mark =
+    if mark =? markGM then setupAt trace at false
+    else if mark =? markGR then setupAt trace at true
+    else unreadable at
 
 unfoldable pub laterAt : List ℕ → ℕ → ℕ → Stands
 laterAt trace at mark =
@@ -123,7 +130,7 @@ standsAt trace at =
 
 -- "For any answer that is an enum, a definition gives this paper's number and values for each case."
 abbrev pub recordOf : Event → TraceRecord
-recordOf (Setup n v) = GM n v
+recordOf (Setup n v raw) = GM n v raw
 recordOf (Open vci m f c) = VO vci m f c
 recordOf (Close vci) = VX vci
 recordOf (Cell start) = CA start

@@ -5,9 +5,9 @@ ghost use lib.ListN.{length};
 ghost use Rattle.trace.specs.Trace.{be16, be32, setupAt, openAt, closeAt, cellAt, pauseAt, firstAt, laterAt, saidOf};
 ghost use Rattle.trace.specs.Promises.{eventPromise, placePromise};
 
-// A record of a trace. A cell's 53 octets start at octet `start` of the trace.
+// A record of a trace. A setup is raw where its mark is GR. A cell's 53 octets start at octet `start` of the trace.
 pub enum Event {
-    Setup { n: u16, v: u16 },
+    Setup { n: u16, v: u16, raw: bool },
     Open { vci: u16, m: u8, f: u32, c: u32 },
     Close { vci: u16 },
     Cell { start: usize },
@@ -23,6 +23,8 @@ pub enum Found {
 
 // The two letters of each mark, high octet first.
 const GM: u16 = 0x474d;
+
+const GR: u16 = 0x4752;
 
 const VO: u16 = 0x564f;
 
@@ -72,9 +74,9 @@ fn u32_at(s: &[u8], i: usize) -> u32
 }
 
 // Each record is measured before it is read: a short one is refused where it starts.
-fn setup_at(s: &[u8], at: usize) -> Found
+fn setup_at(s: &[u8], at: usize, raw: bool) -> Found
     requires { ⌜ at ≤ length (now s) ⌝ }
-    ensures { λ r. ⌜ saidOf r ≡ setupAt (now (s .entry)) at ⌝ }
+    ensures { λ r. ⌜ saidOf r ≡ setupAt (now (s .entry)) at raw ⌝ }
 {
     if s.len() - at < GM_LONG {
         return Found::Unreadable { place: at };
@@ -82,7 +84,7 @@ fn setup_at(s: &[u8], at: usize) -> Found
     let n = u16_at(s, at + 2);
     let v = u16_at(s, at + 4);
     Found::Read {
-        event: Event::Setup { n, v },
+        event: Event::Setup { n, v, raw },
         next: at + GM_LONG,
     }
 }
@@ -152,13 +154,16 @@ fn pause_at(s: &[u8], at: usize) -> Found
     }
 }
 
-// GM is first and only first.
+// GM or GR is first and only first.
 fn first_at(s: &[u8], at: usize, mark: u16) -> Found
     requires { ⌜ at ≤ length (now s) ⌝ }
     ensures { λ r. ⌜ saidOf r ≡ firstAt (now (s .entry)) at mark ⌝ }
 {
     if mark == GM {
-        return setup_at(s, at);
+        return setup_at(s, at, false);
+    }
+    if mark == GR {
+        return setup_at(s, at, true);
     }
     Found::Unreadable { place: at }
 }

@@ -14,10 +14,11 @@ use Rattle.meaning.specs.State.{State, wordsLong, withRecord, withWords, record
 use Rattle.meaning.specs.Bucket.{bucketOf, obeysRules, fall}
 use Rattle.meaning.specs.Words.{Vc, vcAt, writeVc, openedVc, closedVc, openWordFits, vcFits, debt}
 use Rattle.meaning.specs.Calls.{Called, calledOf, sharedRefusal, openCall, closeCall}
+use Rattle.runs.proofs.OutLaws.{if-holds}
 use Rattle.unwrapped.specs.Stored.{stored, storedVc, storedWords, storedState, storedCalled}
 use Rattle.unwrapped.specs.Unwrapped.{unwrappedOpen, unwrappedDebt, unwrappedClose}
 use Rattle.unwrapped.specs.Kept.{since, longest, Behind, Kept}
-use Rattle.unwrapped.proofs.Outs.{both-true, if-both, if-holds}
+use Rattle.unwrapped.proofs.Outs.{both-true, if-both}
 use Rattle.unwrapped.proofs.WordsStored.{stored-length, stored-read, stored-write}
 use Rattle.unwrapped.proofs.Wrap.{elapsed-true}
 use Rattle.unwrapped.proofs.Since.{since-low, recent-write}

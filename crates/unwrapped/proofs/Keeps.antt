@@ -20,9 +20,9 @@ use Rattle.meaning.specs.Lists.{isEmpty, endsFit, entryAt, takeHead}
 use Rattle.meaning.specs.Work.{Work, withVc, withArrival}
 use Rattle.meaning.specs.Arrival.{place, accept, judge}
 use Rattle.meaning.specs.Slot.{step4, depart, step5}
+use Rattle.runs.proofs.OutLaws.{AllOut, needs-all, if-all, then-all, any-all}
 use Rattle.unwrapped.specs.Unwrapped.{caughtUp, tick, rotate, arrive}
 use Rattle.unwrapped.specs.Kept.{since, longest, Behind, Recent}
-use Rattle.unwrapped.proofs.Outs.{AllOut, needs-all, if-all, then-all, any-all}
 use Rattle.unwrapped.proofs.Steps.{names-low, open-low}
 use Rattle.unwrapped.proofs.Since.{since-next, rotation-low, recent-write}
 

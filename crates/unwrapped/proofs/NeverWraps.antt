@@ -2,7 +2,7 @@
 -- (SlotAgrees, CallsAgree), and the fresh states agree. Assumes nothing.
 use Prim.Native.Nat.{ℕ, zero, suc, _+_, _-_, _*_, _≤_}
 use mathlib.Core.Path.{_≡_, refl, sym, _∙_, ap}
-use mathlib.Core.Bool.{true, not}
+use mathlib.Core.Bool.{Bool, true, not}
 use mathlib.Core.List.{List, [], _∷_}
 use native.Mathlib.Omega.{arith}
 use native.Mathlib.Nat.{mod-eq-of-lt}
@@ -16,12 +16,12 @@ use Rattle.meaning.specs.Calls.{Called, SetUp, freshRecord, freshState, setup}
 use Rattle.meaning.specs.Work.{Work}
 use Rattle.meaning.proofs.WordsLaws.{write-stored}
 use Rattle.meaning.specs.Line.{lineCell}
-use Rattle.runs.specs.Run.{Call, onOpen, onClose, onSlot, opened, closed, ran, Run, runOf, shown, call, calls, freshRun, served}
+use Rattle.runs.specs.Run.{Call, onOpen, onClose, onSlot, opened, closed, ran, Run, runOf, shown, letIn, call, calls, freshRun, served}
+use Rattle.runs.proofs.OutLaws.{if-holds}
 use Rattle.unwrapped.specs.Stored.{storedVc, storedWords, storedState, storedWork, storedCalled}
 use Rattle.unwrapped.specs.Unwrapped.{unwrappedSlot, unwrappedFresh}
 use Rattle.unwrapped.specs.Kept.{Kept}
 use Rattle.unwrapped.specs.UnwrappedRun.{unwrappedCall, unwrappedCalls, unwrappedFreshRun, NeverWraps}
-use Rattle.unwrapped.proofs.Outs.{if-holds}
 use Rattle.unwrapped.proofs.Wrap.{stored-zero}
 use Rattle.unwrapped.proofs.SlotAgrees.{ranges-v, slot-agrees, slot-keeps, slot-counts}
 use Rattle.unwrapped.proofs.CallsAgree.{open-agrees, open-keeps, close-agrees, close-keeps}
@@ -49,13 +49,13 @@ fresh-words (suc z) k =
     ∙ write-stored (zeros k) z
 
 -- after setup t is 2^32-1, which is what is stored of 0 slots served
-pub fresh-agrees : (N z : ℕ) → storedState (unwrappedFresh N z) ≡ freshState N z
+pub fresh-agrees : (N z : ℕ) (raw : Bool) → storedState (unwrappedFresh N z raw) ≡ freshState N z raw
 unfolding storedState unwrappedFresh freshState freshRecord withClock withRecord withWords recordWith zeros
-fresh-agrees N z = rw (stored-zero, fresh-words z (7 * z))
+fresh-agrees N z raw = rw (stored-zero, fresh-words z (7 * z))
 
-pub fresh-kept : (N z : ℕ) → 2 ≤ z → Kept (unwrappedFresh N z)
+pub fresh-kept : (N z : ℕ) (raw : Bool) → 2 ≤ z → Kept (unwrappedFresh N z raw)
 unfolding unwrappedFresh freshState freshRecord withClock withRecord recordWith vcAt zeros
-fresh-kept N z h =
+fresh-kept N z raw h =
     record {
       turns = omega (arith, mod-eq-of-lt {n = 0 + z - 1} {m = z} (omega arith));
       recent = record {
@@ -76,7 +76,8 @@ call-agrees r (onClose vci) kept =
     ap (λ (c : Called). runOf (withWords (storedState (r .state)) (c .words)) (closed vci (c .number) ∷ r .events))
     (close-agrees (r .state) vci kept)
 call-agrees r (onSlot cell) kept =
-    ap (λ (w : Work). runOf (w .state) (ran cell (w .answer) (shown w) ∷ r .events)) (slot-agrees (r .state) cell kept)
+    ap (λ (w : Work). runOf (w .state) (ran (letIn (r .state) cell .cell) (w .answer) (shown w) ∷ r .events))
+    (slot-agrees (r .state) cell kept)
 
 pub call-keeps : (r : Run) (c : Call) → Kept (r .state) → Kept (unwrappedCall r c .state)
 unfolding unwrappedCall
@@ -104,16 +105,16 @@ calls-agree r (c ∷ cs) kept e =
     let rest = calls-agree (unwrappedCall r c) cs (call-keeps r c kept) (call-counts r c kept e) in
     (ap (λ (r′ : Run). calls r′ cs) (call-agrees r c kept) ∙ rest .0, rest .1, rest .2)
 
-fresh-counts : (N z : ℕ) → unwrappedFresh N z .ctl .t ≡ served []
+fresh-counts : (N z : ℕ) (raw : Bool) → unwrappedFresh N z raw .ctl .t ≡ served []
 unfolding unwrappedFresh freshState withClock withRecord recordWith served
-fresh-counts N z = refl
+fresh-counts N z raw = refl
 
-pub never-wraps : (N z : ℕ) → rangesHold N z ≡ true → (cs : List Call) → NeverWraps N z cs
+pub never-wraps : (N z : ℕ) (raw : Bool) → rangesHold N z ≡ true → (cs : List Call) → NeverWraps N z raw cs
 unfolding freshRun unwrappedFreshRun storedRun storedState withClock withRecord withWords
-never-wraps N z range cs =
-    let fresh = runOf (unwrappedFresh N z) [] in
-    let all = calls-agree fresh cs (fresh-kept N z (ranges-v N z range .0)) (fresh-counts N z) in
-    let same = ap (λ (s : State). calls (runOf s []) cs) (sym (fresh-agrees N z)) ∙ all .0 in
+never-wraps N z raw range cs =
+    let fresh = runOf (unwrappedFresh N z raw) [] in
+    let all = calls-agree fresh cs (fresh-kept N z raw (ranges-v N z range .0)) (fresh-counts N z raw) in
+    let same = ap (λ (s : State). calls (runOf s []) cs) (sym (fresh-agrees N z raw)) ∙ all .0 in
     record {
       memories = ap (λ (r : Run). r .state) same;
       answers = ap (λ (r : Run). r .events) same;
@@ -123,21 +124,22 @@ never-wraps N z range cs =
     }
 
 -- "'From a fresh state' means that a setup has answered 0": whatever the lent memories held before
-pub setup-fresh : (N z : ℕ) (cells links calendar words : List ℕ) → setup N z cells links calendar words .number ≡ 0
-    → (rangesHold N z ≡ true) × (setup N z cells links calendar words .state ≡ freshState N z)
+pub setup-fresh : (N z : ℕ) (raw : Bool) (cells links calendar words : List ℕ)
+    → setup N z raw cells links calendar words .number ≡ 0
+    → (rangesHold N z ≡ true) × (setup N z raw cells links calendar words .state ≡ freshState N z raw)
 unfolding setup
-setup-fresh N z cells links calendar words =
+setup-fresh N z raw cells links calendar words =
     if-holds P (not (rangesHold N z)) _ _ (λ _ p. absurd (omega arith))
     (λ range. if-holds P (not (lengthsHold N z cells links calendar words)) _ _ (λ _ p. absurd (omega arith))
     (λ _ p. (not-false (rangesHold N z) range, refl)))
   where
     P : SetUp → Type 0
-    P u = u .number ≡ 0 → (rangesHold N z ≡ true) × (u .state ≡ freshState N z)
+    P u = u .number ≡ 0 → (rangesHold N z ≡ true) × (u .state ≡ freshState N z raw)
 
-pub never-wraps-after-setup : (N z : ℕ) (cells links calendar words : List ℕ)
-    → setup N z cells links calendar words .number ≡ 0 → (cs : List Call)
-    → (setup N z cells links calendar words .state ≡ freshRun N z .state) × NeverWraps N z cs
+pub never-wraps-after-setup : (N z : ℕ) (raw : Bool) (cells links calendar words : List ℕ)
+    → setup N z raw cells links calendar words .number ≡ 0 → (cs : List Call)
+    → (setup N z raw cells links calendar words .state ≡ freshRun N z raw .state) × NeverWraps N z raw cs
 unfolding freshRun
-never-wraps-after-setup N z cells links calendar words p cs =
-    let f = setup-fresh N z cells links calendar words p in
-    (f .1, never-wraps N z (f .0) cs)
+never-wraps-after-setup N z raw cells links calendar words p cs =
+    let f = setup-fresh N z raw cells links calendar words p in
+    (f .1, never-wraps N z raw (f .0) cs)

@@ -4,14 +4,11 @@ use native.Mathlib.Omega.{arith}
 use mathlib.Core.Path.{_≡_, refl, _∙_, ap}
 use mathlib.Core.Bool.{Bool, true, false, _&&_}
 use Rattle.meaning.specs.Plain.{if_then_else_, Out, refused, next, needs, _andThen_}
+use Rattle.runs.proofs.OutLaws.{AllOut}
 
 abbrev pub mapOut : {A B : Type 0} → (A → B) → Out A → Out B
 mapOut f refused = refused
 mapOut f (next x) = next (f x)
-
-abbrev pub AllOut : {A : Type 0} → (A → Type 0) → Out A → Type 0
-AllOut P refused = Unit {0}
-AllOut P (next x) = P x
 
 pub both-true : (a b : Bool) → a && b ≡ true → (a ≡ true) × (b ≡ true)
 both-true true b p = (refl, p)
@@ -21,10 +18,6 @@ pub if-both : {A B : Type 0} (f : A → B) (b : Bool) (x y : B) (x′ y′ : A) 
     → (if b then x else y) ≡ f (if b then x′ else y′)
 if-both f true x y x′ y′ h k = h refl
 if-both f false x y x′ y′ h k = k refl
-
-pub if-holds : {A : Type 0} (P : A → Type 0) (b : Bool) (x y : A) → (b ≡ true → P x) → (b ≡ false → P y) → P (if b then x else y)
-if-holds P true x y h k = h refl
-if-holds P false x y h k = k refl
 
 module _ {A : Type 0} (f : A → A) where
   pub needs-map : (b : Bool) (x y : Out A) → (b ≡ true → x ≡ mapOut f y) → needs b x ≡ mapOut f (needs b y)
@@ -51,23 +44,3 @@ pub then-same : {A B : Type 0} (g : B → B) (x : Out A) (h k : A → Out B) →
     → (x andThen h) ≡ mapOut g (x andThen k)
 then-same g refused h k e = refl
 then-same g (next a) h k e = e a
-
--- the same for what holds of the outcome
-pub needs-all : {A : Type 0} (P : A → Type 0) (b : Bool) (x : Out A) → (b ≡ true → AllOut P x) → AllOut P (needs b x)
-needs-all P true x h = h refl
-needs-all P false x h = tt
-
-pub if-all : {A : Type 0} (P : A → Type 0) (b : Bool) (x y : Out A) → (b ≡ true → AllOut P x) → (b ≡ false → AllOut P y)
-    → AllOut P (if b then x else y)
-if-all P true x y h k = h refl
-if-all P false x y h k = k refl
-
-pub then-all : {A B : Type 0} (P : A → Type 0) (Q : B → Type 0) (x : Out A) (f : A → Out B) → AllOut P x
-    → ((a : A) → P a → AllOut Q (f a))
-    → AllOut Q (x andThen f)
-then-all P Q refused f p h = tt
-then-all P Q (next a) f p h = h a p
-
-pub any-all : {A B : Type 0} (Q : B → Type 0) (x : Out A) (f : A → Out B) → ((a : A) → AllOut Q (f a)) → AllOut Q (x andThen f)
-any-all Q refused f h = tt
-any-all Q (next a) f h = h a

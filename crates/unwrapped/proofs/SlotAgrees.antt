@@ -2,21 +2,25 @@
 -- Assumes nothing.
 use Prim.Native.Nat.{ℕ, _+_, _-_, _*_, _%_, _≤_, _<_}
 use mathlib.Core.Path.{_≡_, refl, sym, _∙_, ap}
-use mathlib.Core.Bool.{true, not, _&&_, _||_}
+use mathlib.Core.Bool.{Bool, true, false, not, _&&_, _||_}
 use mathlib.Core.List.{List}
 use native.Mathlib.Omega.{arith}
 use native.Mathlib.Nat.{mod-lt}
 use borrow.Author.Tests.{leb-true, not-false, ne-eqb}
 use lib.ListN.{length}
-use Rattle.meaning.specs.Plain.{if_then_else_, _≤?_, _=?_, Out, refused, next, _andThen_}
+use Rattle.hec.specs.Modes.{Arriving, arrivingFits}
+use Rattle.meaning.specs.Plain.{if_then_else_, _≤?_, _=?_, Out, refused, next, needs, _andThen_}
 use Rattle.meaning.specs.Numbers.{rangesHold, octets, leastV, mostV, mostN}
 use Rattle.meaning.specs.State.{State, wordsLong, lengthsHold, withRecord, withWords, recordWith, withClock}
+use Rattle.meaning.specs.State.{recordInMode, withMode}
 use Rattle.meaning.specs.Work.{Work, workOf, bareAnswer}
-use Rattle.meaning.specs.Slot.{step1, step2, step3, step4, step5, fiveSteps, finish, slot}
+use Rattle.meaning.specs.Slot.{step1, step2, step3, step4, step5, fiveSteps, finish, told, slot}
+use Rattle.runs.specs.Run.{letIn}
+use Rattle.runs.proofs.OutLaws.{AllOut, if-holds, then-all}
 use Rattle.unwrapped.specs.Stored.{storedWords, storedState, storedWork}
 use Rattle.unwrapped.specs.Unwrapped.{tick, rotate, arrive, unwrappedSteps, unwrappedSlot}
 use Rattle.unwrapped.specs.Kept.{since, longest, Kept}
-use Rattle.unwrapped.proofs.Outs.{both-true, mapOut, AllOut, if-both, if-holds, then-agrees, then-all}
+use Rattle.unwrapped.proofs.Outs.{both-true, mapOut, if-both, needs-map, then-map, then-agrees}
 use Rattle.unwrapped.proofs.WordsStored.{stored-length}
 use Rattle.unwrapped.proofs.Steps.{step1-stored, step2-stored, step3-stored, step4-stored, step5-stored}
 use Rattle.unwrapped.proofs.Since.{since-low, rotation-low, rotation-next}
@@ -104,8 +108,11 @@ module _ (cell : List ℕ) (w : Work) (z k r : ℕ) (begun : On z k r (since z r
 turns-low : (u : State) → Kept u → 2 ≤ u .ctl .v → u .ctl .rotation < u .ctl .v
 turns-low u kept low = let h = mod-lt (u .ctl .t + u .ctl .v - 1) {m = u .ctl .v} (omega arith) in omega (arith, kept .turns)
 
-begin : (u : State) → Kept u → On (u .ctl .v) (u .ctl .t) (u .ctl .rotation) (since (u .ctl .v) (u .ctl .rotation)) (workOf u (bareAnswer 0))
-begin u kept = record { v-is = refl; t-is = refl; r-is = refl; done = refl; recent = kept .recent }
+-- whatever mode the header check leads to
+begin : (u : State) (mode : ℕ) → Kept u
+    → On (u .ctl .v) (u .ctl .t) (u .ctl .rotation) (since (u .ctl .v) (u .ctl .rotation)) (workOf (withMode u mode) (bareAnswer 0))
+unfolding withMode withRecord recordInMode
+begin u mode kept = record { v-is = refl; t-is = refl; r-is = refl; done = refl; recent = kept .recent }
 
 lengths-stored : (u : State) (z : ℕ)
     → lengthsHold (u .ctl .n) z (u .cells) (u .links) (u .calendar) (storedWords z (u .words))
@@ -118,6 +125,58 @@ unfolding finish storedWork
 finish-stored u refused = refl
 finish-stored u (next w) = refl
 
+mode-stored : (u : State) (mode : ℕ) → workOf (withMode (storedState u) mode) (bareAnswer 0) ≡ storedWork (workOf (withMode u mode) (bareAnswer 0))
+unfolding storedWork storedState withMode withClock withRecord withWords recordWith recordInMode
+mode-stored u mode = refl
+
+told-stored : (drop : Bool) (w : Work) → told drop (storedWork w) ≡ storedWork (told drop w)
+unfolding storedWork
+told-stored true w = refl
+told-stored false w = refl
+
+-- the five steps behind the header check, which reads raw, mode and the octets lent alone
+module _ (u : State) (cell : List ℕ) where
+  abbrev a : Arriving
+  a = letIn u cell
+
+  abbrev fits : Bool
+  fits = arrivingFits (u .ctl .raw) (u .ctl .mode) cell
+
+  abbrev telling : Out Work → Out Work
+  telling x = x andThen λ w. next (told (a .dropped) w)
+
+  abbrev first-work : Work
+  first-work = workOf (withMode u (a .mode)) (bareAnswer 0)
+
+  abbrev wrapped : Work
+  wrapped =
+      finish (storedState u) (needs fits (telling (fiveSteps (a .cell) (workOf (withMode (storedState u) (a .mode)) (bareAnswer 0)))))
+
+  abbrev never-wrapped : Work
+  never-wrapped = finish u (needs fits (telling (unwrappedSteps (a .cell) first-work)))
+
+  checked-agrees : Kept u → rangesHold (u .ctl .n) (u .ctl .v) ≡ true → wrapped ≡ storedWork never-wrapped
+  checked-agrees kept range =
+      let b = ranges-v (u .ctl .n) (u .ctl .v) range in
+      ap (finish (storedState u))
+      (needs-map storedWork fits (telling (fiveSteps (a .cell) (workOf (withMode (storedState u) (a .mode)) (bareAnswer 0))))
+      (telling (unwrappedSteps (a .cell) first-work))
+      (λ _. ap telling (ap (fiveSteps (a .cell)) (mode-stored u (a .mode))
+      ∙ steps-agree (a .cell) first-work (u .ctl .v) (u .ctl .t) (u .ctl .rotation) (begin u (a .mode) kept)
+      (turns-low u kept (b .0)) (b .1))
+      ∙ then-map storedWork storedWork (unwrappedSteps (a .cell) first-work) (λ w. next (told (a .dropped) w))
+      (λ w. next (told (a .dropped) w)) (λ w. ap next (told-stored (a .dropped) w))))
+      ∙ finish-stored u (needs fits (telling (unwrappedSteps (a .cell) first-work)))
+
+  -- refusal 9 comes before
+  lent-agrees : Kept u → rangesHold (u .ctl .n) (u .ctl .v) ≡ true
+      → (if not (length cell =? 0 || length cell =? octets) then workOf (storedState u) (bareAnswer 9) else wrapped)
+      ≡ storedWork (if not (length cell =? 0 || length cell =? octets) then workOf u (bareAnswer 9) else never-wrapped)
+  unfolding storedWork
+  lent-agrees kept range =
+      if-both storedWork (not (length cell =? 0 || length cell =? octets)) (workOf (storedState u) (bareAnswer 9)) wrapped
+      (workOf u (bareAnswer 9)) never-wrapped (λ _. refl) (λ _. checked-agrees kept range)
+
 pub slot-agrees : (u : State) (cell : List ℕ) → Kept u → slot (storedState u) cell ≡ storedWork (unwrappedSlot u cell)
 unfolding slot unwrappedSlot storedWork storedState withClock withRecord withWords recordWith
 slot-agrees u cell kept =
@@ -126,11 +185,7 @@ slot-agrees u cell kept =
     if-both storedWork (not (rangesHold N z)) _ _ _ _ (λ _. refl)
     (λ range. rw (lengths-stored u z)
     (if-both storedWork (not (lengthsHold N z (u .cells) (u .links) (u .calendar) (u .words))) _ _ _ _ (λ _. refl)
-    (λ _. if-both storedWork (not (length cell =? 0 || length cell =? octets)) _ _ _ _ (λ _. refl)
-    (λ _. let b = ranges-v N z (not-false (rangesHold N z) range) in
-    ap (finish (storedState u))
-    (steps-agree cell (workOf u (bareAnswer 0)) z (u .ctl .t) (u .ctl .rotation) (begin u kept) (turns-low u kept (b .0)) (b .1))
-    ∙ finish-stored u (unwrappedSteps cell (workOf u (bareAnswer 0)))))))
+    (λ _. lent-agrees u cell kept (not-false (rangesHold N z) range))))
 
 -- of a slot done
 abbrev servedOn : State → Work → Type 0
@@ -156,13 +211,21 @@ slot-cases u cell P no-slot done kept =
     if-holds P (not (rangesHold N z)) _ _ (λ _. no-slot 1 (omega arith))
     (λ range. if-holds P (not (lengthsHold N z (u .cells) (u .links) (u .calendar) (u .words))) _ _ (λ _. no-slot 2 (omega arith))
     (λ _. if-holds P (not (length cell =? 0 || length cell =? octets)) _ _ (λ _. no-slot 9 (omega arith))
+    (λ _. if-holds (λ (x : Out Work). P (finish u x)) (arrivingFits (u .ctl .raw) (u .ctl .mode) cell) _ _
     (λ _. let b = ranges-v N z (not-false (rangesHold N z) range) in
-    finished (b .0) (unwrappedSteps cell (workOf u (bareAnswer 0)))
-    (steps-keep cell (workOf u (bareAnswer 0)) z (u .ctl .t) (u .ctl .rotation) (begin u kept) (turns-low u kept (b .0)) (b .1)))))
+    let a = letIn u cell in
+    let w = workOf (withMode u (a .mode)) (bareAnswer 0) in
+    finished (b .0) (a .dropped) (unwrappedSteps (a .cell) w)
+    (steps-keep (a .cell) w z (u .ctl .t) (u .ctl .rotation) (begin u (a .mode) kept) (turns-low u kept (b .0)) (b .1)))
+    (λ _. no-slot 3 (omega arith)))))
   where
-    finished : 2 ≤ u .ctl .v → (x : Out Work) → AllOut (servedOn u) x → P (finish u x)
-    finished low refused h = no-slot 3 (omega arith)
-    finished low (next w) h = done w low h
+    finished : 2 ≤ u .ctl .v → (drop : Bool) (x : Out Work) → AllOut (servedOn u) x
+        → P (finish u (x andThen λ w. next (told drop w)))
+    finished low drop refused h = no-slot 3 (omega arith)
+    finished low true (next w) h =
+        done (told true w) low
+        (record { v-is = h .v-is; t-is = h .t-is; r-is = h .r-is; done = h .done; recent = h .recent })
+    finished low false (next w) h = done w low h
 
 pub slot-keeps : (u : State) (cell : List ℕ) → Kept u → Kept (unwrappedSlot u cell .state)
 slot-keeps u cell kept = slot-cases u cell (λ w. Kept (w .state)) (λ number h. kept) (λ w low h. done-keeps u kept low w h) kept

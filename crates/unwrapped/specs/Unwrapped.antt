@@ -2,22 +2,25 @@
 --
 -- The clock is the number k of slots served since setup, and stands where the record holds t. The word `last` of an open
 -- VC holds the number of slots that had been served when the VC was opened or last brought up to date. Both grow without
--- bound: there is no modulus of t, `last` or elapsed in this file. All that touches none of the three is shared.
+-- bound: there is no modulus of t, `last` or elapsed in this file. All that touches none of the three is shared, the header
+-- check of document 02 (i) among it.
 use Prim.Native.Nat.{ℕ, _+_, _-_, _%_}
-use mathlib.Core.Bool.{not, _&&_, _||_}
+use mathlib.Core.Bool.{Bool, not, _&&_, _||_}
 use mathlib.Core.List.{List}
 use lib.ListN.{length}
+use Rattle.hec.specs.Modes.{arrivingFits}
 use Rattle.meaning.specs.declared.Record.{Record}
 use Rattle.meaning.specs.Plain.{if_then_else_, _<?_, _=?_, Out, next, needs, _andThen_}
 use Rattle.meaning.specs.Numbers.{rangesHold, octets, unknown}
-use Rattle.meaning.specs.State.{State, lengthsHold, withClock}
+use Rattle.meaning.specs.State.{State, lengthsHold, withClock, withMode}
 use Rattle.meaning.specs.Header.{headerAt, noUserCell, namesVc}
 use Rattle.meaning.specs.Bucket.{bucketOf, obeysRules, fall}
 use Rattle.meaning.specs.Words.{Vc, vcAt, writeVc, openedVc, closedVc, openWordFits, bucketFits}
 use Rattle.meaning.specs.Calls.{Called, calledOf, sharedRefusal, freshState}
 use Rattle.meaning.specs.Work.{Work, workOf, bareAnswer, withState, withVc, withArrival}
 use Rattle.meaning.specs.Arrival.{judge}
-use Rattle.meaning.specs.Slot.{step4, step5, finish}
+use Rattle.meaning.specs.Slot.{step4, step5, finish, told}
+use Rattle.runs.specs.Run.{letIn}
 
 -- "it is brought up to date: S falls by elapsed × L .. last becomes t": k slots have been served, so k - last have elapsed
 unfoldable pub caughtUp : ℕ → ℕ → Vc → Out Vc
@@ -66,10 +69,12 @@ unfoldable pub unwrappedSlot : State → List ℕ → Work
 unwrappedSlot s cell =
     let N = s .ctl .n in
     let z = s .ctl .v in
+    let a = letIn s cell in
     if not (rangesHold N z) then workOf s (bareAnswer 1)
     else if not (lengthsHold N z (s .cells) (s .links) (s .calendar) (s .words)) then workOf s (bareAnswer 2)
     else if not (length cell =? 0 || length cell =? octets) then workOf s (bareAnswer 9)
-    else finish s (unwrappedSteps cell (workOf s (bareAnswer 0)))
+    else finish s (needs (arrivingFits (s .ctl .raw) (s .ctl .mode) cell)
+    (unwrappedSteps (a .cell) (workOf (withMode s (a .mode)) (bareAnswer 0)) andThen λ w. next (told (a .dropped) w)))
 
 -- "Opening sets .. last t": here the number of slots served
 unfoldable pub unwrappedOpen : Record → List ℕ → ℕ → ℕ → ℕ → ℕ → Called
@@ -95,7 +100,7 @@ unwrappedClose r words vci =
     else calledOf 0 (writeVc words vci closedVc)
 
 -- after setup no slot has been served; all else as setup leaves it
-unfoldable pub unwrappedFresh : ℕ → ℕ → State
-unwrappedFresh N z =
-    let s = freshState N z in
+unfoldable pub unwrappedFresh : ℕ → ℕ → Bool → State
+unwrappedFresh N z raw =
+    let s = freshState N z raw in
     withClock s 0 (s .ctl .turn) (s .ctl .rotation)

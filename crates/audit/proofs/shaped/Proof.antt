@@ -1,6 +1,7 @@
--- `audit::shaped` tests ranges, lengths, T and rotation in the order of `shapeHolds`.
+-- `audit::shaped` tests ranges, lengths, then the record's other numbers, in the order of `shapeHolds`.
 -- Assumes nothing.
-use Rattle.audit.proofs.ShapeLaws.{shape-no-ranges, shape-no-lengths, shape-no-turn, shape-rest}
+use mathlib.Core.Path.{_∙_}
+use Rattle.audit.proofs.ShapeLaws.{shape-no-ranges, shape-no-lengths, shape-rest}
 use borrow.Author.Needs.{needs}
 use Rattle.audit.proofs.shaped.Statement.{statement}
 use Rattle.audit.proofs.shaped.Tie as tie
@@ -20,21 +21,23 @@ returns-2 c =
     shape-no-lengths _ _ _ _ _ _ (k .ranges-hold .ensures) _ (c .before .lengths-hold .ensures)
     (c .before .before .if1 .left) (c .if2 .taken)
 
+record-fits-requires : tie.Need-record-fits-requires
+record-fits-requires c κs = search needs
+
 returns-3 : tie.Need-returns-3
 returns-3 c =
-    let l = c .before .before .before in
+    let l = c .before in
     let k = l .before .before in
-    shape-rest _ _ _ _ _ _ (k .before .ranges-hold .ensures) _ (l .before .lengths-hold .ensures)
-    (k .if1 .left) (l .if2 .left) (c .before .if3 .taken)
-
-returns-4 : tie.Need-returns-4
-returns-4 c =
-    let l = c .before .before in
-    let k = l .before .before in
-    shape-no-turn _ _ _ _ _ _ (k .before .ranges-hold .ensures) _ (l .before .lengths-hold .ensures)
-    (k .if1 .left) (l .if2 .left) (c .if3 .left)
+    c .record-fits .ensures
+    ∙ shape-rest _ _ _ _ _ _ (k .before .ranges-hold .ensures) _ (l .before .lengths-hold .ensures) (k .if1 .left) (l .if2 .left)
 
 pub shaped-spec : {M : Type 1} → statement M
 shaped-spec =
     tie.close
-    (tie.spec ranges-hold-requires returns lengths-hold-requires returns-2 returns-3 returns-4)
+    (tie.spec
+    ranges-hold-requires
+    returns
+    lengths-hold-requires
+    returns-2
+    record-fits-requires
+    returns-3)

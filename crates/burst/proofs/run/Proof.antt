@@ -8,7 +8,7 @@ use lib.ListN.{length}
 use borrow.Author.Needs.{needs}
 use Rattle.burst.specs.Burst.{stretchOf}
 use Rattle.burst.proofs.TurnLaws.{slots-stop}
-use Rattle.burst.proofs.Loop.{reached, Turning, turn-counted, turn-on, slots-end}
+use Rattle.burst.proofs.Loop.{reached, Turning, turn-counted, turn-runs, turn-on, slots-end}
 use Rattle.burst.proofs.run.Statement.{statement}
 use Rattle.burst.proofs.run.Tie as tie
 
@@ -21,13 +21,13 @@ abbrev μ-loop : tie.MeasureT-loop
     length sizes - end .done
 
 loop-holds : tie.Need-loop-holds Inv-loop μ-loop
-loop-holds c = record { going = refl; low = omega arith; cells-kept = refl; links-kept = refl; calendar-kept = refl; words-kept = refl; departures-kept = refl; answers-kept = refl; rest = refl }
+loop-holds c = record { going = refl; low = omega arith; cells-kept = refl; links-kept = refl; calendar-kept = refl; words-kept = refl; departures-kept = refl; answers-kept = refl; running = c .before .before .before .before .before .before .before .before .pre .1; rest = refl }
 
 shared-slice-read-size : tie.Need-shared-slice-read-size Inv-loop μ-loop
 shared-slice-read-size c = search needs
 
 turn-requires : tie.Need-turn-requires Inv-loop μ-loop
-turn-requires c κs = let at = c .before .before .before .before .before .before .before .before .before .before .loop in let p = c .before .before .before .before .before .before .before .before .before .before .before .before .before .before .before .before .before .before .before .pre in record { arrival = omega (arith, p .arrivals-long); departure = omega (arith, p .departures-long, at .inv .departures-kept); answer = omega (arith, p .answers-long, at .inv .answers-kept) }
+turn-requires c κs = let at = c .before .before .before .before .before .before .before .before .before .before .loop in let p = c .before .before .before .before .before .before .before .before .before .before .before .before .before .before .before .before .before .before .before .pre .0 in (record { arrival = omega (arith, p .arrivals-long); departure = omega (arith, p .departures-long, at .inv .departures-kept); answer = omega (arith, p .answers-long, at .inv .answers-kept) }, at .inv .running)
 
 same-length : tie.Need-same-length Inv-loop μ-loop
 same-length c = omega (arith, c .before .before .before .before .before .before .before .before .before .before .before .before .before .before .before .before .before .before .before .before .before .before .before .before .before .loop .inv .cells-kept)
@@ -77,6 +77,7 @@ loop-again c =
       words-kept = search needs;
       departures-kept = search needs;
       answers-kept = search needs;
+      running = turn-runs (now (a .arrivals)) (now (a .sizes)) b low _ _ _ _ _ e (c .if2 .left);
       rest = turn-on (now (a .arrivals)) (now (a .sizes)) b low _ _ _ _ _ e (c .if2 .left) ∙ at .inv .rest;
     }
 

@@ -19,7 +19,15 @@ returns-3 c = simp (ne-eqb _ _ (c .before .before .if1 .left), ne-eqb _ _ (c .be
 
 returns-4 : tie.Need-returns-4
 unfolding letter
-returns-4 c = simp (ne-eqb _ _ (c .before .before .if1 .left), ne-eqb _ _ (c .before .if2 .left), ne-eqb _ _ (c .if3 .left))
+returns-4 c =
+    let b = c .before in
+    simp (ne-eqb _ _ (b .before .before .if1 .left), ne-eqb _ _ (b .before .if2 .left), ne-eqb _ _ (b .if3 .left), eq-eqb _ _ (c .if4 .taken))
+
+returns-5 : tie.Need-returns-5
+unfolding letter
+returns-5 c =
+    let b = c .before in
+    simp (ne-eqb _ _ (b .before .before .if1 .left), ne-eqb _ _ (b .before .if2 .left), ne-eqb _ _ (b .if3 .left), ne-eqb _ _ (c .if4 .left))
 
 pub letter-spec : {M : Type 1} → statement M
-letter-spec = tie.close (tie.spec returns returns-2 returns-3 returns-4)
+letter-spec = tie.close (tie.spec returns returns-2 returns-3 returns-4 returns-5)

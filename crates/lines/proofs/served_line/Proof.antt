@@ -6,13 +6,16 @@ use mathlib.Core.Path.{ap, sym}
 use mathlib.Core.List.{List, [], _∷_}
 use Prim.Native.Nat.{ℕ}
 use Rattle.lines.specs.Lines.{servedLine}
-use Rattle.lines.proofs.Words.{slot-words}
+use Rattle.lines.proofs.Words.{shown-same, slot-words}
 use Rattle.lines.proofs.Puts.{put-is, put-then}
 use Rattle.lines.proofs.served_line.Statement.{statement}
 use Rattle.lines.proofs.served_line.Tie as tie
 
 letter-requires : tie.Need-letter-requires
 letter-requires c κs = search needs
+
+shows-vci-requires : tie.Need-shows-vci-requires
+shows-vci-requires c κs = search needs
 
 number-requires : tie.Need-number-requires
 number-requires c κs = search needs
@@ -40,9 +43,10 @@ returns c =
     let w1 = w2 .before .before .before .before in
     let p = w1 .before .before .before .before in
     let n = p .before .before .before .before in
-    let l = n .before .before in (
+    let s = n .before .before in
+    let l = s .before in (
       put-is (slot-words _ _ _ _ _)
-          (put-then (put-then (put-then (put-then (n .number .ensures .0) (put-is (ap (λ (x : ℕ). x ∷ 32 ∷ []) (sym (l .letter .ensures))) (p .pair .ensures))) (w1 .word .ensures .0)) (w2 .word2 .ensures .0)) (w3 .word3 .ensures .0)),
+          (put-then (put-then (put-then (put-then (n .number .ensures .0) (put-is (ap (λ (x : ℕ). x ∷ 32 ∷ []) (sym (l .letter .ensures))) (p .pair .ensures))) (put-is (shown-same _ _ (s .shows-vci .ensures)) (w1 .word .ensures .0))) (w2 .word2 .ensures .0)) (w3 .word3 .ensures .0)),
       omega (arith, n .number .ensures .1, p .pair .ensures .next, w1 .word .ensures .1, w2 .word2 .ensures .1, w3 .word3 .ensures .1),
     )
 
@@ -51,6 +55,7 @@ served-line-spec =
     tie.close
     (tie.spec
     letter-requires
+    shows-vci-requires
     number-requires
     pair-requires
     word-requires

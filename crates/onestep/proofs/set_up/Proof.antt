@@ -30,7 +30,7 @@ returns : tie.Need-returns
 returns c run =
     let l = c .before .before .before .before in
     let s = l .before .before .before .before .before .before .before .before .before .before .before in
-    setup-did run _ _ _ _ _ _ _ _ _ _ _ _ _ _ (s .setup .ensures) _ _ (c .if1 .taken) (l .setup-line .ensures .0) (l .setup-line .ensures .1)
+    setup-did run _ _ _ _ _ _ _ _ _ _ _ _ _ _ _ (s .setup .ensures) _ _ (c .if1 .taken) (l .setup-line .ensures .0) (l .setup-line .ensures .1)
 
 end-tally-requires : tie.Need-end-tally-requires
 end-tally-requires c κs = search needs
@@ -55,7 +55,7 @@ returns-2 c run =
     let e = c .before .before in
     let l = e .before .before .before .before .before .before in
     let s = l .before .before .before .before .before .before .before .before .before .before .before in
-    setup-ends run _ _ _ _ _ _ _ _ _ _ _ _ _ _ (s .setup .ensures) _ _ _ _ (e .before .before .if1 .left) (l .setup-line .ensures .0) (l .setup-line .ensures .1) (e .end-tally .ensures .0) (e .end-tally .ensures .1)
+    setup-ends run _ _ _ _ _ _ _ _ _ _ _ _ _ _ _ (s .setup .ensures) _ _ _ _ (e .before .before .if1 .left) (l .setup-line .ensures .0) (l .setup-line .ensures .1) (e .end-tally .ensures .0) (e .end-tally .ensures .1)
 
 pub set-up-spec : {M : Type 1} → statement M
 set-up-spec =

@@ -1,4 +1,4 @@
--- `setup::no_record` meets its contract: its nine numbers are 0.
+-- `setup::no_record` meets its contract: its eleven numbers are 0.
 -- Assumes nothing.
 use mathlib.Core.Path.{refl}
 use Rattle.meaning.specs.Calls.{zeros}

@@ -38,7 +38,7 @@ returns c =
     (λ (r : Record). setUpOf (c .before .before .setup-refusal .result) (stateOf r (a .cells .now) (a .links .now) (a .calendar .now) (a .words .now)))
     (c .no-record .ensures)
     ∙ (ap (λ (k : ℕ). setUpOf k (stateOf zeros (a .cells .now) (a .links .now) (a .calendar .now) (a .words .now))) e
-    ∙ setup-refused (a .n) (a .v) (a .cells .now) (a .links .now) (a .calendar .now) (a .words .now) (λ z. c .before .if1 .taken (e ∙ z)))
+    ∙ setup-refused (a .n) (a .v) (a .cells .now) (a .links .now) (a .calendar .now) (a .words .now) (a .raw) (λ z. c .before .if1 .taken (e ∙ z)))
 
 clear-cells-requires : tie.Need-clear-cells-requires
 clear-cells-requires c κs = search needs
@@ -82,6 +82,7 @@ returns-2 c =
     ap (λ (s : State). setUpOf 0 s)
     (fresh-is (a .n) (a .v) (a .cells .now) (a .links .now) (a .calendar .now) (a .words .now)
     (lent none)
+    (a .raw)
     _
     _
     _
@@ -92,7 +93,7 @@ returns-2 c =
     (chained .chain-links .ensures)
     (emptied .empty-calendar .ensures)
     (cleared .clear-words .ensures))
-    ∙ setup-done (a .n) (a .v) (a .cells .now) (a .links .now) (a .calendar .now) (a .words .now) (none-given none)
+    ∙ setup-done (a .n) (a .v) (a .cells .now) (a .links .now) (a .calendar .now) (a .words .now) (a .raw) (none-given none)
 
 pub setup-spec : {M : Type 1} → statement M
 setup-spec =

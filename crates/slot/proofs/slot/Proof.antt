@@ -1,20 +1,16 @@
--- `slot::slot` meets its promise: refusals 1, 2 and 9, then the clock, then steps 2 to 5.
+-- `slot::slot` meets its promise: without a cell or not raw as document 01 has it; raw or mode unfit; raw.
 -- Assumes nothing.
-use mathlib.Core.Path.{sym, _∙_, ap}
+use mathlib.Core.Path.{sym, _∙_}
 use denote.Ref.{now}
 use Rattle.meaning.specs.State.{stateOf}
-use Rattle.meaning.specs.Slot.{finish}
-use Rattle.plan.proofs.Ends.{as-came}
-use Rattle.slot.proofs.Whole.{slot-refused, slot-goes, clock-turn, clock-rotation, clock-goes, shaped, sized}
+use Rattle.meaning.proofs.CheckedLaws.{not-raw}
+use Rattle.slot.proofs.Front.{not-lent, lent-53, unfit-is, unfit-raw, unfit-mode}
 use borrow.Author.Needs.{needs}
 use Rattle.slot.proofs.slot.Statement.{statement}
 use Rattle.slot.proofs.slot.Tie as tie
 
-shape-requires : tie.Need-shape-requires
-shape-requires c κs = search needs
-
-refuse-requires : tie.Need-refuse-requires
-refuse-requires c κs = search needs
+slot-requires : tie.Need-slot-requires
+slot-requires c κs = search needs
 
 same-length : tie.Need-same-length
 same-length c = search needs
@@ -30,15 +26,12 @@ same-length-4 c = search needs
 
 returns : tie.Need-returns
 returns c =
-    let at-if1 = c .before in
-    let at-shape = at-if1 .before in
-    let start = at-shape .before .before .before .before .before .before .before .before .before .before in
-    let a = start .args in
-    slot-refused (a .r) (now (a .cell)) (now (a .cells)) (now (a .links)) (now (a .calendar)) (now (a .words)) _ _
-    (at-shape .shape .ensures) (at-if1 .if1 .taken) (c .refuse .ensures)
+    let a = c .before .before .before .before .before .before .before .before .before .before .before .before .before .before .before .before .before .before .before .args in
+    c .before .before .before .before .before .before .before .before .slot .ensures
+    ∙ sym (not-lent (stateOf (a .r) (now (a .cells)) (now (a .links)) (now (a .calendar)) (now (a .words))) (now (a .cell)) (c .before .before .before .before .before .before .before .before .before .before .before .before .before .if1 .taken))
 
-refuse-requires-2 : tie.Need-refuse-requires-2
-refuse-requires-2 c κs = search needs
+slot-requires-2 : tie.Need-slot-requires-2
+slot-requires-2 c κs = search needs
 
 same-length-5 : tie.Need-same-length-5
 same-length-5 c = search needs
@@ -54,18 +47,11 @@ same-length-8 c = search needs
 
 returns-2 : tie.Need-returns-2
 returns-2 c =
-    let at-if2 = c .before in
-    let at-if1 = at-if2 .before .before in
-    let at-shape = at-if1 .before in
-    let start = at-shape .before .before .before .before .before .before .before .before .before .before in
-    let a = start .args in
-    as-came (a .r) (now (a .cells)) (now (a .links)) (now (a .calendar)) (now (a .words)) _ _ (c .refuse2 .ensures)
-    (clock-turn (a .r) (now (a .cell)) (now (a .cells)) (now (a .links)) (now (a .calendar)) (now (a .words))
-    (at-if2 .if2 .taken)) ∙ sym (slot-goes (a .r) (now (a .cell)) (now (a .cells)) (now (a .links)) (now (a .calendar))
-    (now (a .words)) _ (at-shape .shape .ensures) (at-if1 .if1 .left))
+    let a = c .before .before .before .before .before .before .before .before .before .before .before .before .before .before .before .before .before .before .before .before .before .args in
+    c .before .before .before .before .before .before .before .before .slot2 .ensures ∙ sym (not-raw (stateOf (a .r) (now (a .cells)) (now (a .links)) (now (a .calendar)) (now (a .words))) (now (a .cell)) (c .before .before .before .before .before .before .before .before .before .before .before .before .before .if2 .taken))
 
-refuse-requires-3 : tie.Need-refuse-requires-3
-refuse-requires-3 c κs = search needs
+unfit-slot-requires : tie.Need-unfit-slot-requires
+unfit-slot-requires c κs = search needs
 
 same-length-9 : tie.Need-same-length-9
 same-length-9 c = search needs
@@ -81,32 +67,13 @@ same-length-12 c = search needs
 
 returns-3 : tie.Need-returns-3
 returns-3 c =
-    let at-if3 = c .before in
-    let at-if2 = at-if3 .before .before in
-    let at-if1 = at-if2 .before .before in
-    let at-shape = at-if1 .before in
-    let start = at-shape .before .before .before .before .before .before .before .before .before .before in
-    let a = start .args in
-    as-came (a .r) (now (a .cells)) (now (a .links)) (now (a .calendar)) (now (a .words)) _ _ (c .refuse3 .ensures)
-    (clock-rotation (a .r) (now (a .cell)) (now (a .cells)) (now (a .links)) (now (a .calendar)) (now (a .words))
-    (at-if2 .if2 .left) (at-if3 .if3 .taken)) ∙ sym (slot-goes (a .r) (now (a .cell)) (now (a .cells)) (now (a .links))
-    (now (a .calendar)) (now (a .words)) _ (at-shape .shape .ensures) (at-if1 .if1 .left))
+    let a = c .before .before .before .before .before .before .before .before .before .before .before .before .before .before .before .args in
+    let l = c .before .before .before .before .before .before .before .before .before .if1 .left in
+    unfit-is (stateOf (a .r) (now (a .cells)) (now (a .links)) (now (a .calendar)) (now (a .words))) (now (a .cell)) _ (lent-53 (now (a .cell)) l)
+    (unfit-raw (a .r .raw) (a .r .mode) (now (a .cell)) (c .before .before .before .before .before .if3 .taken) l) (c .unfit-slot .ensures)
 
-clock-requires : tie.Need-clock-requires
-clock-requires c κs = search needs
-
-steps-requires : tie.Need-steps-requires
-steps-requires c κs =
-    let at-clock = c .before .before .before .before in
-    let at-if1 = at-clock .before .before .before .before .before in
-    let at-shape = at-if1 .before in
-    let start = at-shape .before .before .before .before .before .before .before .before .before .before in
-    let a = start .args in
-    let h = shaped (a .r) (now (a .cell)) (now (a .cells)) (now (a .links)) (now (a .calendar)) (now (a .words)) _ (at-shape .shape .ensures) (at-if1 .if1 .left) in (
-      sized (a .r) (now (a .cell)) (now (a .cells)) (now (a .links)) (now (a .calendar)) (now (a .words)) _
-          (at-clock .clock .ensures) h,
-      h .cell-long,
-    )
+unfit-slot-requires-2 : tie.Need-unfit-slot-requires-2
+unfit-slot-requires-2 c κs = search needs
 
 same-length-13 : tie.Need-same-length-13
 same-length-13 c = search needs
@@ -122,48 +89,60 @@ same-length-16 c = search needs
 
 returns-4 : tie.Need-returns-4
 returns-4 c =
-    let at-steps = c .before .before .before .before .before .before .before .before in
-    let at-clock = at-steps .before .before .before .before .before in
-    let at-if3 = at-clock .before in
-    let at-if2 = at-if3 .before .before in
-    let at-if1 = at-if2 .before .before in
-    let at-shape = at-if1 .before in
-    let start = at-shape .before .before .before .before .before .before .before .before .before .before in
-    let a = start .args in
-    at-steps .steps .ensures
-    ∙ ap (finish (stateOf (a .r) (now (a .cells)) (now (a .links)) (now (a .calendar)) (now (a .words))))
-    (sym (clock-goes (a .r) (now (a .cell)) (now (a .cells)) (now (a .links)) (now (a .calendar)) (now (a .words)) _
-    (at-clock .clock .ensures) (at-if2 .if2 .left) (at-if3 .if3 .left)))
-    ∙ sym (slot-goes (a .r) (now (a .cell)) (now (a .cells)) (now (a .links)) (now (a .calendar)) (now (a .words)) _
-    (at-shape .shape .ensures) (at-if1 .if1 .left))
+    let a = c .before .before .before .before .before .before .before .before .before .before .before .before .before .before .before .before .before .args in
+    let l = c .before .before .before .before .before .before .before .before .before .before .before .if1 .left in
+    unfit-is (stateOf (a .r) (now (a .cells)) (now (a .links)) (now (a .calendar)) (now (a .words))) (now (a .cell)) _ (lent-53 (now (a .cell)) l)
+    (unfit-mode (a .r .raw) (a .r .mode) (now (a .cell)) (c .before .before .before .before .before .before .before .before .before .if2 .left) (c .before .before .before .before .before .if4 .taken) l) (c .unfit-slot2 .ensures)
+
+raw-slot-requires : tie.Need-raw-slot-requires
+raw-slot-requires c κs = search needs
+
+same-length-17 : tie.Need-same-length-17
+same-length-17 c = search needs
+
+same-length-18 : tie.Need-same-length-18
+same-length-18 c = search needs
+
+same-length-19 : tie.Need-same-length-19
+same-length-19 c = search needs
+
+same-length-20 : tie.Need-same-length-20
+same-length-20 c = search needs
+
+returns-5 : tie.Need-returns-5
+returns-5 c = search needs
 
 pub slot-spec : {M : Type 1} → statement M
 slot-spec =
     tie.close
     (tie.spec
-    shape-requires
-    refuse-requires
+    slot-requires
     same-length
     same-length-2
     same-length-3
     same-length-4
     returns
-    refuse-requires-2
+    slot-requires-2
     same-length-5
     same-length-6
     same-length-7
     same-length-8
     returns-2
-    refuse-requires-3
+    unfit-slot-requires
     same-length-9
     same-length-10
     same-length-11
     same-length-12
     returns-3
-    clock-requires
-    steps-requires
+    unfit-slot-requires-2
     same-length-13
     same-length-14
     same-length-15
     same-length-16
-    returns-4)
+    returns-4
+    raw-slot-requires
+    same-length-17
+    same-length-18
+    same-length-19
+    same-length-20
+    returns-5)

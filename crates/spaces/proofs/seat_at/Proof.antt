@@ -1,9 +1,11 @@
--- `spaces::seat_at` meets its contract: the tests are those of the definition. Assumes nothing.
-use Rattle.spaces.specs.Spaces.{seatAt}
+-- `spaces::seat_at` meets its contract: the head and the tail of the entry, tested one after the other, fit or not.
+-- Assumes nothing.
+use Rattle.spaces.specs.Spaces.{seatIn, seatAt}
 use Rattle.meaning.specs.Lists.{entryAt}
-use borrow.Author.Tests.{lt-ltb, le-ltb, eq-eqb, ne-eqb}
-use mathlib.Core.Logic.{⊎-elim}
-use mathlib.Core.Path.{sym, _∙_}
+use Rattle.spaces.proofs.PairLaws.{head-high, tail-high, both-low, tail-left, both-empty}
+use Prim.Native.Nat.{_+_, _*_}
+use mathlib.Core.Path.{_∙_}
+use lib.ListN.{getD}
 use borrow.Author.Needs.{needs}
 use Rattle.spaces.proofs.seat_at.Statement.{statement}
 use Rattle.spaces.proofs.seat_at.Tie as tie
@@ -29,35 +31,43 @@ mul-tail-2 c = search needs
 shared-slice-read-tail : tie.Need-shared-slice-read-tail
 shared-slice-read-tail c = search needs
 
-pair-requires : tie.Need-pair-requires
-pair-requires c κs = search needs
+seat-in-requires : tie.Need-seat-in-requires
+seat-in-requires c κs = search needs
 
 returns : tie.Need-returns
-unfolding seatAt entryAt
-returns c = simp (sym (c .before .before .pair .ensures) ∙ c .before .if1 .taken, eq-eqb _ _ (c .if2 .taken))
-
-mul-after : tie.Need-mul-after
-mul-after c = search needs
-
-shared-slice-read-after : tie.Need-shared-slice-read-after
-shared-slice-read-after c = search needs
-
-returns-2 : tie.Need-returns-2
-unfolding seatAt entryAt
-returns-2 c = simp (sym (c .before .before .before .before .pair .ensures) ∙ c .before .before .before .if1 .taken, ne-eqb _ _ (c .before .before .if2 .left), lt-ltb _ _ (c .if3 .taken))
+unfolding seatAt seatIn entryAt
+returns c = simp (both-empty _ _ _ (c .before .before .before .before .before .before .before .pre .0) (c .before .before .if1 .taken) (c .before .if2 .taken)) (c .seat-in .ensures)
 
 no-seat-requires : tie.Need-no-seat-requires
 no-seat-requires c κs = search needs
 
+returns-2 : tie.Need-returns-2
+unfolding seatAt seatIn entryAt
+returns-2 c = c .no-seat .ensures ∙ simp (tail-left _ _ _ (c .before .before .before .before .before .before .before .pre .0) (c .before .before .if1 .taken) (c .before .if2 .left))
+
+no-seat-requires-2 : tie.Need-no-seat-requires-2
+no-seat-requires-2 c κs = search needs
+
 returns-3 : tie.Need-returns-3
-unfolding seatAt entryAt
+unfolding seatAt seatIn entryAt
 returns-3 c =
-    let fits = sym (c .before .before .pair .ensures) in
-    c .no-seat .ensures
-    ∙ ⊎-elim
-    (λ w. simp (fits ∙ w .0 .taken, ne-eqb _ _ (w .1 .left), le-ltb _ _ (w .3 .left)))
-    (λ w. simp (fits ∙ w .left))
-    (c .before .if1 .came)
+    let a = c .before .before .before .before .before .before .before .args in
+    c .no-seat2 .ensures
+    ∙ simp (head-high _ _ (getD (a .calendar .now) (2 * a .e + 1) 0) (c .before .before .if1 .left) (c .before .if3 .taken))
+
+no-seat-requires-3 : tie.Need-no-seat-requires-3
+no-seat-requires-3 c κs = search needs
+
+returns-4 : tie.Need-returns-4
+unfolding seatAt seatIn entryAt
+returns-4 c = c .no-seat3 .ensures ∙ simp (tail-high _ _ _ (c .before .before .before .before .before .before .before .before .pre .0) (c .before .before .if3 .left) (c .before .if4 .taken))
+
+seat-in-requires-2 : tie.Need-seat-in-requires-2
+seat-in-requires-2 c κs = search needs
+
+returns-5 : tie.Need-returns-5
+unfolding seatAt seatIn entryAt
+returns-5 c = simp (both-low _ _ _ (c .before .before .if3 .left) (c .before .if4 .left)) (c .seat-in2 .ensures)
 
 pub seat-at-spec : {M : Type 1} → statement M
 seat-at-spec =
@@ -70,10 +80,13 @@ seat-at-spec =
     add-tail
     mul-tail-2
     shared-slice-read-tail
-    pair-requires
+    seat-in-requires
     returns
-    mul-after
-    shared-slice-read-after
-    returns-2
     no-seat-requires
-    returns-3)
+    returns-2
+    no-seat-requires-2
+    returns-3
+    no-seat-requires-3
+    returns-4
+    seat-in-requires-2
+    returns-5)

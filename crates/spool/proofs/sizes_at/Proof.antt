@@ -33,7 +33,7 @@ returns-3 c =
     let g = c .before .before .before .before .before .before .found .given in
     let f = g .1 in
     let e = c .before .before .before .event .given .1 in
-    setup-fits _ _ _ (sym (c .before .ranges-hold .ensures) ∙ c .if1 .taken)
+    setup-fits _ _ _ _ (sym (c .before .ranges-hold .ensures) ∙ c .if1 .taken)
     ∙ ap (λ (x : Event). sizesAt (event (recordOf x) (g .0 .1 .0))) (sym e) ∙ ap (λ (x : Found). sizesAt (saidOf x)) (sym f)
 
 returns-4 : tie.Need-returns-4
@@ -41,7 +41,7 @@ returns-4 c =
     let g = c .before .before .before .before .before .before .found .given in
     let f = g .1 in
     let e = c .before .before .before .event .given .1 in
-    setup-large _ _ _ (sym (c .before .ranges-hold .ensures) ∙ c .if1 .left)
+    setup-large _ _ _ _ (sym (c .before .ranges-hold .ensures) ∙ c .if1 .left)
     ∙ ap (λ (x : Event). sizesAt (event (recordOf x) (g .0 .1 .0))) (sym e) ∙ ap (λ (x : Found). sizesAt (saidOf x)) (sym f)
 
 pub sizes-at-spec : {M : Type 1} → statement M

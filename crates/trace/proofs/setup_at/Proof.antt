@@ -1,4 +1,4 @@
--- `setup_at`: a GM is read where its octets all stand, else it is refused where it starts.
+-- `setup_at`: a GM or GR is read where its octets all stand, else it is refused where it starts.
 -- Assumes nothing.
 use Rattle.trace.specs.Trace.{setupAt}
 use Rattle.trace.proofs.Cases.{whole-read, whole-short}
@@ -25,8 +25,8 @@ add-u16-at-2 c = search needs
 u16-at-requires-2 : tie.Need-u16-at-requires-2
 u16-at-requires-2 c κs = search needs
 
-add-t5 : tie.Need-add-t5
-add-t5 c = search needs
+add-t6 : tie.Need-add-t6
+add-t6 c = search needs
 
 returns-2 : tie.Need-returns-2
 unfolding setupAt
@@ -42,5 +42,5 @@ setup-at-spec =
     u16-at-requires
     add-u16-at-2
     u16-at-requires-2
-    add-t5
+    add-t6
     returns-2)

@@ -1,0 +1,123 @@
+/* Any slot of any memory, in the order of document 01: the five steps are worked out on locals, then written. */
+#ifndef CAREFUL_H
+#define CAREFUL_H
+#include "path.h"
+
+/* Both below N or both 65,535. */
+static inline bool bad_pair(u32 head, u32 tail, u32 n) {
+  return (head >= n || tail >= n) && (head & tail) != none;
+}
+
+/* Whether an open VC's m, F, C or S is out of range. */
+static inline bool bad_bucket(const u32 *vc, u32 n) {
+  const u32 m = vc[w_m], f = vc[w_F], c = vc[w_C];
+  return m > 15 || f >> m == 0 || f > CLURIMOON_F_MAX || c < f || (c - f) >> m >= n || vc[w_S] > c;
+}
+
+/* False, and nothing is written, for refusal 3. N, V and all lengths are fit. */
+static bool careful(clurimoon_record *r, uint8_t *cells, u16 *links, u16 *calendar, u32 *vcs, const uint8_t *cell,
+                    size_t cell_length, clurimoon_answer *answer) {
+  const u32 n = r->n, v = r->v, t = r->t + 1;
+  if (unlikely(r->T >= n || r->rotation >= v)) return false;
+  const u32 T = r->T + 1u == n ? 0 : r->T + 1u, rotation = r->rotation + 1u == v ? 0 : r->rotation + 1u;
+  u32 free_head = r->free_head, free_tail = r->free_tail, out_head = r->out_head, out_tail = r->out_tail;
+  u32 verdict = CLURIMOON_NOTHING, d = 0, seen = 0, sent = 0;
+
+  /* Step 2: the VC whose turn it is, and its S afterwards. */
+  u32 *turn = NULL, turn_s = 0;
+  if (rotation != 0) {
+    u32 *vc = vcs + words * rotation;
+    if (vc[w_open] > 1) return false;
+    if (vc[w_open] == 1) {
+      if (bad_bucket(vc, n)) return false;
+      turn = vc;
+      turn_s = fallen(vc, t);
+    }
+  }
+
+  /* Step 3: the VC met, the space x taken, entry e with its old head and new tail. */
+  u32 *met = NULL, met_s = 0, x = none, e = none, joined = none, e_tail = none;
+  if (cell_length != 0) {
+    const u32 name = name_of(cell); /* VPI, then VCI */
+    if (name != 0) {
+      seen = name & 0xffff;
+      verdict = CLURIMOON_UNKNOWN;
+      u32 *vc = vcs + words * name;
+      if (name < v && vc[w_open] != 0) {
+        if (vc[w_open] != 1 || bad_bucket(vc, n)) return false;
+        met = vc;
+        met_s = vc == turn ? turn_s : fallen(vc, t);
+        verdict = CLURIMOON_EXCESS;
+        if (met_s <= vc[w_C] - vc[w_F]) {
+          verdict = CLURIMOON_ACCEPTED;
+          d = met_s >> vc[w_m];
+          met_s += vc[w_F];
+          if (vc[w_waiting] >= n || free_head >= n || free_tail >= n) return false;
+          x = free_head;
+          if (x == free_tail) {
+            free_head = free_tail = none;
+          } else {
+            free_head = links[x];
+            if (free_head >= n) return false;
+          }
+          e = T + d >= n ? T + d - n : T + d;
+          joined = calendar[2 * e], e_tail = calendar[2 * e + 1];
+          if (bad_pair(joined, e_tail, n)) return false;
+          if (joined == none) e_tail = x;
+        }
+      }
+    }
+  }
+
+  /* Step 4: entry T as step 3 left it; `follows` is the old tail whose link changes. */
+  u32 head = calendar[2 * T], tail = calendar[2 * T + 1], follows = none;
+  if (e == T) head = x, tail = e_tail;
+  if (bad_pair(head, tail, n) || bad_pair(out_head, out_tail, n)) return false;
+  if (head != none) {
+    if (out_head == none) out_head = head;
+    else follows = out_tail;
+    out_tail = tail;
+  }
+
+  /* Step 5: the link and the header are read as steps 3 and 4 left them. */
+  const u32 y = out_head;
+  u32 *left = NULL, back = none;
+  if (y != none) {
+    if (y == out_tail) {
+      out_head = out_tail = none;
+    } else {
+      out_head = y == follows ? head : y == x && joined != none ? joined : links[y];
+      if (out_head >= n) return false;
+    }
+    sent = name_of(y == x ? cell : cells + 53 * y);
+    if (sent - 1 >= v - 1) return false;
+    left = vcs + words * sent;
+    if (left[w_open] != 1 || left[w_waiting] + (x != none && left == met) - 1 >= n) return false;
+    if (bad_pair(free_head, free_tail, n)) return false;
+    if (free_head == none) free_head = y;
+    else back = free_tail;
+    free_tail = y;
+  }
+
+  /* All is fit: write, in the order of the steps. */
+  if (turn) turn[w_S] = turn_s, turn[w_last] = t;
+  if (met) met[w_S] = met_s, met[w_last] = t;
+  if (x != none) {
+    met[w_waiting] += 1;
+    copy_cell(cells + 53 * x, cell);
+    if (joined != none) links[x] = (uint16_t)joined;
+    calendar[2 * e] = (uint16_t)x, calendar[2 * e + 1] = (uint16_t)e_tail;
+  }
+  if (head != none) calendar[2 * T] = calendar[2 * T + 1] = (uint16_t)none;
+  if (follows != none) links[follows] = (uint16_t)head;
+  if (left) left[w_waiting] -= 1;
+  if (back != none) links[back] = (uint16_t)y;
+  r->t = t, r->T = (u16)T, r->rotation = (u16)rotation;
+  r->free_head = (u16)free_head, r->free_tail = (u16)free_tail;
+  r->out_head = (u16)out_head, r->out_tail = (u16)out_tail;
+  *answer = (clurimoon_answer){0, (u16)verdict, (u16)seen, (u16)d, (u16)y, (u16)sent};
+  return true;
+}
+
+
+#endif

@@ -1,0 +1,73 @@
+-- `burst::serve_checked` meets its promise: copies of the record and of what came back are what they are copies of.
+-- Assumes nothing.
+use Prim.Native.Nat.{ℕ}
+use mathlib.Core.Path.{_≡_, sym, _∙_, ap, subst}
+use mathlib.Core.List.{List}
+use denote.Ref.{now}
+use Rattle.meaning.specs.declared.Record.{Record}
+use Rattle.meaning.specs.State.{stateOf}
+use Rattle.meaning.specs.Work.{Work}
+use Rattle.meaning.specs.Slot.{slot}
+use Rattle.unchecked.proofs.EndLaws.{Answered}
+use Rattle.slot.proofs.Answered.{slot-answered}
+use borrow.Author.Needs.{needs}
+use Rattle.burst.proofs.serve_checked.Statement.{statement}
+use Rattle.burst.proofs.serve_checked.Tie as tie
+
+-- what the slot of a copy gave, it gave of the record
+given : (r : Record) (cells links calendar words cell : List ℕ) (k : Record) → k ≡ r → (w : Work)
+    → w ≡ slot (stateOf k cells links calendar words) cell
+    → Answered (stateOf r cells links calendar words) w
+given r cells links calendar words cell k e w g =
+    subst (Answered (stateOf r cells links calendar words))
+    (sym (g ∙ ap (λ (q : Record). slot (stateOf q cells links calendar words) cell) e))
+    (slot-answered (stateOf r cells links calendar words) cell)
+
+copied-requires : tie.Need-copied-requires
+copied-requires c κs = search needs
+
+slot-requires : tie.Need-slot-requires
+slot-requires c κs = search needs
+
+copied-back-requires : tie.Need-copied-back-requires
+copied-back-requires c κs =
+    let at-slot = c .before .before .before .before .before .before .before .before in
+    let at-copied = at-slot .before .before .before .before .before in
+    let a = at-copied .before .before .before .before .before .before .args in
+    let h = given (a .ctl) (now (a .cells)) (now (a .links)) (now (a .calendar)) (now (a .words)) (now (a .cell)) _ (at-copied .copied .ensures) _ (at-slot .slot .ensures) in
+    (h .n-is, h .v-is, h .raw-is)
+
+same-length : tie.Need-same-length
+same-length c = search needs
+
+same-length-2 : tie.Need-same-length-2
+same-length-2 c = search needs
+
+same-length-3 : tie.Need-same-length-3
+same-length-3 c = search needs
+
+same-length-4 : tie.Need-same-length-4
+same-length-4 c = search needs
+
+returns : tie.Need-returns
+returns c =
+    let at-slot = c .before .before .before .before .before .before .before .before .before in
+    let at-copied = at-slot .before .before .before .before .before in
+    let a = at-copied .before .before .before .before .before .before .args in
+    rw (c .copied-back .ensures)
+    (at-slot .slot .ensures
+    ∙ ap (λ (q : Record). slot (stateOf q (now (a .cells)) (now (a .links)) (now (a .calendar)) (now (a .words))) (now (a .cell)))
+    (at-copied .copied .ensures))
+
+pub serve-checked-spec : {M : Type 1} → statement M
+serve-checked-spec =
+    tie.close
+    (tie.spec
+    copied-requires
+    slot-requires
+    copied-back-requires
+    same-length
+    same-length-2
+    same-length-3
+    same-length-4
+    returns)

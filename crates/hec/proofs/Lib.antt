@@ -1,0 +1,14 @@
+pub mod Table
+pub mod Xor
+pub mod Linear
+pub mod Remainder
+pub mod ByShifts
+pub mod TableRule
+pub mod Flip
+pub mod Syndrome
+pub mod Errors
+pub mod Counts
+pub mod ModeLaws
+pub mod WordLaws
+pub mod CellLaws
+pub mod Vectors

@@ -1,0 +1,27 @@
+-- `hec::check_cell` meets its contract: what `check` answers of the header's numbers holds of the octets. Assumes nothing.
+use native.Mathlib.Omega.{arith}
+use borrow.Author.Needs.{needs}
+use Rattle.hec.proofs.CellLaws.{answered}
+use Rattle.hec.proofs.check_cell.Statement.{statement}
+use Rattle.hec.proofs.check_cell.Tie as tie
+
+head-of-requires : tie.Need-head-of-requires
+head-of-requires c κs = search needs
+
+shared-slice-read-check : tie.Need-shared-slice-read-check
+shared-slice-read-check c = search needs
+
+check-requires : tie.Need-check-requires
+check-requires c κs = search needs
+
+returns : tie.Need-returns
+returns c =
+    let known = c .before .«shared-slice-known2» in
+    let h = c .before .before .«head-of» in
+    let from = c .before .before .before .before in
+    answered (from .args .cell .now) (omega arith) (λ k. omega (arith, known .given k)) (from .args .mode) (h .result) (c .check .result)
+    (h .ensures) (c .check .ensures)
+
+pub check-cell-spec : {M : Type 1} → statement M
+check-cell-spec =
+    tie.close (tie.spec head-of-requires shared-slice-read-check check-requires returns)

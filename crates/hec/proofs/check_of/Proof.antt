@@ -1,0 +1,19 @@
+-- `hec::check_of` meets its contract: its shifts give the remainder, and the coset is added. Assumes nothing.
+use mathlib.Core.Path.{ap}
+use Prim.Native.Nat.{ℕ}
+use lib.Bits.{bitXor}
+use borrow.Author.Needs.{needs}
+use Rattle.hec.specs.Check.{coset, checkOf}
+use Rattle.hec.proofs.ByShifts.{by-shifts}
+use Rattle.hec.proofs.check_of.Statement.{statement}
+use Rattle.hec.proofs.check_of.Tie as tie
+
+cast-result : tie.Need-cast-result
+cast-result c = search needs
+
+returns : tie.Need-returns
+unfolding checkOf
+returns c = ap (λ (x : ℕ). bitXor x coset) (by-shifts (c .args .head) (search needs))
+
+pub check-of-spec : {M : Type 1} → statement M
+check-of-spec = tie.close (tie.spec cast-result returns)

@@ -1,0 +1,4 @@
+pub mod Check
+pub mod WrongBit
+pub mod Modes
+pub mod Word

@@ -1,0 +1,90 @@
+-- Demand 3's clauses on the verdict: of what the header check lets through it is the leak rule's, since the invariant ties
+-- the words to it; a header that names a VC is no dropped cell's. Assumes nothing.
+use Prim.Native.Nat.{ℕ, _-_, _≤_}
+use mathlib.Core.Path.{_≡_, refl, sym, ap, _∙_}
+use mathlib.Core.Logic.{_≢_, _↔_}
+use mathlib.Core.Bool.{Bool, true, false, _&&_, _||_}
+use mathlib.Core.List.{List, [], _∷_}
+use mathlib.Core.Option.{some}
+use native.Mathlib.Omega.{arith}
+use borrow.Author.Tests.{ne-eqb}
+use lib.ListN.{length}
+use Rattle.meaning.specs.Plain.{if_then_else_, _=?_}
+use Rattle.meaning.specs.Numbers.{accepted, excess}
+use Rattle.meaning.specs.State.{State}
+use Rattle.meaning.specs.Header.{Header, headerOf, headerAt, noUserCell, namesVc}
+use Rattle.meaning.specs.Slot.{slot}
+use Rattle.meaning.proofs.CheckedLaws.{dropped-none}
+use Rattle.runs.specs.Run.{Event, letIn, served}
+use Rattle.runs.specs.Leak.{Opening, dueSlot, leakAccepts, openingOf}
+use Rattle.runs.specs.Judged.{Judged, judgedOf, judgedBy, judged, judgedAs}
+use Rattle.invariant.specs.Invariant.{Inv}
+use Rattle.invariant.proofs.ArriveLaws.{names-facts}
+use Rattle.invariant.proofs.CheckLaws.{slot-served}
+
+module _ (N z : ℕ) (h : List Event) (s : State) (i : Inv N z h s) where
+  pub says : (cell : List ℕ) → length cell =? 0 || length cell =? 53 ≡ true
+      → judgedOf (slot s cell .answer .verdict) (slot s cell .answer .vci) (slot s cell .answer .d) ≡ judgedAs z h (letIn s cell)
+  says cell e = slot-served N z h s i cell e .says
+
+  lent : (cell : List ℕ) → length cell ≡ 53 → length cell =? 0 || length cell =? 53 ≡ true
+  lent cell e = rw e
+
+  -- a header that names a VC is a user cell's, and no list without octets has it
+  some-octets : (cell : List ℕ) → namesVc z (headerAt cell 0) ≡ true → length cell ≢ 0
+  unfolding headerAt headerOf
+  some-octets [] n e = omega (arith, names-facts z (headerAt [] 0) n .0)
+  some-octets (x ∷ cell) n e = omega arith
+
+  user : (cell : List ℕ) → namesVc z (headerAt cell 0) ≡ true → length cell =? 0 || noUserCell (headerAt cell 0) ≡ false
+  unfolding noUserCell
+  user cell n =
+      rw (ne-eqb (length cell) 0 (some-octets cell n)) (go (headerAt cell 0) (names-facts z (headerAt cell 0) n .0))
+    where
+      go : (h : Header) → 1 ≤ h .vci → h .vpi =? 0 && h .vci =? 0 ≡ false
+      go h low = rw (ne-eqb (h .vci) 0 (λ y. omega arith)) (last (h .vpi =? 0))
+        where
+          last : (b : Bool) → b && false ≡ false
+          last true = refl
+          last false = refl
+
+  -- so it is not dropped
+  let-in : (cell : List ℕ) → namesVc z (headerAt (letIn s cell .cell) 0) ≡ true → letIn s cell .dropped ≡ false
+  let-in cell n = go (letIn s cell .dropped) refl
+    where
+      go : (b : Bool) → letIn s cell .dropped ≡ b → b ≡ false
+      go false e = refl
+      go true e =
+          absurd (let y : _≡_ {A = Bool} true false =
+          sym (ap (λ l. length l =? 0 || noUserCell (headerAt l 0)) (dropped-none (s .ctl .raw) (s .ctl .mode) cell e))
+          ∙ user (letIn s cell .cell) n in let x : _≡_ {A = ℕ} 0 1 = cc in omega arith)
+
+  through : (cell : List ℕ) → length cell ≡ 53 → letIn s cell .dropped ≡ false
+      → judgedOf (slot s cell .answer .verdict) (slot s cell .answer .vci) (slot s cell .answer .d) ≡ judged z h (letIn s cell .cell)
+  through cell e d = says cell (lent cell e) ∙ rw d
+
+  judged-is : (cell : List ℕ) (o : Opening) → namesVc z (headerAt cell 0) ≡ true
+      → openingOf (headerAt cell 0 .vci) h ≡ some o
+      → judged z h cell .verdict ≡ (if leakAccepts o (served h) then accepted else excess)
+  unfolding judgedBy
+  judged-is cell o n q = rw (user cell n, n, q) (go (leakAccepts o (served h)))
+    where
+      go : (b : Bool) → (if b then judgedOf accepted (headerAt cell 0 .vci) (dueSlot o (served h) - served h)
+          else judgedOf excess (headerAt cell 0 .vci) 0) .verdict ≡ (if b then accepted else excess)
+      go true = refl
+      go false = refl
+
+  verdict-is : (cell : List ℕ) (o : Opening) → length cell ≡ 53 → namesVc z (headerAt (letIn s cell .cell) 0) ≡ true
+      → openingOf (headerAt (letIn s cell .cell) 0 .vci) h ≡ some o
+      → slot s cell .answer .verdict ≡ (if leakAccepts o (served h) then accepted else excess)
+  verdict-is cell o e n q =
+      ap (λ (j : Judged). j .verdict) (through cell e (let-in cell n)) ∙ judged-is (letIn s cell .cell) o n q
+
+  exactly : (x : ℕ) (b : Bool) → x ≡ (if b then accepted else excess) → (x ≡ accepted) ↔ (b ≡ true)
+  exactly x true e = (λ p. refl, λ p. e)
+  exactly x false e = (λ p. absurd (omega (arith, p, e)), λ p. absurd (let y : _≡_ {A = ℕ} 0 1 = cc in omega arith))
+
+  pub accepts : (cell : List ℕ) (o : Opening) → length cell ≡ 53 → namesVc z (headerAt (letIn s cell .cell) 0) ≡ true
+      → openingOf (headerAt (letIn s cell .cell) 0 .vci) h ≡ some o
+      → (slot s cell .answer .verdict ≡ accepted) ↔ (leakAccepts o (served h) ≡ true)
+  accepts cell o e n q = exactly (slot s cell .answer .verdict) (leakAccepts o (served h)) (verdict-is cell o e n q)

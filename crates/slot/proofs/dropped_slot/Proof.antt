@@ -1,0 +1,61 @@
+-- `slot::dropped_slot` meets its contract: the slot without the check, lent nothing, and back.
+-- Assumes nothing.
+use denote.Ref.{now}
+use mathlib.Core.Bool.{true}
+use mathlib.Core.List.{[]}
+use Rattle.slot.proofs.Front.{backed}
+use borrow.Author.Needs.{needs}
+use Rattle.slot.proofs.dropped_slot.Statement.{statement}
+use Rattle.slot.proofs.dropped_slot.Tie as tie
+
+in-mode-requires : tie.Need-in-mode-requires
+in-mode-requires c κs = search needs
+
+sub-slot : tie.Need-sub-slot
+sub-slot c = search needs
+
+part-slot-start : tie.Need-part-slot-start
+part-slot-start c = search needs
+
+part-slot-end : tie.Need-part-slot-end
+part-slot-end c = search needs
+
+slot-requires : tie.Need-slot-requires
+slot-requires c κs = search needs
+
+back-to-requires : tie.Need-back-to-requires
+back-to-requires c κs = search needs
+
+same-length : tie.Need-same-length
+same-length c = search needs
+
+same-length-2 : tie.Need-same-length-2
+same-length-2 c = search needs
+
+same-length-3 : tie.Need-same-length-3
+same-length-3 c = search needs
+
+same-length-4 : tie.Need-same-length-4
+same-length-4 c = search needs
+
+returns : tie.Need-returns
+returns c =
+    let s = c .before .before .before .before .before .before .before .before .before .slot in
+    let a = c .before .before .before .before .before .before .before .before .before .before .before .before .before .before .before .before .before .before .before .before .before .args in
+    backed (a .r) _ (a .mode) true _ (s .result) (now (a .cells)) (now (a .links)) (now (a .calendar)) (now (a .words)) [] _ _ _ _ (c .before .before .before .before .before .before .before .before .before .before .before .before .before .before .before .in-mode .ensures) (c .back-to .ensures) (s .ensures)
+
+pub dropped-slot-spec : {M : Type 1} → statement M
+dropped-slot-spec =
+    tie.close
+    (tie.spec
+    in-mode-requires
+    sub-slot
+    part-slot-start
+    part-slot-end
+    slot-requires
+    back-to-requires
+    same-length
+    same-length-2
+    same-length-3
+    same-length-4
+    returns)

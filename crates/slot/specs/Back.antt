@@ -1,0 +1,48 @@
+-- What becomes of the slot that served what the header check let through: refused, the record is as it came, its mode too;
+-- served, a dropped cell is told.
+--
+--   backServed r drop s   == of record and answer
+--   back s drop w         == of the whole work, w being the slot without the check
+--   headWritten head l    == l with its first four octets from one number
+--   unfitOf r ..          == what is given where raw or mode is neither 0 nor 1
+use Prim.Native.Nat.{ℕ, _/_, _%_, _^_}
+use mathlib.Core.Bool.{Bool, not}
+use mathlib.Core.List.{List}
+use lib.ListN.{set}
+use Rattle.meaning.specs.declared.Record.{Record}
+use Rattle.meaning.specs.declared.Answer.{Answer}
+use Rattle.meaning.specs.declared.Served.{Served}
+use Rattle.meaning.specs.Plain.{if_then_else_, _=?_}
+use Rattle.meaning.specs.Numbers.{rangesHold, dropped}
+use Rattle.meaning.specs.State.{State, lengthsHold, withRecord}
+use Rattle.meaning.specs.Work.{Work, workOf, answerOf, bareAnswer}
+use Rattle.meaning.specs.Slot.{told}
+
+abbrev pub servedOf : Record → Answer → Served
+servedOf r a = record { ctl = r; answer = a }
+
+abbrev pub toldServed : Bool → Served → Served
+toldServed drop s =
+    let a = s .answer in
+    if drop then servedOf (s .ctl) (answerOf (a .number) dropped 0 0 (a .space) (a .departing)) else s
+
+unfoldable pub backServed : Record → Bool → Served → Served
+backServed r drop s = if s .answer .number =? 0 then toldServed drop s else servedOf r (s .answer)
+
+unfoldable pub back : State → Bool → Work → Work
+back s drop w =
+    if w .answer .number =? 0 then told drop w else workOf (withRecord (w .state) (s .ctl)) (w .answer)
+
+-- a raw or a mode out of its range: 1 and 2 come before 3
+unfoldable pub unfitOf : Record → List ℕ → List ℕ → List ℕ → List ℕ → Served
+unfitOf r cells links calendar words =
+    servedOf r
+    (bareAnswer
+    (if not (rangesHold (r .n) (r .v)) then 1
+    else if not (lengthsHold (r .n) (r .v) cells links calendar words) then 2
+    else 3))
+
+-- the first four octets written from one number
+unfoldable pub headWritten : ℕ → List ℕ → List ℕ
+headWritten head l =
+    set (set (set (set l 0 (head / 2 ^ 24)) 1 (head / 2 ^ 16 % 2 ^ 8)) 2 (head / 2 ^ 8 % 2 ^ 8)) 3 (head % 2 ^ 8)

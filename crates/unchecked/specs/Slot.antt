@@ -1,0 +1,26 @@
+-- A slot's refusals 1, 2 and 9 as one number, and what a slot without the header check promises.
+use Prim.Native.Nat.{ℕ}
+use mathlib.Core.Path.{_≡_}
+use mathlib.Core.Bool.{not, _||_}
+use mathlib.Core.List.{List}
+use lib.ListN.{length}
+use Rattle.meaning.specs.declared.Record.{Record}
+use Rattle.meaning.specs.declared.Served.{Served}
+use Rattle.meaning.specs.Plain.{if_then_else_, _=?_}
+use Rattle.meaning.specs.Numbers.{rangesHold, octets}
+use Rattle.meaning.specs.State.{State, stateOf, lengthsHold}
+use Rattle.meaning.specs.Work.{workOf}
+use Rattle.meaning.specs.Slot.{uncheckedSlot}
+
+-- "slot 1, 2, 9": the first that is given, or 0
+unfoldable pub shapeOf : Record → List ℕ → List ℕ → List ℕ → List ℕ → List ℕ → ℕ
+shapeOf r cells links calendar words cell =
+    if not (rangesHold (r .n) (r .v)) then 1
+    else if not (lengthsHold (r .n) (r .v) cells links calendar words) then 2
+    else if not (length cell =? 0 || length cell =? octets) then 9
+    else 0
+
+-- document 01's slot, of a cell that needs no check
+abbrev pub uncheckedPromise : State → List ℕ → Served → List ℕ → List ℕ → List ℕ → List ℕ → Type 0
+uncheckedPromise s cell r cells′ links′ calendar′ words′ =
+    workOf (stateOf (r .ctl) cells′ links′ calendar′ words′) (r .answer) ≡ uncheckedSlot s cell

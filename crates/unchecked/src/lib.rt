@@ -1,0 +1,133 @@
+// One slot without the header check: all that it reads is read and judged first, as numbers; then each case writes, so that a refusal leaves
+// everything as it came.
+ghost use mathlib.Core.Path.{_≡_};
+ghost use Prim.Native.Nat.{_+_, _%_, _<_};
+ghost use lib.ListN.{length};
+ghost use Rattle.meaning.specs.Plain.{_andThen_};
+ghost use Rattle.meaning.specs.State.{stateOf};
+ghost use Rattle.meaning.specs.Work.{workOf, bareAnswer};
+ghost use Rattle.meaning.specs.Slot.{step2, step3, step4, step5, finish};
+ghost use Rattle.plan.specs.Plan.{clocked, servedWork};
+ghost use Rattle.plan.specs.Facts.{Sized};
+ghost use Rattle.unchecked.specs.Slot.{shapeOf, uncheckedPromise};
+use meaning::Record;
+use meaning::Served;
+
+// One more, modulo n, without a division.
+fn after(x: u16, n: u16) -> u16
+    requires { ⌜ x < n ⌝ }
+    ensures { λ r. ⌜ r ≡ (x + 1) % n ⌝ }
+{
+    let y = x + 1;
+    if y == n { 0 } else { y }
+}
+
+// Step 1.
+pub fn clock(r: Record) -> Record
+    requires { ⌜ (r .turn < r .n) × (r .rotation < r .v) ⌝ }
+    ensures { λ k. ⌜ k ≡ clocked r ⌝ }
+{
+    let t = std::num::wrapping_add_u32(r.t, 1);
+    let turn = after(r.turn, r.n);
+    let rotation = after(r.rotation, r.v);
+    Record {
+        n: r.n,
+        v: r.v,
+        t: t,
+        turn: turn,
+        rotation: rotation,
+        freehead: r.freehead,
+        freetail: r.freetail,
+        outhead: r.outhead,
+        outtail: r.outtail,
+        raw: r.raw,
+        mode: r.mode,
+    }
+}
+
+// Steps 2 to 5, the clock having moved.
+fn steps(
+    r: Record,
+    k: Record,
+    cells: &mut [u8],
+    links: &mut [u16],
+    calendar: &mut [u16],
+    words: &mut [u32],
+    cell: &[u8],
+) -> Served
+    requires { ⌜ Sized k (now cells) (now links) (now calendar) (now words) ⌝ }
+    requires { ⌜ ((length (now cell) ≡ 0 → ⊥) → length (now cell) ≡ 53) ⌝ }
+    ensures { λ s. ⌜ servedWork s (now (cells .exit)) (now (links .exit)) (now (calendar .exit)) (now (words .exit)) ≡ finish (stateOf r (now (cells .entry)) (now (links .entry)) (now (calendar .entry)) (now (words .entry))) (step2 (workOf (stateOf k (now (cells .entry)) (now (links .entry)) (now (calendar .entry)) (now (words .entry))) (bareAnswer 0)) andThen step3 (now (cell .entry)) andThen step4 andThen step5) ⌝ }
+{
+    let b = arrival::bring(k.n, words, k.rotation, k.t);
+    if !b.ok {
+        return departure::refuse(r, 3);
+    }
+    let name = arrival::name_of(cell);
+    let j = arrival::judge(k.n, k.v, words, name, k.t);
+    if !j.ok {
+        return departure::refuse(r, 3);
+    }
+    if j.verdict == 1 {
+        return accept::accept(r, k, b, j, cells, links, calendar, words, cell);
+    }
+    quiet::quiet(r, k, b, j, cells, links, calendar, words)
+}
+
+// Refusals 1, 2 and 9.
+pub fn shape(
+    r: Record,
+    cells: &[u8],
+    links: &[u16],
+    calendar: &[u16],
+    words: &[u32],
+    cell: &[u8],
+) -> u16
+    ensures { λ x. ⌜ x ≡ shapeOf r (now (cells .entry)) (now (links .entry)) (now (calendar .entry)) (now (words .entry)) (now (cell .entry)) ⌝ }
+{
+    if !refusal::ranges_hold(r.n, r.v) {
+        return 1;
+    }
+    if !refusal::lengths_hold(
+        r.n,
+        r.v,
+        cells.len(),
+        links.len(),
+        calendar.len(),
+        words.len(),
+    ) {
+        return 2;
+    }
+    if cell.len() == 0 {
+        return 0;
+    }
+    if cell.len() == 53 {
+        return 0;
+    }
+    9
+}
+
+// "One slot, in this order", of a cell of 0 or 53 octets.
+pub fn slot(
+    r: Record,
+    cells: &mut [u8],
+    links: &mut [u16],
+    calendar: &mut [u16],
+    words: &mut [u32],
+    cell: &[u8],
+) -> Served
+    ensures { λ s. ⌜ uncheckedPromise (stateOf r (now (cells .entry)) (now (links .entry)) (now (calendar .entry)) (now (words .entry))) (now (cell .entry)) s (now (cells .exit)) (now (links .exit)) (now (calendar .exit)) (now (words .exit)) ⌝ }
+{
+    let number = shape(r, cells, links, calendar, words, cell);
+    if number != 0 {
+        return departure::refuse(r, number);
+    }
+    if r.turn >= r.n {
+        return departure::refuse(r, 3);
+    }
+    if r.rotation >= r.v {
+        return departure::refuse(r, 3);
+    }
+    let k = clock(r);
+    steps(r, k, cells, links, calendar, words, cell)
+}
