@@ -5,3 +5,4 @@ pub mod Loop
 pub mod Once
 pub mod LengthLaws
 pub mod StopLaws
+pub mod LikelyLaws

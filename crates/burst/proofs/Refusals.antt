@@ -15,7 +15,8 @@ use Rattle.meaning.specs.Numbers.{rangesHold, octets, perEntry, wordsPerVc}
 use Rattle.meaning.specs.State.{State}
 use Rattle.refusal.specs.Order.{refuseOf, firstOf}
 use Rattle.refusal.proofs.Two.{two-given, two-none}
-use Rattle.burst.specs.Burst.{Stretch, stretchOf, stopped, slots, answerLong, lengthsFit, burst}
+use Rattle.handout.specs.Handout.{answerLong}
+use Rattle.burst.specs.Burst.{Stretch, stretchOf, stopped, slots, lengthsFit, burst}
 use Rattle.burst.specs.Promise.{BurstLent}
 use Rattle.unchecked.proofs.EndLaws.{both-true}
 

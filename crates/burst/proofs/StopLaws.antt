@@ -15,12 +15,11 @@ use Rattle.meaning.specs.Work.{Work, workOf, bareAnswer}
 use Rattle.meaning.specs.Slot.{finish, uncheckedSlot, slot}
 use Rattle.meaning.proofs.CheckedLaws.{isLent, through-lent}
 use Rattle.hec.specs.Modes.{Arriving, arriving, arrivingFits}
-use Rattle.unchecked.specs.Runs.{runs}
 use Rattle.unchecked.proofs.EndLaws.{AllOut, both-true, Ended, begun, five-ended}
 use Rattle.slot.specs.Back.{back}
 use Rattle.slot.proofs.Front.{by-unchecked}
 use Rattle.slot.proofs.Answered.{slot-answered}
-use Rattle.burst.specs.Burst.{Stretch, stretchOf, sizeFits, stallOf, cellLent, served, stopped, slotDone, oneSlot, slots, lengthsFit, burst}
+use Rattle.burst.specs.Burst.{Stretch, stretchOf, sizeFits, cellLent, served, stopped, slotDone, oneSlot, slots, lengthsFit, burst}
 use Rattle.burst.proofs.LengthLaws.{Long, five-long}
 
 -- a policer of which refusals 1 and 2 are not given
@@ -192,61 +191,6 @@ fit-burst s a d n sizes r e =
     let y = both-true (four && a =? 53 * sizes) (d =? 53 * sizes) (x .0) in
     let m = both-true four (a =? 53 * sizes) (y .0) in
     (record { ranges = r; lengths = m .0 }, eqb-true a (53 * sizes) (m .1))
-
--- ---- a policer that does not run stops its first slot
-module _ (arrivals departures answers : List ℕ) (s : State) (f : Fit s) (off : runs (s .ctl) ≡ false) where
-  abbrev start : Stretch
-  start = stretchOf s departures answers 0 0
-
-  stuck : (w : Work) → ServedOr3 w → (w .answer .number ≡ 0 → runs (s .ctl) ≡ true) → slotDone start w ≡ stopped start 3
-  unfolding slotDone stopped
-  stuck w (inl p) ran = absurd (true≢false (sym (ran (p .0)) ∙ off))
-  stuck w (inr e) ran = rw (ne-eqb (w .answer .number) 0 (λ q. omega (arith, e))) (rw e)
-
-  first : (size : ℕ) → 53 ≤ length arrivals → (x : Bool) → sizeFits size ≡ x
-      → (if not x then stopped start 9 else slotDone start (slot s (cellLent arrivals 0 size))) ≡ stopped start (if x then 3 else 9)
-  first size room true e =
-      stuck (slot s (cellLent arrivals 0 size))
-      (slot-or-3 s (cellLent arrivals 0 size) f (lent-fits arrivals 0 size (omega arith) e))
-      (slot-answered s (cellLent arrivals 0 size) .ran-before)
-  first size room false e = refl
-
-  -- the first slot was stopped, and with it the burst
-  over : (rest : List ℕ) (after : Stretch) (k : ℕ) → k ≢ 0 → after ≡ stopped start k
-      → (if after .number =? 0 then slots arrivals rest after else after) ≡ stopped start k
-  unfolding stopped
-  over rest after k ne e = rw e (rw (ne-eqb k 0 ne))
-
-  one : (size : ℕ) (x : Bool) → sizeFits size ≡ x → 53 ≤ length arrivals → oneSlot arrivals size start ≡ stopped start (if x then 3 else 9)
-  unfolding oneSlot
-  one size x e room = rw e (first size room x e)
-
-  opened : (size : ℕ) (sizes : List ℕ)
-      → slots arrivals (size ∷ sizes) start
-      ≡ (let after = oneSlot arrivals size start in if after .number =? 0 then slots arrivals sizes after else after)
-  unfolding slots
-  opened size sizes = refl
-
-  stalls : (size : ℕ) (sizes : List ℕ) (x : Bool) → sizeFits size ≡ x
-      → stopped start (if x then 3 else 9) ≡ stretchOf s departures answers (stallOf (size ∷ sizes)) 0
-  unfolding stallOf stopped
-  stalls size sizes x e = rw e (simp (ne-eqb (length (size ∷ sizes)) 0 (λ q. omega (arith, q))))
-
-  none : slots arrivals [] start ≡ stretchOf s departures answers (stallOf []) 0
-  unfolding slots stallOf
-  none = refl
-
-  pub slots-stalled : (sizes : List ℕ) → 53 * length sizes ≡ length arrivals → slots arrivals sizes start ≡ stretchOf s departures answers (stallOf sizes) 0
-  slots-stalled [] room = none
-  slots-stalled (size ∷ sizes) room = opened size sizes ∙ go (sizeFits size) refl
-    where
-      after : Stretch
-      after = oneSlot arrivals size start
-
-      go : (x : Bool) → sizeFits size ≡ x
-          → (if after .number =? 0 then slots arrivals sizes after else after) ≡ stretchOf s departures answers (stallOf (size ∷ sizes)) 0
-      go true e = over sizes after 3 (λ q. omega (arith, q)) (one size true e (omega arith)) ∙ stalls size sizes true e
-      go false e = over sizes after 9 (λ q. omega (arith, q)) (one size false e (omega arith)) ∙ stalls size sizes false e
 
 -- A burst that is not refused with 1 or 2 ends with 0, 9 or 3.
 pub later-stops : (s : State) (arrivals sizes departures answers : List ℕ)

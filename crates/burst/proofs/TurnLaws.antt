@@ -13,8 +13,8 @@ use Rattle.meaning.specs.Plain.{if_then_else_, _=?_}
 use Rattle.meaning.specs.State.{State}
 use Rattle.meaning.specs.Work.{Work}
 use Rattle.meaning.specs.Slot.{slot}
-use Rattle.burst.specs.Burst.{Stretch, stretchOf, sizeFits, cellLent, shownInto, writeAnswer, served, stopped, slotDone, oneSlot, slots}
-use Rattle.unchecked.specs.Runs.{runs}
+use Rattle.handout.specs.Handout.{shownInto, writeAnswer}
+use Rattle.burst.specs.Burst.{Stretch, stretchOf, sizeFits, cellLent, served, stopped, slotDone, oneSlot, slots}
 use Rattle.unchecked.proofs.EndLaws.{Answered}
 use Rattle.slot.proofs.Answered.{slot-answered}
 
@@ -75,26 +75,27 @@ slot-counted arrivals size b = go (sizeFits size)
     go true h = counted b w (w .answer .number =? 0) refl h
     go false h = absurd (omega arith)
 
--- and leaves a record that runs
-served-runs : (b : Stretch) (w : Work) (t : Bool) → (w .answer .number =? 0) ≡ t → (w .answer .number ≡ 0 → runs (w .state .ctl) ≡ true)
-    → (if not t then stopped b (w .answer .number) else served b w) .number ≡ 0
-    → runs ((if not t then stopped b (w .answer .number) else served b w) .state .ctl) ≡ true
+-- and keeps N and V
+kept : (b : Stretch) (w : Work) (t : Bool) → (w .state .ctl .n ≡ b .state .ctl .n) × (w .state .ctl .v ≡ b .state .ctl .v)
+    → ((if not t then stopped b (w .answer .number) else served b w) .state .ctl .n ≡ b .state .ctl .n)
+    × ((if not t then stopped b (w .answer .number) else served b w) .state .ctl .v ≡ b .state .ctl .v)
 unfolding stopped served
-served-runs b w true e on h = on (eqb-true (w .answer .number) 0 e)
-served-runs b w false e on h = absurd (eqb-false (w .answer .number) 0 e h)
+kept b w true e = e
+kept b w false e = (refl, refl)
 
-pub slot-runs : (arrivals : List ℕ) (size : ℕ) (b : Stretch) → oneSlot arrivals size b .number ≡ 0
-    → runs (oneSlot arrivals size b .state .ctl) ≡ true
+pub slot-kept : (arrivals : List ℕ) (size : ℕ) (b : Stretch)
+    → (oneSlot arrivals size b .state .ctl .n ≡ b .state .ctl .n) × (oneSlot arrivals size b .state .ctl .v ≡ b .state .ctl .v)
 unfolding oneSlot slotDone stopped
-slot-runs arrivals size b = go (sizeFits size)
+slot-kept arrivals size b = go (sizeFits size)
   where
     w : Work
     w = slot (b .state) (cellLent arrivals (b .done) size)
 
-    go : (t : Bool) → (if not t then stopped b 9 else slotDone b w) .number ≡ 0
-        → runs ((if not t then stopped b 9 else slotDone b w) .state .ctl) ≡ true
-    go true h = served-runs b w (w .answer .number =? 0) refl (slot-answered (b .state) (cellLent arrivals (b .done) size) .runs-after) h
-    go false h = absurd (omega arith)
+    go : (t : Bool) → ((if not t then stopped b 9 else slotDone b w) .state .ctl .n ≡ b .state .ctl .n) × ((if not t then stopped b 9 else slotDone b w) .state .ctl .v ≡ b .state .ctl .v)
+    go true =
+        let h = slot-answered (b .state) (cellLent arrivals (b .done) size) in
+        kept b w (w .answer .number =? 0) (h .n-is, h .v-is)
+    go false = (refl, refl)
 
 -- the sizes from the i-th on
 module _ (arrivals sizes : List ℕ) (i : ℕ) (low : i < length sizes) (b after : Stretch) (e : after ≡ oneSlot arrivals (getD sizes i 0) b) where

@@ -3,14 +3,13 @@
 use Prim.Native.Nat.{ℕ, _+_, _*_}
 use mathlib.Core.Bool.{Bool, not, _&&_, _||_}
 use mathlib.Core.List.{List, [], _∷_}
-use lib.ListN.{length, getD, take, drop, set}
-use Rattle.meaning.specs.declared.Answer.{Answer}
+use lib.ListN.{length, getD, take, drop}
 use Rattle.meaning.specs.Plain.{if_then_else_, _=?_}
 use Rattle.meaning.specs.Numbers.{rangesHold, octets, perEntry, wordsPerVc, cellStart}
-use Rattle.meaning.specs.State.{State, writeCell}
+use Rattle.meaning.specs.State.{State}
 use Rattle.meaning.specs.Work.{Work}
 use Rattle.meaning.specs.Slot.{slot}
-use Rattle.meaning.specs.Line.{lineCell}
+use Rattle.handout.specs.Handout.{shownInto, answerLong, writeAnswer}
 
 -- how far a burst has come: the policer, what was written, the number that stopped it (0: none), the slots served
 pub record Stretch : Type 0 where
@@ -31,27 +30,6 @@ sizeFits size = size =? 0 || size =? octets
 -- "arrivals are 53 octets a slot, not read where the size is 0"
 unfoldable pub cellLent : List ℕ → ℕ → ℕ → List ℕ
 cellLent arrivals i size = take size (drop (cellStart i) arrivals)
-
--- the 53 octets of departures that are slot i's own
-unfoldable pub ownOctets : List ℕ → ℕ → List ℕ
-ownOctets departures i = take octets (drop (cellStart i) departures)
-
--- The line cell of slot i, with the slot's own octets as the idle cell: "where nothing departs these keep their values"
-unfoldable pub shownInto : List ℕ → ℕ → List ℕ → ℕ → List ℕ
-shownInto departures i cells space = writeCell departures i (lineCell cells (ownOctets departures i) space)
-
--- "answers six numbers a slot", in the answer's order
-abbrev pub answerLong : ℕ
-answerLong = 6
-
-unfoldable pub writeAnswer : List ℕ → ℕ → Answer → List ℕ
-writeAnswer answers i a =
-    let l1 = set answers (answerLong * i) (a .number) in
-    let l2 = set l1 (answerLong * i + 1) (a .verdict) in
-    let l3 = set l2 (answerLong * i + 2) (a .vci) in
-    let l4 = set l3 (answerLong * i + 3) (a .d) in
-    let l5 = set l4 (answerLong * i + 4) (a .space) in
-    set l5 (answerLong * i + 5) (a .departing)
 
 -- a slot was served: its line cell is shown and its answer written
 unfoldable pub served : Stretch → Work → Stretch
@@ -80,10 +58,6 @@ slots arrivals [] b = b
 slots arrivals (size ∷ sizes) b =
     let after = oneSlot arrivals size b in
     if after .number =? 0 then slots arrivals sizes after else after
-
--- the number that stops a burst where T, rotation or the Output List is out of range: its first slot's, if it has one
-unfoldable pub stallOf : List ℕ → ℕ
-stallOf sizes = if length sizes =? 0 then 0 else if sizeFits (getD sizes 0 0) then 3 else 9
 
 -- buffers of these lengths, for N, V and so many sizes: the four memories, arrivals, departures and answers
 unfoldable pub lengthsFit : ℕ → ℕ → ℕ → ℕ → ℕ → ℕ → ℕ → ℕ → ℕ → ℕ → Bool

@@ -8,7 +8,8 @@ use lib.ListN.{length}
 use Rattle.meaning.specs.Numbers.{octets, cellStart, empty}
 use Rattle.meaning.specs.State.{State, stateOf}
 use Rattle.meaning.specs.Line.{cellsAllowed}
-use Rattle.burst.specs.Burst.{Stretch, stretchOf, answerLong, burst}
+use Rattle.handout.specs.Handout.{answerLong}
+use Rattle.burst.specs.Burst.{Stretch, stretchOf, burst}
 use Rattle.burst.specs.declared.BurstEnd.{BurstEnd}
 
 -- a primed name is what a lent buffer holds afterwards
@@ -16,11 +17,6 @@ abbrev pub burstPromise : State → List ℕ → List ℕ → List ℕ → List 
 burstPromise s arrivals sizes departures answers r cells′ links′ calendar′ words′ departures′ answers′ =
     stretchOf (stateOf (r .ctl) cells′ links′ calendar′ words′) departures′ answers′ (r .number) (r .done)
     ≡ burst s arrivals sizes departures answers
-
--- a cell memory for an allowed N, and a departing space: below N, or 65,535
-pub record Shows (cells : List ℕ) (space : ℕ) : Type 0 where
-  pub allowed : cellsAllowed (length cells) ≡ true
-  pub low : space ≢ empty → space < length cells / octets
 
 -- slot i has its octets and its six numbers
 pub record Lent (arrivals departures answers : List ℕ) (i : ℕ) : Type 0 where

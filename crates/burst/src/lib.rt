@@ -1,17 +1,15 @@
 // Slot after slot in one call, as cards poll: each slot's departing cell is copied out, since its space may be taken
 // again within the burst, and its answer is written as six numbers.
 ghost use mathlib.Core.Path.{_≡_};
-ghost use mathlib.Core.Logic.{_≢_};
-ghost use mathlib.Core.Bool.{true, _&&_, _||_};
-ghost use Prim.Native.Nat.{_+_, _*_, _≤_, _<_};
-ghost use lib.ListN.{length, take, drop};
+ghost use mathlib.Core.Bool.{true};
+ghost use Prim.Native.Nat.{_+_, _-_, _*_, _≤_, _<_};
+ghost use lib.ListN.{length, drop};
 ghost use Rattle.meaning.specs.Plain.{_=?_};
-ghost use Rattle.meaning.specs.State.{stateOf, writeCell};
+ghost use Rattle.meaning.specs.State.{stateOf};
 ghost use Rattle.meaning.specs.Promises.{slotPromise};
-ghost use Rattle.unchecked.specs.Runs.{runs};
-ghost use Rattle.burst.specs.Burst.{Stretch, stretchOf, sizeFits, stallOf, shownInto, writeAnswer, oneSlot, slots, lengthsFit};
-ghost use Rattle.burst.specs.Promise.{burstPromise, Shows, Lent, BurstLent};
-use cell::copy_cell;
+ghost use Rattle.burst.specs.Burst.{Stretch, stretchOf, sizeFits, oneSlot, slots, lengthsFit};
+ghost use Rattle.burst.specs.Promise.{burstPromise, Lent, BurstLent};
+ghost use Rattle.burst.specs.Way.{Shaped, Tries, Held, Room, wayStretch};
 use meaning::Answer;
 use meaning::Record;
 use meaning::Served;
@@ -20,6 +18,7 @@ use refusal::lengths_hold;
 use refusal::ranges_hold;
 use refusal::refuse;
 use spaces::pair;
+use way::Way;
 
 // What a burst gives back: the record, the number that ended it (0 for none), and how many slots were served.
 #[repr(C)]
@@ -47,44 +46,6 @@ fn size_fits(size: u8) -> bool
         return true;
     }
     size == 53
-}
-
-// The cell in this space, copied into slot i's own 53 octets.
-fn copy_departure(departures: &mut [u8], i: usize, cells: &[u8], space: u16)
-    requires { ⌜ (53 * i + 53 ≤ length (now departures)) × (53 * space + 53 ≤ length (now cells)) ⌝ }
-    ensures { λ r. ⌜ now (departures .exit) ≡ writeCell (now (departures .entry)) i (take 53 (drop (53 * space) (now (cells .entry)))) ⌝ }
-{
-    let a = 53 * i;
-    let e = a + 53;
-    let from = 53 * (space as usize);
-    let to = from + 53;
-    copy_cell(&mut departures[a..e], &cells[from..to]);
-}
-
-// The line cell of slot i, shown into its own octets: nothing moves where nothing departs.
-fn show(departures: &mut [u8], i: usize, cells: &[u8], space: u16)
-    requires { ⌜ 53 * i + 53 ≤ length (now departures) ⌝ }
-    requires { ⌜ Shows (now cells) space ⌝ }
-    ensures { λ r. ⌜ now (departures .exit) ≡ shownInto (now (departures .entry)) i (now (cells .entry)) space ⌝ }
-{
-    if space == 65535 {
-        return;
-    }
-    copy_departure(departures, i, cells, space);
-}
-
-// The six numbers of slot i's answer.
-fn put_answer(answers: &mut [u16], i: usize, a: Answer)
-    requires { ⌜ 6 * i + 6 ≤ length (now answers) ⌝ }
-    ensures { λ r. ⌜ now (answers .exit) ≡ writeAnswer (now (answers .entry)) i a ⌝ }
-{
-    let at = 6 * i;
-    answers[at] = a.number;
-    answers[at + 1] = a.verdict;
-    answers[at + 2] = a.vci;
-    answers[at + 3] = a.d;
-    answers[at + 4] = a.space;
-    answers[at + 5] = a.departing;
 }
 
 // The same record, field by field.
@@ -154,25 +115,7 @@ fn serve_checked(
     copied_back(ctl, s)
 }
 
-// One slot of a policer that runs. Without a header check it goes the burst's own way; with one it is the slot as the call has it.
-fn serve(
-    ctl: Record,
-    cells: &mut [u8],
-    links: &mut [u16],
-    calendar: &mut [u16],
-    words: &mut [u32],
-    cell: &[u8],
-) -> Served
-    requires { ⌜ runs ctl ≡ true ⌝ }
-    ensures { λ s. ⌜ slotPromise (stateOf ctl (now (cells .entry)) (now (links .entry)) (now (calendar .entry)) (now (words .entry))) (now (cell .entry)) s (now (cells .exit)) (now (links .exit)) (now (calendar .exit)) (now (words .exit)) ⌝ }
-{
-    if ctl.raw == 0 {
-        return burst_slot::slot(ctl, cells, links, calendar, words, cell);
-    }
-    serve_checked(ctl, cells, links, calendar, words, cell)
-}
-
-// Slot i of a burst: served and written, or stopped with its number.
+// Slot i of a burst as the call has it: served and written, or stopped with its number.
 fn turn(
     ctl: Record,
     cells: &mut [u8],
@@ -186,7 +129,6 @@ fn turn(
     i: usize,
 ) -> BurstEnd
     requires { ⌜ Lent (now arrivals) (now departures) (now answers) i ⌝ }
-    requires { ⌜ runs ctl ≡ true ⌝ }
     ensures { λ r. ⌜ stretchOf (stateOf (r .ctl) (now (cells .exit)) (now (links .exit)) (now (calendar .exit)) (now (words .exit))) (now (departures .exit)) (now (answers .exit)) (r .number) (r .done) ≡ oneSlot (now (arrivals .entry)) size (stretchOf (stateOf ctl (now (cells .entry)) (now (links .entry)) (now (calendar .entry)) (now (words .entry))) (now (departures .entry)) (now (answers .entry)) 0 i) ⌝ }
 {
     if !size_fits(size) {
@@ -195,45 +137,215 @@ fn turn(
     let a = 53 * i;
     let e = a + (size as usize);
     let done = i + 1;
-    let served = serve(ctl, cells, links, calendar, words, &arrivals[a..e]);
+    let served = serve_checked(ctl, cells, links, calendar, words, &arrivals[a..e]);
     let answer = served.answer;
     let after = served.ctl;
     if answer.number != 0 {
         return ended(after, answer.number, i);
     }
-    show(departures, i, cells, answer.space);
-    put_answer(answers, i, answer);
+    handout::show(departures, i, cells, answer.space);
+    handout::put_answer(answers, i, answer);
     ended(after, 0, done)
 }
 
-// Whether T, rotation and the Output List's ends are in range: tested once, since every served slot leaves them so.
-fn running(ctl: Record) -> bool
-    requires { ⌜ ctl .n ≤ 1024 ⌝ }
-    ensures { λ r. ⌜ r ≡ runs ctl ⌝ }
+// Whether a likely way may be tried: the policer is not raw, T and rotation are in range, and so are both lists' ends.
+fn may_try(r: Record) -> bool
+    requires { ⌜ r .n ≤ 1024 ⌝ }
+    ensures { λ b. ⌜ (b ≡ true → Tries r) ⌝ }
 {
-    if ctl.turn >= ctl.n {
+    if r.raw != 0 {
         return false;
     }
-    if ctl.rotation >= ctl.v {
+    if r.turn >= r.n {
         return false;
     }
-    pair(ctl.n, ctl.outhead, ctl.outtail)
+    if r.rotation >= r.v {
+        return false;
+    }
+    if !pair(r.n, r.freehead, r.freetail) {
+        return false;
+    }
+    pair(r.n, r.outhead, r.outtail)
 }
 
-// The number that stops a burst before its first slot, where they are not.
-fn stall(sizes: &[u8]) -> u16
-    ensures { λ r. ⌜ r ≡ stallOf (now (sizes .entry)) ⌝ }
+fn least(a: usize, b: usize) -> usize
+    ensures { λ r. ⌜ (r ≤ a) × (r ≤ b) ⌝ }
 {
-    if sizes.len() == 0 {
-        return 0;
-    }
-    if size_fits(sizes[0]) {
-        return 3;
-    }
-    9
+    if a < b { a } else { b }
 }
 
-// All slots of a burst that was not refused.
+// Where a run from slot i ends: with the burst, or where T or rotation steps round. VC 0 is not read in rotation's turn, so a
+// run begins with it only where its open word is 0, as that of a closed VC.
+fn run_end(w: Way, words: &[u32], i: usize, long: usize) -> usize
+    requires { ⌜ (w .turn < w .n) × (w .rotation < w .v) × (7 * w .v ≡ length (now words)) × (i ≤ long) ⌝ }
+    ensures { λ r. ⌜ (i ≤ r) × (r ≤ long) × Room w (now (words .entry)) (r - i) ⌝ }
+{
+    let round = least(w.n - w.turn, w.v - w.rotation);
+    let lot = least(long - i, round);
+    if w.rotation != 0 {
+        return i + lot;
+    }
+    if words[0] != 0 {
+        return i;
+    }
+    i + lot
+}
+
+// How far a run has come: ok where it came to its end.
+pub struct Far {
+    pub ok: bool,
+    pub way: Way,
+    pub i: usize,
+}
+
+// The slots of a run on the likely ways, up to the first one that leaves them.
+fn stretch(
+    from: Way,
+    cells: &mut [u8],
+    links: &mut [u16],
+    calendar: &mut [u16],
+    words: &mut [u32],
+    arrivals: &[u8],
+    sizes: &[u8],
+    departures: &mut [u8],
+    answers: &mut [u16],
+    begin: usize,
+    stop: usize,
+) -> Far
+    requires { ⌜ BurstLent (now arrivals) (now sizes) (now departures) (now answers) ⌝ }
+    requires { ⌜ Held from (now cells) (now links) (now calendar) (now words) ⌝ }
+    requires { ⌜ (begin ≤ stop) × (stop ≤ length (now sizes)) × Room from (now words) (stop - begin) ⌝ }
+    ensures held { λ f. ⌜ Held (f .way) (now (cells .exit)) (now (links .exit)) (now (calendar .exit)) (now (words .exit)) ⌝ }
+    ensures far { λ f. ⌜ (begin ≤ f .i) × (f .i ≤ stop) × (f .ok ≡ true → f .i ≡ stop) ⌝ }
+    ensures rest { λ f. ⌜ slots (now (arrivals .entry)) (drop (f .i) (now (sizes .entry))) (wayStretch (f .way) (now (cells .exit)) (now (links .exit)) (now (calendar .exit)) (now (words .exit)) (now (departures .exit)) (now (answers .exit)) (f .i)) ≡ slots (now (arrivals .entry)) (drop begin (now (sizes .entry))) (wayStretch from (now (cells .entry)) (now (links .entry)) (now (calendar .entry)) (now (words .entry)) (now (departures .entry)) (now (answers .entry)) begin) ⌝ }
+{
+    let mut w = from;
+    let mut i = begin;
+    while i < stop {
+        let size = sizes[i];
+        let g = likely::slot(
+            w,
+            cells,
+            links,
+            calendar,
+            words,
+            arrivals,
+            size,
+            departures,
+            answers,
+            i,
+        );
+        if !g.ok {
+            return Far {
+                ok: false,
+                way: w,
+                i: i,
+            };
+        }
+        w = way::stepped(g.way);
+        i += 1;
+    }
+    Far {
+        ok: true,
+        way: w,
+        i: i,
+    }
+}
+
+// Run after run on the likely ways, as far as they lead.
+fn advance(
+    from: Way,
+    cells: &mut [u8],
+    links: &mut [u16],
+    calendar: &mut [u16],
+    words: &mut [u32],
+    arrivals: &[u8],
+    sizes: &[u8],
+    departures: &mut [u8],
+    answers: &mut [u16],
+    begin: usize,
+) -> Far
+    requires { ⌜ BurstLent (now arrivals) (now sizes) (now departures) (now answers) ⌝ }
+    requires { ⌜ Held from (now cells) (now links) (now calendar) (now words) ⌝ }
+    requires { ⌜ (begin ≤ length (now sizes)) × (from .turn < from .n) × (from .rotation < from .v) ⌝ }
+    ensures held { λ f. ⌜ Held (f .way) (now (cells .exit)) (now (links .exit)) (now (calendar .exit)) (now (words .exit)) ⌝ }
+    ensures far { λ f. ⌜ (begin ≤ f .i) × (f .i ≤ length (now (sizes .entry))) ⌝ }
+    ensures rest { λ f. ⌜ slots (now (arrivals .entry)) (drop (f .i) (now (sizes .entry))) (wayStretch (f .way) (now (cells .exit)) (now (links .exit)) (now (calendar .exit)) (now (words .exit)) (now (departures .exit)) (now (answers .exit)) (f .i)) ≡ slots (now (arrivals .entry)) (drop begin (now (sizes .entry))) (wayStretch from (now (cells .entry)) (now (links .entry)) (now (calendar .entry)) (now (words .entry)) (now (departures .entry)) (now (answers .entry)) begin) ⌝ }
+{
+    let mut f = Far {
+        ok: true,
+        way: from,
+        i: begin,
+    };
+    while f.ok {
+        let w = way::rounded(f.way);
+        let at = f.i;
+        let stop = run_end(w, words, at, sizes.len());
+        if stop == at {
+            return Far {
+                ok: false,
+                way: w,
+                i: at,
+            };
+        }
+        f = stretch(
+            w,
+            cells,
+            links,
+            calendar,
+            words,
+            arrivals,
+            sizes,
+            departures,
+            answers,
+            at,
+            stop,
+        );
+    }
+    f
+}
+
+// As many slots as the likely ways take, from a record on: the record and how many slots are done then.
+fn try_likely(
+    ctl: Record,
+    cells: &mut [u8],
+    links: &mut [u16],
+    calendar: &mut [u16],
+    words: &mut [u32],
+    arrivals: &[u8],
+    sizes: &[u8],
+    departures: &mut [u8],
+    answers: &mut [u16],
+    begin: usize,
+) -> BurstEnd
+    requires { ⌜ BurstLent (now arrivals) (now sizes) (now departures) (now answers) ⌝ }
+    requires { ⌜ Shaped ctl (now cells) (now links) (now calendar) (now words) ⌝ }
+    requires { ⌜ begin ≤ length (now sizes) ⌝ }
+    ensures far { λ r. ⌜ (begin ≤ r .done) × (r .done ≤ length (now (sizes .entry))) × (r .number ≡ 0) ⌝ }
+    ensures shaped { λ r. ⌜ Shaped (r .ctl) (now (cells .exit)) (now (links .exit)) (now (calendar .exit)) (now (words .exit)) ⌝ }
+    ensures rest { λ r. ⌜ slots (now (arrivals .entry)) (drop (r .done) (now (sizes .entry))) (stretchOf (stateOf (r .ctl) (now (cells .exit)) (now (links .exit)) (now (calendar .exit)) (now (words .exit))) (now (departures .exit)) (now (answers .exit)) 0 (r .done)) ≡ slots (now (arrivals .entry)) (drop begin (now (sizes .entry))) (stretchOf (stateOf ctl (now (cells .entry)) (now (links .entry)) (now (calendar .entry)) (now (words .entry))) (now (departures .entry)) (now (answers .entry)) 0 begin) ⌝ }
+{
+    if !may_try(ctl) {
+        return ended(ctl, 0, begin);
+    }
+    let from = way::way_of(ctl, ctl.n as usize);
+    let f = advance(
+        from,
+        cells,
+        links,
+        calendar,
+        words,
+        arrivals,
+        sizes,
+        departures,
+        answers,
+        begin,
+    );
+    let last = way::record_of(f.way);
+    ended(last, 0, f.i)
+}
+
+// All slots of a burst that was not refused: as far as the likely ways lead, then one slot as the call has it, and again.
 fn run(
     ctl: Record,
     cells: &mut [u8],
@@ -246,7 +358,7 @@ fn run(
     answers: &mut [u16],
 ) -> BurstEnd
     requires { ⌜ BurstLent (now arrivals) (now sizes) (now departures) (now answers) ⌝ }
-    requires { ⌜ runs ctl ≡ true ⌝ }
+    requires { ⌜ Shaped ctl (now cells) (now links) (now calendar) (now words) ⌝ }
     ensures { λ r. ⌜ stretchOf (stateOf (r .ctl) (now (cells .exit)) (now (links .exit)) (now (calendar .exit)) (now (words .exit))) (now (departures .exit)) (now (answers .exit)) (r .number) (r .done) ≡ slots (now (arrivals .entry)) (now (sizes .entry)) (stretchOf (stateOf ctl (now (cells .entry)) (now (links .entry)) (now (calendar .entry)) (now (words .entry))) (now (departures .entry)) (now (answers .entry)) 0 0) ⌝ }
 {
     let mut end = BurstEnd {
@@ -255,11 +367,27 @@ fn run(
         done: 0,
     };
     while end.done < sizes.len() {
-        let i = end.done;
+        let first = end.done;
         let last = end.ctl;
+        let far = try_likely(
+            last,
+            cells,
+            links,
+            calendar,
+            words,
+            arrivals,
+            sizes,
+            departures,
+            answers,
+            first,
+        );
+        let i = far.done;
+        if i == sizes.len() {
+            return far;
+        }
         let size = sizes[i];
         end = turn(
-            last,
+            far.ctl,
             cells,
             links,
             calendar,
@@ -344,9 +472,6 @@ pub fn burst(
     let number = first(ranges, lengths);
     if number != 0 {
         return ended(ctl, number, 0);
-    }
-    if !running(ctl) {
-        return ended(ctl, stall(sizes), 0);
     }
     run(
         ctl,

@@ -1,15 +1,12 @@
--- `burst::burst` meets its contract: the refusals in their order; a policer that does not run; and then all the slots.
+-- `burst::burst` meets its contract: the refusals in their order, and then all the slots.
 -- Assumes nothing.
-use Prim.Native.Nat.{ℕ}
-use mathlib.Core.Path.{sym, _∙_, ap}
+use mathlib.Core.Path.{_∙_}
 use denote.Ref.{now}
 use lib.ListN.{length}
-use borrow.Author.Tests.{not-true, not-false}
 use Rattle.meaning.specs.State.{stateOf}
-use Rattle.burst.specs.Burst.{stretchOf}
 use Rattle.burst.proofs.Refusals.{lent-all, worked-out, burst-refused, burst-goes, burst-ranges, burst-fits}
-use Rattle.burst.proofs.ShowLaws.{ranges-n}
-use Rattle.burst.proofs.StopLaws.{fit-burst, slots-stalled}
+use Rattle.burst.proofs.StopLaws.{fit-burst}
+use Rattle.burst.proofs.LikelyLaws.{fit-shaped}
 use borrow.Author.Needs.{needs}
 use Rattle.burst.proofs.burst.Statement.{statement}
 use Rattle.burst.proofs.burst.Tie as tie
@@ -42,52 +39,20 @@ returns c =
     (one .first .ensures) in
     rw (c .ended .ensures) (burst-refused s (now (a .arrivals)) (now (a .sizes)) (now (a .departures)) (now (a .answers)) _ e (c .before .if1 .taken))
 
-running-requires : tie.Need-running-requires
-running-requires c κs =
-    let a = c .before .before .before .before .before .before .before .before .before .before .before .before .before .before .args in
-    let s = stateOf (a .ctl) (now (a .cells)) (now (a .links)) (now (a .calendar)) (now (a .words)) in
-    let one = c .before in
-    let e = worked-out s (now (a .arrivals)) (now (a .sizes)) (now (a .departures)) (now (a .answers)) _ _ _ _ _ (one .before .before .before .ranges-hold .ensures)
-    (one .before .before .before .before .lengths-fit .ensures) (one .before .before .refuse .ensures) (one .before .refuse2 .ensures)
-    (one .first .ensures) in
-    ranges-n (a .ctl .n) (a .ctl .v) (burst-ranges s (now (a .arrivals)) (now (a .sizes)) (now (a .departures)) (now (a .answers)) _ e (c .if1 .left)) .1
-
-stall-requires : tie.Need-stall-requires
-stall-requires c κs = search needs
-
-ended-requires-2 : tie.Need-ended-requires-2
-ended-requires-2 c κs = search needs
-
-returns-2 : tie.Need-returns-2
-returns-2 c =
-    let a = c .before .before .before .before .before .before .before .before .before .before .before .before .before .before .before .before .before .before .args in
-    let s = stateOf (a .ctl) (now (a .cells)) (now (a .links)) (now (a .calendar)) (now (a .words)) in
-    let one = c .before .before .before .before .before in
-    let e = worked-out s (now (a .arrivals)) (now (a .sizes)) (now (a .departures)) (now (a .answers)) _ _ _ _ _ (one .before .before .before .ranges-hold .ensures)
-    (one .before .before .before .before .lengths-fit .ensures) (one .before .before .refuse .ensures) (one .before .refuse2 .ensures)
-    (one .first .ensures) in
-    let go = c .before .before .before .before .if1 .left in
-    let off = sym (c .before .before .before .running .ensures) ∙ not-true _ (c .before .before .if2 .taken) in
-    let f = fit-burst s (length (now (a .arrivals))) (length (now (a .departures))) (length (now (a .answers))) (length (now (a .sizes)))
-    (burst-ranges s (now (a .arrivals)) (now (a .sizes)) (now (a .departures)) (now (a .answers)) _ e go)
-    (burst-fits s (now (a .arrivals)) (now (a .sizes)) (now (a .departures)) (now (a .answers)) _ e go) in
-    rw (c .ended2 .ensures)
-    (ap (λ (n : ℕ). stretchOf s (now (a .departures)) (now (a .answers)) n 0) (c .before .stall .ensures)
-    ∙ sym (slots-stalled (now (a .arrivals)) (now (a .departures)) (now (a .answers)) s (f .0) off (now (a .sizes)) (sym (f .1)))
-    ∙ burst-goes s (now (a .arrivals)) (now (a .sizes)) (now (a .departures)) (now (a .answers)) _ e go)
-
 run-requires : tie.Need-run-requires
 run-requires c κs =
-    let a = c .before .before .before .before .before .before .before .before .before .before .before .before .before .before .before .before .before .before .before .before .before .before .args in
+    let a = c .before .before .before .before .before .before .before .before .before .before .before .before .before .before .before .before .before .before .before .before .args in
     let s = stateOf (a .ctl) (now (a .cells)) (now (a .links)) (now (a .calendar)) (now (a .words)) in
-    let one = c .before .before .before .before .before .before .before .before .before in
+    let one = c .before .before .before .before .before .before .before in
     let e = worked-out s (now (a .arrivals)) (now (a .sizes)) (now (a .departures)) (now (a .answers)) _ _ _ _ _ (one .before .before .before .ranges-hold .ensures)
     (one .before .before .before .before .lengths-fit .ensures) (one .before .before .refuse .ensures) (one .before .refuse2 .ensures)
     (one .first .ensures) in
-    let runs-at = c .before .before .before .before .before .before in (
-      lent-all (a .ctl .n) (a .ctl .v) _ _ _ _ (now (a .arrivals)) (now (a .sizes)) (now (a .departures)) (now (a .answers))
-          (burst-fits s (now (a .arrivals)) (now (a .sizes)) (now (a .departures)) (now (a .answers)) _ e (runs-at .before .before .if1 .left)),
-      sym (runs-at .before .running .ensures) ∙ not-false _ (runs-at .if2 .left),
+    let go = c .before .before .before .before .before .before .if1 .left in
+    let fits = burst-fits s (now (a .arrivals)) (now (a .sizes)) (now (a .departures)) (now (a .answers)) _ e go in
+    let f = fit-burst s (length (now (a .arrivals))) (length (now (a .departures))) (length (now (a .answers))) (length (now (a .sizes)))
+    (burst-ranges s (now (a .arrivals)) (now (a .sizes)) (now (a .departures)) (now (a .answers)) _ e go) fits in (
+      lent-all (a .ctl .n) (a .ctl .v) _ _ _ _ (now (a .arrivals)) (now (a .sizes)) (now (a .departures)) (now (a .answers)) fits,
+      fit-shaped s (f .0),
     )
 
 same-length : tie.Need-same-length
@@ -108,16 +73,16 @@ same-length-5 c = search needs
 same-length-6 : tie.Need-same-length-6
 same-length-6 c = search needs
 
-returns-3 : tie.Need-returns-3
-returns-3 c =
-    let a = c .before .before .before .before .before .before .before .before .before .before .before .before .before .before .before .before .before .before .before .before .before .before .before .before .before .before .before .before .before .before .before .before .before .before .before .args in
+returns-2 : tie.Need-returns-2
+returns-2 c =
+    let a = c .before .before .before .before .before .before .before .before .before .before .before .before .before .before .before .before .before .before .before .before .before .before .before .before .before .before .before .before .before .before .before .before .before .args in
     let s = stateOf (a .ctl) (now (a .cells)) (now (a .links)) (now (a .calendar)) (now (a .words)) in
-    let one = c .before .before .before .before .before .before .before .before .before .before .before .before .before .before .before .before .before .before .before .before .before .before in
+    let one = c .before .before .before .before .before .before .before .before .before .before .before .before .before .before .before .before .before .before .before .before in
     let e = worked-out s (now (a .arrivals)) (now (a .sizes)) (now (a .departures)) (now (a .answers)) _ _ _ _ _ (one .before .before .before .ranges-hold .ensures)
     (one .before .before .before .before .lengths-fit .ensures) (one .before .before .refuse .ensures) (one .before .refuse2 .ensures)
     (one .first .ensures) in
     c .before .before .before .before .before .before .before .before .before .before .before .before .run .ensures
-    ∙ burst-goes s (now (a .arrivals)) (now (a .sizes)) (now (a .departures)) (now (a .answers)) _ e (c .before .before .before .before .before .before .before .before .before .before .before .before .before .before .before .before .before .before .before .before .before .if1 .left)
+    ∙ burst-goes s (now (a .arrivals)) (now (a .sizes)) (now (a .departures)) (now (a .answers)) _ e (c .before .before .before .before .before .before .before .before .before .before .before .before .before .before .before .before .before .before .before .if1 .left)
 
 pub burst-spec : {M : Type 1} → statement M
 burst-spec =
@@ -130,10 +95,6 @@ burst-spec =
     first-requires
     ended-requires
     returns
-    running-requires
-    stall-requires
-    ended-requires-2
-    returns-2
     run-requires
     same-length
     same-length-2
@@ -141,4 +102,4 @@ burst-spec =
     same-length-4
     same-length-5
     same-length-6
-    returns-3)
+    returns-2)

@@ -34,17 +34,17 @@ add-e c = search needs
 add-done : tie.Need-add-done
 add-done c = search needs
 
-sub-serve : tie.Need-sub-serve
-sub-serve c = search needs
+sub-serve-checked : tie.Need-sub-serve-checked
+sub-serve-checked c = search needs
 
-part-serve-start : tie.Need-part-serve-start
-part-serve-start c = search needs
+part-serve-checked-start : tie.Need-part-serve-checked-start
+part-serve-checked-start c = search needs
 
-part-serve-end : tie.Need-part-serve-end
-part-serve-end c = omega (arith, c .before .before .before .before .before .before .before .before .before .before .before .before .before .pre .0 .arrival, size-most (c .before .before .before .before .before .before .before .before .before .before .before .before .before .args .size) (sym (c .before .before .before .before .before .size-fits .ensures) ∙ not-false _ (c .before .before .before .before .if1 .left)))
+part-serve-checked-end : tie.Need-part-serve-checked-end
+part-serve-checked-end c = omega (arith, c .before .before .before .before .before .before .before .before .before .before .before .before .before .pre .arrival, size-most (c .before .before .before .before .before .before .before .before .before .before .before .before .before .args .size) (sym (c .before .before .before .before .before .size-fits .ensures) ∙ not-false _ (c .before .before .before .before .if1 .left)))
 
-serve-requires : tie.Need-serve-requires
-serve-requires c κs = search needs
+serve-checked-requires : tie.Need-serve-checked-requires
+serve-checked-requires c κs = search needs
 
 ended-requires-2 : tie.Need-ended-requires-2
 ended-requires-2 c κs = search needs
@@ -66,7 +66,7 @@ returns-2 c =
     let a = c .before .before .before .before .before .before .before .before .before .before .before .before .before .before .before .before .before .before .before .before .before .before .before .before .before .before .before .before .args in
     let s = stateOf (a .ctl) (now (a .cells)) (now (a .links)) (now (a .calendar)) (now (a .words)) in
     let f = sym (c .before .before .before .before .before .before .before .before .before .before .before .before .before .before .before .before .before .before .before .before .size-fits .ensures) ∙ not-false _ (c .before .before .before .before .before .before .before .before .before .before .before .before .before .before .before .before .before .before .before .if1 .left) in
-    let e = c .before .before .before .before .before .before .before .before .before .before .before .before .before .serve .ensures ∙ ap (slot s) (lent-part (now (a .arrivals)) (a .i) (a .size)) in
+    let e = c .before .before .before .before .before .before .before .before .before .before .before .before .before .serve-checked .ensures ∙ ap (slot s) (lent-part (now (a .arrivals)) (a .i) (a .size)) in
     rw (c .ended2 .ensures) (turn-stops (now (a .arrivals)) (a .size) s (now (a .departures)) (now (a .answers)) (a .i) f _ e (c .before .if2 .taken))
 
 show-requires : tie.Need-show-requires
@@ -74,11 +74,11 @@ show-requires c κs =
     let a = c .before .before .before .before .before .before .before .before .before .before .before .before .before .before .before .before .before .before .before .before .before .before .before .before .before .before .before .before .before .args in
     let s = stateOf (a .ctl) (now (a .cells)) (now (a .links)) (now (a .calendar)) (now (a .words)) in
     let f = sym (c .before .before .before .before .before .before .before .before .before .before .before .before .before .before .before .before .before .before .before .before .before .size-fits .ensures) ∙ not-false _ (c .before .before .before .before .before .before .before .before .before .before .before .before .before .before .before .before .before .before .before .before .if1 .left) in
-    let e = c .before .before .before .before .before .before .before .before .before .before .before .before .before .before .serve .ensures ∙ ap (slot s) (lent-part (now (a .arrivals)) (a .i) (a .size)) in
-    (omega (arith, c .before .before .before .before .before .before .before .before .before .before .before .before .before .before .before .before .before .before .before .before .before .before .before .before .before .before .before .before .before .pre .0 .departure), slot-shows s _ _ (answered (now (a .arrivals)) (a .size) s (now (a .departures)) (now (a .answers)) (a .i) f _ e) (c .before .before .if2 .left) (search needs))
+    let e = c .before .before .before .before .before .before .before .before .before .before .before .before .before .before .serve-checked .ensures ∙ ap (slot s) (lent-part (now (a .arrivals)) (a .i) (a .size)) in
+    (omega (arith, c .before .before .before .before .before .before .before .before .before .before .before .before .before .before .before .before .before .before .before .before .before .before .before .before .before .before .before .before .before .pre .departure), slot-shows s _ _ (answered (now (a .arrivals)) (a .size) s (now (a .departures)) (now (a .answers)) (a .i) f _ e) (c .before .before .if2 .left) (search needs))
 
 put-answer-requires : tie.Need-put-answer-requires
-put-answer-requires c κs = omega (arith, c .before .before .before .before .before .before .before .before .before .before .before .before .before .before .before .before .before .before .before .before .before .before .before .before .before .before .before .before .before .before .before .before .before .pre .0 .answer)
+put-answer-requires c κs = omega (arith, c .before .before .before .before .before .before .before .before .before .before .before .before .before .before .before .before .before .before .before .before .before .before .before .before .before .before .before .before .before .before .before .before .before .pre .answer)
 
 ended-requires-3 : tie.Need-ended-requires-3
 ended-requires-3 c κs = search needs
@@ -106,7 +106,7 @@ returns-3 c =
     let a = c .before .before .before .before .before .before .before .before .before .before .before .before .before .before .before .before .before .before .before .before .before .before .before .before .before .before .before .before .before .before .before .before .before .before .before .before .before .args in
     let s = stateOf (a .ctl) (now (a .cells)) (now (a .links)) (now (a .calendar)) (now (a .words)) in
     let f = sym (c .before .before .before .before .before .before .before .before .before .before .before .before .before .before .before .before .before .before .before .before .before .before .before .before .before .before .before .before .before .size-fits .ensures) ∙ not-false _ (c .before .before .before .before .before .before .before .before .before .before .before .before .before .before .before .before .before .before .before .before .before .before .before .before .before .before .before .before .if1 .left) in
-    let e = c .before .before .before .before .before .before .before .before .before .before .before .before .before .before .before .before .before .before .before .before .before .before .serve .ensures ∙ ap (slot s) (lent-part (now (a .arrivals)) (a .i) (a .size)) in
+    let e = c .before .before .before .before .before .before .before .before .before .before .before .before .before .before .before .before .before .before .before .before .before .before .serve-checked .ensures ∙ ap (slot s) (lent-part (now (a .arrivals)) (a .i) (a .size)) in
     rw (c .ended3 .ensures) (turn-serves (now (a .arrivals)) (a .size) s (now (a .departures)) (now (a .answers)) (a .i) f _ e (c .before .before .before .before .before .before .before .before .before .before .if2 .left) _ _ (c .before .before .before .before .before .before .before .show .ensures) (c .before .before .before .put-answer .ensures))
 
 pub turn-spec : {M : Type 1} → statement M
@@ -119,10 +119,10 @@ turn-spec =
     mul-a
     add-e
     add-done
-    sub-serve
-    part-serve-start
-    part-serve-end
-    serve-requires
+    sub-serve-checked
+    part-serve-checked-start
+    part-serve-checked-end
+    serve-checked-requires
     ended-requires-2
     same-length
     same-length-2

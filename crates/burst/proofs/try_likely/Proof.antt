@@ -1,0 +1,112 @@
+-- `burst::try_likely` meets its contract: a record that may not be tried stays; from one that may, the runs lead on, and back to a record.
+-- Assumes nothing.
+use mathlib.Core.Path.{refl, sym, _∙_, ap}
+use native.Mathlib.Omega.{arith}
+use borrow.Author.Tests.{not-false}
+use denote.Ref.{now}
+use borrow.Author.Needs.{needs}
+use Rattle.meaning.specs.declared.Record.{Record}
+use Rattle.meaning.specs.State.{stateOf}
+use Rattle.burst.specs.Burst.{stretchOf, slots}
+use Rattle.burst.proofs.LikelyLaws.{way-low, way-held, held-fits, last-shaped}
+use Rattle.burst.proofs.try_likely.Statement.{statement}
+use Rattle.burst.proofs.try_likely.Tie as tie
+use lib.ListN.{drop}
+
+may-try-requires : tie.Need-may-try-requires
+may-try-requires c κs = search needs
+
+ended-requires : tie.Need-ended-requires
+ended-requires c κs = search needs
+
+returns : tie.Need-returns
+returns c =
+    let start = c .before .before .before .before .before .before .before .before .before .before .before in
+    rw (c .ended .ensures) ((omega arith, start .pre .1 .1, refl), (start .pre .1 .0, refl))
+
+cast-way-of : tie.Need-cast-way-of
+cast-way-of c = search needs
+
+way-of-requires : tie.Need-way-of-requires
+way-of-requires c κs =
+    let start = c .before .before .before .before .before .before .before .before .before .before .before in
+    let z = start .pre .1 .0 in
+    let t = c .before .before .may-try .ensures (not-false _ (c .before .if1 .left)) in
+    (refl, z .n-high, z .v-high, t .turn-low, t .rotation-low)
+
+advance-requires : tie.Need-advance-requires
+advance-requires c κs =
+    let start = c .before .before .before .before .before .before .before .before .before .before .before .before .before .before .before .before .before .before in
+    let a = start .args in
+    let z = start .pre .1 .0 in
+    let t = c .before .before .before .before .before .before .before .before .before .may-try .ensures (not-false _ (c .before .before .before .before .before .before .before .before .if1 .left)) in
+    let e = c .before .before .before .before .before .before .way-of .ensures .0 in
+    let low = way-low (a .ctl) (now (a .cells)) (now (a .links)) (now (a .calendar)) (now (a .words)) z t _ e in (
+      start .pre .0,
+      (
+        way-held (a .ctl) (now (a .cells)) (now (a .links)) (now (a .calendar)) (now (a .words)) z t _ e,
+        (start .pre .1 .1, low .0, low .1),
+      ),
+    )
+
+record-of-requires : tie.Need-record-of-requires
+record-of-requires c κs = held-fits _ _ _ _ _ (c .before .before .before .before .before .before .before .before .before .before .before .before .advance .ensures .0)
+
+ended-requires-2 : tie.Need-ended-requires-2
+ended-requires-2 c κs = search needs
+
+same-length : tie.Need-same-length
+same-length c = search needs
+
+same-length-2 : tie.Need-same-length-2
+same-length-2 c = search needs
+
+same-length-3 : tie.Need-same-length-3
+same-length-3 c = search needs
+
+same-length-4 : tie.Need-same-length-4
+same-length-4 c = search needs
+
+same-length-5 : tie.Need-same-length-5
+same-length-5 c = search needs
+
+same-length-6 : tie.Need-same-length-6
+same-length-6 c = search needs
+
+returns-2 : tie.Need-returns-2
+returns-2 c =
+    let at-advance = c .before .before .before .before .before .before .before .before .before .before .before .before .before .before in
+    let at-way-of = c .before .before .before .before .before .before .before .before .before .before .before .before .before .before .before .before .before .before .before .before .before in
+    let start = c .before .before .before .before .before .before .before .before .before .before .before .before .before .before .before .before .before .before .before .before .before .before .before .before .before .before .before .before .before .before .before .before .before in
+    let a = start .args in
+    let far = at-advance .advance .ensures .1 .0 in
+    let r = c .before .record-of .ensures in
+    rw (c .ended2 .ensures, r) (
+      (far .0, far .1, refl),
+      (
+        last-shaped _ _ _ _ _ (at-advance .advance .ensures .0),
+        at-advance .advance .ensures .1 .1
+            ∙ ap (λ (q : Record). slots (now (a .arrivals)) (drop (a .begin) (now (a .sizes))) (stretchOf (stateOf q (now (a .cells)) (now (a .links)) (now (a .calendar)) (now (a .words))) (now (a .departures)) (now (a .answers)) 0 (a .begin)))
+            (at-way-of .way-of .ensures .1),
+      ),
+    )
+
+pub try-likely-spec : {M : Type 1} → statement M
+try-likely-spec =
+    tie.close
+    (tie.spec
+    may-try-requires
+    ended-requires
+    returns
+    cast-way-of
+    way-of-requires
+    advance-requires
+    record-of-requires
+    ended-requires-2
+    same-length
+    same-length-2
+    same-length-3
+    same-length-4
+    same-length-5
+    same-length-6
+    returns-2)

@@ -1,0 +1,31 @@
+-- `likely::put_link` meets its contract: one store, where on.
+-- Assumes nothing.
+use native.Mathlib.Omega.{arith}
+use Rattle.spaces.specs.Spaces.{linked}
+use borrow.Author.Needs.{needs}
+use Rattle.likely.proofs.put_link.Statement.{statement}
+use Rattle.likely.proofs.put_link.Tie as tie
+
+cast-links : tie.Need-cast-links
+cast-links c = let h = c .before .pre (c .if1 .taken) in omega (arith, h .0, h .1)
+
+mul-links : tie.Need-mul-links
+mul-links c = let h = c .before .pre (c .if1 .taken) in omega (arith, h .0, h .1)
+
+slice-write-links : tie.Need-slice-write-links
+slice-write-links c = let h = c .before .pre (c .if1 .taken) in omega (arith, h .0, h .1)
+
+same-length : tie.Need-same-length
+same-length c = search needs
+
+returns : tie.Need-returns
+unfolding linked
+returns c = rw (c .if1 .taken)
+
+returns-2 : tie.Need-returns-2
+unfolding linked
+returns-2 c = rw (c .if1 .left)
+
+pub put-link-spec : {M : Type 1} → statement M
+put-link-spec =
+    tie.close (tie.spec cast-links mul-links slice-write-links same-length returns returns-2)

@@ -1,0 +1,2 @@
+pub mod Likely
+pub mod Served

@@ -1,0 +1,57 @@
+-- What a likely way leaves: the slot served, as the five steps say, and handed out; or everything as it came.
+--
+--   from2 k cell ..   == steps 2 to 5, the clock having moved to k
+--   Ready w ..        == what is known where a slot of a run begins
+--   Done ..           == the slot is served: its answer, the memories, the departing cell and the six numbers
+use Prim.Native.Nat.{ℕ, _+_, _*_, _≤_}
+use mathlib.Core.Path.{_≡_}
+use mathlib.Core.Bool.{true, false}
+use mathlib.Core.List.{List}
+use lib.ListN.{length, getD}
+use Rattle.meaning.specs.declared.Record.{Record}
+use Rattle.meaning.specs.declared.Answer.{Answer}
+use Rattle.meaning.specs.Plain.{Out, next, _andThen_}
+use Rattle.meaning.specs.Numbers.{octets, cellStart}
+use Rattle.meaning.specs.State.{Ends, stateOf}
+use Rattle.meaning.specs.Lists.{endsFit}
+use Rattle.meaning.specs.Work.{Work, workOf, bareAnswer}
+use Rattle.meaning.specs.Slot.{step2, step3, step4, step5}
+use Rattle.plan.specs.Plan.{withEnds, freeEnds, outputEnds}
+use Rattle.plan.specs.Facts.{Sized}
+use Rattle.handout.specs.Handout.{shownInto, answerLong, writeAnswer}
+use Rattle.way.specs.declared.Way.{Way}
+use Rattle.way.specs.Way.{slotRecord}
+use Rattle.likely.specs.declared.Went.{Went}
+
+abbrev pub from2 : Record → List ℕ → List ℕ → List ℕ → List ℕ → List ℕ → Out Work
+from2 k cell cells links calendar words =
+    step2 (workOf (stateOf k cells links calendar words) (bareAnswer 0)) andThen step3 cell andThen step4 andThen step5
+
+pub record Ready (w : Way) (cells links calendar words : List ℕ) : Type 0 where
+  pub sized : Sized (slotRecord w) cells links calendar words
+  pub free-fits : endsFit (w .n) (freeEnds (slotRecord w)) ≡ true
+  pub output-fits : endsFit (w .n) (outputEnds (slotRecord w)) ≡ true
+  pub zero-closed : w .rotation ≡ 0 → getD words 0 0 ≡ 0
+
+-- slot i has its octets and its six numbers
+pub record Lent (departures answers : List ℕ) (i : ℕ) : Type 0 where
+  pub departure : cellStart i + octets ≤ length departures
+  pub answer : answerLong * i + answerLong ≤ length answers
+
+-- what a slot with target served leaves; a primed name is what a lent buffer holds afterwards
+pub record Done (k : Record) (target : Out Work) (w′ : Way) (cells′ links′ calendar′ words′ departures departures′ answers answers′ : List ℕ) (i : ℕ) : Type 0 where
+  pub answer : Answer
+  pub number : answer .number ≡ 0
+  pub is : target ≡ next (workOf (stateOf (slotRecord w′) cells′ links′ calendar′ words′) answer)
+  pub shown : departures′ ≡ shownInto departures i cells′ (answer .space)
+  pub told : answers′ ≡ writeAnswer answers i answer
+  pub free : Ends
+  pub output : Ends
+  pub ends : slotRecord w′ ≡ withEnds k free output
+  pub free-fits : endsFit (k .n) free ≡ true
+  pub output-fits : endsFit (k .n) output ≡ true
+
+pub record Either (k : Record) (target : Out Work) (g : Went) (cells links calendar words departures answers cells′ links′ calendar′ words′ departures′ answers′ : List ℕ) (i : ℕ) : Type 0 where
+  pub went : g .ok ≡ true → Done k target (g .way) cells′ links′ calendar′ words′ departures departures′ answers answers′ i
+  pub stayed : g .ok ≡ false
+      → (cells′ ≡ cells) × (links′ ≡ links) × (calendar′ ≡ calendar) × (words′ ≡ words) × (departures′ ≡ departures) × (answers′ ≡ answers)
