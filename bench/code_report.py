@@ -1,6 +1,6 @@
 """What the archive's slot path is made of, from its disassembly: copies of 53 octets, divisions, calls."""
 import re
-from measure import output, table
+from measure import output, table, tool
 
 EXPORTS = ('clurimoon_slot', 'clurimoon_burst')
 CELL = 53
@@ -12,7 +12,7 @@ PLACE = re.compile(r'(-?(?:0x[0-9a-f]+)?)\((%\w+)?(?:,(%\w+)(?:,(\d))?)?\)')
 def functions(archive):
     """Symbol -> its instructions (mnemonic, operands, symbol that the instruction refers to)."""
     found, name = {}, None
-    for line in output('objdump', '-dr', '--no-show-raw-insn', archive).splitlines():
+    for line in output(tool('objdump'), '-dr', '--no-show-raw-insn', archive).splitlines():
         head = re.match(r'[0-9a-f]+ <(.+)>:$', line)
         if head:
             name = head.group(1)

@@ -1,4 +1,4 @@
-"""What the measuring scripts share: the machine, building, counting with callgrind, tables."""
+"""What the measuring scripts share: the machine, building, counting with callgrind or an emulator, tables."""
 import os, re, shutil, subprocess, sys
 
 ROOT = os.path.dirname(os.path.dirname(os.path.abspath(__file__)))
@@ -6,6 +6,24 @@ OUT = os.path.join('target', 'bench')
 ARCHIVE = os.environ.get('CLURIMOON_ARCHIVE', 'target/staticlib/libclurimoon.a')
 LIBS = os.environ.get('CLURIMOON_LIBS', '').split()
 STRICT = ['-std=c99', '-Wall', '-Wextra', '-pedantic', '-Iinclude', '-Ibench/slot']
+
+
+def of_machine(name):
+    """The words that check/machine.sh has under a name."""
+    script = '. check/machine.sh; for word in "${%s[@]}"; do echo "$word"; done' % name
+    return subprocess.run(['bash', '-c', script], cwd=ROOT, stdout=subprocess.PIPE, text=True).stdout.splitlines()
+
+
+LINK = of_machine('x86_link')
+RUN = of_machine('x86_run')  # none on x86-64; else the emulator, which then counts instructions, and nothing is timed
+LOAD = of_machine('x86_load')
+UNTIMED = 'Times are left out: they would be those of an emulator of x86-64.'
+PREFIX = of_machine('x86')[0]
+
+
+def tool(name):
+    """gcc, g++, objdump and the like for x86-64 code."""
+    return PREFIX + name
 
 
 def fail(what):
@@ -23,9 +41,9 @@ def begin():
         globals()['ARCHIVE'] = archive
     if not os.path.isfile(ARCHIVE):
         fail(ARCHIVE + ' is missing; build it first')
-    for tool in ('gcc', 'g++', 'objdump', 'valgrind'):
-        if shutil.which(tool) is None:
-            fail(tool + ' is missing')
+    for needed in [*of_machine('x86_needs'), *([] if RUN else ['valgrind'])]:
+        if shutil.which(needed) is None:
+            fail(needed + ' is missing')
     os.makedirs(OUT, exist_ok=True)
 
 
@@ -45,12 +63,15 @@ def in_out(name):
 def build_slots():
     """The two forms by gcc -O3 and nothing else; returns their objects."""
     for form in ('trusting', 'checking'):
-        output('gcc', *STRICT, '-O3', '-c', 'bench/slot/%s.c' % form, '-o', in_out(form + '.o'))
+        output(tool('gcc'), *STRICT, '-O3', '-c', 'bench/slot/%s.c' % form, '-o', in_out(form + '.o'))
     return [in_out('trusting.o'), in_out('checking.o')]
 
 
 def instructions(function, *command, stdin=os.devnull):
     """Instructions within the function and what it calls (None: of the whole program), and the program's output."""
+    if RUN:
+        import emulated
+        return emulated.within(function, command) if function else emulated.of_all(command, stdin)
     data = in_out('callgrind.out')
     only = ['--toggle-collect=' + function] if function else []
     said = output('valgrind', '--tool=callgrind', '--callgrind-out-file=' + data, *only, *command, stdin=stdin)
@@ -63,6 +84,9 @@ def instructions(function, *command, stdin=os.devnull):
 
 def own_instructions(function, *command):
     """Instructions of the function alone, without what it calls (callgrind counts each octet of a memset's rep as one)."""
+    if RUN:
+        import emulated
+        return emulated.alone(function, command)
     instructions(function, *command)
     names, own, current, called = {}, 0, None, False
     with open(in_out('callgrind.out')) as lines:
@@ -101,9 +125,10 @@ def machine():
     with open('KIT-ID') as kit:
         pinned = kit.read().strip()
     have = first_line('rt', 'version') if shutil.which('rt') else 'not on the PATH'
-    return ['processor: ' + cpu, 'C: %s, -O3' % first_line('gcc', '--version'),
+    counter = first_line(RUN[0], '--version') if RUN else first_line('valgrind', '--version') + ' callgrind'
+    return ['processor: ' + cpu, 'C: %s, -O3' % first_line(tool('gcc'), '--version'),
             'archive: %s, toolchain %s (KIT-ID: %s)' % (os.path.basename(ARCHIVE), have, pinned),
-            'counted by: ' + first_line('valgrind', '--version') + ' callgrind']
+            'counted by: ' + counter] + ([UNTIMED] if RUN else [])
 
 
 def table(head, rows):

@@ -47,6 +47,7 @@ Octets ca(Random &random, unsigned vpi, unsigned vci) {
 
 namespace {
 
+// Numbers are drawn one after the other, none in the midst of a call beside another: so each compiler makes the same traces.
 class Generator {
 public:
   Generator(uint64_t seed, uint64_t index)
@@ -154,14 +155,19 @@ private:
     case 0: add(vx(some_vci())); break;
     case 1: open_good(some_vci(), 6); break;
     case 2: arrive(0, some_vci()); break;
-    case 3: arrive(random.pick({0u, 1u, 255u}), random.pick({0u, v, 65535u})); break;
+    case 3: odd_header(); break;
     case 4: quiet(200); break;
     case 5: add(vx(random.pick({0u, v, 65535u}))); break;
     }
   }
+  void odd_header() {
+    const unsigned vci = random.pick({0u, v, 65535u});
+    arrive(random.pick({0u, 1u, 255u}), vci);
+  }
   void full_load() {
     begin();
-    open_some(random.once_in(2) ? 2 : 40, random.pick({1u, 3u, 20u}));
+    const unsigned slowest = random.pick({1u, 3u, 20u});
+    open_some(random.once_in(2) ? 2 : 40, slowest);
     for (unsigned k = small(1100); k > 0; --k) cell();
     if (random.percent(70)) quiet(2 * n + 5);
   }
@@ -311,8 +317,8 @@ private:
       length += trace.records.back().size();
     }
     // Records of 4 and 13 octets reach every length from 36 on.
-    const size_t target = 65536 + random.pick<size_t>({0, 0, 0, 0, 1, 2, 3, 4, 5}) -
-                          random.pick<size_t>({0, 0, 0, 1, 2, 3, 4, 12});
+    const size_t more = random.pick<size_t>({0, 0, 0, 0, 1, 2, 3, 4, 5});
+    const size_t target = 65536 + more - random.pick<size_t>({0, 0, 0, 1, 2, 3, 4, 12});
     while (length + 36 < target) add(sl(1)), length += 4;
     while (length < target && (target - length) % 4 != 0) open_good(some_vci(), 4), length += 13;
     while (length < target) add(sl(1 + small(3))), length += 4;
@@ -415,7 +421,10 @@ private:
     const unsigned first = small(40);
     for (unsigned k = 0; k < 40; ++k) {
       wrong_bits(1, (first + k) % 40);
-      if (random.percent(30)) wrong_bits(1 + small(4), small(40));
+      if (random.percent(30)) {
+        const unsigned from = small(40);
+        wrong_bits(1 + small(4), from);
+      }
       if (random.once_in(4)) quiet(3);
       if (random.once_in(4)) wrong_bits(1, small(40));
       for (unsigned clean = random.pick({0u, 1u, 1u, 1u, 2u}); clean > 0; --clean) wrong_bits(0, 0);
