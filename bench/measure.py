@@ -61,9 +61,10 @@ def in_out(name):
 
 
 def build_slots():
-    """The two forms by gcc -O3 and nothing else; returns their objects."""
+    """The two forms by gcc -O3 and nothing else (CLURIMOON_CC: by another compiler); returns their objects."""
+    compiler = os.environ.get('CLURIMOON_CC', '').split() or [tool('gcc')]
     for form in ('trusting', 'checking'):
-        output(tool('gcc'), *STRICT, '-O3', '-c', 'bench/slot/%s.c' % form, '-o', in_out(form + '.o'))
+        output(*compiler, *STRICT, '-O3', '-c', 'bench/slot/%s.c' % form, '-o', in_out(form + '.o'))
     return [in_out('trusting.o'), in_out('checking.o')]
 
 

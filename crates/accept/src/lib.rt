@@ -21,7 +21,7 @@ use spaces::Off;
 use spaces::Seat;
 
 // An accepted cell, and a departure: all writes.
-pub fn accept_end(
+fn accept_end(
     k: Record,
     b: Fall,
     j: Judged,
@@ -53,7 +53,7 @@ pub fn accept_end(
 
 // What departs once the cell is stored and, where joins, the chain from head to tail has joined the Output List. Field by
 // field: as a whole the answer would be packed into one word.
-pub fn off_stored(
+fn off_stored(
     k: Record,
     j: Judged,
     a: Seat,
@@ -177,7 +177,7 @@ fn accept_output(
 }
 
 // An accepted cell, where nothing departs.
-pub fn accept_none(
+fn accept_none(
     k: Record,
     b: Fall,
     j: Judged,
@@ -209,7 +209,7 @@ pub fn accept_none(
 }
 
 // The head of entry T once the cell has joined its own.
-pub fn head_joined(turn: u16, a: Seat, calendar: &[u16]) -> u16
+fn head_joined(turn: u16, a: Seat, calendar: &[u16]) -> u16
     requires { ⌜ 2 * turn + 2 ≤ length (now calendar) ⌝ }
     ensures { λ r. ⌜ r ≡ entryAt (writeEntry (now (calendar .entry)) (a .e) (seatEnds a)) turn .head ⌝ }
 {
@@ -220,7 +220,7 @@ pub fn head_joined(turn: u16, a: Seat, calendar: &[u16]) -> u16
 }
 
 // Its tail.
-pub fn tail_joined(turn: u16, a: Seat, calendar: &[u16]) -> u16
+fn tail_joined(turn: u16, a: Seat, calendar: &[u16]) -> u16
     requires { ⌜ 2 * turn + 2 ≤ length (now calendar) ⌝ }
     ensures { λ r. ⌜ r ≡ entryAt (writeEntry (now (calendar .entry)) (a .e) (seatEnds a)) turn .tail ⌝ }
 {

@@ -21,7 +21,7 @@ use meaning::Served;
 use spaces::Off;
 
 // Steps 2 and 3 in the words where no cell is accepted.
-pub fn words_fall(k: Record, b: Fall, j: Judged, words: &mut [u32])
+fn words_fall(k: Record, b: Fall, j: Judged, words: &mut [u32])
     requires { ⌜ (b .on ≡ true → 7 * k .rotation + 7 ≤ length (now words)) ⌝ }
     requires { ⌜ (j .verdict =? excess ≡ true → 7 * j .vci + 7 ≤ length (now words)) ⌝ }
     ensures { λ r. ⌜ now (words .exit) ≡ fallen (j .verdict =? excess) (j .vci) (j .s) (k .t) (rotated k b (now (words .entry))) ⌝ }
@@ -31,7 +31,7 @@ pub fn words_fall(k: Record, b: Fall, j: Judged, words: &mut [u32])
 }
 
 // A departure where no cell was accepted: all writes but the entry's.
-pub fn quiet_end(
+fn quiet_end(
     k: Record,
     b: Fall,
     j: Judged,
@@ -119,7 +119,7 @@ fn quiet_marked(
 }
 
 // No cell was accepted, entry T is not marked, and the Output List has a head.
-pub fn quiet_output(
+fn quiet_output(
     r: Record,
     k: Record,
     b: Fall,

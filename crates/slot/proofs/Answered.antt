@@ -1,5 +1,5 @@
 -- What a slot answers and keeps, for every state, with the header check in front: as the slot without it does, since what
--- the check changes is the mode and the verdict: T, rotation and the Output List are the same. Assumes nothing.
+-- the check changes is the mode and the verdict. Assumes nothing.
 use Prim.Native.Nat.{ℕ, _<_}
 use mathlib.Core.Path.{_≡_, refl, sym, ap, _∙_, subst}
 use mathlib.Core.Logic.{_≢_}
@@ -14,7 +14,6 @@ use Rattle.meaning.specs.State.{State, stateOf, lengthsHold, withRecord, record
 use Rattle.meaning.specs.Work.{Work, workOf, bareAnswer}
 use Rattle.meaning.specs.Slot.{finish, uncheckedSlot, told, slot}
 use Rattle.meaning.proofs.CheckedLaws.{isLent, unlent}
-use Rattle.unchecked.specs.Runs.{runs}
 use Rattle.unchecked.proofs.EndLaws.{Answered, refused-with, unchecked-answered}
 use Rattle.slot.specs.Back.{back}
 use Rattle.slot.proofs.Front.{by-unchecked}
@@ -22,7 +21,7 @@ use Rattle.slot.proofs.Front.{by-unchecked}
 -- a slot in another mode, and back
 module _ (s : State) (mode : ℕ) (b : Bool) (w : Work) (h : Answered (withMode s mode) w) where
   told-served : (c : Bool) → w .answer .number ≡ 0 → Answered s (told c w)
-  unfolding withMode withRecord recordInMode runs
+  unfolding withMode withRecord recordInMode
   told-served true e =
       record {
         as-came = λ ne. absurd (ne e);
@@ -32,8 +31,6 @@ module _ (s : State) (mode : ℕ) (b : Bool) (w : Work) (h : Answered (withMode 
         v-is = h .v-is;
         raw-is = h .raw-is;
         low = h .low;
-        ran-before = h .ran-before;
-        runs-after = h .runs-after;
       }
   told-served false e =
       record {
@@ -44,8 +41,6 @@ module _ (s : State) (mode : ℕ) (b : Bool) (w : Work) (h : Answered (withMode 
         v-is = h .v-is;
         raw-is = h .raw-is;
         low = h .low;
-        ran-before = h .ran-before;
-        runs-after = h .runs-after;
       }
 
   as-it-came : w .answer .number ≢ 0 → Answered s (workOf (withRecord (w .state) (s .ctl)) (w .answer))
@@ -59,8 +54,6 @@ module _ (s : State) (mode : ℕ) (b : Bool) (w : Work) (h : Answered (withMode 
         v-is = refl;
         raw-is = refl;
         low = h .low;
-        ran-before = λ e. absurd (ne e);
-        runs-after = λ e. absurd (ne e);
       }
 
   pub back-answered : Answered s (back s b w)

@@ -1,6 +1,5 @@
 -- What a slot without the header check answers and keeps, for every state: a number of 0 or, with everything as it came,
--- another; N, V and raw; a departing space that is below N or 65,535; and, where it is served, T, rotation and the Output List's
--- ends in range before and after it. Each step is followed. Assumes nothing.
+-- another; N, V and raw; and a departing space that is below N or 65,535. Each step is followed. Assumes nothing.
 use Prim.Native.Nat.{ℕ, _+_, _-_, _%_, _≤_, _<_}
 use mathlib.Core.Path.{_≡_, refl, sym, _∙_, ap}
 use mathlib.Core.Logic.{_≢_}
@@ -23,7 +22,6 @@ use Rattle.meaning.specs.Work.{Work, workOf, bareAnswer, withVc, withArrival}
 use Rattle.meaning.specs.Arrival.{place, accept, judge}
 use Rattle.meaning.specs.Slot.{step1, step2, step3, step4, depart, step5, fiveSteps, finish, uncheckedSlot}
 use Rattle.meaning.proofs.ListsLaws.{fit-head, fit-tail, fit-marked, fit-empty}
-use Rattle.unchecked.specs.Runs.{runs}
 
 -- what holds of an outcome that is not refused
 abbrev pub AllOut : {A : Type 0} → (A → Type 0) → Out A → Type 0
@@ -285,24 +283,6 @@ module _ (r : Record) where
       step4-joined)
       step5-ended
 
-  -- the record before a served slot, and after it
-  both : (a b : Bool) → a ≡ true → b ≡ true → a && b ≡ true
-  both a b p q = rw (p, q)
-
-  pub ran : (w : Work) → Ended w → runs r ≡ true
-  unfolding runs
-  ran w h = both (r .turn <? r .n && r .rotation <? r .v) (endsFit (r .n) out) (h .ticked .began) (h .out-began)
-
-  pub runs-on : (w : Work) → Ended w → runs (w .state .ctl) ≡ true
-  unfolding runs
-  runs-on w h =
-      let k = w .state .ctl in
-      both (k .turn <? k .n && k .rotation <? k .v) (endsFit (k .n) (outputList (w .state)))
-      (both (k .turn <? k .n) (k .rotation <? k .v)
-      (lt-ltb (k .turn) (k .n) (omega (arith, h .ticked .turn-low, h .ticked .n-is)))
-      (lt-ltb (k .rotation) (k .v) (omega (arith, h .ticked .rotation-low, h .ticked .v-is))))
-      (rw (h .ticked .n-is) (h .fits))
-
 -- how a slot ends: served, or refused with everything as it came
 pub record Answered (s : State) (w : Work) : Type 0 where
   pub as-came : w .answer .number ≢ 0 → w .state ≡ s
@@ -312,8 +292,6 @@ pub record Answered (s : State) (w : Work) : Type 0 where
   pub v-is : w .state .ctl .v ≡ s .ctl .v
   pub raw-is : w .state .ctl .raw ≡ s .ctl .raw
   pub low : w .answer .space ≢ empty → w .answer .space < s .ctl .n
-  pub ran-before : w .answer .number ≡ 0 → runs (s .ctl) ≡ true
-  pub runs-after : w .answer .number ≡ 0 → runs (w .state .ctl) ≡ true
 
 pub refused-with : (s : State) (k : ℕ) → k ≢ 0 → Answered s (workOf s (bareAnswer k))
 refused-with s k ne =
@@ -325,8 +303,6 @@ refused-with s k ne =
       v-is = refl;
       raw-is = refl;
       low = λ e. absurd (e refl);
-      ran-before = λ e. absurd (ne e);
-      runs-after = λ e. absurd (ne e);
     }
 
 choose : (P : Work → Type 0) (b : Bool) (x y : Work) → P x → (b ≡ false → P y) → P (if b then x else y)
@@ -347,8 +323,6 @@ finished s (next w) h r l =
       v-is = h .ticked .v-is;
       raw-is = h .ticked .raw-is;
       low = h .low;
-      ran-before = λ _. ran (s .ctl) w h;
-      runs-after = λ _. runs-on (s .ctl) w h;
     }
 
 pub unchecked-answered : (s : State) (cell : List ℕ) → Answered s (uncheckedSlot s cell)

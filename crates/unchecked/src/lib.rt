@@ -23,7 +23,7 @@ fn after(x: u16, n: u16) -> u16
 }
 
 // Step 1.
-pub fn clock(r: Record) -> Record
+fn clock(r: Record) -> Record
     requires { ⌜ (r .turn < r .n) × (r .rotation < r .v) ⌝ }
     ensures { λ k. ⌜ k ≡ clocked r ⌝ }
 {
