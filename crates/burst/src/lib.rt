@@ -99,7 +99,24 @@ fn copied_back(ctl: Record, s: Served) -> Served
     }
 }
 
-// One slot as the call has it. It is not laid in place, so it is lent a copy of the record: the burst's own stays in registers.
+// One slot as the call has it: slot::slot's lines stand here again, since what both exports called would be laid into neither.
+fn as_called(
+    ctl: Record,
+    cells: &mut [u8],
+    links: &mut [u16],
+    calendar: &mut [u16],
+    words: &mut [u32],
+    cell: &[u8],
+) -> Served
+    ensures { λ s. ⌜ slotPromise (stateOf ctl (now (cells .entry)) (now (links .entry)) (now (calendar .entry)) (now (words .entry))) (now (cell .entry)) s (now (cells .exit)) (now (links .exit)) (now (calendar .exit)) (now (words .exit)) ⌝ }
+{
+    if slot::is_checked(ctl.raw, cell.len()) {
+        return slot::checked(ctl, cells, links, calendar, words, cell);
+    }
+    unchecked::slot(ctl, cells, links, calendar, words, cell)
+}
+
+// The same, lent a copy of the record, since what it calls is not laid in place: the burst's own stays in registers.
 fn serve_checked(
     ctl: Record,
     cells: &mut [u8],
@@ -111,7 +128,7 @@ fn serve_checked(
     ensures { λ s. ⌜ slotPromise (stateOf ctl (now (cells .entry)) (now (links .entry)) (now (calendar .entry)) (now (words .entry))) (now (cell .entry)) s (now (cells .exit)) (now (links .exit)) (now (calendar .exit)) (now (words .exit)) ⌝ }
 {
     let k = copied(ctl);
-    let s = slot::slot(k, cells, links, calendar, words, cell);
+    let s = as_called(k, cells, links, calendar, words, cell);
     copied_back(ctl, s)
 }
 

@@ -2,11 +2,12 @@
 -- leads to, and back. Where raw or mode is unfit: 1, 2 or 3. Assumes nothing.
 use Prim.Native.Nat.{ℕ, _≤_, _<_}
 use mathlib.Core.Path.{_≡_, refl, sym, ap, _∙_}
+use mathlib.Core.Logic.{_≢_}
 use mathlib.Core.Bool.{Bool, true, false, not, cond, _&&_, _||_}
 use mathlib.Core.List.{List, [], _++_}
 use native.Mathlib.Decide.{ℕ-discrete}
 use native.Mathlib.Omega.{arith}
-use borrow.Author.Tests.{ne-eqb, le-leb, lt-leb}
+use borrow.Author.Tests.{eqb-true, eqb-false, not-true, not-false, ne-eqb, le-leb, lt-leb}
 use lib.Dec.{eqb, ltb}
 use lib.ListN.{length, drop}
 use Rattle.hec.specs.Check.{syndromeOf}
@@ -21,9 +22,9 @@ use Rattle.meaning.specs.Numbers.{rangesHold, octets}
 use Rattle.meaning.specs.State.{State, stateOf, lengthsHold, withRecord, recordInMode, withMode}
 use Rattle.meaning.specs.Work.{Work, workOf, bareAnswer}
 use Rattle.meaning.specs.Slot.{fiveSteps, finish, uncheckedSlot, told, slot}
-use Rattle.meaning.proofs.CheckedLaws.{isLent, through-lent, unlent, none-lent}
-use Rattle.unchecked.proofs.EndLaws.{AllOut, Ended, begun, five-ended}
-use Rattle.slot.specs.Back.{servedOf, toldServed, backServed, back, unfitOf}
+use Rattle.meaning.proofs.CheckedLaws.{isLent, through-lent, unlent, not-raw, none-lent}
+use Rattle.unchecked.proofs.EndLaws.{AllOut, both-true, Ended, begun, five-ended}
+use Rattle.slot.specs.Back.{isChecked, servedOf, toldServed, backServed, back, unfitOf}
 
 -- record and answer, and the whole work
 back-work : (a b : Bool) (r : Record) (s : Served) (cells links calendar words : List ℕ)
@@ -185,3 +186,31 @@ not-lent s cell ne = go (ℕ-discrete (length cell) 0)
     go : Dec (length cell ≡ 0) → slot s cell ≡ uncheckedSlot s cell
     go (yes e) = none-lent s cell e
     go (no f) = unlent s cell (rw (ne-eqb (length cell) 0 f, ne-eqb (length cell) 53 ne))
+
+-- ── whether the check comes in front ──
+pub no-cell : (raw long : ℕ) → (long ≡ 53 → ⊥) → false ≡ isChecked raw long
+unfolding isChecked
+no-cell raw long ne = rw (ne-eqb long 53 ne)
+
+pub of-cell : (raw long : ℕ) → long ≡ 53 → not (raw =? 0) ≡ isChecked raw long
+unfolding isChecked
+of-cell raw long e = rw e
+
+pub checked-lent : (raw long : ℕ) → isChecked raw long ≡ true → (long ≡ 53) × (raw ≢ 0)
+unfolding isChecked
+checked-lent raw long h =
+    let b = both-true (long =? octets) (not (raw =? 0)) h in
+    (eqb-true long 53 (b .0), eqb-false raw 0 (not-true (raw =? 0) (b .1)))
+
+pub raw-one : (raw : ℕ) → raw ≤ 1 → (raw ≡ 0 → ⊥) → raw ≡ 1
+raw-one raw h ne = omega (arith, h, ne)
+
+pub unchecked-is : (s : State) (cell : List ℕ) → isChecked (s .ctl .raw) (length cell) ≡ false → slot s cell ≡ uncheckedSlot s cell
+unfolding isChecked
+unchecked-is s cell h = go (ℕ-discrete (length cell) 53)
+  where
+    go : Dec (length cell ≡ 53) → slot s cell ≡ uncheckedSlot s cell
+    go (no f) = not-lent s cell f
+    go (yes e) =
+        not-raw s cell
+        (eqb-true (s .ctl .raw) 0 (not-false (s .ctl .raw =? 0) (rw e at h)))

@@ -1,22 +1,27 @@
 -- What becomes of the slot that served what the header check let through: refused, the record is as it came, its mode too;
 -- served, a dropped cell is told.
 --
+--   isChecked raw octets  == the header check comes in front
 --   backServed r drop s   == of record and answer
 --   back s drop w         == of the whole work, w being the slot without the check
 --   headWritten head l    == l with its first four octets from one number
 --   unfitOf r ..          == what is given where raw or mode is neither 0 nor 1
 use Prim.Native.Nat.{ℕ, _/_, _%_, _^_}
-use mathlib.Core.Bool.{Bool, not}
+use mathlib.Core.Bool.{Bool, not, _&&_}
 use mathlib.Core.List.{List}
 use lib.ListN.{set}
 use Rattle.meaning.specs.declared.Record.{Record}
 use Rattle.meaning.specs.declared.Answer.{Answer}
 use Rattle.meaning.specs.declared.Served.{Served}
 use Rattle.meaning.specs.Plain.{if_then_else_, _=?_}
-use Rattle.meaning.specs.Numbers.{rangesHold, dropped}
+use Rattle.meaning.specs.Numbers.{rangesHold, octets, dropped}
 use Rattle.meaning.specs.State.{State, lengthsHold, withRecord}
 use Rattle.meaning.specs.Work.{Work, workOf, answerOf, bareAnswer}
 use Rattle.meaning.specs.Slot.{told}
+
+-- the policer is raw, and a cell arrived; a raw that is neither 0 nor 1 is refused there
+unfoldable pub isChecked : ℕ → ℕ → Bool
+isChecked raw long = (long =? octets) && not (raw =? 0)
 
 abbrev pub servedOf : Record → Answer → Served
 servedOf r a = record { ctl = r; answer = a }

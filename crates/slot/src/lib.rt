@@ -9,7 +9,7 @@ ghost use Rattle.meaning.specs.State.{stateOf, recordInMode};
 ghost use Rattle.meaning.specs.Work.{workOf};
 ghost use Rattle.meaning.specs.Slot.{uncheckedSlot};
 ghost use Rattle.meaning.specs.Promises.{slotPromise};
-ghost use Rattle.slot.specs.Back.{backServed, back, unfitOf, headWritten};
+ghost use Rattle.slot.specs.Back.{isChecked, backServed, back, unfitOf, headWritten};
 use hec::Checked;
 use meaning::Answer;
 use meaning::Record;
@@ -174,6 +174,37 @@ fn unfit_slot(
     departure::refuse(r, 3)
 }
 
+// Whether the header check comes in front: the policer is raw, and a cell arrived.
+pub fn is_checked(raw: u16, octets: usize) -> bool
+    ensures { λ r. ⌜ r ≡ isChecked raw octets ⌝ }
+{
+    if octets != 53 {
+        return false;
+    }
+    raw != 0
+}
+
+// A slot with the check in front. It is not laid in place, unlike the few lines that choose it.
+pub fn checked(
+    r: Record,
+    cells: &mut [u8],
+    links: &mut [u16],
+    calendar: &mut [u16],
+    words: &mut [u32],
+    cell: &[u8],
+) -> Served
+    requires { ⌜ isChecked (r .raw) (length (now cell)) ≡ true ⌝ }
+    ensures { λ s. ⌜ slotPromise (stateOf r (now (cells .entry)) (now (links .entry)) (now (calendar .entry)) (now (words .entry))) (now (cell .entry)) s (now (cells .exit)) (now (links .exit)) (now (calendar .exit)) (now (words .exit)) ⌝ }
+{
+    if r.raw > 1 {
+        return unfit_slot(r, cells, links, calendar, words, cell);
+    }
+    if r.mode > 1 {
+        return unfit_slot(r, cells, links, calendar, words, cell);
+    }
+    raw_slot(r, cells, links, calendar, words, cell)
+}
+
 // "One slot, in this order", of a cell of 0 or 53 octets. raw is read only where a cell is lent, mode only where raw is 1.
 pub fn slot(
     r: Record,
@@ -185,17 +216,8 @@ pub fn slot(
 ) -> Served
     ensures { λ s. ⌜ slotPromise (stateOf r (now (cells .entry)) (now (links .entry)) (now (calendar .entry)) (now (words .entry))) (now (cell .entry)) s (now (cells .exit)) (now (links .exit)) (now (calendar .exit)) (now (words .exit)) ⌝ }
 {
-    if cell.len() != 53 {
-        return unchecked::slot(r, cells, links, calendar, words, cell);
+    if is_checked(r.raw, cell.len()) {
+        return checked(r, cells, links, calendar, words, cell);
     }
-    if r.raw == 0 {
-        return unchecked::slot(r, cells, links, calendar, words, cell);
-    }
-    if r.raw > 1 {
-        return unfit_slot(r, cells, links, calendar, words, cell);
-    }
-    if r.mode > 1 {
-        return unfit_slot(r, cells, links, calendar, words, cell);
-    }
-    raw_slot(r, cells, links, calendar, words, cell)
+    unchecked::slot(r, cells, links, calendar, words, cell)
 }

@@ -26,15 +26,15 @@ given r cells links calendar words cell k e w g =
 copied-requires : tie.Need-copied-requires
 copied-requires c κs = search needs
 
-slot-requires : tie.Need-slot-requires
-slot-requires c κs = search needs
+as-called-requires : tie.Need-as-called-requires
+as-called-requires c κs = search needs
 
 copied-back-requires : tie.Need-copied-back-requires
 copied-back-requires c κs =
-    let at-slot = c .before .before .before .before .before .before .before .before in
-    let at-copied = at-slot .before .before .before .before .before in
+    let at-call = c .before .before .before .before .before .before .before .before in
+    let at-copied = at-call .before .before .before .before .before in
     let a = at-copied .before .before .before .before .before .before .args in
-    let h = given (a .ctl) (now (a .cells)) (now (a .links)) (now (a .calendar)) (now (a .words)) (now (a .cell)) _ (at-copied .copied .ensures) _ (at-slot .slot .ensures) in
+    let h = given (a .ctl) (now (a .cells)) (now (a .links)) (now (a .calendar)) (now (a .words)) (now (a .cell)) _ (at-copied .copied .ensures) _ (at-call .as-called .ensures) in
     (h .n-is, h .v-is, h .raw-is)
 
 same-length : tie.Need-same-length
@@ -51,11 +51,11 @@ same-length-4 c = search needs
 
 returns : tie.Need-returns
 returns c =
-    let at-slot = c .before .before .before .before .before .before .before .before .before in
-    let at-copied = at-slot .before .before .before .before .before in
+    let at-call = c .before .before .before .before .before .before .before .before .before in
+    let at-copied = at-call .before .before .before .before .before in
     let a = at-copied .before .before .before .before .before .before .args in
     rw (c .copied-back .ensures)
-    (at-slot .slot .ensures
+    (at-call .as-called .ensures
     ∙ ap (λ (q : Record). slot (stateOf q (now (a .cells)) (now (a .links)) (now (a .calendar)) (now (a .words))) (now (a .cell)))
     (at-copied .copied .ensures))
 
@@ -64,7 +64,7 @@ serve-checked-spec =
     tie.close
     (tie.spec
     copied-requires
-    slot-requires
+    as-called-requires
     copied-back-requires
     same-length
     same-length-2
