@@ -116,19 +116,19 @@ pub fn turned(w: Way, words: &[u32]) -> Turn
 {
     let b = 7 * w.rotation;
     let o = words[b];
+    if o == 0 {
+        return Turn {
+            ok: true,
+            s: words[b + 4],
+            last: words[b + 5],
+        };
+    }
     if o == 1 {
         let k = met(w.n, words, w.rotation, w.t);
         return Turn {
             ok: k.ok,
             s: k.s,
             last: w.t,
-        };
-    }
-    if o == 0 {
-        return Turn {
-            ok: true,
-            s: words[b + 4],
-            last: words[b + 5],
         };
     }
     Turn {

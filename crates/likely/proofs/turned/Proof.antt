@@ -1,4 +1,4 @@
--- `likely::turned` meets its contract: an open VC falls, and a closed one is written as it was.
+-- `likely::turned` meets its contract: a closed VC is written as it was, and an open one falls.
 -- Assumes nothing.
 use Rattle.plan.proofs.Found.{no}
 use Rattle.way.specs.Way.{slotRecord}
@@ -15,15 +15,6 @@ mul-o c = search needs
 
 shared-slice-read-o : tie.Need-shared-slice-read-o
 shared-slice-read-o c = search needs
-
-met-requires : tie.Need-met-requires
-met-requires c κs = search needs
-
-returns : tie.Need-returns
-returns c =
-    λ ok. let start = c .before .before .before .before .before in
-    let a = start .args in
-    turned-open (slotRecord (a .w)) (a .words .now) (c .met .result) (start .pre .2) (c .before .if1 .taken) (c .met .ensures ok)
 
 add-t10 : tie.Need-add-t10
 add-t10 c = search needs
@@ -43,11 +34,19 @@ mul-t15 c = search needs
 shared-slice-read-t17 : tie.Need-shared-slice-read-t17
 shared-slice-read-t17 c = search needs
 
+returns : tie.Need-returns
+returns c =
+    λ ok. let a = c .before .before .before .before .before .before .args in
+    turned-closed (slotRecord (a .w)) (a .words .now) (c .before .before .if1 .taken)
+
+met-requires : tie.Need-met-requires
+met-requires c κs = search needs
+
 returns-2 : tie.Need-returns-2
 returns-2 c =
-    λ ok. let start = c .before .before .before .before .before .before .before in
+    λ ok. let start = c .before .before .before .before .before .before in
     let a = start .args in
-    turned-closed (slotRecord (a .w)) (a .words .now) (c .before .before .if2 .taken)
+    turned-open (slotRecord (a .w)) (a .words .now) (c .met .result) (start .pre .2) (c .before .if2 .taken) (c .met .ensures ok)
 
 returns-3 : tie.Need-returns-3
 returns-3 c = λ e. no e
@@ -59,13 +58,13 @@ turned-spec =
     mul-b
     mul-o
     shared-slice-read-o
-    met-requires
-    returns
     add-t10
     mul-t11
     shared-slice-read-t13
     add-t14
     mul-t15
     shared-slice-read-t17
+    returns
+    met-requires
     returns-2
     returns-3)
