@@ -230,7 +230,34 @@ fn tail_joined(turn: u16, a: Seat, calendar: &[u16]) -> u16
     calendar[2 * (turn as usize) + 1]
 }
 
-// An accepted cell that has its seat: entry T, from x to y, is read as the cell leaves it.
+// An accepted cell, where entry T is not marked.
+fn accept_unmarked(
+    r: Record,
+    k: Record,
+    b: Fall,
+    j: Judged,
+    a: Seat,
+    cells: &mut [u8],
+    links: &mut [u16],
+    calendar: &mut [u16],
+    words: &mut [u32],
+    cell: &[u8],
+) -> Served
+    requires { ⌜ Sized k (now cells) (now links) (now calendar) (now words) ⌝ }
+    requires { ⌜ Accepted k j (now cell) (now words) ⌝ }
+    requires { ⌜ Seated k a ⌝ }
+    requires { ⌜ (endsFit (k .n) (endsOf (k .outhead) (k .outtail)) ≡ true) × (entryAt (writeEntry (now calendar) (a .e) (seatEnds a)) (k .turn) ≡ emptyList) ⌝ }
+    ensures { λ s. ⌜ servedWork s (now (cells .exit)) (now (links .exit)) (now (calendar .exit)) (now (words .exit)) ≡ finish (stateOf r (now (cells .entry)) (now (links .entry)) (now (calendar .entry)) (now (words .entry))) (step4 (acceptWork k j a (now (cell .entry)) (now (cells .entry)) (now (links .entry)) (now (calendar .entry)) (rotated k b (now (words .entry)))) andThen step5) ⌝ }
+{
+    if k.outhead != 65535 {
+        return accept_output(r, k, b, j, a, cells, links, calendar, words, cell);
+    }
+    accept_none(k, b, j, a, cells, links, calendar, words, cell)
+}
+
+// An accepted cell that has its seat: entry T, from x to y, is read as the cell leaves it. Here and in accept a head and a
+// tail are tested by one comparison after the other: as one truth value a pair is worked out without branches, in twice as
+// many instructions. Each refusal is 3 and nothing is written before it, so the order of the tests is free.
 fn accept_seated(
     r: Record,
     k: Record,
@@ -251,16 +278,19 @@ fn accept_seated(
 {
     let x = head_joined(k.turn, a, calendar);
     let y = tail_joined(k.turn, a, calendar);
-    if !spaces::pair(k.n, x, y) {
+    if x == 65535 {
+        if y != 65535 {
+            return departure::refuse(r, 3);
+        }
+        return accept_unmarked(r, k, b, j, a, cells, links, calendar, words, cell);
+    }
+    if x >= k.n {
         return departure::refuse(r, 3);
     }
-    if x != 65535 {
-        return accept_marked(r, k, b, j, a, x, y, cells, links, calendar, words, cell);
+    if y >= k.n {
+        return departure::refuse(r, 3);
     }
-    if k.outhead != 65535 {
-        return accept_output(r, k, b, j, a, cells, links, calendar, words, cell);
-    }
-    accept_none(k, b, j, a, cells, links, calendar, words, cell)
+    accept_marked(r, k, b, j, a, x, y, cells, links, calendar, words, cell)
 }
 
 // A cell was judged accepted.
@@ -283,8 +313,17 @@ pub fn accept(
     if !a.ok {
         return departure::refuse(r, 3);
     }
-    if !spaces::pair(k.n, k.outhead, k.outtail) {
-        return departure::refuse(r, 3);
+    if k.outhead == 65535 {
+        if k.outtail != 65535 {
+            return departure::refuse(r, 3);
+        }
+    } else {
+        if k.outhead >= k.n {
+            return departure::refuse(r, 3);
+        }
+        if k.outtail >= k.n {
+            return departure::refuse(r, 3);
+        }
     }
     accept_seated(r, k, b, j, a, cells, links, calendar, words, cell)
 }

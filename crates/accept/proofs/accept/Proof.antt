@@ -1,10 +1,13 @@
 -- `accept::accept` meets its contract: a seat is found as step 3 finds it, and the Output List is judged before anything is written.
 -- Assumes nothing.
+use mathlib.Core.Logic.{⊎-elim}
 use denote.Ref.{now}
 use borrow.Author.Tests.{not-true, not-false}
+use Rattle.spaces.proofs.PairLaws.{head-high, tail-high, both-low, tail-left, both-empty}
 use Rattle.plan.specs.Plan.{rotated}
-use Rattle.plan.proofs.Ends.{as-came, goes-on, shown, not-shown}
-use Rattle.plan.proofs.Steps.{seating-none, seating-unfit, seating-goes, seating-shows}
+use Rattle.plan.proofs.Ends.{as-came, goes-on}
+use Rattle.plan.proofs.Steps.{seating-none, seating-goes, seating-shows}
+use Rattle.accept.proofs.PairLaws.{output-unfit}
 use borrow.Author.Needs.{needs}
 use Rattle.accept.proofs.accept.Statement.{statement}
 use Rattle.accept.proofs.accept.Tie as tie
@@ -33,9 +36,6 @@ returns c =
     (rotated (a .k) (a .b) (now (a .words))) (pre .0 .n-high) (pre .0 .turn-low) (pre .1 .near) (seat .seat-for .result)
     (seat .seat-for .ensures) (not-true _ (test .if1 .taken)))
 
-pair-requires : tie.Need-pair-requires
-pair-requires c κs = search needs
-
 refuse-requires-2 : tie.Need-refuse-requires-2
 refuse-requires-2 c κs = search needs
 
@@ -47,23 +47,69 @@ same-length-4 c = search needs
 
 returns-2 : tie.Need-returns-2
 returns-2 c =
-    let fit = c .before in
-    let tested = fit .before in
-    let test = tested .before in
+    let tail = c .before in
+    let output = tail .before .before in
+    let test = output .before .before in
     let seat = test .before .before in
     let start = seat .before .before .before .before .before .before .before .before in
     let a = start .args in
     let pre = start .pre in
-    as-came (a .r) (now (a .cells)) (now (a .links)) (now (a .calendar)) (now (a .words)) _ _ (c .refuse2 .ensures)
-    (seating-unfit (a .k) (a .j) (now (a .cell)) (now (a .cells)) (now (a .links)) (now (a .calendar))
-    (rotated (a .k) (a .b) (now (a .words))) (pre .0 .n-high) (pre .0 .turn-low) (pre .1 .near) (seat .seat-for .result)
-    (seat .seat-for .ensures) (not-false _ (test .if1 .left)) (not-shown _ _ (tested .pair .ensures) (fit .if2 .taken)))
+    output-unfit (a .r) (a .k) (a .b) (a .j) (seat .seat-for .result) (now (a .cell)) (now (a .cells)) (now (a .links))
+    (now (a .calendar)) (now (a .words)) _ (c .refuse2 .ensures) (pre .0) (pre .1) (seat .seat-for .ensures)
+    (not-false _ (test .if1 .left))
+    (tail-left _ _ _ (pre .0 .n-high) (output .if2 .taken) (tail .if3 .taken))
+
+refuse-requires-3 : tie.Need-refuse-requires-3
+refuse-requires-3 c κs = search needs
+
+same-length-5 : tie.Need-same-length-5
+same-length-5 c = search needs
+
+same-length-6 : tie.Need-same-length-6
+same-length-6 c = search needs
+
+returns-3 : tie.Need-returns-3
+returns-3 c =
+    let head = c .before in
+    let output = head .before .before in
+    let test = output .before .before in
+    let seat = test .before .before in
+    let start = seat .before .before .before .before .before .before .before .before in
+    let a = start .args in
+    let pre = start .pre in
+    output-unfit (a .r) (a .k) (a .b) (a .j) (seat .seat-for .result) (now (a .cell)) (now (a .cells)) (now (a .links))
+    (now (a .calendar)) (now (a .words)) _ (c .refuse3 .ensures) (pre .0) (pre .1) (seat .seat-for .ensures)
+    (not-false _ (test .if1 .left))
+    (head-high _ _ _ (output .if2 .left) (head .if4 .taken))
+
+refuse-requires-4 : tie.Need-refuse-requires-4
+refuse-requires-4 c κs = search needs
+
+same-length-7 : tie.Need-same-length-7
+same-length-7 c = search needs
+
+same-length-8 : tie.Need-same-length-8
+same-length-8 c = search needs
+
+returns-4 : tie.Need-returns-4
+returns-4 c =
+    let tail = c .before in
+    let head = tail .before .before in
+    let output = head .before .before in
+    let test = output .before .before in
+    let seat = test .before .before in
+    let start = seat .before .before .before .before .before .before .before .before in
+    let a = start .args in
+    let pre = start .pre in
+    output-unfit (a .r) (a .k) (a .b) (a .j) (seat .seat-for .result) (now (a .cell)) (now (a .cells)) (now (a .links))
+    (now (a .calendar)) (now (a .words)) _ (c .refuse4 .ensures) (pre .0) (pre .1) (seat .seat-for .ensures)
+    (not-false _ (test .if1 .left))
+    (tail-high _ _ _ (pre .0 .n-high) (head .if4 .left) (tail .if5 .taken))
 
 accept-seated-requires : tie.Need-accept-seated-requires
 accept-seated-requires c κs =
     let fit = c .before .before .before .before in
-    let tested = fit .before in
-    let test = tested .before in
+    let test = fit .before .before in
     let seat = test .before .before in
     let start = seat .before .before .before .before .before .before .before .before in
     let a = start .args in
@@ -75,25 +121,28 @@ accept-seated-requires c κs =
           seating-shows (a .k) (a .j) (now (a .cell)) (now (a .cells)) (now (a .links)) (now (a .calendar))
               (rotated (a .k) (a .b) (now (a .words))) (pre .0 .n-high) (pre .0 .turn-low) (pre .1 .near) (seat .seat-for .result)
               (seat .seat-for .ensures) (not-false _ (test .if1 .left)),
-          shown _ _ (tested .pair .ensures) (fit .if2 .left),
+          ⊎-elim
+              (λ w. both-empty _ _ _ (pre .0 .n-high) (w .0 .taken) (w .2 .left))
+              (λ w. both-low _ _ _ (w .2 .left) (w .4 .left))
+              (fit .if2 .came),
         ),
       ),
     )
 
-same-length-5 : tie.Need-same-length-5
-same-length-5 c = search needs
+same-length-9 : tie.Need-same-length-9
+same-length-9 c = search needs
 
-same-length-6 : tie.Need-same-length-6
-same-length-6 c = search needs
+same-length-10 : tie.Need-same-length-10
+same-length-10 c = search needs
 
-same-length-7 : tie.Need-same-length-7
-same-length-7 c = search needs
+same-length-11 : tie.Need-same-length-11
+same-length-11 c = search needs
 
-same-length-8 : tie.Need-same-length-8
-same-length-8 c = search needs
+same-length-12 : tie.Need-same-length-12
+same-length-12 c = search needs
 
-returns-3 : tie.Need-returns-3
-returns-3 c =
+returns-5 : tie.Need-returns-5
+returns-5 c =
     let case = c .before .before .before .before .before .before .before .before in
     let test = case .before .before .before .before .before .before .before in
     let seat = test .before .before in
@@ -115,14 +164,21 @@ accept-spec =
     same-length
     same-length-2
     returns
-    pair-requires
     refuse-requires-2
     same-length-3
     same-length-4
     returns-2
-    accept-seated-requires
+    refuse-requires-3
     same-length-5
     same-length-6
+    returns-3
+    refuse-requires-4
     same-length-7
     same-length-8
-    returns-3)
+    returns-4
+    accept-seated-requires
+    same-length-9
+    same-length-10
+    same-length-11
+    same-length-12
+    returns-5)
