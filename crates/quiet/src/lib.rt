@@ -7,7 +7,7 @@ ghost use lib.ListN.{length, getD};
 ghost use Rattle.meaning.specs.Plain.{_=?_, _andThen_};
 ghost use Rattle.meaning.specs.Numbers.{excess, waitingPlace};
 ghost use Rattle.meaning.specs.State.{stateOf};
-ghost use Rattle.meaning.specs.Lists.{endsFit};
+ghost use Rattle.meaning.specs.Lists.{emptyList, endsFit, entryAt};
 ghost use Rattle.meaning.specs.Slot.{step4, step5, finish};
 ghost use Rattle.arrival.specs.Arrival.{fallen};
 ghost use Rattle.spaces.specs.Spaces.{endsOf, linked, offOf};
@@ -142,7 +142,57 @@ fn quiet_output(
     quiet_end(k, b, j, o, false, 0, links, words)
 }
 
-// No cell was accepted.
+// No cell was accepted, and nothing departs.
+fn quiet_none(k: Record, b: Fall, j: Judged, words: &mut [u32]) -> Served
+    requires { ⌜ (length (now words) ≡ 7 * k .v) × (k .rotation < k .v) ⌝ }
+    requires { ⌜ (j .verdict =? excess ≡ true → j .vci < k .v) ⌝ }
+    ensures { λ s. ⌜ ((cells links calendar : List ℕ) → servedWork s cells links calendar (now (words .exit)) ≡ quietWork k j cells links calendar (rotated k b (now (words .entry)))) ⌝ }
+{
+    words_fall(k, b, j, words);
+    Served {
+        ctl: k,
+        answer: Answer {
+            number: 0,
+            verdict: j.verdict,
+            vci: j.vci,
+            d: 0,
+            space: 65535,
+            departing: 0,
+        },
+    }
+}
+
+// No cell was accepted, and entry T is not marked. The Output List's ends are tested one after the other: as one truth value
+// a pair is worked out without branches, in twice as many instructions.
+fn quiet_unmarked(
+    r: Record,
+    k: Record,
+    b: Fall,
+    j: Judged,
+    cells: &[u8],
+    links: &mut [u16],
+    words: &mut [u32],
+) -> Served
+    requires { ⌜ (k .n ≤ 1024) × (k .v ≤ 1024) × (length (now cells) ≡ 53 * k .n) × (length (now links) ≡ k .n) × (length (now words) ≡ 7 * k .v) × (k .rotation < k .v) ⌝ }
+    requires { ⌜ (j .verdict =? excess ≡ true → j .vci < k .v) ⌝ }
+    ensures { λ s. ⌜ ((calendar : List ℕ) → entryAt calendar (k .turn) ≡ emptyList → servedWork s (now (cells .entry)) (now (links .exit)) calendar (now (words .exit)) ≡ finish (stateOf r (now (cells .entry)) (now (links .entry)) calendar (now (words .entry))) (step4 (quietWork k j (now (cells .entry)) (now (links .entry)) calendar (rotated k b (now (words .entry)))) andThen step5)) ⌝ }
+{
+    if k.outhead == 65535 {
+        if k.outtail != 65535 {
+            return departure::refuse(r, 3);
+        }
+        return quiet_none(k, b, j, words);
+    }
+    if k.outhead >= k.n {
+        return departure::refuse(r, 3);
+    }
+    if k.outtail >= k.n {
+        return departure::refuse(r, 3);
+    }
+    quiet_output(r, k, b, j, cells, links, words)
+}
+
+// No cell was accepted. The ends of entry T are tested one after the other too, and for the same reason.
 pub fn quiet(
     r: Record,
     k: Record,
@@ -160,28 +210,20 @@ pub fn quiet(
     let at = 2 * (k.turn as usize);
     let head = calendar[at];
     let tail = calendar[at + 1];
-    if !spaces::pair(k.n, head, tail) {
+    if head == 65535 {
+        if tail != 65535 {
+            return departure::refuse(r, 3);
+        }
+        return quiet_unmarked(r, k, b, j, cells, links, words);
+    }
+    if head >= k.n {
+        return departure::refuse(r, 3);
+    }
+    if tail >= k.n {
         return departure::refuse(r, 3);
     }
     if !spaces::pair(k.n, k.outhead, k.outtail) {
         return departure::refuse(r, 3);
     }
-    if head != 65535 {
-        return quiet_marked(r, k, b, j, head, tail, cells, links, calendar, words);
-    }
-    if k.outhead != 65535 {
-        return quiet_output(r, k, b, j, cells, links, words);
-    }
-    words_fall(k, b, j, words);
-    Served {
-        ctl: k,
-        answer: Answer {
-            number: 0,
-            verdict: j.verdict,
-            vci: j.vci,
-            d: 0,
-            space: 65535,
-            departing: 0,
-        },
-    }
+    quiet_marked(r, k, b, j, head, tail, cells, links, calendar, words)
 }
