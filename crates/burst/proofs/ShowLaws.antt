@@ -1,19 +1,19 @@
 -- What a served slot leaves to be shown, and how many octets of a cell are lent to it.
 -- Assumes nothing.
-use Prim.Native.Nat.{ℕ, _+_, _*_, _/_, _%_, _≤_, _<_}
+use Prim.Native.Nat.{ℕ, _+_, _*_, _≤_, _<_}
 use mathlib.Core.Path.{_≡_, refl, sym, _∙_, ap}
 use mathlib.Core.Logic.{_≢_}
 use mathlib.Core.Bool.{Bool, true, false, not, _&&_, _||_}
 use mathlib.Core.List.{List}
 use native.Mathlib.Omega.{arith}
-use borrow.Author.Tests.{eq-eqb, eqb-true, le-leb, leb-true}
+use borrow.Author.Tests.{eqb-true, leb-true}
 use lib.ListN.{length}
 use Rattle.meaning.specs.Plain.{_≤?_, _=?_}
 use Rattle.meaning.specs.Numbers.{rangesHold, octets, perEntry, wordsPerVc, empty, mostN, leastV, mostV}
 use Rattle.meaning.specs.State.{State, lengthsHold, wordsLong}
 use Rattle.meaning.specs.Work.{Work}
-use Rattle.meaning.specs.Line.{cellsAllowed}
 use Rattle.handout.specs.Handout.{Shows}
+use Rattle.likely.proofs.EitherLaws.{allowed-long}
 use Rattle.burst.specs.Burst.{sizeFits}
 use Rattle.unchecked.proofs.EndLaws.{both-true, Answered}
 
@@ -32,11 +32,6 @@ cells-long N z cells links calendar words l =
     let a = both-true (length cells =? octets * N && length links =? N && length calendar =? perEntry * N) (wordsLong z words) l .0 in
     let b = both-true (length cells =? octets * N && length links =? N) (length calendar =? perEntry * N) a .0 in
     eqb-true (length cells) (53 * N) (both-true (length cells =? octets * N) (length links =? N) b .0)
-
-allowed-long : (N long : ℕ) → 1 ≤ N → N ≤ 1024 → long ≡ 53 * N → cellsAllowed long ≡ true
-unfolding cellsAllowed
-allowed-long N long a b e =
-    simp (eq-eqb (long % 53) 0 (omega arith), le-leb 1 (long / 53) (omega arith), le-leb (long / 53) 1024 (omega arith))
 
 -- the cell memory keeps its length
 pub slot-shows : (s : State) (w : Work) (cells : List ℕ) → Answered s w → w .answer .number ≡ 0 → length cells ≡ length (s .cells)

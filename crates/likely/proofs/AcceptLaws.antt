@@ -34,9 +34,10 @@ use Rattle.handout.specs.Handout.{writeAnswer}
 use Rattle.handout.proofs.ShowLaws.{shown-cell, shown-none}
 use Rattle.way.specs.declared.Way.{Way}
 use Rattle.way.specs.Way.{wayWith, slotRecord}
-use Rattle.likely.specs.declared.Spot.{Spot}
-use Rattle.likely.specs.declared.Leave.{Leave}
-use Rattle.likely.specs.Likely.{Spotted, Goes, OffThen, judgedAt, seatAt, offAt}
+use Rattle.arriving.specs.declared.Spot.{Spot}
+use Rattle.arriving.specs.Arriving.{judgedAt, seatAt, Spotted}
+use Rattle.leaving.specs.declared.Leave.{Leave}
+use Rattle.leaving.specs.Leaving.{Goes, OffThen, offAt}
 use Rattle.likely.specs.Served.{from2, Ready, Done}
 use Rattle.likely.proofs.EitherLaws.{allowed-long, linked-same, ends-with}
 

@@ -1,12 +1,12 @@
 -- A slot in which no cell arrives, over plain lists: from what was found of step 2 and of what departs, and from what was
 -- written, to what the five steps leave. Assumes nothing.
-use Prim.Native.Nat.{ℕ, _*_, _/_, _%_, _≤_, _<_}
+use Prim.Native.Nat.{ℕ, _*_, _/_, _≤_, _<_}
 use mathlib.Core.Path.{_≡_, refl, sym, _∙_, ap}
 use mathlib.Core.Logic.{_≢_}
 use mathlib.Core.Bool.{Bool, true, false, not}
 use mathlib.Core.List.{List, []}
 use native.Mathlib.Omega.{arith}
-use borrow.Author.Tests.{eq-eqb, ne-eqb, le-leb, eqb-false, not-true}
+use borrow.Author.Tests.{eq-eqb, ne-eqb, eqb-false, not-true}
 use lib.ListN.{length, getD, set, take, drop}
 use Rattle.meaning.specs.declared.Record.{Record}
 use Rattle.meaning.specs.declared.Served.{Served}
@@ -36,27 +36,16 @@ use Rattle.handout.specs.Handout.{writeAnswer}
 use Rattle.handout.proofs.ShowLaws.{shown-cell, shown-none}
 use Rattle.way.specs.declared.Way.{Way}
 use Rattle.way.specs.Way.{wayWith, slotRecord}
-use Rattle.likely.specs.declared.Turn.{Turn}
-use Rattle.likely.specs.declared.Leave.{Leave}
-use Rattle.likely.specs.Likely.{Turned, Goes, offAt, OffHere}
+use Rattle.turning.specs.declared.Turn.{Turn}
+use Rattle.turning.specs.Turning.{Turned}
+use Rattle.leaving.specs.declared.Leave.{Leave}
+use Rattle.leaving.specs.Leaving.{Goes, offAt, OffHere}
 use Rattle.likely.specs.Served.{from2, Ready, Lent, Done}
-
--- a cell memory of this length has an allowed N
-pub allowed-long : (N long : ℕ) → 1 ≤ N → N ≤ 1024 → long ≡ 53 * N → cellsAllowed long ≡ true
-unfolding cellsAllowed
-allowed-long N long a b e =
-    simp (eq-eqb (long % 53) 0 (omega arith), le-leb 1 (long / 53) (omega arith), le-leb (long / 53) 1024 (omega arith))
+use Rattle.likely.proofs.EitherLaws.{allowed-long, linked-same}
 
 -- a departing space is below N
 pub below-long : (N long x : ℕ) → long ≡ 53 * N → x < N → x < long / 53
 below-long N long x e low = omega (arith, e, low)
-
--- a link that is written where on: what it would name matters only there
-pub linked-same : (on on′ : Bool) (i x x′ : ℕ) (l : List ℕ) → on ≡ on′ → (on ≡ true → x ≡ x′)
-    → linked on i x l ≡ linked on′ i x′ l
-unfolding linked
-linked-same true on′ i x x′ l e same = rw (sym e) (ap (set l i) (same refl))
-linked-same false on′ i x x′ l e same = rw (sym e)
 
 -- the Free List's head, once the space has been given back
 pub head-empty : (h x f : ℕ) → h ≡ 65535 → f ≡ x → f ≡ (if h =? empty then x else h)

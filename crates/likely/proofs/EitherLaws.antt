@@ -20,20 +20,18 @@ use Rattle.way.specs.Way.{wayWith, slotRecord}
 use Rattle.likely.specs.declared.Went.{Went}
 use Rattle.likely.specs.Served.{from2, Done, Either}
 
--- a cell memory for an allowed N
+-- a cell memory of this length has an allowed N
 pub allowed-long : (N long : ℕ) → 1 ≤ N → N ≤ 1024 → long ≡ 53 * N → cellsAllowed long ≡ true
 unfolding cellsAllowed
 allowed-long N long a b e =
     simp (eq-eqb (long % 53) 0 (omega arith), le-leb 1 (long / 53) (omega arith), le-leb (long / 53) 1024 (omega arith))
 
--- a link written by a test that says the same
-pub linked-same : (f g : Bool) (i x y : ℕ) (l : List ℕ) → f ≡ g → (f ≡ true → x ≡ y) → linked f i x l ≡ linked g i y l
+-- a link that is written where on: what it would name matters only there
+pub linked-same : (on on′ : Bool) (i x x′ : ℕ) (l : List ℕ) → on ≡ on′ → (on ≡ true → x ≡ x′)
+    → linked on i x l ≡ linked on′ i x′ l
 unfolding linked
-linked-same f g i x y l e h = go f h ∙ ap (λ (b : Bool). linked b i y l) e
-  where
-    go : (b : Bool) → (b ≡ true → x ≡ y) → linked b i x l ≡ linked b i y l
-    go true q = ap (λ (u : ℕ). set l i u) (q refl)
-    go false q = refl
+linked-same true on′ i x x′ l e same = rw (sym e) (ap (set l i) (same refl))
+linked-same false on′ i x x′ l e same = rw (sym e)
 
 -- the record of a way with other ends
 pub ends-with : (w w′ : Way) (freehead freetail outhead outtail : ℕ)

@@ -1,12 +1,5 @@
 pub mod WriteLaws
 pub mod EitherLaws
-pub mod MetLaws
-pub mod TurnLaws
-pub mod ArriveLaws
-pub mod SpotLaws
-pub mod PlanLaws
-pub mod LeaveLaws
-pub mod NowLaws
 pub mod StoreLaws
 pub mod BareLaws
 pub mod AcceptLaws

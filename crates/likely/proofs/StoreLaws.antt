@@ -28,9 +28,10 @@ use Rattle.spaces.proofs.After.{kept-fall}
 use Rattle.plan.specs.Plan.{freeEnds, rotated, seatEnds}
 use Rattle.plan.specs.Facts.{Seated}
 use Rattle.plan.proofs.Found.{no, and, seat-shows}
-use Rattle.likely.specs.declared.Turn.{Turn}
-use Rattle.likely.specs.declared.Spot.{Spot}
-use Rattle.likely.specs.Likely.{Turned, judgedAt, Spotted}
+use Rattle.turning.specs.declared.Turn.{Turn}
+use Rattle.turning.specs.Turning.{Turned}
+use Rattle.arriving.specs.declared.Spot.{Spot}
+use Rattle.arriving.specs.Arriving.{judgedAt, Spotted}
 
 -- S of an accepted cell's VC: at most C, and so far below 2^32
 filled-low : (s e F p n : ℕ) → 0 < p → p ≤ 32768 → n ≤ 1024 → s ≤ e → e / p < n → F ≤ 16777216 → s + F < 4294967296

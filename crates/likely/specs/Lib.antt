@@ -1,2 +1,1 @@
-pub mod Likely
 pub mod Served

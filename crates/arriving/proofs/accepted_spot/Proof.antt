@@ -1,0 +1,42 @@
+-- `arriving::accepted_spot` meets its contract: the cell is accepted, and has a seat.
+-- Assumes nothing.
+use mathlib.Core.Path.{sym, _∙_}
+use borrow.Author.Tests.{not-false}
+use Rattle.plan.proofs.Found.{no}
+use Rattle.way.specs.Way.{slotRecord}
+use Rattle.arriving.proofs.SpotLaws.{spotted-is}
+use borrow.Author.Needs.{needs}
+use Rattle.arriving.proofs.accepted_spot.Statement.{statement}
+use Rattle.arriving.proofs.accepted_spot.Tie as tie
+
+arrived-requires : tie.Need-arrived-requires
+arrived-requires c κs = search needs
+
+no-spot-requires : tie.Need-no-spot-requires
+no-spot-requires c κs = search needs
+
+returns : tie.Need-returns
+returns c = λ e. no (sym (c .no-spot .ensures) ∙ e)
+
+seat-of-requires : tie.Need-seat-of-requires
+seat-of-requires c κs =
+    let pre = c .before .before .before .before .before .before .before .pre in
+    let arrives = c .before .before .arrived .ensures (not-false _ (c .if1 .left)) in (
+      pre .0,
+      pre .2,
+      pre .3,
+      pre .5,
+      arrives .is-accepted .near,
+      pre .7,
+    )
+
+returns-2 : tie.Need-returns-2
+returns-2 c =
+    λ ok. let a = c .before .before .before .before .before .before .before .before .args in
+    let seats = c .seat-of .ensures ok in
+    spotted-is (slotRecord (a .w)) (a .links .now) (a .calendar .now) (a .words .now) _ (c .seat-of .result) _ _ _ (seats .1) (seats .2) (seats .3)
+    (c .before .before .before .arrived .ensures (not-false _ (c .before .if1 .left))) (seats .0)
+
+pub accepted-spot-spec : {M : Type 1} → statement M
+accepted-spot-spec =
+    tie.close (tie.spec arrived-requires no-spot-requires returns seat-of-requires returns-2)

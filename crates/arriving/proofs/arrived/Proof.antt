@@ -1,0 +1,79 @@
+-- `arriving::arrived` meets its contract: the cell names an open VC, which accepts it.
+-- Assumes nothing.
+use mathlib.Core.Path.{sym, _∙_}
+use Rattle.plan.proofs.Found.{no}
+use Rattle.way.specs.Way.{slotRecord}
+use Rattle.arriving.proofs.ArriveLaws.{cell-long, named-is, arrives-at}
+use borrow.Author.Needs.{needs}
+use Rattle.arriving.proofs.arrived.Statement.{statement}
+use Rattle.arriving.proofs.arrived.Tie as tie
+
+mul-name-at : tie.Need-mul-name-at
+mul-name-at c = search needs
+
+name-at-requires : tie.Need-name-at-requires
+name-at-requires c κs = search needs
+
+cast-u : tie.Need-cast-u
+cast-u c = search needs
+
+not-likely-requires : tie.Need-not-likely-requires
+not-likely-requires c κs = search needs
+
+returns : tie.Need-returns
+returns c = λ e. no (sym (c .not-likely .ensures) ∙ e)
+
+not-likely-requires-2 : tie.Need-not-likely-requires-2
+not-likely-requires-2 c κs = search needs
+
+returns-2 : tie.Need-returns-2
+returns-2 c = λ e. no (sym (c .not-likely2 .ensures) ∙ e)
+
+mul-if3 : tie.Need-mul-if3
+mul-if3 c = search needs
+
+mul-if3-2 : tie.Need-mul-if3-2
+mul-if3-2 c = search needs
+
+shared-slice-read-if3 : tie.Need-shared-slice-read-if3
+shared-slice-read-if3 c = search needs
+
+not-likely-requires-3 : tie.Need-not-likely-requires-3
+not-likely-requires-3 c κs = search needs
+
+returns-3 : tie.Need-returns-3
+returns-3 c = λ e. no (sym (c .not-likely3 .ensures) ∙ e)
+
+judge-open-requires : tie.Need-judge-open-requires
+judge-open-requires c κs = search needs
+
+returns-4 : tie.Need-returns-4
+returns-4 c =
+    λ ok. let at2 = c .before .before .before in
+    let at1 = at2 .before .before in
+    let at-name = at1 .before in
+    let start = at-name .before .before .before in
+    let a = start .args in
+    let open-is = c .judge-open .ensures ok in
+    arrives-at (slotRecord (a .w)) (a .words .now) _ _ _ _ (cell-long (a .arrivals .now) (a .i) (start .pre .3)) (at-name .name-at .result) (open-is .1)
+    (named-is (a .arrivals .now) (a .i) (start .pre .3) _ (at-name .name-at .ensures .0) (at-name .name-at .ensures .1))
+    (start .pre .1) (at1 .if1 .left) (at2 .if2 .left) (c .before .if3 .left) (open-is .0)
+
+pub arrived-spec : {M : Type 1} → statement M
+arrived-spec =
+    tie.close
+    (tie.spec
+    mul-name-at
+    name-at-requires
+    cast-u
+    not-likely-requires
+    returns
+    not-likely-requires-2
+    returns-2
+    mul-if3
+    mul-if3-2
+    shared-slice-read-if3
+    not-likely-requires-3
+    returns-3
+    judge-open-requires
+    returns-4)

@@ -1,0 +1,45 @@
+-- `leaving::rest_joined` meets its contract: the link read is the one that the join leaves.
+-- Assumes nothing.
+use Rattle.leaving.proofs.PlanLaws.{link-own}
+use Rattle.plan.proofs.Found.{no}
+use lib.Seq.{getD-set-other}
+use borrow.Author.Tests.{ltb-true}
+use native.Mathlib.Omega.{arith}
+use mathlib.Core.Logic.{⊎-elim}
+use mathlib.Core.Path.{refl, sym, _∙_}
+use borrow.Author.Needs.{needs}
+use Rattle.leaving.proofs.rest_joined.Statement.{statement}
+use Rattle.leaving.proofs.rest_joined.Tie as tie
+
+returns : tie.Need-returns
+returns c =
+    λ ok. no ok
+
+mul-next : tie.Need-mul-next
+mul-next c = search needs
+
+shared-slice-read-next : tie.Need-shared-slice-read-next
+shared-slice-read-next c = search needs
+
+cast-next : tie.Need-cast-next
+cast-next c =
+    omega (arith, c .shared-slice-known .given (c .before .before .before .args .x))
+
+returns-2 : tie.Need-returns-2
+returns-2 c =
+    let a = c .before .before .args in
+    λ ok.
+    record {
+      one = λ e. absurd (c .before .if1 .left e);
+      more = λ far. (
+        ⊎-elim
+            (λ w. w .1 ∙ link-own (a .links .now) (a .old) (a .head) (a .x) (w .0 .taken) (c .before .before .pre .0))
+            (λ w. w .2 ∙ sym (getD-set-other (a .links .now) (a .old) (a .x) (a .head) 0 (w .0 .left)))
+            (c .if2 .came),
+        ltb-true _ _ ok,
+        refl,
+      );
+    }
+
+pub rest-joined-spec : {M : Type 1} → statement M
+rest-joined-spec = tie.close (tie.spec returns mul-next shared-slice-read-next cast-next returns-2)

@@ -1,0 +1,28 @@
+-- `leaving::rest_of` meets its contract: nothing is left after the tail, and before it the link names the rest.
+-- Assumes nothing.
+use borrow.Author.Tests.{ltb-true}
+use native.Mathlib.Omega.{arith}
+use mathlib.Core.Path.{refl}
+use borrow.Author.Needs.{needs}
+use Rattle.leaving.proofs.rest_of.Statement.{statement}
+use Rattle.leaving.proofs.rest_of.Tie as tie
+
+returns : tie.Need-returns
+returns c = search needs
+
+mul-next : tie.Need-mul-next
+mul-next c = search needs
+
+shared-slice-read-next : tie.Need-shared-slice-read-next
+shared-slice-read-next c = search needs
+
+cast-next : tie.Need-cast-next
+cast-next c =
+    omega (arith, c .shared-slice-known .given (c .before .before .args .x))
+
+returns-2 : tie.Need-returns-2
+returns-2 c =
+    λ ok. record { one = λ e. absurd (c .before .if1 .left e); more = λ far. (refl, ltb-true _ _ ok, refl) }
+
+pub rest-of-spec : {M : Type 1} → statement M
+rest-of-spec = tie.close (tie.spec returns mul-next shared-slice-read-next cast-next returns-2)

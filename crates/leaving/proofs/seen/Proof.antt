@@ -1,0 +1,114 @@
+-- `leaving::seen` meets its contract: the tests are those of the definition, of the header's number and the VC's words.
+-- Assumes nothing.
+use Rattle.spaces.proofs.LeaverLaws.{leaver-named, go-counts, go-none, go-closed}
+use Rattle.spaces.specs.Leaver.{namedVc}
+use Rattle.leaving.proofs.PlanLaws.{named-zero, named-past, named-stays, named-goes}
+use borrow.Author.Tests.{le-leb, lt-leb}
+use native.Mathlib.Omega.{arith}
+use mathlib.Core.Path.{sym, _∙_, ap}
+use borrow.Author.Needs.{needs}
+use Rattle.leaving.proofs.seen.Statement.{statement}
+use Rattle.leaving.proofs.seen.Tie as tie
+
+mul-name-at : tie.Need-mul-name-at
+mul-name-at c = search needs
+
+name-at-requires : tie.Need-name-at-requires
+name-at-requires c κs = search needs
+
+cast-u : tie.Need-cast-u
+cast-u c = search needs
+
+returns : tie.Need-returns
+returns c =
+    let a = c .before .before .before .before .args in
+    let name = c .before .name-at .ensures .0 in
+    (named-zero (a .n) (a .v) (a .words .now) (c .before .name-at .result) (c .if1 .taken)
+    ∙ ap (namedVc (a .n) (a .v) (a .words .now)) name)
+    ∙ leaver-named (a .n) (a .v) (a .cells .now) (a .words .now) (a .x) (omega (arith, c .before .before .before .before .pre))
+
+returns-2 : tie.Need-returns-2
+returns-2 c =
+    let a = c .before .before .before .before .before .args in
+    let name = c .before .before .name-at .ensures .0 in
+    (named-past (a .n) (a .v) (a .words .now) (c .before .before .name-at .result) (c .before .if1 .left) (c .if2 .taken)
+    ∙ ap (namedVc (a .n) (a .v) (a .words .now)) name)
+    ∙ leaver-named (a .n) (a .v) (a .cells .now) (a .words .now) (a .x) (omega (arith, c .before .before .before .before .before .pre))
+
+mul-b : tie.Need-mul-b
+mul-b c = search needs
+
+mul-if3 : tie.Need-mul-if3
+mul-if3 c = search needs
+
+shared-slice-read-if3 : tie.Need-shared-slice-read-if3
+shared-slice-read-if3 c = search needs
+
+returns-3 : tie.Need-returns-3
+returns-3 c =
+    let a = c .before .before .before .before .before .before .before .args in
+    let name = c .before .before .before .before .name-at .ensures .0 in
+    (named-stays (a .n) (a .v) (a .words .now) (c .before .before .before .before .name-at .result) (c .before .before .before .if1 .left) (c .before .before .if2 .left)
+    (sym (go-closed (a .n) (a .words .now) (c .before .before .before .before .name-at .result) (c .if3 .taken)))
+    ∙ ap (namedVc (a .n) (a .v) (a .words .now)) name)
+    ∙ leaver-named (a .n) (a .v) (a .cells .now) (a .words .now) (a .x) (omega (arith, c .before .before .before .before .before .before .before .pre))
+
+add-waiting : tie.Need-add-waiting
+add-waiting c = search needs
+
+mul-waiting : tie.Need-mul-waiting
+mul-waiting c = search needs
+
+shared-slice-read-waiting : tie.Need-shared-slice-read-waiting
+shared-slice-read-waiting c = search needs
+
+returns-4 : tie.Need-returns-4
+returns-4 c =
+    let a = c .before .before .before .before .before .before .before .before .before .args in
+    let name = c .before .before .before .before .before .before .name-at .ensures .0 in
+    (named-stays (a .n) (a .v) (a .words .now) (c .before .before .before .before .before .before .name-at .result) (c .before .before .before .before .before .if1 .left) (c .before .before .before .before .if2 .left)
+    (sym (go-none (a .n) (a .words .now) (c .before .before .before .before .before .before .name-at .result) (c .before .before .if3 .left) (c .if4 .taken)))
+    ∙ ap (namedVc (a .n) (a .v) (a .words .now)) name)
+    ∙ leaver-named (a .n) (a .v) (a .cells .now) (a .words .now) (a .x) (omega (arith, c .before .before .before .before .before .before .before .before .before .pre))
+
+cast-if5 : tie.Need-cast-if5
+cast-if5 c = search needs
+
+returns-5 : tie.Need-returns-5
+returns-5 c =
+    let a = c .before .before .before .before .before .before .before .before .before .before .args in
+    let name = c .before .before .before .before .before .before .before .name-at .ensures .0 in
+    (named-stays (a .n) (a .v) (a .words .now) (c .before .before .before .before .before .before .before .name-at .result) (c .before .before .before .before .before .before .if1 .left) (c .before .before .before .before .before .if2 .left)
+    (sym (go-counts (a .n) (a .words .now) (c .before .before .before .before .before .before .before .name-at .result) (c .before .before .before .if3 .left) (c .before .if4 .left)) ∙ lt-leb _ _ (c .if5 .taken))
+    ∙ ap (namedVc (a .n) (a .v) (a .words .now)) name)
+    ∙ leaver-named (a .n) (a .v) (a .cells .now) (a .words .now) (a .x) (omega (arith, c .before .before .before .before .before .before .before .before .before .before .pre))
+
+returns-6 : tie.Need-returns-6
+returns-6 c =
+    let a = c .before .before .before .before .before .before .before .before .before .before .args in
+    let name = c .before .before .before .before .before .before .before .name-at .ensures .0 in
+    (named-goes (a .n) (a .v) (a .words .now) (c .before .before .before .before .before .before .before .name-at .result) (c .before .before .before .before .before .before .if1 .left) (c .before .before .before .before .before .if2 .left)
+    (sym (go-counts (a .n) (a .words .now) (c .before .before .before .before .before .before .before .name-at .result) (c .before .before .before .if3 .left) (c .before .if4 .left)) ∙ le-leb _ _ (c .if5 .left))
+    ∙ ap (namedVc (a .n) (a .v) (a .words .now)) name)
+    ∙ leaver-named (a .n) (a .v) (a .cells .now) (a .words .now) (a .x) (omega (arith, c .before .before .before .before .before .before .before .before .before .before .pre))
+
+pub seen-spec : {M : Type 1} → statement M
+seen-spec =
+    tie.close
+    (tie.spec
+    mul-name-at
+    name-at-requires
+    cast-u
+    returns
+    returns-2
+    mul-b
+    mul-if3
+    shared-slice-read-if3
+    returns-3
+    add-waiting
+    mul-waiting
+    shared-slice-read-waiting
+    returns-4
+    cast-if5
+    returns-5
+    returns-6)
