@@ -41,7 +41,7 @@ def begin():
         globals()['ARCHIVE'] = archive
     if not os.path.isfile(ARCHIVE):
         fail(ARCHIVE + ' is missing; build it first')
-    for needed in [*of_machine('x86_needs'), *([] if RUN else ['valgrind'])]:
+    for needed in of_machine('x86_needs'):
         if shutil.which(needed) is None:
             fail(needed + ' is missing')
     os.makedirs(OUT, exist_ok=True)

@@ -5,14 +5,14 @@
 #   x86_link        options to link a test program with
 #   x86_run         words that stand before such a program: none, or the emulator
 #   x86_load        words that stand between those and a program of rt: none, or the kit's loader
-#   x86_needs       what of all this must be there
-#   x86_packages    Debian's packages with the tools, where they are cross tools
+#   x86_needs       what of all this must be there, and what counts instructions
+#   x86_packages    Debian's packages with those that a machine may lack
 #   x86_program PROGRAM FILE    names what to execute for a program of rt
 if [ "$(uname -m)" = x86_64 ]; then
-  x86='' x86_link=() x86_run=() x86_load=() x86_packages=()
+  x86='' x86_link=() x86_run=() x86_load=() x86_packages=(valgrind) x86_counts=valgrind
 else
   x86=x86_64-linux-gnu-
-  x86_packages=(gcc-x86-64-linux-gnu g++-x86-64-linux-gnu)
+  x86_packages=(gcc-x86-64-linux-gnu g++-x86-64-linux-gnu) x86_counts='' # the emulator counts
   # The loader and the libraries are those of the compiler, by their full path. Functions stand where nm says, so that
   # their instructions can be counted. Segments fit pages of 64 KiB: else the emulator promises pages of 4 KiB where the
   # machine's are greater, and an unreadable one of these does not fault.
@@ -27,7 +27,7 @@ else
   # What is tested does not depend on the emulator's settings in the environment.
   unset "${!QEMU_@}"
 fi
-x86_needs=(${x86}gcc ${x86}g++ ${x86}nm ${x86}objdump "${x86_run[@]:0:1}")
+x86_needs=(${x86}gcc ${x86}g++ ${x86}nm ${x86}objdump "${x86_run[@]:0:1}" ${x86_counts})
 
 # The program itself or, where this machine can't run it, FILE, a script that is written here. A program in its place
 # that is not for x86-64 (number 3e of ELF) stays what it is.
