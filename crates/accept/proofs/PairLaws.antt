@@ -29,7 +29,7 @@ both-read e head tail p q h t = λ i. record { head = (sym p ∙ h) i; tail = (s
 -- refused, and nothing is written
 module _ (r k : Record) (b : Fall) (j : Judged) (a : Seat) (cell cells links calendar words : List ℕ) (s : Served)
     (refuses : (s .ctl ≡ r) × (s .answer ≡ bareAnswer 3)) where
-  pub output-unfit : Sized k cells links calendar words → Accepted k j cell words
+  pub output-unfit : Sized (stateOf k cells links calendar words) → Accepted k j cell words
       → a ≡ seatOf (k .n) links calendar (k .turn) (freeEnds k) (j .d)
       → a .ok ≡ true
       → endsFit (k .n) (endsOf (k .outhead) (k .outtail)) ≡ false

@@ -4,13 +4,13 @@ ghost use mathlib.Core.Bool.{true, not};
 ghost use Prim.Native.Nat.{_+_, _*_, _≤_, _<_};
 ghost use lib.ListN.{length, getD};
 ghost use Rattle.meaning.specs.Plain.{if_then_else_, _=?_, _andThen_};
-ghost use Rattle.meaning.specs.Numbers.{empty, waitingPlace};
-ghost use Rattle.meaning.specs.State.{stateOf};
+ghost use Rattle.meaning.specs.Numbers.{empty, waitingPlace, mostN, mostV, octets, wordsIn};
 ghost use Rattle.meaning.specs.Lists.{emptyList, endsFit, entryAt, writeEntry};
 ghost use Rattle.meaning.specs.Slot.{step4, step5, finish};
+ghost use Rattle.meaning.specs.Lent.{here, before, servedAfter};
 ghost use Rattle.arrival.specs.Arrival.{filled};
 ghost use Rattle.spaces.specs.Spaces.{endsOf, linked};
-ghost use Rattle.plan.specs.Plan.{rotated, seating, acceptWork, seatEnds, leftBy, joinedHead, leavingMarked, leavingOutput, servedWork};
+ghost use Rattle.plan.specs.Plan.{rotated, seating, acceptWork, seatEnds, leftBy, joinedHead, leavingMarked, leavingOutput};
 ghost use Rattle.plan.specs.Facts.{Sized, Accepted, Seated, OffStored};
 use arrival::Fall;
 use arrival::Judged;
@@ -36,12 +36,12 @@ fn accept_end(
     words: &mut [u32],
     cell: &[u8],
 ) -> Served
-    requires { ⌜ Sized k (now cells) (now links) (now calendar) (now words) ⌝ }
+    requires { ⌜ Sized (here k cells links calendar words) ⌝ }
     requires { ⌜ Accepted k j (now cell) (now words) ⌝ }
     requires { ⌜ Seated k a ⌝ }
     requires { ⌜ (joins ≡ true → k .outtail < k .n) ⌝ }
     requires { ⌜ (o .vci < k .v) × (1 ≤ getD (filled (j .vci) (j .s) (k .t) (j .waiting) (rotated k b (now words))) (waitingPlace (o .vci)) 0) ⌝ }
-    ensures { λ s. ⌜ servedWork s (now (cells .exit)) (now (links .exit)) (now (calendar .exit)) (now (words .exit)) ≡ leftBy (acceptWork k j a (now (cell .entry)) (now (cells .entry)) (now (links .entry)) (now (calendar .entry)) (rotated k b (now (words .entry)))) (linked joins (k .outtail) head (linked (not (a .head =? empty)) (a .x) (a .head) (now (links .entry)))) (if clears then writeEntry (writeEntry (now (calendar .entry)) (a .e) (seatEnds a)) (k .turn) emptyList else writeEntry (now (calendar .entry)) (a .e) (seatEnds a)) o ⌝ }
+    ensures { λ s. ⌜ servedAfter s cells links calendar words ≡ leftBy (acceptWork k j a (now (cell .entry)) (now (cells .entry)) (now (links .entry)) (now (calendar .entry)) (rotated k b (now (words .entry)))) (linked joins (k .outtail) head (linked (not (a .head =? empty)) (a .x) (a .head) (now (links .entry)))) (if clears then writeEntry (writeEntry (now (calendar .entry)) (a .e) (seatEnds a)) (k .turn) emptyList else writeEntry (now (calendar .entry)) (a .e) (seatEnds a)) o ⌝ }
 {
     store::store(k, b, j, a, cells, links, calendar, words, cell);
     arrival::put_less(words, o.vci);
@@ -64,7 +64,7 @@ fn off_stored(
     links: &[u16],
     words: &[u32],
 ) -> Off
-    requires { ⌜ (k .n ≤ 1024) × (k .v ≤ 1024) × (1 ≤ j .vci) × (j .vci < k .v) × (length (now cells) ≡ 53 * k .n) × (length (now links) ≡ k .n) × (length (now words) ≡ 7 * k .v) ⌝ }
+    requires { ⌜ (k .n ≤ mostN) × (k .v ≤ mostV) × (1 ≤ j .vci) × (j .vci < k .v) × (length (now cells) ≡ octets * k .n) × (length (now links) ≡ k .n) × (length (now words) ≡ wordsIn (k .v)) ⌝ }
     requires { ⌜ joinedHead k (endsOf head tail) < k .n ⌝ }
     ensures { λ r. ⌜ OffStored k j a (now (cells .entry)) (now (links .entry)) (now (words .entry)) joins (endsOf head tail) r ⌝ }
 {
@@ -109,11 +109,11 @@ fn accept_marked(
     words: &mut [u32],
     cell: &[u8],
 ) -> Served
-    requires { ⌜ Sized k (now cells) (now links) (now calendar) (now words) ⌝ }
+    requires { ⌜ Sized (here k cells links calendar words) ⌝ }
     requires { ⌜ Accepted k j (now cell) (now words) ⌝ }
     requires { ⌜ Seated k a ⌝ }
     requires { ⌜ (head < k .n) × (endsFit (k .n) (endsOf (k .outhead) (k .outtail)) ≡ true) ⌝ }
-    ensures { λ s. ⌜ servedWork s (now (cells .exit)) (now (links .exit)) (now (calendar .exit)) (now (words .exit)) ≡ finish (stateOf r (now (cells .entry)) (now (links .entry)) (now (calendar .entry)) (now (words .entry))) (leavingMarked (acceptWork k j a (now (cell .entry)) (now (cells .entry)) (now (links .entry)) (now (calendar .entry)) (rotated k b (now (words .entry)))) (endsOf head tail)) ⌝ }
+    ensures { λ s. ⌜ servedAfter s cells links calendar words ≡ finish (before r cells links calendar words) (leavingMarked (acceptWork k j a (now (cell .entry)) (now (cells .entry)) (now (links .entry)) (now (calendar .entry)) (rotated k b (now (words .entry)))) (endsOf head tail)) ⌝ }
 {
     let o = off_stored(k, j, a, k.outhead != 65535, head, tail, cells, links, words);
     if !o.ok {
@@ -149,11 +149,11 @@ fn accept_output(
     words: &mut [u32],
     cell: &[u8],
 ) -> Served
-    requires { ⌜ Sized k (now cells) (now links) (now calendar) (now words) ⌝ }
+    requires { ⌜ Sized (here k cells links calendar words) ⌝ }
     requires { ⌜ Accepted k j (now cell) (now words) ⌝ }
     requires { ⌜ Seated k a ⌝ }
     requires { ⌜ k .outhead < k .n ⌝ }
-    ensures { λ s. ⌜ servedWork s (now (cells .exit)) (now (links .exit)) (now (calendar .exit)) (now (words .exit)) ≡ finish (stateOf r (now (cells .entry)) (now (links .entry)) (now (calendar .entry)) (now (words .entry))) (leavingOutput (acceptWork k j a (now (cell .entry)) (now (cells .entry)) (now (links .entry)) (now (calendar .entry)) (rotated k b (now (words .entry))))) ⌝ }
+    ensures { λ s. ⌜ servedAfter s cells links calendar words ≡ finish (before r cells links calendar words) (leavingOutput (acceptWork k j a (now (cell .entry)) (now (cells .entry)) (now (links .entry)) (now (calendar .entry)) (rotated k b (now (words .entry))))) ⌝ }
 {
     let o = off_stored(k, j, a, false, 0, k.outtail, cells, links, words);
     if !o.ok {
@@ -188,10 +188,10 @@ fn accept_none(
     words: &mut [u32],
     cell: &[u8],
 ) -> Served
-    requires { ⌜ Sized k (now cells) (now links) (now calendar) (now words) ⌝ }
+    requires { ⌜ Sized (here k cells links calendar words) ⌝ }
     requires { ⌜ Accepted k j (now cell) (now words) ⌝ }
     requires { ⌜ Seated k a ⌝ }
-    ensures { λ s. ⌜ servedWork s (now (cells .exit)) (now (links .exit)) (now (calendar .exit)) (now (words .exit)) ≡ acceptWork k j a (now (cell .entry)) (now (cells .entry)) (now (links .entry)) (now (calendar .entry)) (rotated k b (now (words .entry))) ⌝ }
+    ensures { λ s. ⌜ servedAfter s cells links calendar words ≡ acceptWork k j a (now (cell .entry)) (now (cells .entry)) (now (links .entry)) (now (calendar .entry)) (rotated k b (now (words .entry))) ⌝ }
 {
     store::store(k, b, j, a, cells, links, calendar, words, cell);
     let taken = store::seated(k, a);
@@ -243,11 +243,11 @@ fn accept_unmarked(
     words: &mut [u32],
     cell: &[u8],
 ) -> Served
-    requires { ⌜ Sized k (now cells) (now links) (now calendar) (now words) ⌝ }
+    requires { ⌜ Sized (here k cells links calendar words) ⌝ }
     requires { ⌜ Accepted k j (now cell) (now words) ⌝ }
     requires { ⌜ Seated k a ⌝ }
     requires { ⌜ (endsFit (k .n) (endsOf (k .outhead) (k .outtail)) ≡ true) × (entryAt (writeEntry (now calendar) (a .e) (seatEnds a)) (k .turn) ≡ emptyList) ⌝ }
-    ensures { λ s. ⌜ servedWork s (now (cells .exit)) (now (links .exit)) (now (calendar .exit)) (now (words .exit)) ≡ finish (stateOf r (now (cells .entry)) (now (links .entry)) (now (calendar .entry)) (now (words .entry))) (step4 (acceptWork k j a (now (cell .entry)) (now (cells .entry)) (now (links .entry)) (now (calendar .entry)) (rotated k b (now (words .entry)))) andThen step5) ⌝ }
+    ensures { λ s. ⌜ servedAfter s cells links calendar words ≡ finish (before r cells links calendar words) (step4 (acceptWork k j a (now (cell .entry)) (now (cells .entry)) (now (links .entry)) (now (calendar .entry)) (rotated k b (now (words .entry)))) andThen step5) ⌝ }
 {
     if k.outhead != 65535 {
         return accept_output(r, k, b, j, a, cells, links, calendar, words, cell);
@@ -270,11 +270,11 @@ fn accept_seated(
     words: &mut [u32],
     cell: &[u8],
 ) -> Served
-    requires { ⌜ Sized k (now cells) (now links) (now calendar) (now words) ⌝ }
+    requires { ⌜ Sized (here k cells links calendar words) ⌝ }
     requires { ⌜ Accepted k j (now cell) (now words) ⌝ }
     requires { ⌜ Seated k a ⌝ }
     requires { ⌜ endsFit (k .n) (endsOf (k .outhead) (k .outtail)) ≡ true ⌝ }
-    ensures { λ s. ⌜ servedWork s (now (cells .exit)) (now (links .exit)) (now (calendar .exit)) (now (words .exit)) ≡ finish (stateOf r (now (cells .entry)) (now (links .entry)) (now (calendar .entry)) (now (words .entry))) (step4 (acceptWork k j a (now (cell .entry)) (now (cells .entry)) (now (links .entry)) (now (calendar .entry)) (rotated k b (now (words .entry)))) andThen step5) ⌝ }
+    ensures { λ s. ⌜ servedAfter s cells links calendar words ≡ finish (before r cells links calendar words) (step4 (acceptWork k j a (now (cell .entry)) (now (cells .entry)) (now (links .entry)) (now (calendar .entry)) (rotated k b (now (words .entry)))) andThen step5) ⌝ }
 {
     let x = head_joined(k.turn, a, calendar);
     let y = tail_joined(k.turn, a, calendar);
@@ -305,9 +305,9 @@ pub fn accept(
     words: &mut [u32],
     cell: &[u8],
 ) -> Served
-    requires { ⌜ Sized k (now cells) (now links) (now calendar) (now words) ⌝ }
+    requires { ⌜ Sized (here k cells links calendar words) ⌝ }
     requires { ⌜ Accepted k j (now cell) (now words) ⌝ }
-    ensures { λ s. ⌜ servedWork s (now (cells .exit)) (now (links .exit)) (now (calendar .exit)) (now (words .exit)) ≡ finish (stateOf r (now (cells .entry)) (now (links .entry)) (now (calendar .entry)) (now (words .entry))) (seating k j (now (cell .entry)) (now (cells .entry)) (now (links .entry)) (now (calendar .entry)) (rotated k b (now (words .entry))) andThen step4 andThen step5) ⌝ }
+    ensures { λ s. ⌜ servedAfter s cells links calendar words ≡ finish (before r cells links calendar words) (seating k j (now (cell .entry)) (now (cells .entry)) (now (links .entry)) (now (calendar .entry)) (rotated k b (now (words .entry))) andThen step4 andThen step5) ⌝ }
 {
     let a = spaces::seat_for(k.n, links, calendar, k.turn, k.freehead, k.freetail, j.d);
     if !a.ok {

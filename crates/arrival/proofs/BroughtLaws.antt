@@ -7,7 +7,7 @@ use mathlib.Core.Bool.{true, false}
 use mathlib.Core.List.{List}
 use borrow.Author.Tests.{eq-eqb, ne-eqb}
 use lib.ListN.{getD}
-use Rattle.meaning.specs.Numbers.{mPlace, fPlace, cPlace, sPlace, lastPlace}
+use Rattle.meaning.specs.Numbers.{mPlace, fPlace, cPlace, sPlace, lastPlace, wordsPerVc}
 use Rattle.meaning.specs.Bucket.{bucketOf, elapsed, fall}
 use Rattle.meaning.specs.Words.{vcAt, bucketFits}
 use Rattle.words.proofs.Fits.{opened-at}
@@ -33,11 +33,11 @@ module _ (N t : ℕ) (words : List ℕ) (vci : ℕ) where
   unfolding broughtOf
   brought-zero e = simp (eq-eqb vci 0 e)
 
-  pub brought-closed : vci ≢ 0 → getD words (7 * vci) 0 ≡ 0 → fallOf true false 0 ≡ broughtOf N t words vci
+  pub brought-closed : vci ≢ 0 → getD words (wordsPerVc * vci) 0 ≡ 0 → fallOf true false 0 ≡ broughtOf N t words vci
   unfolding broughtOf
   brought-closed ne o = simp (ne-eqb vci 0 ne, eq-eqb _ _ (opened-at words vci ∙ o))
 
-  pub brought-open : (S : ℕ) → vci ≢ 0 → getD words (7 * vci) 0 ≡ 1 → bucketFits N (vcAt words vci .bucket) ≡ true
+  pub brought-open : (S : ℕ) → vci ≢ 0 → getD words (wordsPerVc * vci) 0 ≡ 1 → bucketFits N (vcAt words vci .bucket) ≡ true
       → S ≡ fallenS t words vci
       → fallOf true true S ≡ broughtOf N t words vci
   unfolding broughtOf
@@ -45,12 +45,12 @@ module _ (N t : ℕ) (words : List ℕ) (vci : ℕ) where
       simp (ne-eqb vci 0 ne, opened-at words vci ∙ o, fits)
       (ap (fallOf true true) (e ∙ sym (now-S t words vci)))
 
-  pub brought-unfit : vci ≢ 0 → getD words (7 * vci) 0 ≡ 1 → bucketFits N (vcAt words vci .bucket) ≡ false
+  pub brought-unfit : vci ≢ 0 → getD words (wordsPerVc * vci) 0 ≡ 1 → bucketFits N (vcAt words vci .bucket) ≡ false
       → fallOf false false 0 ≡ broughtOf N t words vci
   unfolding broughtOf
   brought-unfit ne o fits = simp (ne-eqb vci 0 ne, opened-at words vci ∙ o, fits)
 
-  pub brought-other : vci ≢ 0 → getD words (7 * vci) 0 ≢ 0 → getD words (7 * vci) 0 ≢ 1
+  pub brought-other : vci ≢ 0 → getD words (wordsPerVc * vci) 0 ≢ 0 → getD words (wordsPerVc * vci) 0 ≢ 1
       → fallOf false false 0 ≡ broughtOf N t words vci
   unfolding broughtOf
   brought-other ne o₀ o₁ =

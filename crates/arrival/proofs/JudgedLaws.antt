@@ -11,7 +11,7 @@ use native.Mathlib.Nat.{div-lt-iff-lt-mul}
 use borrow.Author.Tests.{eq-eqb, ne-eqb}
 use lib.ListN.{length, getD}
 use lib.Pow.{pow-pos}
-use Rattle.meaning.specs.Numbers.{nothing, unknown, mPlace, fPlace, cPlace, waitingPlace}
+use Rattle.meaning.specs.Numbers.{nothing, unknown, mPlace, fPlace, cPlace, waitingPlace, wordsPerVc}
 use Rattle.meaning.specs.Bucket.{bucketOf}
 use Rattle.meaning.specs.Header.{Header, headerAt}
 use Rattle.meaning.specs.Words.{vcAt, bucketFits}
@@ -29,7 +29,7 @@ delay-below S most m N le low =
 
 -- ---- a VC
 module _ (N t : ℕ) (words : List ℕ) (vci : ℕ) where
-  pub judged-closed : getD words (7 * vci) 0 ≡ 0 → judgedAs true unknown vci 0 0 0 ≡ judgedVc N t words vci
+  pub judged-closed : getD words (wordsPerVc * vci) 0 ≡ 0 → judgedAs true unknown vci 0 0 0 ≡ judgedVc N t words vci
   unfolding judgedVc
   judged-closed o = simp (eq-eqb _ _ (opened-at words vci ∙ o))
 
@@ -37,7 +37,7 @@ module _ (N t : ℕ) (words : List ℕ) (vci : ℕ) where
   unfolding vcAt
   waits = refl
 
-  pub judged-open : (S : ℕ) → getD words (7 * vci) 0 ≡ 1 → bucketFits N (vcAt words vci .bucket) ≡ true
+  pub judged-open : (S : ℕ) → getD words (wordsPerVc * vci) 0 ≡ 1 → bucketFits N (vcAt words vci .bucket) ≡ true
       → S ≡ fallenS t words vci
       → judgedBucket N vci
       (bucketOf (getD words (mPlace vci) 0) (getD words (fPlace vci) 0) (getD words (cPlace vci) 0) S)
@@ -47,12 +47,12 @@ module _ (N t : ℕ) (words : List ℕ) (vci : ℕ) where
   judged-open S o fits e =
       simp (opened-at words vci ∙ o, fits) (rw (e, now-bucket t words vci, waits))
 
-  pub judged-unfit : getD words (7 * vci) 0 ≡ 1 → bucketFits N (vcAt words vci .bucket) ≡ false
+  pub judged-unfit : getD words (wordsPerVc * vci) 0 ≡ 1 → bucketFits N (vcAt words vci .bucket) ≡ false
       → outOfRange ≡ judgedVc N t words vci
   unfolding judgedVc
   judged-unfit o fits = simp (opened-at words vci ∙ o, fits)
 
-  pub judged-other : getD words (7 * vci) 0 ≢ 0 → getD words (7 * vci) 0 ≢ 1 → outOfRange ≡ judgedVc N t words vci
+  pub judged-other : getD words (wordsPerVc * vci) 0 ≢ 0 → getD words (wordsPerVc * vci) 0 ≢ 1 → outOfRange ≡ judgedVc N t words vci
   unfolding judgedVc
   judged-other o₀ o₁ =
       simp (

@@ -4,9 +4,17 @@ ghost use mathlib.Core.Bool.{true};
 ghost use mathlib.Core.List.{List};
 ghost use Prim.Native.Nat.{ℕ, _+_, _-_, _*_, _/_, _^_, _≤_, _<_};
 ghost use lib.ListN.{length, getD};
-ghost use Rattle.meaning.specs.Numbers.{nothing, unknown, waitingPlace};
+ghost use Rattle.meaning.specs.Numbers.{nothing, unknown, waitingPlace, mostV, wordsIn};
+ghost use Rattle.meaning.specs.State.{HasVc};
 ghost use Rattle.meaning.specs.Bucket.{bucketOf};
 ghost use Rattle.arrival.specs.Arrival.{Named, broughtOf, judgedAs, outOfRange, judgedBucket, judgedVc, judgedOf, fallen, filled, oneLess};
+use meaning::AT_C;
+use meaning::AT_F;
+use meaning::AT_LAST;
+use meaning::AT_M;
+use meaning::AT_S;
+use meaning::AT_WAITING;
+use meaning::WORDS_PER_VC;
 
 // What step 2 found: ok where all that it reads is in range; on where S and last are to be written, S being s.
 pub struct Fall {
@@ -27,7 +35,7 @@ pub struct Judged {
 
 // Step 2: the VC that rotation names, brought up to date to slot t.
 pub fn bring(n: u16, words: &[u32], vci: u16, t: u32) -> Fall
-    requires { ⌜ 7 * vci + 7 ≤ length (now words) ⌝ }
+    requires { ⌜ HasVc vci (now words) ⌝ }
     ensures { λ r. ⌜ r ≡ broughtOf n t (now (words .entry)) vci ⌝ }
 {
     if vci == 0 {
@@ -37,7 +45,7 @@ pub fn bring(n: u16, words: &[u32], vci: u16, t: u32) -> Fall
             s: 0,
         };
     }
-    let b = 7 * (vci as usize);
+    let b = WORDS_PER_VC * (vci as usize);
     let o = words[b];
     if o == 0 {
         return Fall {
@@ -48,7 +56,7 @@ pub fn bring(n: u16, words: &[u32], vci: u16, t: u32) -> Fall
     }
     if o == 1 {
         if words::bucket_fits(n, words, vci) {
-            let s = bucket::fallen_to(words[b + 4], words[b + 1], words[b + 5], t);
+            let s = bucket::fallen_to(words[b + AT_S], words[b + AT_M], words[b + AT_LAST], t);
             return Fall {
                 ok: true,
                 on: true,
@@ -134,25 +142,25 @@ fn judge_bucket(n: u16, vci: u16, m: u32, f: u32, c: u32, s: u32, waiting: u32) 
 
 // Step 3 at the VC vci, from 1 to V-1.
 pub fn judge_vc(n: u16, words: &[u32], vci: u16, t: u32) -> Judged
-    requires { ⌜ 7 * vci + 7 ≤ length (now words) ⌝ }
+    requires { ⌜ HasVc vci (now words) ⌝ }
     ensures { λ r. ⌜ r ≡ judgedVc n t (now (words .entry)) vci ⌝ }
 {
-    let b = 7 * (vci as usize);
+    let b = WORDS_PER_VC * (vci as usize);
     let o = words[b];
     if o == 0 {
         return no_vc(vci);
     }
     if o == 1 {
         if words::bucket_fits(n, words, vci) {
-            let s = bucket::fallen_to(words[b + 4], words[b + 1], words[b + 5], t);
+            let s = bucket::fallen_to(words[b + AT_S], words[b + AT_M], words[b + AT_LAST], t);
             return judge_bucket(
                 n,
                 vci,
-                words[b + 1],
-                words[b + 2],
-                words[b + 3],
+                words[b + AT_M],
+                words[b + AT_F],
+                words[b + AT_C],
                 s,
-                words[b + 6],
+                words[b + AT_WAITING],
             );
         }
     }
@@ -172,7 +180,7 @@ pub fn name_of(cell: &[u8]) -> u32
 
 // Step 3 of a cell with this name. Apart from the name's reading, so that each of the two is laid into both of its users.
 pub fn judge(n: u16, v: u16, words: &[u32], name: u32, t: u32) -> Judged
-    requires { ⌜ (7 * v ≡ length (now words)) × (v ≤ 1024) ⌝ }
+    requires { ⌜ (wordsIn v ≡ length (now words)) × (v ≤ mostV) ⌝ }
     ensures { λ r. ⌜ ((cell : List ℕ) → Named cell name → r ≡ judgedOf n v t (now (words .entry)) cell) ⌝ }
 {
     if name == 0 {
@@ -186,32 +194,32 @@ pub fn judge(n: u16, v: u16, words: &[u32], name: u32, t: u32) -> Judged
 
 // Writes of S and last, where on.
 pub fn put_fall(words: &mut [u32], on: bool, vci: u16, s: u32, t: u32)
-    requires { ⌜ (on ≡ true → 7 * vci + 7 ≤ length (now words)) ⌝ }
+    requires { ⌜ (on ≡ true → HasVc vci (now words)) ⌝ }
     ensures { λ r. ⌜ now (words .exit) ≡ fallen on vci s t (now (words .entry)) ⌝ }
 {
     if on {
-        let b = 7 * (vci as usize);
-        words[b + 4] = s;
-        words[b + 5] = t;
+        let b = WORDS_PER_VC * (vci as usize);
+        words[b + AT_S] = s;
+        words[b + AT_LAST] = t;
     }
 }
 
 // The words of an accepted cell's VC.
 pub fn put_fill(words: &mut [u32], vci: u16, s: u32, t: u32, waiting: u32)
-    requires { ⌜ 7 * vci + 7 ≤ length (now words) ⌝ }
+    requires { ⌜ HasVc vci (now words) ⌝ }
     ensures { λ r. ⌜ now (words .exit) ≡ filled vci s t waiting (now (words .entry)) ⌝ }
 {
-    let b = 7 * (vci as usize);
-    words[b + 4] = s;
-    words[b + 5] = t;
-    words[b + 6] = waiting;
+    let b = WORDS_PER_VC * (vci as usize);
+    words[b + AT_S] = s;
+    words[b + AT_LAST] = t;
+    words[b + AT_WAITING] = waiting;
 }
 
 // Waiting of a VC falls by one.
 pub fn put_less(words: &mut [u32], vci: u16)
-    requires { ⌜ (7 * vci + 7 ≤ length (now words)) × (1 ≤ getD (now words) (waitingPlace vci) 0) ⌝ }
+    requires { ⌜ (HasVc vci (now words)) × (1 ≤ getD (now words) (waitingPlace vci) 0) ⌝ }
     ensures { λ r. ⌜ now (words .exit) ≡ oneLess vci (now (words .entry)) ⌝ }
 {
-    let b = 7 * (vci as usize);
-    words[b + 6] = words[b + 6] - 1;
+    let b = WORDS_PER_VC * (vci as usize);
+    words[b + AT_WAITING] = words[b + AT_WAITING] - 1;
 }

@@ -10,7 +10,7 @@ use borrow.Author.Tests.{lt-ltb, le-ltb}
 use lib.ListN.{length, getD, take, drop, length-drop}
 use lib.Seq.{length-take-le, getD-take, getD-drop}
 use Rattle.meaning.specs.declared.Record.{Record}
-use Rattle.meaning.specs.Numbers.{accepted, mPlace, fPlace, waitingPlace}
+use Rattle.meaning.specs.Numbers.{accepted, mPlace, fPlace, waitingPlace, wordsPerVc}
 use Rattle.meaning.specs.Bucket.{isExcess, delay, fill}
 use Rattle.meaning.specs.Header.{headerAt}
 use Rattle.meaning.specs.Words.{vcAt}
@@ -78,11 +78,11 @@ module _ (k : Record) (words cell : List ℕ) (vci D S : ℕ) (long : length cel
   abbrev j : Judged
   j = judgedAs true accepted vci D (S + getD words (fPlace vci) 0) (getD words (waitingPlace vci) 0 + 1)
 
-  at-vc : getD words (7 * vci) 0 ≡ 1 → Judges k words vci D S → j ≡ judgedVc (k .n) (k .t) words vci
+  at-vc : getD words (wordsPerVc * vci) 0 ≡ 1 → Judges k words vci D S → j ≡ judgedVc (k .n) (k .t) words vci
   unfolding judgedVc
   at-vc o open-is = simp (opened-at words vci ∙ o, open-is .fits) (open-is .judged)
 
-  arrives-is : Named cell vci → k .v ≤ 1024 → vci ≢ 0 → vci < k .v → getD words (7 * vci) 0 ≡ 1 → Judges k words vci D S → Arrives k words cell vci D S
+  arrives-is : Named cell vci → k .v ≤ 1024 → vci ≢ 0 → vci < k .v → getD words (wordsPerVc * vci) 0 ≡ 1 → Judges k words vci D S → Arrives k words cell vci D S
   arrives-is named few some low o open-is =
       let e : j ≡ judgedOf (k .n) (k .v) (k .t) words cell = at-vc o open-is ∙ named-known (k .n) (k .v) (k .t) words cell vci named (omega arith) some low in
       record {
@@ -90,7 +90,7 @@ module _ (k : Record) (words cell : List ℕ) (vci D S : ℕ) (long : length cel
         is-accepted = rw e (judged-shows k cell words .accepted-is (λ q. long) (ap (λ (x : Judged). x .ok) (sym e)) (ap (λ (x : Judged). x .verdict) (sym e)));
       }
 
-  pub arrives-at : (u : ℕ) → vci ≡ u → Named cell u → k .v ≤ 1024 → u ≢ 0 → u < k .v → getD words (7 * u) 0 ≡ 1 → Judges k words vci D S
+  pub arrives-at : (u : ℕ) → vci ≡ u → Named cell u → k .v ≤ 1024 → u ≢ 0 → u < k .v → getD words (wordsPerVc * u) 0 ≡ 1 → Judges k words vci D S
       → Arrives k words cell vci D S
   arrives-at u e named few some low o open-is =
       arrives-is (rw e named) few (λ q. some (sym e ∙ q)) (omega (arith, e, low)) (rw e o) open-is

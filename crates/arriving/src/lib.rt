@@ -5,10 +5,15 @@ ghost use mathlib.Core.Path.{_≡_};
 ghost use mathlib.Core.Bool.{true, false};
 ghost use Prim.Native.Nat.{_+_, _*_, _≤_, _<_};
 ghost use lib.ListN.{length, take, drop};
+ghost use Rattle.meaning.specs.Numbers.{mostN, mostV, octets, cellStart, perEntry, wordsIn};
+ghost use Rattle.meaning.specs.State.{HasVc};
 ghost use Rattle.meaning.specs.Lists.{endsFit};
 ghost use Rattle.spaces.specs.Spaces.{endsOf};
 ghost use Rattle.way.specs.Way.{slotRecord};
 ghost use Rattle.arriving.specs.Arriving.{Judges, Arrives, Seats, Spotted};
+use meaning::AT_M;
+use meaning::AT_WAITING;
+use meaning::WORDS_PER_VC;
 use way::Way;
 
 // An arrival: ok where its VC is open and in range and the cell is accepted; its VC, D, and S before the cell.
@@ -46,7 +51,7 @@ fn not_likely() -> Judgement
 
 // An open VC's own part of it.
 fn judge_open(w: Way, words: &[u32], u: usize) -> Judgement
-    requires { ⌜ (w .n ≤ 1024) × (7 * u + 7 ≤ length (now words)) ⌝ }
+    requires { ⌜ (w .n ≤ mostN) × (HasVc u (now words)) ⌝ }
     ensures { λ a. ⌜ (a .ok ≡ true → Judges (slotRecord w) (now (words .entry)) (a .vci) (a .d) (a .s) × (a .vci ≡ u)) ⌝ }
 {
     let j = turning::met(w.n, words, u, w.t);
@@ -56,11 +61,11 @@ fn judge_open(w: Way, words: &[u32], u: usize) -> Judgement
     if j.s > j.room {
         return not_likely();
     }
-    let b = 7 * u;
-    if words[b + 6] >= w.n as u32 {
+    let b = WORDS_PER_VC * u;
+    if words[b + AT_WAITING] >= w.n as u32 {
         return not_likely();
     }
-    let d = bucket::delay_of(j.s, words[b + 1]) as usize;
+    let d = bucket::delay_of(j.s, words[b + AT_M]) as usize;
     Judgement {
         ok: true,
         vci: u,
@@ -71,7 +76,7 @@ fn judge_open(w: Way, words: &[u32], u: usize) -> Judgement
 
 // Slot i's arrival.
 fn arrived(w: Way, words: &[u32], arrivals: &[u8], i: usize) -> Judgement
-    requires { ⌜ (w .n ≤ 1024) × (w .v ≤ 1024) × (length (now words) ≡ 7 * w .v) × (53 * i + 53 ≤ length (now arrivals)) ⌝ }
+    requires { ⌜ (w .n ≤ mostN) × (w .v ≤ mostV) × (length (now words) ≡ wordsIn (w .v)) × (cellStart i + octets ≤ length (now arrivals)) ⌝ }
     ensures { λ a. ⌜ (a .ok ≡ true → Arrives (slotRecord w) (now (words .entry)) (take 53 (drop (53 * i) (now (arrivals .entry)))) (a .vci) (a .d) (a .s)) ⌝ }
 {
     let u = header::name_at(arrivals, 53 * i) as usize;
@@ -81,7 +86,7 @@ fn arrived(w: Way, words: &[u32], arrivals: &[u8], i: usize) -> Judgement
     if u >= w.v {
         return not_likely();
     }
-    if words[7 * u] != 1 {
+    if words[WORDS_PER_VC * u] != 1 {
         return not_likely();
     }
     judge_open(w, words, u)
@@ -105,7 +110,7 @@ fn no_spot() -> Spot
 
 // The seat of an accepted cell. A Free List with one space is left to the long way.
 fn seat_of(w: Way, a: Judgement, links: &[u16], calendar: &[u16]) -> Spot
-    requires { ⌜ (w .n ≤ 1024) × (length (now links) ≡ w .n) × (length (now calendar) ≡ 2 * w .n) × (w .turn < w .n) × (a .d < w .n) × (endsFit (w .n) (endsOf (w .freehead) (w .freetail)) ≡ true) ⌝ }
+    requires { ⌜ (w .n ≤ mostN) × (length (now links) ≡ w .n) × (length (now calendar) ≡ perEntry * w .n) × (w .turn < w .n) × (a .d < w .n) × (endsFit (w .n) (endsOf (w .freehead) (w .freetail)) ≡ true) ⌝ }
     ensures { λ p. ⌜ (p .ok ≡ true → Seats (slotRecord w) (now (links .entry)) (now (calendar .entry)) p × (p .vci ≡ a .vci) × (p .d ≡ a .d) × (p .s ≡ a .s)) ⌝ }
 {
     if w.freehead == w.freetail {
@@ -159,7 +164,7 @@ pub fn accepted_spot(
     arrivals: &[u8],
     i: usize,
 ) -> Spot
-    requires { ⌜ (w .n ≤ 1024) × (w .v ≤ 1024) × (length (now links) ≡ w .n) × (length (now calendar) ≡ 2 * w .n) × (length (now words) ≡ 7 * w .v) × (w .turn < w .n) × (53 * i + 53 ≤ length (now arrivals)) × (endsFit (w .n) (endsOf (w .freehead) (w .freetail)) ≡ true) ⌝ }
+    requires { ⌜ (w .n ≤ mostN) × (w .v ≤ mostV) × (length (now links) ≡ w .n) × (length (now calendar) ≡ perEntry * w .n) × (length (now words) ≡ wordsIn (w .v)) × (w .turn < w .n) × (cellStart i + octets ≤ length (now arrivals)) × (endsFit (w .n) (endsOf (w .freehead) (w .freetail)) ≡ true) ⌝ }
     ensures { λ p. ⌜ (p .ok ≡ true → Spotted (slotRecord w) (now (links .entry)) (now (calendar .entry)) (now (words .entry)) (take 53 (drop (53 * i) (now (arrivals .entry)))) p) ⌝ }
 {
     let a = arrived(w, words, arrivals, i);

@@ -10,6 +10,7 @@ use lib.ListN.{length, getD, set}
 use lib.Seq.{getD-set-same, getD-set-other}
 use borrow.Author.Tests.{lt-ltb, le-ltb, le-leb, eq-eqb, ne-eqb, eqb-true, ltb-true, leb-true}
 use Rattle.meaning.specs.Plain.{if_then_else_, _<?_, _≤?_, _=?_}
+use Rattle.meaning.specs.Numbers.{wordsPerVc}
 use Rattle.meaning.specs.Words.{vcAt}
 use Rattle.audit.specs.Budgets.{inside, waitsOf, waitsAt}
 use Rattle.walks.proofs.Choice.{if-elim, both}
@@ -98,19 +99,19 @@ module _ (words : List ℕ) where
       go (no z) = waits-past 1 k (omega arith)
 
   -- the two words that the code reads
-  opened-at : (k : ℕ) → vcAt words k .opened ≡ getD words (7 * k) 0
+  opened-at : (k : ℕ) → vcAt words k .opened ≡ getD words (wordsPerVc * k) 0
   unfolding vcAt
   opened-at k = ap (λ (i : ℕ). getD words i 0) (omega arith)
 
-  waiting-at : (k : ℕ) → vcAt words k .waiting ≡ getD words (7 * k + 6) 0
+  waiting-at : (k : ℕ) → vcAt words k .waiting ≡ getD words (wordsPerVc * k + 6) 0
   unfolding vcAt
   waiting-at k = refl
 
-  pub waits-read : (k : ℕ) → getD words (7 * k) 0 ≡ 1 → getD words (7 * k + 6) 0 ≡ waitsOf (vcAt words k)
+  pub waits-read : (k : ℕ) → getD words (wordsPerVc * k) 0 ≡ 1 → getD words (wordsPerVc * k + 6) 0 ≡ waitsOf (vcAt words k)
   unfolding waitsOf
   waits-read k h = rw (eq-eqb (vcAt words k .opened) 1 (opened-at k ∙ h)) (sym (waiting-at k))
 
-  pub waits-read-shut : (k : ℕ) → (getD words (7 * k) 0 ≡ 1 → ⊥) → 0 ≡ waitsOf (vcAt words k)
+  pub waits-read-shut : (k : ℕ) → (getD words (wordsPerVc * k) 0 ≡ 1 → ⊥) → 0 ≡ waitsOf (vcAt words k)
   unfolding waitsOf
   waits-read-shut k h = rw (ne-eqb (vcAt words k .opened) 1 (λ e. h (sym (opened-at k) ∙ e)))
 

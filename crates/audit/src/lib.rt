@@ -4,13 +4,17 @@ ghost use mathlib.Core.Path.{_≡_};
 ghost use mathlib.Core.Bool.{true};
 ghost use Prim.Native.Nat.{ℕ, _+_, _*_, _≤_, _<_};
 ghost use lib.ListN.{length, getD};
-ghost use Rattle.meaning.specs.State.{stateOf};
+ghost use Rattle.meaning.specs.Numbers.{wordsIn};
+ghost use Rattle.meaning.specs.State.{HasVc};
 ghost use Rattle.meaning.specs.Words.{vcAt, vcFits};
 ghost use Rattle.meaning.specs.Promises.{AuditPromise};
+ghost use Rattle.meaning.specs.Lent.{before};
 ghost use Rattle.walks.specs.Budget.{Gone};
 ghost use Rattle.audit.specs.Budgets.{inside, waitsOf, waitsAt};
 ghost use Rattle.audit.specs.Shape.{recordFits, shapeHolds};
+use meaning::AT_WAITING;
 use meaning::Record;
+use meaning::WORDS_PER_VC;
 use refusal::lengths_hold;
 use refusal::ranges_hold;
 use walks::stored;
@@ -30,19 +34,19 @@ fn fill_spaces(b: &mut [u32], n: u16)
 
 // The cells that may wait at a VC: none at a closed one, whatever its word says.
 fn waits_of(words: &[u32], vci: u16) -> u32
-    requires { ⌜ 7 * vci + 7 ≤ length (now words) ⌝ }
+    requires { ⌜ HasVc vci (now words) ⌝ }
     ensures { λ a. ⌜ a ≡ waitsOf (vcAt (now (words .entry)) vci) ⌝ }
 {
-    let base = 7 * (vci as usize);
+    let base = WORDS_PER_VC * (vci as usize);
     if words[base] == 1 {
-        return words[base + 6];
+        return words[base + AT_WAITING];
     }
     0
 }
 
 // The words of VC 1 to V-1 are in their ranges; their waiting cells go into the cells' budget.
 fn fill_waits(n: u16, v: u16, words: &[u32], waits: &mut [u32]) -> bool
-    requires { ⌜ (1 < v) × (v ≤ length (now waits)) × (7 * v ≤ length (now words)) × Gone (now waits) ⌝ }
+    requires { ⌜ (1 < v) × (v ≤ length (now waits)) × (wordsIn v ≤ length (now words)) × Gone (now waits) ⌝ }
     ensures yes { λ a. ⌜ (a ≡ true → (((vci : ℕ) → 1 ≤ vci → vci < v → vcFits n (vcAt (now (words .entry)) vci) ≡ true) × ((k : ℕ) → getD (now (waits .exit)) k 0 ≡ waitsAt (now (words .entry)) v k))) ⌝ }
     ensures no { λ a. ⌜ (((vci : ℕ) → 1 ≤ vci → vci < v → vcFits n (vcAt (now (words .entry)) vci) ≡ true) → a ≡ true) ⌝ }
 {
@@ -76,7 +80,7 @@ fn record_fits(r: Record) -> bool
 
 // N, V, the four lengths, and the record's numbers that name no space.
 fn shaped(r: Record, cells: &[u8], links: &[u16], calendar: &[u16], words: &[u32]) -> bool
-    ensures { λ a. ⌜ a ≡ shapeHolds (stateOf r (now (cells .entry)) (now (links .entry)) (now (calendar .entry)) (now (words .entry))) ⌝ }
+    ensures { λ a. ⌜ a ≡ shapeHolds (before r cells links calendar words) ⌝ }
 {
     if !ranges_hold(r.n, r.v) {
         return false;
@@ -96,7 +100,7 @@ fn shaped(r: Record, cells: &[u8], links: &[u16], calendar: &[u16], words: &[u32
 
 // Do the clauses of the audit hold? Linear in N + V: each list is walked once, and no space twice.
 pub fn audit(r: Record, cells: &[u8], links: &[u16], calendar: &[u16], words: &[u32]) -> bool
-    ensures { λ a. ⌜ AuditPromise (stateOf r (now (cells .entry)) (now (links .entry)) (now (calendar .entry)) (now (words .entry))) a ⌝ }
+    ensures { λ a. ⌜ AuditPromise (before r cells links calendar words) a ⌝ }
 {
     if shaped(r, cells, links, calendar, words) {
         if calendar[2 * (r.turn as usize)] == 65535 {

@@ -8,7 +8,7 @@ use native.Mathlib.Omega.{arith}
 use borrow.Author.Tests.{eqb-false, not-true}
 use lib.ListN.{length, set, length-set}
 use Rattle.meaning.specs.Plain.{if_then_else_, _<?_, _≤?_, _=?_, refused, _andThen_}
-use Rattle.meaning.specs.Numbers.{cellStart, empty, unknown}
+use Rattle.meaning.specs.Numbers.{cellStart, empty, unknown, wordsPerVc}
 use Rattle.meaning.specs.State.{Ends, freeList, outputList, withRecord, withCells, withLinks, withCalendar, withWords}
 use Rattle.meaning.specs.State.{recordWith, withClock, withFreeList, withOutputList}
 use Rattle.meaning.specs.Header.{headerAt, noUserCell, namesVc, namesOpenVc}
@@ -61,7 +61,7 @@ module _ (N z : ℕ) where
     pub cells-long : length (w .state .cells) ≡ 53 * N
     pub links-long : length (w .state .links) ≡ N
     pub calendar-long : length (w .state .calendar) ≡ 2 * N
-    pub words-long : length (w .state .words) ≡ 7 * z
+    pub words-long : length (w .state .words) ≡ wordsPerVc * z
 
   step1-long : (w : Work) → Long w → AllOut Long (step1 w)
   unfolding step1 withClock withRecord recordWith

@@ -6,20 +6,21 @@ use mathlib.Core.Bool.{true}
 use mathlib.Core.List.{List}
 use lib.ListN.{length}
 use Rattle.meaning.specs.Numbers.{octets, cellStart, empty}
-use Rattle.meaning.specs.State.{State, stateOf}
+use Rattle.meaning.specs.State.{State}
+use Rattle.meaning.specs.Lent.{Lent}
 use Rattle.meaning.specs.Line.{cellsAllowed}
 use Rattle.handout.specs.Handout.{answerLong}
 use Rattle.burst.specs.Burst.{Stretch, stretchOf, burst}
 use Rattle.burst.specs.declared.BurstEnd.{BurstEnd}
 
--- a primed name is what a lent buffer holds afterwards
-abbrev pub burstPromise : State → List ℕ → List ℕ → List ℕ → List ℕ → BurstEnd → List ℕ → List ℕ → List ℕ → List ℕ → List ℕ → List ℕ → Type 0
-burstPromise s arrivals sizes departures answers r cells′ links′ calendar′ words′ departures′ answers′ =
-    stretchOf (stateOf (r .ctl) cells′ links′ calendar′ words′) departures′ answers′ (r .number) (r .done)
-    ≡ burst s arrivals sizes departures answers
+-- s′ is the state afterwards
+abbrev pub burstPromise : State → Lent → Lent → Lent → Lent → BurstEnd → State → Type 0
+burstPromise s arrivals sizes departures answers r s′ =
+    stretchOf s′ (departures .exit .now) (answers .exit .now) (r .number) (r .done)
+    ≡ burst s (arrivals .entry .now) (sizes .entry .now) (departures .entry .now) (answers .entry .now)
 
 -- slot i has its octets and its six numbers
-pub record Lent (arrivals departures answers : List ℕ) (i : ℕ) : Type 0 where
+pub record SlotLent (arrivals departures answers : List ℕ) (i : ℕ) : Type 0 where
   pub arrival : cellStart i + octets ≤ length arrivals
   pub departure : cellStart i + octets ≤ length departures
   pub answer : answerLong * i + answerLong ≤ length answers

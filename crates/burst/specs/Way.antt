@@ -10,7 +10,7 @@ use mathlib.Core.Bool.{true}
 use mathlib.Core.List.{List}
 use lib.ListN.{length, getD}
 use Rattle.meaning.specs.declared.Record.{Record}
-use Rattle.meaning.specs.Numbers.{slotNumbers}
+use Rattle.meaning.specs.Numbers.{slotNumbers, wordsPerVc}
 use Rattle.meaning.specs.State.{stateOf}
 use Rattle.meaning.specs.Lists.{endsFit}
 use Rattle.plan.specs.Plan.{freeEnds, outputEnds}
@@ -26,7 +26,7 @@ pub record Shaped (r : Record) (cells links calendar words : List ℕ) : Type 0 
   pub cells-long : length cells ≡ 53 * r .n
   pub links-long : length links ≡ r .n
   pub calendar-long : length calendar ≡ 2 * r .n
-  pub words-long : length words ≡ 7 * r .v
+  pub words-long : length words ≡ wordsPerVc * r .v
 
 pub record Tries (r : Record) : Type 0 where
   pub not-raw : r .raw ≡ 0

@@ -5,10 +5,11 @@ ghost use mathlib.Core.Bool.{true};
 ghost use Prim.Native.Nat.{_+_, _-_, _*_, _≤_, _<_};
 ghost use lib.ListN.{length, drop};
 ghost use Rattle.meaning.specs.Plain.{_=?_};
-ghost use Rattle.meaning.specs.State.{stateOf};
+ghost use Rattle.meaning.specs.Numbers.{wordsIn};
 ghost use Rattle.meaning.specs.Promises.{slotPromise};
+ghost use Rattle.meaning.specs.Lent.{before, after, servedAfter};
 ghost use Rattle.burst.specs.Burst.{Stretch, stretchOf, sizeFits, oneSlot, slots, lengthsFit};
-ghost use Rattle.burst.specs.Promise.{burstPromise, Lent, BurstLent};
+ghost use Rattle.burst.specs.Promise.{burstPromise, SlotLent, BurstLent};
 ghost use Rattle.burst.specs.Way.{Shaped, Tries, Held, Room, wayStretch};
 use meaning::Answer;
 use meaning::Record;
@@ -108,7 +109,7 @@ fn as_called(
     words: &mut [u32],
     cell: &[u8],
 ) -> Served
-    ensures { λ s. ⌜ slotPromise (stateOf ctl (now (cells .entry)) (now (links .entry)) (now (calendar .entry)) (now (words .entry))) (now (cell .entry)) s (now (cells .exit)) (now (links .exit)) (now (calendar .exit)) (now (words .exit)) ⌝ }
+    ensures { λ s. ⌜ slotPromise (before ctl cells links calendar words) (now (cell .entry)) (servedAfter s cells links calendar words) ⌝ }
 {
     if slot::is_checked(ctl.raw, cell.len()) {
         return slot::checked(ctl, cells, links, calendar, words, cell);
@@ -125,7 +126,7 @@ fn serve_checked(
     words: &mut [u32],
     cell: &[u8],
 ) -> Served
-    ensures { λ s. ⌜ slotPromise (stateOf ctl (now (cells .entry)) (now (links .entry)) (now (calendar .entry)) (now (words .entry))) (now (cell .entry)) s (now (cells .exit)) (now (links .exit)) (now (calendar .exit)) (now (words .exit)) ⌝ }
+    ensures { λ s. ⌜ slotPromise (before ctl cells links calendar words) (now (cell .entry)) (servedAfter s cells links calendar words) ⌝ }
 {
     let k = copied(ctl);
     let s = as_called(k, cells, links, calendar, words, cell);
@@ -145,8 +146,8 @@ fn turn(
     answers: &mut [u16],
     i: usize,
 ) -> BurstEnd
-    requires { ⌜ Lent (now arrivals) (now departures) (now answers) i ⌝ }
-    ensures { λ r. ⌜ stretchOf (stateOf (r .ctl) (now (cells .exit)) (now (links .exit)) (now (calendar .exit)) (now (words .exit))) (now (departures .exit)) (now (answers .exit)) (r .number) (r .done) ≡ oneSlot (now (arrivals .entry)) size (stretchOf (stateOf ctl (now (cells .entry)) (now (links .entry)) (now (calendar .entry)) (now (words .entry))) (now (departures .entry)) (now (answers .entry)) 0 i) ⌝ }
+    requires { ⌜ SlotLent (now arrivals) (now departures) (now answers) i ⌝ }
+    ensures { λ r. ⌜ stretchOf (after (r .ctl) cells links calendar words) (now (departures .exit)) (now (answers .exit)) (r .number) (r .done) ≡ oneSlot (now (arrivals .entry)) size (stretchOf (before ctl cells links calendar words) (now (departures .entry)) (now (answers .entry)) 0 i) ⌝ }
 {
     if !size_fits(size) {
         return ended(ctl, 9, i);
@@ -194,7 +195,7 @@ fn least(a: usize, b: usize) -> usize
 // Where a run from slot i ends: with the burst, or where T or rotation steps round. VC 0 is not read in rotation's turn, so a
 // run begins with it only where its open word is 0, as that of a closed VC.
 fn run_end(w: Way, words: &[u32], i: usize, long: usize) -> usize
-    requires { ⌜ (w .turn < w .n) × (w .rotation < w .v) × (7 * w .v ≡ length (now words)) × (i ≤ long) ⌝ }
+    requires { ⌜ (w .turn < w .n) × (w .rotation < w .v) × (wordsIn (w .v) ≡ length (now words)) × (i ≤ long) ⌝ }
     ensures { λ r. ⌜ (i ≤ r) × (r ≤ long) × Room w (now (words .entry)) (r - i) ⌝ }
 {
     let round = least(w.n - w.turn, w.v - w.rotation);
@@ -340,7 +341,7 @@ fn try_likely(
     requires { ⌜ begin ≤ length (now sizes) ⌝ }
     ensures far { λ r. ⌜ (begin ≤ r .done) × (r .done ≤ length (now (sizes .entry))) × (r .number ≡ 0) ⌝ }
     ensures shaped { λ r. ⌜ Shaped (r .ctl) (now (cells .exit)) (now (links .exit)) (now (calendar .exit)) (now (words .exit)) ⌝ }
-    ensures rest { λ r. ⌜ slots (now (arrivals .entry)) (drop (r .done) (now (sizes .entry))) (stretchOf (stateOf (r .ctl) (now (cells .exit)) (now (links .exit)) (now (calendar .exit)) (now (words .exit))) (now (departures .exit)) (now (answers .exit)) 0 (r .done)) ≡ slots (now (arrivals .entry)) (drop begin (now (sizes .entry))) (stretchOf (stateOf ctl (now (cells .entry)) (now (links .entry)) (now (calendar .entry)) (now (words .entry))) (now (departures .entry)) (now (answers .entry)) 0 begin) ⌝ }
+    ensures rest { λ r. ⌜ slots (now (arrivals .entry)) (drop (r .done) (now (sizes .entry))) (stretchOf (after (r .ctl) cells links calendar words) (now (departures .exit)) (now (answers .exit)) 0 (r .done)) ≡ slots (now (arrivals .entry)) (drop begin (now (sizes .entry))) (stretchOf (before ctl cells links calendar words) (now (departures .entry)) (now (answers .entry)) 0 begin) ⌝ }
 {
     if !may_try(ctl) {
         return ended(ctl, 0, begin);
@@ -376,7 +377,7 @@ fn run(
 ) -> BurstEnd
     requires { ⌜ BurstLent (now arrivals) (now sizes) (now departures) (now answers) ⌝ }
     requires { ⌜ Shaped ctl (now cells) (now links) (now calendar) (now words) ⌝ }
-    ensures { λ r. ⌜ stretchOf (stateOf (r .ctl) (now (cells .exit)) (now (links .exit)) (now (calendar .exit)) (now (words .exit))) (now (departures .exit)) (now (answers .exit)) (r .number) (r .done) ≡ slots (now (arrivals .entry)) (now (sizes .entry)) (stretchOf (stateOf ctl (now (cells .entry)) (now (links .entry)) (now (calendar .entry)) (now (words .entry))) (now (departures .entry)) (now (answers .entry)) 0 0) ⌝ }
+    ensures { λ r. ⌜ stretchOf (after (r .ctl) cells links calendar words) (now (departures .exit)) (now (answers .exit)) (r .number) (r .done) ≡ slots (now (arrivals .entry)) (now (sizes .entry)) (stretchOf (before ctl cells links calendar words) (now (departures .entry)) (now (answers .entry)) 0 0) ⌝ }
 {
     let mut end = BurstEnd {
         ctl: ctl,
@@ -471,7 +472,7 @@ pub fn burst(
     departures: &mut [u8],
     answers: &mut [u16],
 ) -> BurstEnd
-    ensures { λ r. ⌜ burstPromise (stateOf ctl (now (cells .entry)) (now (links .entry)) (now (calendar .entry)) (now (words .entry))) (now (arrivals .entry)) (now (sizes .entry)) (now (departures .entry)) (now (answers .entry)) r (now (cells .exit)) (now (links .exit)) (now (calendar .exit)) (now (words .exit)) (now (departures .exit)) (now (answers .exit)) ⌝ }
+    ensures { λ r. ⌜ burstPromise (before ctl cells links calendar words) arrivals sizes departures answers r (after (r .ctl) cells links calendar words) ⌝ }
 {
     let fit = lengths_fit(
         ctl,

@@ -2,7 +2,7 @@
 ghost use mathlib.Core.Path.{_≡_};
 ghost use Prim.Native.Nat.{_+_, _*_, _≤_};
 ghost use lib.ListN.{length};
-ghost use Rattle.meaning.specs.Numbers.{cellStart};
+ghost use Rattle.meaning.specs.Numbers.{cellStart, octets};
 ghost use Rattle.meaning.specs.State.{writeCell};
 
 // Through a local array, so that all octets are loaded before the first is stored: wide moves.
@@ -32,7 +32,7 @@ fn start(space: u16) -> usize
 
 // The space's part of the lent cell memory, starting at 53 times its number, is lent on.
 pub fn put_cell(cells: &mut [u8], space: u16, cell: &[u8])
-    requires { ⌜ (53 * space + 53 ≤ length (now cells)) × (length (now cell) ≡ 53) ⌝ }
+    requires { ⌜ (cellStart space + octets ≤ length (now cells)) × (length (now cell) ≡ 53) ⌝ }
     ensures { λ r. ⌜ now (cells .exit) ≡ writeCell (now (cells .entry)) space (now (cell .entry)) ⌝ }
 {
     let a = start(space);

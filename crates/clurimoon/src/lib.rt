@@ -2,8 +2,9 @@
 // passes as a pointer and a length, a struct by value. include/clurimoon.h declares them.
 ghost use mathlib.Core.Path.{_≡_};
 ghost use lib.ListN.{length};
-ghost use Rattle.meaning.specs.State.{stateOf};
+ghost use Rattle.meaning.specs.Calls.{zeros};
 ghost use Rattle.meaning.specs.Promises.{setupPromise, openPromise, closePromise, slotPromise, AuditPromise};
+ghost use Rattle.meaning.specs.Lent.{before, after, setUpAfter, servedAfter};
 ghost use Rattle.burst.specs.Promise.{burstPromise};
 ghost use Rattle.clurimoon.specs.Places.{placePromise};
 use burst::BurstEnd;
@@ -22,7 +23,7 @@ pub extern "C" fn clurimoon_setup(
     calendar: &mut [u16],
     words: &mut [u32],
 ) -> Fresh
-    ensures { λ r. ⌜ setupPromise n v raw (now (cells .entry)) (now (links .entry)) (now (calendar .entry)) (now (words .entry)) r (now (cells .exit)) (now (links .exit)) (now (calendar .exit)) (now (words .exit)) ⌝ }
+    ensures { λ r. ⌜ setupPromise n v raw (before zeros cells links calendar words) (setUpAfter r cells links calendar words) ⌝ }
 {
     setup::setup(n, v, raw, cells, links, calendar, words)
 }
@@ -57,7 +58,7 @@ pub extern "C" fn clurimoon_slot(
     words: &mut [u32],
     cell: &[u8],
 ) -> Served
-    ensures { λ s. ⌜ slotPromise (stateOf ctl (now (cells .entry)) (now (links .entry)) (now (calendar .entry)) (now (words .entry))) (now (cell .entry)) s (now (cells .exit)) (now (links .exit)) (now (calendar .exit)) (now (words .exit)) ⌝ }
+    ensures { λ s. ⌜ slotPromise (before ctl cells links calendar words) (now (cell .entry)) (servedAfter s cells links calendar words) ⌝ }
 {
     slot::slot(ctl, cells, links, calendar, words, cell)
 }
@@ -78,7 +79,7 @@ pub extern "C" fn clurimoon_audit(
     calendar: &[u16],
     words: &[u32],
 ) -> bool
-    ensures { λ a. ⌜ AuditPromise (stateOf ctl (now (cells .entry)) (now (links .entry)) (now (calendar .entry)) (now (words .entry))) a ⌝ }
+    ensures { λ a. ⌜ AuditPromise (before ctl cells links calendar words) a ⌝ }
 {
     audit::audit(ctl, cells, links, calendar, words)
 }
@@ -95,7 +96,7 @@ pub extern "C" fn clurimoon_burst(
     departures: &mut [u8],
     answers: &mut [u16],
 ) -> BurstEnd
-    ensures { λ r. ⌜ burstPromise (stateOf ctl (now (cells .entry)) (now (links .entry)) (now (calendar .entry)) (now (words .entry))) (now (arrivals .entry)) (now (sizes .entry)) (now (departures .entry)) (now (answers .entry)) r (now (cells .exit)) (now (links .exit)) (now (calendar .exit)) (now (words .exit)) (now (departures .exit)) (now (answers .exit)) ⌝ }
+    ensures { λ r. ⌜ burstPromise (before ctl cells links calendar words) arrivals sizes departures answers r (after (r .ctl) cells links calendar words) ⌝ }
 {
     burst::burst(
         ctl,

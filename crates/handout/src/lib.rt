@@ -3,6 +3,7 @@
 ghost use mathlib.Core.Path.{_≡_};
 ghost use Prim.Native.Nat.{_+_, _*_, _≤_};
 ghost use lib.ListN.{length, take, drop};
+ghost use Rattle.meaning.specs.Numbers.{octets, cellStart};
 ghost use Rattle.meaning.specs.State.{writeCell};
 ghost use Rattle.handout.specs.Handout.{shownInto, writeAnswer, Shows};
 use cell::copy_cell;
@@ -10,7 +11,7 @@ use meaning::Answer;
 
 // The cell in this space, copied into slot i's own 53 octets.
 pub fn copy_departure(departures: &mut [u8], i: usize, cells: &[u8], space: usize)
-    requires { ⌜ (53 * i + 53 ≤ length (now departures)) × (53 * space + 53 ≤ length (now cells)) ⌝ }
+    requires { ⌜ (cellStart i + octets ≤ length (now departures)) × (cellStart space + octets ≤ length (now cells)) ⌝ }
     ensures { λ r. ⌜ now (departures .exit) ≡ writeCell (now (departures .entry)) i (take 53 (drop (53 * space) (now (cells .entry)))) ⌝ }
 {
     let a = 53 * i;
@@ -22,7 +23,7 @@ pub fn copy_departure(departures: &mut [u8], i: usize, cells: &[u8], space: usiz
 
 // The line cell of slot i, shown into its own octets: nothing moves where nothing departs.
 pub fn show(departures: &mut [u8], i: usize, cells: &[u8], space: u16)
-    requires { ⌜ 53 * i + 53 ≤ length (now departures) ⌝ }
+    requires { ⌜ cellStart i + octets ≤ length (now departures) ⌝ }
     requires { ⌜ Shows (now cells) space ⌝ }
     ensures { λ r. ⌜ now (departures .exit) ≡ shownInto (now (departures .entry)) i (now (cells .entry)) space ⌝ }
 {

@@ -5,7 +5,9 @@ ghost use mathlib.Core.Path.{_≡_};
 ghost use mathlib.Core.Bool.{true, false};
 ghost use Prim.Native.Nat.{_+_, _*_, _≤_, _<_};
 ghost use lib.ListN.{length, set};
+ghost use Rattle.meaning.specs.Numbers.{mostN, mostV, octets, cellStart, perEntry, wordsIn};
 ghost use Rattle.meaning.specs.Lists.{endsFit, entryAt, writeEntry};
+ghost use Rattle.meaning.specs.Lent.{here};
 ghost use Rattle.spaces.specs.Spaces.{endsOf};
 ghost use Rattle.spaces.specs.Leaver.{leaverOf};
 ghost use Rattle.plan.specs.Plan.{seatEnds};
@@ -14,6 +16,8 @@ ghost use Rattle.way.specs.Way.{slotRecord};
 ghost use Rattle.arriving.specs.Arriving.{seatAt, Seats};
 ghost use Rattle.leaving.specs.Leaving.{Left, PlannedUnmarked, PlannedMarked, Planned, Leaves, leaveWith, OffHere, OffThen};
 use arriving::Spot;
+use meaning::AT_WAITING;
+use meaning::WORDS_PER_VC;
 use way::Way;
 
 // What departs: nothing, or the space and its VC, and what is left of the Output List; whether entry T is marked, whether its
@@ -32,7 +36,7 @@ pub struct Leave {
 
 // The VC whose cell is in space x, if that cell may depart, else 0.
 fn seen(n: usize, v: usize, cells: &[u8], words: &[u32], x: usize) -> usize
-    requires { ⌜ (n ≤ 1024) × (v ≤ 1024) × (53 * x + 53 ≤ length (now cells)) × (length (now words) ≡ 7 * v) ⌝ }
+    requires { ⌜ (n ≤ mostN) × (v ≤ mostV) × (cellStart x + octets ≤ length (now cells)) × (length (now words) ≡ wordsIn v) ⌝ }
     ensures { λ r. ⌜ r ≡ leaverOf n v (now (cells .entry)) (now (words .entry)) x ⌝ }
 {
     let u = header::name_at(cells, 53 * x) as usize;
@@ -42,11 +46,11 @@ fn seen(n: usize, v: usize, cells: &[u8], words: &[u32], x: usize) -> usize
     if u >= v {
         return 0;
     }
-    let b = 7 * u;
+    let b = WORDS_PER_VC * u;
     if words[b] != 1 {
         return 0;
     }
-    let waiting = words[b + 6];
+    let waiting = words[b + AT_WAITING];
     if waiting == 0 {
         return 0;
     }
@@ -120,7 +124,7 @@ fn stuck() -> Leave
 
 // Steps 4 and 5 but for the departing VC, where entry T is not marked.
 fn plan_unmarked(w: Way, links: &[u16]) -> Leave
-    requires { ⌜ (w .n ≤ 1024) × (length (now links) ≡ w .n) × (endsFit (w .n) (endsOf (w .outhead) (w .outtail)) ≡ true) ⌝ }
+    requires { ⌜ (w .n ≤ mostN) × (length (now links) ≡ w .n) × (endsFit (w .n) (endsOf (w .outhead) (w .outtail)) ≡ true) ⌝ }
     ensures { λ o. ⌜ (o .ok ≡ true → PlannedUnmarked (slotRecord w) (now (links .entry)) o) ⌝ }
 {
     if w.outhead == 65535 {
@@ -152,7 +156,7 @@ fn plan_unmarked(w: Way, links: &[u16]) -> Leave
 
 // The same where it is marked, from head to tail.
 fn plan_marked(w: Way, links: &[u16], head: usize, tail: usize) -> Leave
-    requires { ⌜ (w .n ≤ 1024) × (length (now links) ≡ w .n) × (endsFit (w .n) (endsOf (w .outhead) (w .outtail)) ≡ true) × (head < w .n) × (tail < w .n) ⌝ }
+    requires { ⌜ (w .n ≤ mostN) × (length (now links) ≡ w .n) × (endsFit (w .n) (endsOf (w .outhead) (w .outtail)) ≡ true) × (head < w .n) × (tail < w .n) ⌝ }
     ensures { λ o. ⌜ (o .ok ≡ true → PlannedMarked (slotRecord w) (now (links .entry)) (endsOf head tail) o) ⌝ }
 {
     if w.outhead == 65535 {
@@ -185,7 +189,7 @@ fn plan_marked(w: Way, links: &[u16], head: usize, tail: usize) -> Leave
 
 // Steps 4 and 5 but for the departing VC.
 fn plan(w: Way, links: &[u16], calendar: &[u16]) -> Leave
-    requires { ⌜ (w .n ≤ 1024) × (length (now links) ≡ w .n) × (length (now calendar) ≡ 2 * w .n) × (w .turn < w .n) × (endsFit (w .n) (endsOf (w .outhead) (w .outtail)) ≡ true) ⌝ }
+    requires { ⌜ (w .n ≤ mostN) × (length (now links) ≡ w .n) × (length (now calendar) ≡ perEntry * w .n) × (w .turn < w .n) × (endsFit (w .n) (endsOf (w .outhead) (w .outtail)) ≡ true) ⌝ }
     ensures { λ o. ⌜ (o .ok ≡ true → Planned (slotRecord w) (now (links .entry)) (entryAt (now (calendar .entry)) (w .turn)) o) ⌝ }
 {
     let head = calendar[2 * w.turn] as usize;
@@ -224,7 +228,7 @@ fn with_vci(o: Leave, vci: usize) -> Leave
 
 // Steps 4 and 5 where no cell is accepted.
 pub fn off_quiet(w: Way, cells: &[u8], links: &[u16], calendar: &[u16], words: &[u32]) -> Leave
-    requires { ⌜ Sized (slotRecord w) (now cells) (now links) (now calendar) (now words) ⌝ }
+    requires { ⌜ Sized (here (slotRecord w) cells links calendar words) ⌝ }
     requires { ⌜ endsFit (w .n) (endsOf (w .outhead) (w .outtail)) ≡ true ⌝ }
     ensures { λ o. ⌜ (o .ok ≡ true → Leaves (slotRecord w) (entryAt (now (calendar .entry)) (w .turn)) o (OffHere (slotRecord w) (now (cells .entry)) (now (links .entry)) (now (words .entry)))) ⌝ }
 {
@@ -241,7 +245,7 @@ pub fn off_quiet(w: Way, cells: &[u8], links: &[u16], calendar: &[u16], words: &
 
 // The cell has D 0 and joined entry T, which then joins the Output List: the cell itself departs if that is empty.
 fn off_now(w: Way, p: Spot, cells: &[u8], links: &[u16], words: &[u32]) -> Leave
-    requires { ⌜ (w .n ≤ 1024) × (w .v ≤ 1024) × (length (now cells) ≡ 53 * w .n) × (length (now links) ≡ w .n) × (length (now words) ≡ 7 * w .v) ⌝ }
+    requires { ⌜ (w .n ≤ mostN) × (w .v ≤ mostV) × (length (now cells) ≡ octets * w .n) × (length (now links) ≡ w .n) × (length (now words) ≡ wordsIn (w .v)) ⌝ }
     requires { ⌜ (endsFit (w .n) (endsOf (w .outhead) (w .outtail)) ≡ true) × (endsFit (w .n) (endsOf (p .head) (p .tail)) ≡ true) × (p .x < w .n) × (1 ≤ p .vci) × (p .vci < w .v) ⌝ }
     ensures { λ o. ⌜ (o .ok ≡ true → Leaves (slotRecord w) (seatEnds (seatAt (slotRecord w) p)) o (OffThen (slotRecord w) p (now (cells .entry)) (now (links .entry)) (now (words .entry)))) ⌝ }
 {
@@ -282,7 +286,7 @@ fn off_now(w: Way, p: Spot, cells: &[u8], links: &[u16], words: &[u32]) -> Leave
 
 // The cell has D above 0 and joined another entry than T; it does not depart in this slot.
 fn off_later(w: Way, p: Spot, cells: &[u8], links: &[u16], calendar: &[u16], words: &[u32]) -> Leave
-    requires { ⌜ Sized (slotRecord w) (now cells) (now links) (now calendar) (now words) ⌝ }
+    requires { ⌜ Sized (here (slotRecord w) cells links calendar words) ⌝ }
     requires { ⌜ (endsFit (w .n) (endsOf (w .outhead) (w .outtail)) ≡ true) × (1 ≤ p .vci) × (p .vci < w .v) ⌝ }
     ensures { λ o. ⌜ (o .ok ≡ true → Leaves (slotRecord w) (entryAt (now (calendar .entry)) (w .turn)) o (OffThen (slotRecord w) p (now (cells .entry)) (now (links .entry)) (now (words .entry)))) ⌝ }
 {
@@ -309,7 +313,7 @@ pub fn off_accept(
     calendar: &[u16],
     words: &[u32],
 ) -> Leave
-    requires { ⌜ Sized (slotRecord w) (now cells) (now links) (now calendar) (now words) ⌝ }
+    requires { ⌜ Sized (here (slotRecord w) cells links calendar words) ⌝ }
     requires { ⌜ endsFit (w .n) (endsOf (w .outhead) (w .outtail)) ≡ true ⌝ }
     requires { ⌜ Seats (slotRecord w) (now links) (now calendar) p ⌝ }
     requires { ⌜ (p .d < w .n) × (1 ≤ p .vci) × (p .vci < w .v) ⌝ }

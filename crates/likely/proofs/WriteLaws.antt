@@ -9,25 +9,25 @@ use borrow.Author.Tests.{eq-eqb, ne-eqb}
 use lib.ListN.{getD, set}
 use lib.Seq.{getD-set-other, set-getD}
 use Rattle.meaning.specs.Plain.{if_then_else_, _=?_}
-use Rattle.meaning.specs.Numbers.{empty, waitingPlace}
+use Rattle.meaning.specs.Numbers.{empty, waitingPlace, wordsPerVc}
 use Rattle.meaning.specs.Lists.{writeEntry}
 use Rattle.arrival.specs.Arrival.{filled}
 use Rattle.spaces.specs.Spaces.{endsOf}
 
 -- waiting, once S and last of its VC are written
 pub waiting-kept : (words : List ℕ) (vci S t : ℕ)
-    → getD (set (set words (7 * vci + 4) S) (7 * vci + 5) t) (7 * vci + 6) 0 ≡ getD words (7 * vci + 6) 0
+    → getD (set (set words (wordsPerVc * vci + 4) S) (wordsPerVc * vci + 5) t) (wordsPerVc * vci + 6) 0 ≡ getD words (wordsPerVc * vci + 6) 0
 waiting-kept words vci S t =
-    getD-set-other (set words (7 * vci + 4) S) (7 * vci + 5) (7 * vci + 6) t 0 (λ q. omega arith)
-    ∙ getD-set-other words (7 * vci + 4) (7 * vci + 6) S 0 (λ q. omega arith)
+    getD-set-other (set words (wordsPerVc * vci + 4) S) (wordsPerVc * vci + 5) (wordsPerVc * vci + 6) t 0 (λ q. omega arith)
+    ∙ getD-set-other words (wordsPerVc * vci + 4) (wordsPerVc * vci + 6) S 0 (λ q. omega arith)
 
 pub fill-is : (words : List ℕ) (vci S t : ℕ)
-    → set (set (set words (7 * vci + 4) S) (7 * vci + 5) t) (7 * vci + 6)
-    (getD (set (set words (7 * vci + 4) S) (7 * vci + 5) t) (7 * vci + 6) 0 + 1)
+    → set (set (set words (wordsPerVc * vci + 4) S) (wordsPerVc * vci + 5) t) (wordsPerVc * vci + 6)
+    (getD (set (set words (wordsPerVc * vci + 4) S) (wordsPerVc * vci + 5) t) (wordsPerVc * vci + 6) 0 + 1)
     ≡ filled vci S t (getD words (waitingPlace vci) 0 + 1) words
 unfolding filled
 fill-is words vci S t =
-    ap (λ (x : ℕ). set (set (set words (7 * vci + 4) S) (7 * vci + 5) t) (7 * vci + 6) (x + 1)) (waiting-kept words vci S t)
+    ap (λ (x : ℕ). set (set (set words (wordsPerVc * vci + 4) S) (wordsPerVc * vci + 5) t) (wordsPerVc * vci + 6) (x + 1)) (waiting-kept words vci S t)
 
 -- an entry's head is written, and its tail where it was empty
 module _ (calendar : List ℕ) (e x head : ℕ) where

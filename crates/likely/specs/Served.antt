@@ -28,7 +28,7 @@ from2 k cell cells links calendar words =
     step2 (workOf (stateOf k cells links calendar words) (bareAnswer 0)) andThen step3 cell andThen step4 andThen step5
 
 pub record Ready (w : Way) (cells links calendar words : List ℕ) : Type 0 where
-  pub sized : Sized (slotRecord w) cells links calendar words
+  pub sized : Sized (stateOf (slotRecord w) cells links calendar words)
   pub free-fits : endsFit (w .n) (freeEnds (slotRecord w)) ≡ true
   pub output-fits : endsFit (w .n) (outputEnds (slotRecord w)) ≡ true
   pub zero-closed : w .rotation ≡ 0 → getD words 0 0 ≡ 0

@@ -7,8 +7,8 @@ ghost use mathlib.Core.List.{List, []};
 ghost use Prim.Native.Nat.{ℕ, _+_, _*_, _≤_, _<_};
 ghost use lib.ListN.{length, getD, set, take, drop};
 ghost use Rattle.meaning.specs.Plain.{if_then_else_, _=?_};
-ghost use Rattle.meaning.specs.Numbers.{empty, fPlace, sPlace, lastPlace, waitingPlace};
-ghost use Rattle.meaning.specs.State.{writeCell};
+ghost use Rattle.meaning.specs.Numbers.{empty, fPlace, sPlace, lastPlace, waitingPlace, octets, cellStart};
+ghost use Rattle.meaning.specs.State.{writeCell, HasVc};
 ghost use Rattle.meaning.specs.Lists.{emptyList, endsFit, entryAt, writeEntry};
 ghost use Rattle.meaning.specs.Work.{answerOf};
 ghost use Rattle.arrival.specs.Arrival.{broughtOf, filled, oneLess};
@@ -22,7 +22,12 @@ ghost use Rattle.leaving.specs.Leaving.{Leaves, OffHere, OffThen};
 ghost use Rattle.likely.specs.Served.{from2, Ready, Lent, Done, Either};
 use arriving::Spot;
 use leaving::Leave;
+use meaning::AT_F;
+use meaning::AT_LAST;
+use meaning::AT_S;
+use meaning::AT_WAITING;
 use meaning::Answer;
+use meaning::WORDS_PER_VC;
 use turning::Turn;
 use way::Way;
 
@@ -34,32 +39,32 @@ pub struct Went {
 
 // Step 2's words.
 fn put_turn(words: &mut [u32], rotation: usize, s: u32, last: u32)
-    requires { ⌜ 7 * rotation + 7 ≤ length (now words) ⌝ }
+    requires { ⌜ HasVc rotation (now words) ⌝ }
     ensures { λ r. ⌜ now (words .exit) ≡ set (set (now (words .entry)) (sPlace rotation) s) (lastPlace rotation) last ⌝ }
 {
-    let b = 7 * rotation;
-    words[b + 4] = s;
-    words[b + 5] = last;
+    let b = WORDS_PER_VC * rotation;
+    words[b + AT_S] = s;
+    words[b + AT_LAST] = last;
 }
 
 // The words of an accepted cell's VC: S grows by F, and one more waits.
 fn put_fill(words: &mut [u32], vci: usize, s: u32, t: u32)
-    requires { ⌜ (7 * vci + 7 ≤ length (now words)) × (s + getD (now words) (fPlace vci) 0 < 4294967296) × (getD (now words) (waitingPlace vci) 0 + 1 < 4294967296) ⌝ }
+    requires { ⌜ (HasVc vci (now words)) × (s + getD (now words) (fPlace vci) 0 < 4294967296) × (getD (now words) (waitingPlace vci) 0 + 1 < 4294967296) ⌝ }
     ensures { λ r. ⌜ now (words .exit) ≡ filled vci (s + getD (now (words .entry)) (fPlace vci) 0) t (getD (now (words .entry)) (waitingPlace vci) 0 + 1) (now (words .entry)) ⌝ }
 {
-    let b = 7 * vci;
-    words[b + 4] = s + words[b + 2];
-    words[b + 5] = t;
-    words[b + 6] = words[b + 6] + 1;
+    let b = WORDS_PER_VC * vci;
+    words[b + AT_S] = s + words[b + AT_F];
+    words[b + AT_LAST] = t;
+    words[b + AT_WAITING] = words[b + AT_WAITING] + 1;
 }
 
 // Waiting of a VC falls by one.
 fn put_less(words: &mut [u32], vci: usize)
-    requires { ⌜ (7 * vci + 7 ≤ length (now words)) × (1 ≤ getD (now words) (waitingPlace vci) 0) ⌝ }
+    requires { ⌜ (HasVc vci (now words)) × (1 ≤ getD (now words) (waitingPlace vci) 0) ⌝ }
     ensures { λ r. ⌜ now (words .exit) ≡ oneLess vci (now (words .entry)) ⌝ }
 {
-    let b = 7 * vci;
-    words[b + 6] = words[b + 6] - 1;
+    let b = WORDS_PER_VC * vci;
+    words[b + AT_WAITING] = words[b + AT_WAITING] - 1;
 }
 
 // An entry emptied, where on.
@@ -96,7 +101,7 @@ fn put_entry(calendar: &mut [u16], e: usize, x: usize, head: usize)
 
 // Slot i's cell into its space.
 fn put_cell(cells: &mut [u8], x: usize, arrivals: &[u8], i: usize)
-    requires { ⌜ (53 * x + 53 ≤ length (now cells)) × (53 * i + 53 ≤ length (now arrivals)) ⌝ }
+    requires { ⌜ (cellStart x + octets ≤ length (now cells)) × (cellStart i + octets ≤ length (now arrivals)) ⌝ }
     ensures { λ r. ⌜ now (cells .exit) ≡ writeCell (now (cells .entry)) x (take 53 (drop (53 * i) (now (arrivals .entry)))) ⌝ }
 {
     let a = 53 * x;
@@ -130,7 +135,7 @@ fn gone(w: Way) -> Went
 
 // No cell arrived, and nothing departs.
 fn bare_none(w: Way, r: Turn, words: &mut [u32], answers: &mut [u16], i: usize)
-    requires { ⌜ (7 * w .rotation + 7 ≤ length (now words)) × (6 * i + 6 ≤ length (now answers)) ⌝ }
+    requires { ⌜ (HasVc (w .rotation) (now words)) × (6 * i + 6 ≤ length (now answers)) ⌝ }
     ensures words { λ u. ⌜ now (words .exit) ≡ set (set (now (words .entry)) (sPlace (w .rotation)) (r .s)) (lastPlace (w .rotation)) (r .last) ⌝ }
     ensures answers { λ u. ⌜ now (answers .exit) ≡ writeAnswer (now (answers .entry)) i (answerOf 0 0 0 0 65535 0) ⌝ }
 {
@@ -248,7 +253,7 @@ fn store(
     requires { ⌜ Ready w (now cells) (now links) (now calendar) (now words) ⌝ }
     requires { ⌜ Turned (slotRecord w) (now words) r ⌝ }
     requires { ⌜ Spotted (slotRecord w) (now links) (now calendar) (now words) (take 53 (drop (53 * i) (now arrivals))) p ⌝ }
-    requires { ⌜ 53 * i + 53 ≤ length (now arrivals) ⌝ }
+    requires { ⌜ cellStart i + octets ≤ length (now arrivals) ⌝ }
     ensures cells { λ u. ⌜ now (cells .exit) ≡ writeCell (now (cells .entry)) (p .x) (take 53 (drop (53 * i) (now (arrivals .entry)))) ⌝ }
     ensures links { λ u. ⌜ now (links .exit) ≡ linked (not (p .head =? empty)) (p .x) (p .head) (now (links .entry)) ⌝ }
     ensures calendar { λ u. ⌜ now (calendar .exit) ≡ writeEntry (now (calendar .entry)) (p .e) (seatEnds (seatAt (slotRecord w) p)) ⌝ }
@@ -277,9 +282,9 @@ fn accept_none(
     requires { ⌜ Ready w (now cells) (now links) (now calendar) (now words) ⌝ }
     requires { ⌜ Turned (slotRecord w) (now words) r ⌝ }
     requires { ⌜ Spotted (slotRecord w) (now links) (now calendar) (now words) (take 53 (drop (53 * i) (now arrivals))) p ⌝ }
-    requires { ⌜ (53 * i + 53 ≤ length (now arrivals)) × (6 * i + 6 ≤ length (now answers)) ⌝ }
+    requires { ⌜ (cellStart i + octets ≤ length (now arrivals)) × (6 * i + 6 ≤ length (now answers)) ⌝ }
     requires { ⌜ (endsFit (w .n) (entryAt (writeEntry (now calendar) (p .e) (seatEnds (seatAt (slotRecord w) p))) (w .turn)) ≡ true) × (entryAt (writeEntry (now calendar) (p .e) (seatEnds (seatAt (slotRecord w) p))) (w .turn) .head ≡ empty) × (w .outhead ≡ empty) ⌝ }
-    ensures { λ s. ⌜ ((departures : List ℕ) → 53 * i + 53 ≤ length departures → Done (slotRecord w) (from2 (slotRecord w) (take 53 (drop (53 * i) (now (arrivals .entry)))) (now (cells .entry)) (now (links .entry)) (now (calendar .entry)) (now (words .entry))) s (now (cells .exit)) (now (links .exit)) (now (calendar .exit)) (now (words .exit)) departures departures (now (answers .entry)) (now (answers .exit)) i) ⌝ }
+    ensures { λ s. ⌜ ((departures : List ℕ) → cellStart i + octets ≤ length departures → Done (slotRecord w) (from2 (slotRecord w) (take 53 (drop (53 * i) (now (arrivals .entry)))) (now (cells .entry)) (now (links .entry)) (now (calendar .entry)) (now (words .entry))) s (now (cells .exit)) (now (links .exit)) (now (calendar .exit)) (now (words .exit)) departures departures (now (answers .entry)) (now (answers .exit)) i) ⌝ }
 {
     store(w, r, p, cells, links, calendar, words, arrivals, i);
     handout::put_answer(
@@ -316,7 +321,7 @@ fn accept_leave(
     requires { ⌜ Turned (slotRecord w) (now words) r ⌝ }
     requires { ⌜ Spotted (slotRecord w) (now links) (now calendar) (now words) (take 53 (drop (53 * i) (now arrivals))) p ⌝ }
     requires { ⌜ (o .none ≡ false) × Leaves (slotRecord w) (entryAt (writeEntry (now calendar) (p .e) (seatEnds (seatAt (slotRecord w) p))) (w .turn)) o (OffThen (slotRecord w) p (now cells) (now links) (now words)) ⌝ }
-    requires { ⌜ (53 * i + 53 ≤ length (now arrivals)) × Lent (now departures) (now answers) i ⌝ }
+    requires { ⌜ (cellStart i + octets ≤ length (now arrivals)) × Lent (now departures) (now answers) i ⌝ }
     ensures { λ s. ⌜ Done (slotRecord w) (from2 (slotRecord w) (take 53 (drop (53 * i) (now (arrivals .entry)))) (now (cells .entry)) (now (links .entry)) (now (calendar .entry)) (now (words .entry))) s (now (cells .exit)) (now (links .exit)) (now (calendar .exit)) (now (words .exit)) (now (departures .entry)) (now (departures .exit)) (now (answers .entry)) (now (answers .exit)) i ⌝ }
 {
     store(w, r, p, cells, links, calendar, words, arrivals, i);
@@ -356,7 +361,7 @@ fn accept(
     requires { ⌜ Ready w (now cells) (now links) (now calendar) (now words) ⌝ }
     requires { ⌜ Turned (slotRecord w) (now words) r ⌝ }
     requires { ⌜ Spotted (slotRecord w) (now links) (now calendar) (now words) (take 53 (drop (53 * i) (now arrivals))) p ⌝ }
-    requires { ⌜ (53 * i + 53 ≤ length (now arrivals)) × Lent (now departures) (now answers) i ⌝ }
+    requires { ⌜ (cellStart i + octets ≤ length (now arrivals)) × Lent (now departures) (now answers) i ⌝ }
     ensures { λ g. ⌜ Either (slotRecord w) (from2 (slotRecord w) (take 53 (drop (53 * i) (now (arrivals .entry)))) (now (cells .entry)) (now (links .entry)) (now (calendar .entry)) (now (words .entry))) g (now (cells .entry)) (now (links .entry)) (now (calendar .entry)) (now (words .entry)) (now (departures .entry)) (now (answers .entry)) (now (cells .exit)) (now (links .exit)) (now (calendar .exit)) (now (words .exit)) (now (departures .exit)) (now (answers .exit)) i ⌝ }
 {
     let o = leaving::off_accept(w, p, cells, links, calendar, words);
@@ -399,7 +404,7 @@ fn arrive(
 ) -> Went
     requires { ⌜ Ready w (now cells) (now links) (now calendar) (now words) ⌝ }
     requires { ⌜ Turned (slotRecord w) (now words) r ⌝ }
-    requires { ⌜ (53 * i + 53 ≤ length (now arrivals)) × Lent (now departures) (now answers) i ⌝ }
+    requires { ⌜ (cellStart i + octets ≤ length (now arrivals)) × Lent (now departures) (now answers) i ⌝ }
     ensures { λ g. ⌜ Either (slotRecord w) (from2 (slotRecord w) (take 53 (drop (53 * i) (now (arrivals .entry)))) (now (cells .entry)) (now (links .entry)) (now (calendar .entry)) (now (words .entry))) g (now (cells .entry)) (now (links .entry)) (now (calendar .entry)) (now (words .entry)) (now (departures .entry)) (now (answers .entry)) (now (cells .exit)) (now (links .exit)) (now (calendar .exit)) (now (words .exit)) (now (departures .exit)) (now (answers .exit)) i ⌝ }
 {
     let p = arriving::accepted_spot(w, links, calendar, words, arrivals, i);
@@ -436,7 +441,7 @@ pub fn slot(
     i: usize,
 ) -> Went
     requires { ⌜ Ready w (now cells) (now links) (now calendar) (now words) ⌝ }
-    requires { ⌜ (53 * i + 53 ≤ length (now arrivals)) × Lent (now departures) (now answers) i ⌝ }
+    requires { ⌜ (cellStart i + octets ≤ length (now arrivals)) × Lent (now departures) (now answers) i ⌝ }
     ensures fits { λ g. ⌜ (g .ok ≡ true → (size ≡ 0) ⊎ (size ≡ 53)) ⌝ }
     ensures is { λ g. ⌜ Either (slotRecord w) (from2 (slotRecord w) (take size (drop (53 * i) (now (arrivals .entry)))) (now (cells .entry)) (now (links .entry)) (now (calendar .entry)) (now (words .entry))) g (now (cells .entry)) (now (links .entry)) (now (calendar .entry)) (now (words .entry)) (now (departures .entry)) (now (answers .entry)) (now (cells .exit)) (now (links .exit)) (now (calendar .exit)) (now (words .exit)) (now (departures .exit)) (now (answers .exit)) i ⌝ }
 {

@@ -7,7 +7,7 @@ use mathlib.Core.List.{List}
 use native.Mathlib.Omega.{arith}
 use lib.ListN.{length, getD, set, length-set}
 use lib.Seq.{getD-set-same, getD-set-other, set-getD, set-set, set-comm}
-use Rattle.meaning.specs.Numbers.{openPlace, mPlace, fPlace, cPlace, sPlace, lastPlace, waitingPlace}
+use Rattle.meaning.specs.Numbers.{openPlace, mPlace, fPlace, cPlace, sPlace, lastPlace, waitingPlace, wordsPerVc, vcPlace}
 use Rattle.meaning.specs.Bucket.{Bucket, bucketOf, withS}
 use Rattle.meaning.specs.Words.{Vc, vcAt, writeVc, withWaiting, withBucket}
 
@@ -39,7 +39,7 @@ module _ (l : List ℕ) (v : ℕ) (vc : Vc) where
   write-length = simp length-set
 
   -- a place outside the VC's seven words keeps its word
-  pub write-other : (j : ℕ) → (7 * v ≤ j → j < 7 * v + 7 → ⊥) → getD (writeVc l v vc) j 0 ≡ getD l j 0
+  pub write-other : (j : ℕ) → (wordsPerVc * v ≤ j → j < wordsPerVc * v + wordsPerVc → ⊥) → getD (writeVc l v vc) j 0 ≡ getD l j 0
   unfolding writeVc
   write-other j out =
       past l6 (waitingPlace v) j (vc .waiting) _ (λ e. out (omega arith) (omega arith))
@@ -50,7 +50,7 @@ module _ (l : List ℕ) (v : ℕ) (vc : Vc) where
       (past l1 (mPlace v) j (vc .bucket .m) _ (λ e. out (omega arith) (omega arith))
       (past l (openPlace v) j (vc .opened) _ (λ e. out (omega arith) (omega arith)) refl))))))
 
-  module _ (inside : 7 * v + 7 ≤ length l) where
+  module _ (inside : vcPlace v + wordsPerVc ≤ length l) where
     at-waiting : getD (writeVc l v vc) (waitingPlace v) 0 ≡ vc .waiting
     unfolding writeVc
     at-waiting = getD-set-same l6 (waitingPlace v) (vc .waiting) 0 (simp length-set (omega arith))
@@ -128,8 +128,8 @@ write-read-other l v vc u ne = λ i.
       waiting = same 6 (omega arith) i;
     }
   where
-    same : (k : ℕ) → k < 7 → getD (writeVc l v vc) (7 * u + k) 0 ≡ getD l (7 * u + k) 0
-    same k h = write-other l v vc (7 * u + k) (λ a b. ne (omega arith))
+    same : (k : ℕ) → k < 7 → getD (writeVc l v vc) (wordsPerVc * u + k) 0 ≡ getD l (wordsPerVc * u + k) 0
+    same k h = write-other l v vc (wordsPerVc * u + k) (λ a b. ne (omega arith))
 
 -- a write of what changes, where the other words are stored again
 pub write-fall : (l : List ℕ) (v S t : ℕ)

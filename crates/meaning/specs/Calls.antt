@@ -7,7 +7,7 @@ use lib.ListN.{replicate}
 use Rattle.hec.specs.Modes.{correction}
 use Rattle.meaning.specs.declared.Record.{Record}
 use Rattle.meaning.specs.Plain.{if_then_else_, _<?_, _≤?_, _=?_}
-use Rattle.meaning.specs.Numbers.{rangesHold, octets, perEntry, wordsPerVc, empty, slotNumbers}
+use Rattle.meaning.specs.Numbers.{rangesHold, octets, perEntry, wordsIn, empty, slotNumbers}
 use Rattle.meaning.specs.State.{State, stateOf, wordsLong, lengthsHold}
 use Rattle.meaning.specs.Bucket.{Bucket, bucketOf, obeysRules}
 use Rattle.meaning.specs.Words.{Vc, vcAt, writeVc, vcFits, openedVc, closedVc, debt}
@@ -72,7 +72,7 @@ freshState N z raw =
       cells = replicate (octets * N) 0;
       links = countUp (N - 1) 1 ++ (0 ∷ []);
       calendar = replicate (perEntry * N) empty;
-      words = replicate (wordsPerVc * z) 0;
+      words = replicate (wordsIn z) 0;
     }
 
 -- "Setup is handed no record": N, V, whether cells come raw, and the four memories

@@ -7,6 +7,7 @@ pub mod Words
 pub mod Lists
 pub mod Calls
 pub mod Work
+pub mod Lent
 pub mod Arrival
 pub mod Slot
 pub mod Line

@@ -43,30 +43,37 @@ headPlace e = perEntry * e
 abbrev pub tailPlace : ℕ → ℕ
 tailPlace e = perEntry * e + 1
 
--- "7 × V words (per VC: open 0 or 1, m, F, C, S, last, waiting)"
+-- "7 × V words (per VC: open 0 or 1, m, F, C, S, last, waiting)": how many words a VC has, where its words begin, and how
+-- many there are for V VCs
 abbrev pub wordsPerVc : ℕ
 wordsPerVc = 7
 
+abbrev pub vcPlace : ℕ → ℕ
+vcPlace vci = wordsPerVc * vci
+
+abbrev pub wordsIn : ℕ → ℕ
+wordsIn z = wordsPerVc * z
+
 abbrev pub openPlace : ℕ → ℕ
-openPlace vci = wordsPerVc * vci + 0
+openPlace vci = vcPlace vci + 0
 
 abbrev pub mPlace : ℕ → ℕ
-mPlace vci = wordsPerVc * vci + 1
+mPlace vci = vcPlace vci + 1
 
 abbrev pub fPlace : ℕ → ℕ
-fPlace vci = wordsPerVc * vci + 2
+fPlace vci = vcPlace vci + 2
 
 abbrev pub cPlace : ℕ → ℕ
-cPlace vci = wordsPerVc * vci + 3
+cPlace vci = vcPlace vci + 3
 
 abbrev pub sPlace : ℕ → ℕ
-sPlace vci = wordsPerVc * vci + 4
+sPlace vci = vcPlace vci + 4
 
 abbrev pub lastPlace : ℕ → ℕ
-lastPlace vci = wordsPerVc * vci + 5
+lastPlace vci = vcPlace vci + 5
 
 abbrev pub waitingPlace : ℕ → ℕ
-waitingPlace vci = wordsPerVc * vci + 6
+waitingPlace vci = vcPlace vci + 6
 
 -- "65,535 marks an empty head or tail"; also "departing space (65,535 for none)"
 abbrev pub empty : ℕ

@@ -1,23 +1,22 @@
 -- What each of the six calls promises of its answer and of every lent octet and word afterwards, as its contract cites
--- it. A primed name is what a lent memory holds afterwards. proofs/Once.antt: two results of a promise coincide.
+-- it (by specs/Lent.antt, where it speaks of all memories). A primed name is what a lent memory holds afterwards.
+-- proofs/Once.antt: two results of a promise coincide.
 use Prim.Native.Nat.{ℕ, _+_}
 use mathlib.Core.Path.{_≡_}
 use mathlib.Core.Bool.{Bool, true}
 use mathlib.Core.List.{List}
 use lib.ListN.{length}
 use Rattle.meaning.specs.declared.Record.{Record}
-use Rattle.meaning.specs.declared.Fresh.{Fresh}
-use Rattle.meaning.specs.declared.Served.{Served}
-use Rattle.meaning.specs.State.{State, stateOf}
-use Rattle.meaning.specs.Calls.{SetUp, setUpOf, setup, Called, calledOf, openCall, closeCall}
-use Rattle.meaning.specs.Work.{Work, workOf}
+use Rattle.meaning.specs.State.{State}
+use Rattle.meaning.specs.Calls.{SetUp, setup, Called, calledOf, openCall, closeCall}
+use Rattle.meaning.specs.Work.{Work}
 use Rattle.meaning.specs.Slot.{slot}
 use Rattle.meaning.specs.Line.{Slice, cellMemory, idleCell, linePart, lineCell}
 use Rattle.meaning.specs.Audit.{AuditHolds}
 
-abbrev pub setupPromise : ℕ → ℕ → Bool → List ℕ → List ℕ → List ℕ → List ℕ → Fresh → List ℕ → List ℕ → List ℕ → List ℕ → Type 0
-setupPromise N z raw cells links calendar words r cells′ links′ calendar′ words′ =
-    setUpOf (r .number) (stateOf (r .ctl) cells′ links′ calendar′ words′) ≡ setup N z raw cells links calendar words
+-- "Setup is handed no record": of s, what is lent, the memories alone matter
+abbrev pub setupPromise : ℕ → ℕ → Bool → State → SetUp → Type 0
+setupPromise N z raw s r = r ≡ setup N z raw (s .cells) (s .links) (s .calendar) (s .words)
 
 abbrev pub openPromise : Record → List ℕ → ℕ → ℕ → ℕ → ℕ → ℕ → List ℕ → Type 0
 openPromise r words vci m F C number words′ = calledOf number words′ ≡ openCall r words vci m F C
@@ -25,9 +24,8 @@ openPromise r words vci m F C number words′ = calledOf number words′ ≡ ope
 abbrev pub closePromise : Record → List ℕ → ℕ → ℕ → List ℕ → Type 0
 closePromise r words vci number words′ = calledOf number words′ ≡ closeCall r words vci
 
-abbrev pub slotPromise : State → List ℕ → Served → List ℕ → List ℕ → List ℕ → List ℕ → Type 0
-slotPromise s cell r cells′ links′ calendar′ words′ =
-    workOf (stateOf (r .ctl) cells′ links′ calendar′ words′) (r .answer) ≡ slot s cell
+abbrev pub slotPromise : State → List ℕ → Work → Type 0
+slotPromise s cell w = w ≡ slot s cell
 
 -- where a part starts, given where the two slices do: a block of memory and a place in it
 abbrev pub startOf : ℕ × ℕ → ℕ × ℕ → Slice → ℕ × ℕ

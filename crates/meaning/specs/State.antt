@@ -1,11 +1,11 @@
 -- Document 01, "Numbers": the control record and the four lent memories, and how each group of fields is changed.
-use Prim.Native.Nat.{ℕ, _+_, _*_}
+use Prim.Native.Nat.{ℕ, _+_, _*_, _≤_}
 use mathlib.Core.Bool.{Bool, _&&_}
 use mathlib.Core.List.{List, _++_}
 use lib.ListN.{length, take, drop}
 use Rattle.meaning.specs.declared.Record.{Record}
 use Rattle.meaning.specs.Plain.{_=?_}
-use Rattle.meaning.specs.Numbers.{octets, perEntry, wordsPerVc, cellStart}
+use Rattle.meaning.specs.Numbers.{octets, perEntry, wordsPerVc, vcPlace, wordsIn, cellStart}
 
 -- "Lent memory: 53 × N octets of cells; N links; 2 × N calendar numbers; 7 × V words. The control record
 -- goes in and out by value"
@@ -33,7 +33,11 @@ outputList s = record { head = s .ctl .outhead; tail = s .ctl .outtail }
 
 -- refusal 2: "a lent buffer has another length than above"
 unfoldable pub wordsLong : ℕ → List ℕ → Bool
-wordsLong z words = length words =? wordsPerVc * z
+wordsLong z words = length words =? wordsIn z
+
+-- all words of a VC stand in the lent words
+abbrev pub HasVc : ℕ → List ℕ → Type 0
+HasVc vci words = vcPlace vci + wordsPerVc ≤ length words
 
 unfoldable pub lengthsHold : ℕ → ℕ → List ℕ → List ℕ → List ℕ → List ℕ → Bool
 lengthsHold N z cells links calendar words =

@@ -1,4 +1,20 @@
-// The structs that pass by value, as C sees them too; what every call does with them stands in specs/.
+// The structs that pass by value, as C sees them too, and the places of a VC's words; what every call does with them stands
+// in specs/.
+
+// How many words a VC has in the lent memory, and where among them each but the first stands (the first is the open word).
+pub const WORDS_PER_VC: usize = 7;
+
+pub const AT_M: usize = 1;
+
+pub const AT_F: usize = 2;
+
+pub const AT_C: usize = 3;
+
+pub const AT_S: usize = 4;
+
+pub const AT_LAST: usize = 5;
+
+pub const AT_WAITING: usize = 6;
 
 // The control record: N, V, t, T (turn), rotation, head and tail of the Free List and of the Output List; whether cells
 // come raw, 0 or 1, and the mode of the header check, 0 correction, 1 detection.

@@ -11,7 +11,7 @@ use Rattle.meaning.specs.declared.Fresh.{Fresh}
 use Rattle.meaning.specs.declared.Served.{Served}
 use Rattle.meaning.specs.Plain.{if_then_else_, _=?_}
 use Rattle.meaning.specs.State.{State, stateOf, withWords}
-use Rattle.meaning.specs.Calls.{SetUp, setUpOf, Called, calledOf}
+use Rattle.meaning.specs.Calls.{SetUp, setUpOf, zeros, Called, calledOf}
 use Rattle.meaning.specs.Work.{Work, workOf}
 use Rattle.meaning.specs.Slot.{slot}
 use Rattle.meaning.specs.Promises.{setupPromise, openPromise, closePromise, slotPromise}
@@ -31,7 +31,7 @@ worldBy at left t w =
 
 pub serve-did : (run : Run) (at left : ℕ) (cells links calendar words cell out : List ℕ) (used : ℕ)
     (r : Served) (cells′ links′ calendar′ words′ : List ℕ) (tally : Tally) (out′ : List ℕ) (used′ : ℕ)
-    → slotPromise (stateOf (run .ctl) cells links calendar words) cell r cells′ links′ calendar′ words′
+    → slotPromise (stateOf (run .ctl) cells links calendar words) cell (workOf (stateOf (r .ctl) cells′ links′ calendar′ words′) (r .answer))
     → tally ≡ counted (run .tally) (r .answer)
     → Put out used (slotLine (r .ctl .t) (r .answer)) out′ used′
     → used′ ≤ used + 64
@@ -89,7 +89,7 @@ module _ (run run′ : Run) (next : ℕ) (cells links calendar words words′ ou
 
 module _ (run : Run) (N z : ℕ) (raw : Bool) (next : ℕ) (cells links calendar words out : List ℕ) (used : ℕ)
     (r : Fresh) (cells′ links′ calendar′ words′ : List ℕ)
-    (e : setupPromise N z raw cells links calendar words r cells′ links′ calendar′ words′) where
+    (e : setupPromise N z raw (stateOf zeros cells links calendar words) (setUpOf (r .number) (stateOf (r .ctl) cells′ links′ calendar′ words′))) where
   setupText : SetUp → List ℕ
   setupText x = setupLine N z (x .number) ++ (if not (x .number =? 0) then endOf noTally else [])
 

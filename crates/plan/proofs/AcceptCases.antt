@@ -10,7 +10,7 @@ use lib.ListN.{getD}
 use Rattle.meaning.specs.declared.Record.{Record}
 use Rattle.meaning.specs.Plain.{_=?_, refused, next, _andThen_}
 use Rattle.meaning.specs.Numbers.{empty, waitingPlace}
-use Rattle.meaning.specs.State.{Ends, freeList, recordWith, writeCell}
+use Rattle.meaning.specs.State.{Ends, stateOf, freeList, recordWith, writeCell}
 use Rattle.meaning.specs.Lists.{emptyList, endsFit, entryAt, writeEntry}
 use Rattle.meaning.specs.Work.{Work}
 use Rattle.meaning.specs.Slot.{step4, step5}
@@ -40,7 +40,7 @@ module _ (k : Record) (b : Fall) (j : Judged) (a : Seat) (cell cells links calen
   abbrev words₃ : List ℕ
   words₃ = filled (j .vci) (j .s) (k .t) (j .waiting) (rotated k b words)
 
-  module _ (z : Sized k cells links calendar words) (acc : Accepted k j cell words) (seat : Seated k a) where
+  module _ (z : Sized (stateOf k cells links calendar words)) (acc : Accepted k j cell words) (seat : Seated k a) where
     is-stored : Stored (j .vci) (a .x) cells cells₃
     is-stored =
         stored (j .vci) (a .x) cells cell (omega (arith, z .cells-long, seat .x-low)) (acc .cell-long) (acc .vpi-is) (acc .vci-is)

@@ -12,7 +12,7 @@ use borrow.Author.Tests.{eq-eqb, ne-eqb, le-leb, lt-leb, leb-true}
 use lib.ListN.{length}
 use Rattle.meaning.specs.declared.Record.{Record}
 use Rattle.meaning.specs.Plain.{if_then_else_, _≤?_, _=?_, refused, next}
-use Rattle.meaning.specs.Numbers.{slotNumbers, unknown}
+use Rattle.meaning.specs.Numbers.{slotNumbers, unknown, wordsPerVc, vcPlace}
 use Rattle.meaning.specs.State.{stateOf, withWords}
 use Rattle.meaning.specs.Header.{headerAt}
 use Rattle.meaning.specs.Bucket.{withS, elapsed, fall, obeysRules}
@@ -166,7 +166,7 @@ judged-again N t vci vc o f =
 -- what step 3 finds at a VC is what it would have found before step 2
 pub judged-vc-same : (k : Record) (words : List ℕ) (vci : ℕ) (b : Fall)
     → b ≡ broughtOf (k .n) (k .t) words (k .rotation)
-    → 7 * k .rotation + 7 ≤ length words
+    → vcPlace (k .rotation) + wordsPerVc ≤ length words
     → judgedVc (k .n) (k .t) (rotated k b words) vci ≡ judgedVc (k .n) (k .t) words vci
 unfolding judgedVc rotated fallen
 judged-vc-same k words vci b e inside = go (b .on) refl (ℕ-discrete vci (k .rotation))
@@ -201,7 +201,7 @@ judged-vc-same k words vci b e inside = go (b .on) refl (ℕ-discrete vci (k .ro
 -- and so of every cell
 pub judged-same : (k : Record) (words cell : List ℕ) (b : Fall)
     → b ≡ broughtOf (k .n) (k .t) words (k .rotation)
-    → 7 * k .rotation + 7 ≤ length words
+    → vcPlace (k .rotation) + wordsPerVc ≤ length words
     → judgedOf (k .n) (k .v) (k .t) (rotated k b words) cell ≡ judgedOf (k .n) (k .v) (k .t) words cell
 unfolding judgedOf
 judged-same k words cell b e inside = rw (judged-vc-same k words (headerAt cell 0 .vci) b e inside)

@@ -1,6 +1,6 @@
 -- What is known where the slot's cases write: each is shown by the tests that came before, and asked of the caller.
 --
---   Sized k ..       == refusals 1 and 2 are not given, and the clock has moved
+--   Sized s          == refusals 1 and 2 are not given, and the clock has moved
 --   Accepted k j ..  == of an accepted cell: its VC, its D and its waiting
 --   Seated k a       == of an accepted cell: its space and entry, and the Free List without the space
 --   OffStored k ..   == what departs, for every memory in which the cell is stored and counted
@@ -11,8 +11,8 @@ use mathlib.Core.List.{List}
 use lib.ListN.{length}
 use Rattle.meaning.specs.declared.Record.{Record}
 use Rattle.meaning.specs.Plain.{_=?_}
-use Rattle.meaning.specs.Numbers.{empty}
-use Rattle.meaning.specs.State.{Ends}
+use Rattle.meaning.specs.Numbers.{mostN, leastV, mostV, octets, perEntry, wordsPerVc, empty}
+use Rattle.meaning.specs.State.{State, Ends}
 use Rattle.meaning.specs.Header.{headerAt}
 use Rattle.meaning.specs.Words.{vcAt}
 use Rattle.meaning.specs.Lists.{endsFit}
@@ -22,17 +22,17 @@ use Rattle.spaces.specs.declared.Off.{Off}
 use Rattle.spaces.specs.Spaces.{endsOf, linked, offOf, Stored, Counted}
 use Rattle.plan.specs.Plan.{joinedHead}
 
-pub record Sized (k : Record) (cells links calendar words : List ℕ) : Type 0 where
-  pub n-low : 1 ≤ k .n
-  pub n-high : k .n ≤ 1024
-  pub v-low : 2 ≤ k .v
-  pub v-high : k .v ≤ 1024
-  pub cells-long : length cells ≡ 53 * k .n
-  pub links-long : length links ≡ k .n
-  pub calendar-long : length calendar ≡ 2 * k .n
-  pub words-long : length words ≡ 7 * k .v
-  pub turn-low : k .turn < k .n
-  pub rotation-low : k .rotation < k .v
+pub record Sized (s : State) : Type 0 where
+  pub n-low : 1 ≤ s .ctl .n
+  pub n-high : s .ctl .n ≤ mostN
+  pub v-low : leastV ≤ s .ctl .v
+  pub v-high : s .ctl .v ≤ mostV
+  pub cells-long : length (s .cells) ≡ octets * s .ctl .n
+  pub links-long : length (s .links) ≡ s .ctl .n
+  pub calendar-long : length (s .calendar) ≡ perEntry * s .ctl .n
+  pub words-long : length (s .words) ≡ wordsPerVc * s .ctl .v
+  pub turn-low : s .ctl .turn < s .ctl .n
+  pub rotation-low : s .ctl .rotation < s .ctl .v
 
 pub record Accepted (k : Record) (j : Judged) (cell words : List ℕ) : Type 0 where
   pub vci-low : 1 ≤ j .vci
@@ -41,7 +41,7 @@ pub record Accepted (k : Record) (j : Judged) (cell words : List ℕ) : Type 0 w
   pub waiting-low : 1 ≤ j .waiting
   pub waiting-high : j .waiting ≤ k .n
   pub is-open : vcAt words (j .vci) .opened ≡ 1
-  pub cell-long : length cell ≡ 53
+  pub cell-long : length cell ≡ octets
   pub vpi-is : headerAt cell 0 .vpi ≡ 0
   pub vci-is : headerAt cell 0 .vci ≡ j .vci
 

@@ -5,10 +5,11 @@ ghost use mathlib.Core.List.{List};
 ghost use Prim.Native.Nat.{ℕ, _+_, _*_, _≤_, _<_};
 ghost use lib.ListN.{length, getD};
 ghost use Rattle.meaning.specs.Plain.{_=?_, _andThen_};
-ghost use Rattle.meaning.specs.Numbers.{excess, waitingPlace};
-ghost use Rattle.meaning.specs.State.{stateOf};
+ghost use Rattle.meaning.specs.Numbers.{excess, waitingPlace, mostN, mostV, octets, wordsIn};
+ghost use Rattle.meaning.specs.State.{stateOf, HasVc};
 ghost use Rattle.meaning.specs.Lists.{emptyList, endsFit, entryAt};
 ghost use Rattle.meaning.specs.Slot.{step4, step5, finish};
+ghost use Rattle.meaning.specs.Lent.{here, before};
 ghost use Rattle.arrival.specs.Arrival.{fallen};
 ghost use Rattle.spaces.specs.Spaces.{endsOf, linked, offOf};
 ghost use Rattle.plan.specs.Plan.{rotated, quietWork, leftBy, joinedLinks, joinedHead, leavingMarked, leavingOutput, servedWork};
@@ -22,8 +23,8 @@ use spaces::Off;
 
 // Steps 2 and 3 in the words where no cell is accepted.
 fn words_fall(k: Record, b: Fall, j: Judged, words: &mut [u32])
-    requires { ⌜ (b .on ≡ true → 7 * k .rotation + 7 ≤ length (now words)) ⌝ }
-    requires { ⌜ (j .verdict =? excess ≡ true → 7 * j .vci + 7 ≤ length (now words)) ⌝ }
+    requires { ⌜ (b .on ≡ true → HasVc (k .rotation) (now words)) ⌝ }
+    requires { ⌜ (j .verdict =? excess ≡ true → HasVc (j .vci) (now words)) ⌝ }
     ensures { λ r. ⌜ now (words .exit) ≡ fallen (j .verdict =? excess) (j .vci) (j .s) (k .t) (rotated k b (now (words .entry))) ⌝ }
 {
     arrival::put_fall(words, b.on, k.rotation, b.s, k.t);
@@ -41,7 +42,7 @@ fn quiet_end(
     links: &mut [u16],
     words: &mut [u32],
 ) -> Served
-    requires { ⌜ (length (now links) ≡ k .n) × (length (now words) ≡ 7 * k .v) × (k .rotation < k .v) × (o .vci < k .v) × (1 ≤ getD (now words) (waitingPlace (o .vci)) 0) ⌝ }
+    requires { ⌜ (length (now links) ≡ k .n) × (length (now words) ≡ wordsIn (k .v)) × (k .rotation < k .v) × (o .vci < k .v) × (1 ≤ getD (now words) (waitingPlace (o .vci)) 0) ⌝ }
     requires { ⌜ (j .verdict =? excess ≡ true → j .vci < k .v) ⌝ }
     requires { ⌜ (joins ≡ true → k .outtail < k .n) ⌝ }
     requires { ⌜ endsFit (k .n) (endsOf (k .freehead) (k .freetail)) ≡ true ⌝ }
@@ -55,7 +56,7 @@ fn quiet_end(
 
 // What departs once entry T, from head to tail, has joined the Output List; field by field, as a whole would be packed.
 fn off_marked(k: Record, head: u16, tail: u16, cells: &[u8], links: &[u16], words: &[u32]) -> Off
-    requires { ⌜ (k .n ≤ 1024) × (k .v ≤ 1024) × (head < k .n) × (length (now cells) ≡ 53 * k .n) × (length (now links) ≡ k .n) × (length (now words) ≡ 7 * k .v) ⌝ }
+    requires { ⌜ (k .n ≤ mostN) × (k .v ≤ mostV) × (head < k .n) × (length (now cells) ≡ octets * k .n) × (length (now links) ≡ k .n) × (length (now words) ≡ wordsIn (k .v)) ⌝ }
     requires { ⌜ endsFit (k .n) (endsOf (k .outhead) (k .outtail)) ≡ true ⌝ }
     ensures { λ r. ⌜ r ≡ offOf (k .n) (k .v) (now (cells .entry)) (joinedLinks k (endsOf head tail) (now (links .entry))) (now (words .entry)) (joinedHead k (endsOf head tail)) tail ⌝ }
 {
@@ -102,10 +103,10 @@ fn quiet_marked(
     calendar: &mut [u16],
     words: &mut [u32],
 ) -> Served
-    requires { ⌜ Sized k (now cells) (now links) (now calendar) (now words) ⌝ }
+    requires { ⌜ Sized (here k cells links calendar words) ⌝ }
     requires { ⌜ (j .verdict =? excess ≡ true → j .vci < k .v) ⌝ }
     requires { ⌜ (head < k .n) × (endsFit (k .n) (endsOf (k .outhead) (k .outtail)) ≡ true) ⌝ }
-    ensures { λ s. ⌜ servedWork s (now (cells .entry)) (now (links .exit)) (now (calendar .exit)) (now (words .exit)) ≡ finish (stateOf r (now (cells .entry)) (now (links .entry)) (now (calendar .entry)) (now (words .entry))) (leavingMarked (quietWork k j (now (cells .entry)) (now (links .entry)) (now (calendar .entry)) (rotated k b (now (words .entry)))) (endsOf head tail)) ⌝ }
+    ensures { λ s. ⌜ servedWork s (now (cells .entry)) (now (links .exit)) (now (calendar .exit)) (now (words .exit)) ≡ finish (before r cells links calendar words) (leavingMarked (quietWork k j (now (cells .entry)) (now (links .entry)) (now (calendar .entry)) (rotated k b (now (words .entry)))) (endsOf head tail)) ⌝ }
 {
     let o = off_marked(k, head, tail, cells, links, words);
     if !o.ok {
@@ -128,7 +129,7 @@ fn quiet_output(
     links: &mut [u16],
     words: &mut [u32],
 ) -> Served
-    requires { ⌜ (k .n ≤ 1024) × (k .v ≤ 1024) × (length (now cells) ≡ 53 * k .n) × (length (now links) ≡ k .n) × (length (now words) ≡ 7 * k .v) × (k .rotation < k .v) × (k .outhead < k .n) ⌝ }
+    requires { ⌜ (k .n ≤ mostN) × (k .v ≤ mostV) × (length (now cells) ≡ octets * k .n) × (length (now links) ≡ k .n) × (length (now words) ≡ wordsIn (k .v)) × (k .rotation < k .v) × (k .outhead < k .n) ⌝ }
     requires { ⌜ (j .verdict =? excess ≡ true → j .vci < k .v) ⌝ }
     ensures { λ s. ⌜ ((calendar : List ℕ) → servedWork s (now (cells .entry)) (now (links .exit)) calendar (now (words .exit)) ≡ finish (stateOf r (now (cells .entry)) (now (links .entry)) calendar (now (words .entry))) (leavingOutput (quietWork k j (now (cells .entry)) (now (links .entry)) calendar (rotated k b (now (words .entry)))))) ⌝ }
 {
@@ -144,7 +145,7 @@ fn quiet_output(
 
 // No cell was accepted, and nothing departs.
 fn quiet_none(k: Record, b: Fall, j: Judged, words: &mut [u32]) -> Served
-    requires { ⌜ (length (now words) ≡ 7 * k .v) × (k .rotation < k .v) ⌝ }
+    requires { ⌜ (length (now words) ≡ wordsIn (k .v)) × (k .rotation < k .v) ⌝ }
     requires { ⌜ (j .verdict =? excess ≡ true → j .vci < k .v) ⌝ }
     ensures { λ s. ⌜ ((cells links calendar : List ℕ) → servedWork s cells links calendar (now (words .exit)) ≡ quietWork k j cells links calendar (rotated k b (now (words .entry)))) ⌝ }
 {
@@ -173,7 +174,7 @@ fn quiet_unmarked(
     links: &mut [u16],
     words: &mut [u32],
 ) -> Served
-    requires { ⌜ (k .n ≤ 1024) × (k .v ≤ 1024) × (length (now cells) ≡ 53 * k .n) × (length (now links) ≡ k .n) × (length (now words) ≡ 7 * k .v) × (k .rotation < k .v) ⌝ }
+    requires { ⌜ (k .n ≤ mostN) × (k .v ≤ mostV) × (length (now cells) ≡ octets * k .n) × (length (now links) ≡ k .n) × (length (now words) ≡ wordsIn (k .v)) × (k .rotation < k .v) ⌝ }
     requires { ⌜ (j .verdict =? excess ≡ true → j .vci < k .v) ⌝ }
     ensures { λ s. ⌜ ((calendar : List ℕ) → entryAt calendar (k .turn) ≡ emptyList → servedWork s (now (cells .entry)) (now (links .exit)) calendar (now (words .exit)) ≡ finish (stateOf r (now (cells .entry)) (now (links .entry)) calendar (now (words .entry))) (step4 (quietWork k j (now (cells .entry)) (now (links .entry)) calendar (rotated k b (now (words .entry)))) andThen step5)) ⌝ }
 {
@@ -203,9 +204,9 @@ pub fn quiet(
     calendar: &mut [u16],
     words: &mut [u32],
 ) -> Served
-    requires { ⌜ Sized k (now cells) (now links) (now calendar) (now words) ⌝ }
+    requires { ⌜ Sized (here k cells links calendar words) ⌝ }
     requires { ⌜ (j .verdict =? excess ≡ true → j .vci < k .v) ⌝ }
-    ensures { λ s. ⌜ servedWork s (now (cells .entry)) (now (links .exit)) (now (calendar .exit)) (now (words .exit)) ≡ finish (stateOf r (now (cells .entry)) (now (links .entry)) (now (calendar .entry)) (now (words .entry))) (step4 (quietWork k j (now (cells .entry)) (now (links .entry)) (now (calendar .entry)) (rotated k b (now (words .entry)))) andThen step5) ⌝ }
+    ensures { λ s. ⌜ servedWork s (now (cells .entry)) (now (links .exit)) (now (calendar .exit)) (now (words .exit)) ≡ finish (before r cells links calendar words) (step4 (quietWork k j (now (cells .entry)) (now (links .entry)) (now (calendar .entry)) (rotated k b (now (words .entry)))) andThen step5) ⌝ }
 {
     let at = 2 * (k.turn as usize);
     let head = calendar[at];

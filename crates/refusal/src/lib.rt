@@ -3,8 +3,9 @@ ghost use mathlib.Core.Path.{_≡_};
 ghost use mathlib.Core.Bool.{_&&_};
 ghost use Prim.Native.Nat.{_*_};
 ghost use Rattle.meaning.specs.Plain.{_=?_};
-ghost use Rattle.meaning.specs.Numbers.{rangesHold};
+ghost use Rattle.meaning.specs.Numbers.{rangesHold, octets, perEntry, wordsIn};
 ghost use Rattle.refusal.specs.Order.{refuseOf, firstOf};
+use meaning::WORDS_PER_VC;
 
 // Refusal 1: "N cell spaces, 1 to 1,024"; "V, 2 to 1,024".
 pub fn ranges_hold(n: u16, v: u16) -> bool
@@ -31,7 +32,7 @@ pub fn lengths_hold(
     calendar: usize,
     words: usize,
 ) -> bool
-    ensures { λ r. ⌜ r ≡ (cells =? 53 * n && links =? n && calendar =? 2 * n && words =? 7 * v) ⌝ }
+    ensures { λ r. ⌜ r ≡ (cells =? octets * n && links =? n && calendar =? perEntry * n && words =? wordsIn v) ⌝ }
 {
     if cells != 53 * (n as usize) {
         return false;
@@ -42,7 +43,7 @@ pub fn lengths_hold(
     if calendar != 2 * (n as usize) {
         return false;
     }
-    words == 7 * (v as usize)
+    words == WORDS_PER_VC * (v as usize)
 }
 
 // The number of a refusal, or 0 where it isn't given.

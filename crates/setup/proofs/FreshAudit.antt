@@ -9,7 +9,7 @@ use borrow.Author.Tests.{eq-eqb}
 use lib.ListN.{length, getD, replicate, length-replicate, getD-replicate, length-append, List·getD-append}
 use Rattle.meaning.specs.declared.Fresh.{Fresh}
 use Rattle.meaning.specs.Plain.{if_then_else_}
-use Rattle.meaning.specs.Numbers.{rangesHold}
+use Rattle.meaning.specs.Numbers.{rangesHold, wordsPerVc}
 use Rattle.meaning.specs.State.{stateOf, wordsLong, lengthsHold}
 use Rattle.meaning.specs.Words.{vcAt, vcFits}
 use Rattle.meaning.specs.Lists.{entryAt}
@@ -31,14 +31,14 @@ module _ (N z : ℕ) (r : InRange N z) where
   links-long : length links ≡ N
   links-long = length-append (countUp (N - 1) 1) (0 ∷ []) ∙ rw (length-countUp (N - 1) 1) (omega (arith, r .N-least))
 
-  lengths-hold : lengthsHold N z (replicate (53 * N) 0) links (replicate (2 * N) 65535) (replicate (7 * z) 0) ≡ true
+  lengths-hold : lengthsHold N z (replicate (53 * N) 0) links (replicate (2 * N) 65535) (replicate (wordsPerVc * z) 0) ≡ true
   unfolding lengthsHold wordsLong
   lengths-hold =
       simp (
         eq-eqb _ _ (length-replicate {A = ℕ} (53 * N) 0),
         eq-eqb _ _ links-long,
         eq-eqb _ _ (length-replicate {A = ℕ} (2 * N) 65535),
-        eq-eqb _ _ (length-replicate {A = ℕ} (7 * z) 0),
+        eq-eqb _ _ (length-replicate {A = ℕ} (wordsPerVc * z) 0),
       )
 
   -- each space below N-1 is followed by the next
@@ -67,11 +67,11 @@ module _ (N z : ℕ) (r : InRange N z) where
   nothing-queued : (x : ℕ) → 0 < count x queued → ⊥
   nothing-queued x h = omega (arith, ap (count x) (joined-none N))
 
-  closed : (vci : ℕ) → vcAt (replicate (7 * z) 0) vci .opened ≡ 0
+  closed : (vci : ℕ) → vcAt (replicate (wordsPerVc * z) 0) vci .opened ≡ 0
   unfolding vcAt
-  closed vci = getD-zeros (7 * z) (7 * vci + 0)
+  closed vci = getD-zeros (wordsPerVc * z) (wordsPerVc * vci + 0)
 
-  fits : (vci : ℕ) → vcFits N (vcAt (replicate (7 * z) 0) vci) ≡ true
+  fits : (vci : ℕ) → vcFits N (vcAt (replicate (wordsPerVc * z) 0) vci) ≡ true
   unfolding vcFits
   fits vci = simp (closed vci)
 
@@ -108,7 +108,7 @@ fresh-audit N z raw h =
 
 -- what setup's promise allows with number 0 meets the audit's clauses
 pub setup-audit : (N z : ℕ) (raw : Bool) (cells links calendar words : List ℕ) (r : Fresh) (cells′ links′ calendar′ words′ : List ℕ)
-    → setupPromise N z raw cells links calendar words r cells′ links′ calendar′ words′
+    → setupPromise N z raw (stateOf zeros cells links calendar words) (setUpOf (r .number) (stateOf (r .ctl) cells′ links′ calendar′ words′))
     → r .number ≡ 0
     → AuditHolds (stateOf (r .ctl) cells′ links′ calendar′ words′)
 unfolding setup

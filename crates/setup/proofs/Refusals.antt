@@ -8,7 +8,7 @@ use borrow.Author.Tests.{eqb-true, not-false}
 use lib.ListN.{length, replicate}
 use Rattle.meaning.specs.declared.Record.{Record}
 use Rattle.meaning.specs.Plain.{_=?_}
-use Rattle.meaning.specs.Numbers.{rangesHold}
+use Rattle.meaning.specs.Numbers.{rangesHold, wordsPerVc}
 use Rattle.meaning.specs.State.{stateOf, wordsLong, lengthsHold}
 use Rattle.meaning.specs.Calls.{SetUp, setUpOf, zeros, freshRecord, countUp, freshState, setup}
 use Rattle.refusal.specs.Order.{refuseOf, firstOf}
@@ -21,7 +21,7 @@ module _ (N z : ℕ) (cells links calendar words : List ℕ) where
   inRange = rangesHold N z
 
   abbrev long : Bool
-  long = length cells =? 53 * N && length links =? N && length calendar =? 2 * N && length words =? 7 * z
+  long = length cells =? 53 * N && length links =? N && length calendar =? 2 * N && length words =? wordsPerVc * z
 
   abbrev pub setupRefusal : ℕ
   setupRefusal = firstOf (refuseOf 1 (not inRange)) (refuseOf 2 (not long))
@@ -43,7 +43,7 @@ module _ (N z : ℕ) (cells links calendar words : List ℕ) where
     pub cells-long : length cells ≡ 53 * N
     pub links-long : length links ≡ N
     pub calendar-long : length calendar ≡ 2 * N
-    pub words-long : length words ≡ 7 * z
+    pub words-long : length words ≡ wordsPerVc * z
 
   pub setup-lent : setupRefusal ≡ 0 → Lent
   setup-lent h =
@@ -53,7 +53,7 @@ module _ (N z : ℕ) (cells links calendar words : List ℕ) where
       (length cells =? 53 * N)
       (length links =? N)
       (length calendar =? 2 * N)
-      (length words =? 7 * z)
+      (length words =? wordsPerVc * z)
       (not-false long (t .1)) in
       record {
         ranges = ranges-facts N z (not-false inRange (t .0));

@@ -5,9 +5,10 @@ ghost use mathlib.Core.List.{[], _∷_, _++_};
 ghost use Prim.Native.Nat.{_+_, _-_, _*_, _≤_, _<_};
 ghost use lib.ListN.{length, replicate};
 ghost use Rattle.meaning.specs.Plain.{_=?_};
-ghost use Rattle.meaning.specs.Numbers.{rangesHold};
+ghost use Rattle.meaning.specs.Numbers.{rangesHold, octets, perEntry, wordsIn};
 ghost use Rattle.meaning.specs.Calls.{zeros, freshRecord, countUp};
 ghost use Rattle.meaning.specs.Promises.{setupPromise};
+ghost use Rattle.meaning.specs.Lent.{before, setUpAfter};
 ghost use Rattle.refusal.specs.Order.{refuseOf, firstOf};
 use meaning::Fresh;
 use meaning::Record;
@@ -68,7 +69,7 @@ fn chain_links(links: &mut [u16])
 
 // "Order: setup 1, 2": the first of the two, or 0.
 fn setup_refusal(n: u16, v: u16, cells: usize, links: usize, calendar: usize, words: usize) -> u16
-    ensures { λ r. ⌜ r ≡ firstOf (refuseOf 1 (not (rangesHold n v))) (refuseOf 2 (not (cells =? 53 * n && links =? n && calendar =? 2 * n && words =? 7 * v))) ⌝ }
+    ensures { λ r. ⌜ r ≡ firstOf (refuseOf 1 (not (rangesHold n v))) (refuseOf 2 (not (cells =? octets * n && links =? n && calendar =? perEntry * n && words =? wordsIn v))) ⌝ }
 {
     let ranges = refuse(1, !ranges_hold(n, v));
     let lengths = refuse(2, !lengths_hold(n, v, cells, links, calendar, words));
@@ -124,7 +125,7 @@ pub fn setup(
     calendar: &mut [u16],
     words: &mut [u32],
 ) -> Fresh
-    ensures { λ r. ⌜ setupPromise n v raw (now (cells .entry)) (now (links .entry)) (now (calendar .entry)) (now (words .entry)) r (now (cells .exit)) (now (links .exit)) (now (calendar .exit)) (now (words .exit)) ⌝ }
+    ensures { λ r. ⌜ setupPromise n v raw (before zeros cells links calendar words) (setUpAfter r cells links calendar words) ⌝ }
 {
     let number = setup_refusal(n, v, cells.len(), links.len(), calendar.len(), words.len());
     if number != 0 {

@@ -5,10 +5,11 @@ ghost use mathlib.Core.List.{[], _++_};
 ghost use Prim.Native.Nat.{_≤_};
 ghost use lib.ListN.{length, drop};
 ghost use Rattle.hec.specs.Word.{octetsOf};
-ghost use Rattle.meaning.specs.State.{stateOf, recordInMode};
+ghost use Rattle.meaning.specs.State.{recordInMode};
 ghost use Rattle.meaning.specs.Work.{workOf};
 ghost use Rattle.meaning.specs.Slot.{uncheckedSlot};
 ghost use Rattle.meaning.specs.Promises.{slotPromise};
+ghost use Rattle.meaning.specs.Lent.{before, after, servedAfter};
 ghost use Rattle.slot.specs.Back.{isChecked, backServed, back, unfitOf, headWritten};
 use hec::Checked;
 use meaning::Answer;
@@ -90,7 +91,7 @@ fn mended_slot(
     cell: &[u8],
 ) -> Served
     requires { ⌜ length (now cell) ≡ 53 ⌝ }
-    ensures { λ s. ⌜ workOf (stateOf (s .ctl) (now (cells .exit)) (now (links .exit)) (now (calendar .exit)) (now (words .exit))) (s .answer) ≡ back (stateOf r (now (cells .entry)) (now (links .entry)) (now (calendar .entry)) (now (words .entry))) false (uncheckedSlot (stateOf (recordInMode r (c .mode)) (now (cells .entry)) (now (links .entry)) (now (calendar .entry)) (now (words .entry))) (octetsOf (c .head) (c .fifth) ++ drop 5 (now (cell .entry)))) ⌝ }
+    ensures { λ s. ⌜ workOf (after (s .ctl) cells links calendar words) (s .answer) ≡ back (before r cells links calendar words) false (uncheckedSlot (before (recordInMode r (c .mode)) cells links calendar words) (octetsOf (c .head) (c .fifth) ++ drop 5 (now (cell .entry)))) ⌝ }
 {
     let mut held = [0u8; 53];
     cell::copy_cell(&mut held, cell);
@@ -110,7 +111,7 @@ fn dropped_slot(
     words: &mut [u32],
     cell: &[u8],
 ) -> Served
-    ensures { λ s. ⌜ workOf (stateOf (s .ctl) (now (cells .exit)) (now (links .exit)) (now (calendar .exit)) (now (words .exit))) (s .answer) ≡ back (stateOf r (now (cells .entry)) (now (links .entry)) (now (calendar .entry)) (now (words .entry))) true (uncheckedSlot (stateOf (recordInMode r mode) (now (cells .entry)) (now (links .entry)) (now (calendar .entry)) (now (words .entry))) []) ⌝ }
+    ensures { λ s. ⌜ workOf (after (s .ctl) cells links calendar words) (s .answer) ≡ back (before r cells links calendar words) true (uncheckedSlot (before (recordInMode r mode) cells links calendar words) []) ⌝ }
 {
     let k = in_mode(r, mode);
     let s = unchecked::slot(k, cells, links, calendar, words, &cell[0..0]);
@@ -126,7 +127,7 @@ fn clean_slot(
     words: &mut [u32],
     cell: &[u8],
 ) -> Served
-    ensures { λ s. ⌜ workOf (stateOf (s .ctl) (now (cells .exit)) (now (links .exit)) (now (calendar .exit)) (now (words .exit))) (s .answer) ≡ back (stateOf r (now (cells .entry)) (now (links .entry)) (now (calendar .entry)) (now (words .entry))) false (uncheckedSlot (stateOf (recordInMode r 0) (now (cells .entry)) (now (links .entry)) (now (calendar .entry)) (now (words .entry))) (now (cell .entry))) ⌝ }
+    ensures { λ s. ⌜ workOf (after (s .ctl) cells links calendar words) (s .answer) ≡ back (before r cells links calendar words) false (uncheckedSlot (before (recordInMode r 0) cells links calendar words) (now (cell .entry))) ⌝ }
 {
     let k = in_mode(r, 0);
     let s = unchecked::slot(k, cells, links, calendar, words, cell);
@@ -143,7 +144,7 @@ fn raw_slot(
     cell: &[u8],
 ) -> Served
     requires { ⌜ (r .raw ≡ 1) × (r .mode ≤ 1) × (length (now cell) ≡ 53) ⌝ }
-    ensures { λ s. ⌜ slotPromise (stateOf r (now (cells .entry)) (now (links .entry)) (now (calendar .entry)) (now (words .entry))) (now (cell .entry)) s (now (cells .exit)) (now (links .exit)) (now (calendar .exit)) (now (words .exit)) ⌝ }
+    ensures { λ s. ⌜ slotPromise (before r cells links calendar words) (now (cell .entry)) (servedAfter s cells links calendar words) ⌝ }
 {
     let c = hec::check_cell(r.mode, cell);
     if c.mode == 0 {
@@ -194,7 +195,7 @@ pub fn checked(
     cell: &[u8],
 ) -> Served
     requires { ⌜ isChecked (r .raw) (length (now cell)) ≡ true ⌝ }
-    ensures { λ s. ⌜ slotPromise (stateOf r (now (cells .entry)) (now (links .entry)) (now (calendar .entry)) (now (words .entry))) (now (cell .entry)) s (now (cells .exit)) (now (links .exit)) (now (calendar .exit)) (now (words .exit)) ⌝ }
+    ensures { λ s. ⌜ slotPromise (before r cells links calendar words) (now (cell .entry)) (servedAfter s cells links calendar words) ⌝ }
 {
     if r.raw > 1 {
         return unfit_slot(r, cells, links, calendar, words, cell);
@@ -214,7 +215,7 @@ pub fn slot(
     words: &mut [u32],
     cell: &[u8],
 ) -> Served
-    ensures { λ s. ⌜ slotPromise (stateOf r (now (cells .entry)) (now (links .entry)) (now (calendar .entry)) (now (words .entry))) (now (cell .entry)) s (now (cells .exit)) (now (links .exit)) (now (calendar .exit)) (now (words .exit)) ⌝ }
+    ensures { λ s. ⌜ slotPromise (before r cells links calendar words) (now (cell .entry)) (servedAfter s cells links calendar words) ⌝ }
 {
     if is_checked(r.raw, cell.len()) {
         return checked(r, cells, links, calendar, words, cell);

@@ -9,7 +9,7 @@ use native.Mathlib.Omega.{arith}
 use lib.ListN.{length, getD, set, length-set}
 use lib.Seq.{getD-set-same, getD-set-other}
 use Rattle.meaning.specs.Plain.{if_then_else_}
-use Rattle.meaning.specs.Numbers.{openPlace, sPlace, lastPlace, waitingPlace}
+use Rattle.meaning.specs.Numbers.{openPlace, sPlace, lastPlace, waitingPlace, wordsPerVc, vcPlace}
 use Rattle.meaning.specs.State.{writeCell}
 use Rattle.meaning.specs.Header.{Header, headerAt}
 use Rattle.meaning.specs.Words.{vcAt}
@@ -55,7 +55,7 @@ module _ (N own S t w : ℕ) (words words₂ : List ℕ) (kept : Kept words word
   abbrev was : List ℕ
   was = set (set words₂ (sPlace own) S) (lastPlace own) t
 
-  pub counted : 7 * own + 7 ≤ length words → vcAt words own .opened ≡ 1 → 1 ≤ w → w ≤ N
+  pub counted : vcPlace own + wordsPerVc ≤ length words → vcAt words own .opened ≡ 1 → 1 ≤ w → w ≤ N
       → Counted N own words (set was (waitingPlace own) w)
   unfolding vcAt
   counted inside opened some most =

@@ -11,7 +11,7 @@ use native.Mathlib.Decide.{decLt}
 use borrow.Author.Tests.{eqb-false, lt-ltb, le-ltb, le-leb, eq-eqb, ne-eqb}
 use lib.ListN.{getD}
 use Rattle.meaning.specs.Plain.{if_then_else_, _≤?_, _=?_}
-use Rattle.meaning.specs.Numbers.{cellStart, waitingPlace}
+use Rattle.meaning.specs.Numbers.{cellStart, waitingPlace, wordsPerVc}
 use Rattle.meaning.specs.Header.{Header, headerAt, namesVc, namesOpenVc}
 use Rattle.meaning.specs.Words.{vcAt}
 use Rattle.header.specs.Name.{nameOf}
@@ -23,9 +23,9 @@ pos-of : (k : ℕ) → k ≢ 0 → 1 ≤ k
 pos-of k ne = omega arith
 
 -- ---- a VC's open word and waiting, where they are read
-pub opened-at : (words : List ℕ) (u : ℕ) → vcAt words u .opened ≡ getD words (7 * u) 0
+pub opened-at : (words : List ℕ) (u : ℕ) → vcAt words u .opened ≡ getD words (wordsPerVc * u) 0
 unfolding vcAt
-opened-at words u = rw (add-zero (7 * u))
+opened-at words u = rw (add-zero (wordsPerVc * u))
 
 pub waiting-at : (words : List ℕ) (u : ℕ) → vcAt words u .waiting ≡ getD words (waitingPlace u) 0
 unfolding vcAt
@@ -36,15 +36,15 @@ module _ (N : ℕ) (words : List ℕ) (u : ℕ) where
   abbrev waits : ℕ
   waits = getD words (waitingPlace u) 0
 
-  pub go-counts : getD words (7 * u) 0 ≡ 1 → waits ≢ 0 → (waits ≤? N) ≡ mayGo N words u
+  pub go-counts : getD words (wordsPerVc * u) 0 ≡ 1 → waits ≢ 0 → (waits ≤? N) ≡ mayGo N words u
   unfolding mayGo
   go-counts e ne = simp (eq-eqb _ _ (opened-at words u ∙ e), waiting-at words u, le-leb 1 waits (pos-of waits ne))
 
-  pub go-none : getD words (7 * u) 0 ≡ 1 → waits ≡ 0 → false ≡ mayGo N words u
+  pub go-none : getD words (wordsPerVc * u) 0 ≡ 1 → waits ≡ 0 → false ≡ mayGo N words u
   unfolding mayGo
   go-none e none = simp (eq-eqb _ _ (opened-at words u ∙ e), waiting-at words u, none)
 
-  pub go-closed : getD words (7 * u) 0 ≢ 1 → false ≡ mayGo N words u
+  pub go-closed : getD words (wordsPerVc * u) 0 ≢ 1 → false ≡ mayGo N words u
   unfolding mayGo
   go-closed ne = simp (ne-eqb (vcAt words u .opened) 1 (λ e. ne (sym (opened-at words u) ∙ e)))
 

@@ -4,9 +4,13 @@ ghost use mathlib.Core.Bool.{true};
 ghost use mathlib.Core.List.{List};
 ghost use Prim.Native.Nat.{ℕ, _+_, _-_, _*_, _≤_, _<_};
 ghost use lib.ListN.{length, getD, set};
+ghost use Rattle.meaning.specs.Numbers.{mostN, mostV, octets, cellStart, perEntry, wordsIn};
+ghost use Rattle.meaning.specs.State.{HasVc};
 ghost use Rattle.meaning.specs.Lists.{endsFit, writeEntry};
 ghost use Rattle.spaces.specs.Spaces.{endsOf, linked, noSeat, seatIn, seatAt, seatOf, offOf, Stored, Counted};
 ghost use Rattle.spaces.specs.Leaver.{mayGo, namedVc, leaverOf, offFrom};
+use meaning::AT_WAITING;
+use meaning::WORDS_PER_VC;
 
 // Where an accepted cell goes: its space x, the Free List without it, its entry e and that entry's head and tail.
 pub struct Seat {
@@ -105,7 +109,7 @@ pub fn seat_at(
     freetail: u16,
     e: u16,
 ) -> Seat
-    requires { ⌜ (n ≤ 1024) × (length (now links) ≡ n) × (length (now calendar) ≡ 2 * n) × (e < n) × (freehead < n) ⌝ }
+    requires { ⌜ (n ≤ mostN) × (length (now links) ≡ n) × (length (now calendar) ≡ perEntry * n) × (e < n) × (freehead < n) ⌝ }
     ensures { λ r. ⌜ r ≡ seatAt n (now (links .entry)) (now (calendar .entry)) (endsOf freehead freetail) e ⌝ }
 {
     let head = calendar[2 * (e as usize)];
@@ -135,7 +139,7 @@ pub fn seat_for(
     freetail: u16,
     d: u16,
 ) -> Seat
-    requires { ⌜ (n ≤ 1024) × (length (now links) ≡ n) × (length (now calendar) ≡ 2 * n) × (turn < n) × (d < n) ⌝ }
+    requires { ⌜ (n ≤ mostN) × (length (now links) ≡ n) × (length (now calendar) ≡ perEntry * n) × (turn < n) × (d < n) ⌝ }
     ensures { λ r. ⌜ r ≡ seatOf n (now (links .entry)) (now (calendar .entry)) turn (endsOf freehead freetail) d ⌝ }
 {
     if freehead < n {
@@ -150,12 +154,12 @@ pub fn seat_for(
 
 // VC u is open and has 1 to N cells waiting.
 fn may_go(n: u16, words: &[u32], u: u16) -> bool
-    requires { ⌜ 7 * u + 7 ≤ length (now words) ⌝ }
+    requires { ⌜ HasVc u (now words) ⌝ }
     ensures { λ r. ⌜ r ≡ mayGo n (now (words .entry)) u ⌝ }
 {
-    let b = 7 * (u as usize);
+    let b = WORDS_PER_VC * (u as usize);
     if words[b] == 1 {
-        let waiting = words[b + 6];
+        let waiting = words[b + AT_WAITING];
         if waiting != 0 {
             return waiting <= n as u32;
         }
@@ -165,7 +169,7 @@ fn may_go(n: u16, words: &[u32], u: u16) -> bool
 
 // The VC that VPI and VCI as one number name, if a cell of it may depart, else 0.
 fn named_vc(n: u16, v: u16, words: &[u32], name: u32) -> u16
-    requires { ⌜ length (now words) ≡ 7 * v ⌝ }
+    requires { ⌜ length (now words) ≡ wordsIn v ⌝ }
     ensures { λ r. ⌜ r ≡ namedVc n v (now (words .entry)) name ⌝ }
 {
     if name != 0 {
@@ -181,7 +185,7 @@ fn named_vc(n: u16, v: u16, words: &[u32], name: u32) -> u16
 
 // The VC whose cell is in space x, if that cell may depart, else 0.
 pub fn leaver(n: u16, v: u16, cells: &[u8], words: &[u32], x: u16) -> u16
-    requires { ⌜ (v ≤ 1024) × (53 * x + 53 ≤ length (now cells)) × (length (now words) ≡ 7 * v) ⌝ }
+    requires { ⌜ (v ≤ mostV) × (cellStart x + octets ≤ length (now cells)) × (length (now words) ≡ wordsIn v) ⌝ }
     ensures { λ r. ⌜ r ≡ leaverOf n v (now (cells .entry)) (now (words .entry)) x ⌝ }
 {
     let name = header::name_at(cells, 53 * (x as usize));
@@ -190,7 +194,7 @@ pub fn leaver(n: u16, v: u16, cells: &[u8], words: &[u32], x: u16) -> u16
 
 // The same once a cell of VC own has been accepted into space s: own's words need no reading.
 fn leaver_after(n: u16, v: u16, cells: &[u8], words: &[u32], own: u16, s: u16, x: u16) -> u16
-    requires { ⌜ (v ≤ 1024) × (1 ≤ own) × (own < v) × (53 * x + 53 ≤ length (now cells)) × (length (now words) ≡ 7 * v) ⌝ }
+    requires { ⌜ (v ≤ mostV) × (1 ≤ own) × (own < v) × (cellStart x + octets ≤ length (now cells)) × (length (now words) ≡ wordsIn v) ⌝ }
     ensures { λ r. ⌜ ((cells′ words′ : List ℕ) → Stored own s (now (cells .entry)) cells′ → Counted n own (now (words .entry)) words′ → r ≡ leaverOf n v cells′ words′ x) ⌝ }
 {
     if x == s {
@@ -247,7 +251,7 @@ pub fn off_head(
     x: u16,
     tail: u16,
 ) -> Off
-    requires { ⌜ (n ≤ 1024) × (v ≤ 1024) × (x < n) × (length (now cells) ≡ 53 * n) × (length (now links) ≡ n) × (length (now words) ≡ 7 * v) ⌝ }
+    requires { ⌜ (n ≤ mostN) × (v ≤ mostV) × (x < n) × (length (now cells) ≡ octets * n) × (length (now links) ≡ n) × (length (now words) ≡ wordsIn v) ⌝ }
     ensures { λ r. ⌜ r ≡ offOf n v (now (cells .entry)) (now (links .entry)) (now (words .entry)) x tail ⌝ }
 {
     let vci = leaver(n, v, cells, words, x);
@@ -287,7 +291,7 @@ pub fn off_joined(
     head: u16,
     tail: u16,
 ) -> Off
-    requires { ⌜ (n ≤ 1024) × (v ≤ 1024) × (x < n) × (length (now cells) ≡ 53 * n) × (length (now links) ≡ n) × (length (now words) ≡ 7 * v) ⌝ }
+    requires { ⌜ (n ≤ mostN) × (v ≤ mostV) × (x < n) × (length (now cells) ≡ octets * n) × (length (now links) ≡ n) × (length (now words) ≡ wordsIn v) ⌝ }
     ensures { λ r. ⌜ r ≡ offOf n v (now (cells .entry)) (set (now (links .entry)) old head) (now (words .entry)) x tail ⌝ }
 {
     let vci = leaver(n, v, cells, words, x);
@@ -345,7 +349,7 @@ pub fn off_after(
     x: u16,
     tail: u16,
 ) -> Off
-    requires { ⌜ (n ≤ 1024) × (v ≤ 1024) × (x < n) × (1 ≤ own) × (own < v) × (length (now cells) ≡ 53 * n) × (length (now links) ≡ n) × (length (now words) ≡ 7 * v) ⌝ }
+    requires { ⌜ (n ≤ mostN) × (v ≤ mostV) × (x < n) × (1 ≤ own) × (own < v) × (length (now cells) ≡ octets * n) × (length (now links) ≡ n) × (length (now words) ≡ wordsIn v) ⌝ }
     ensures { λ r. ⌜ ((cells′ words′ : List ℕ) → Stored own s (now (cells .entry)) cells′ → Counted n own (now (words .entry)) words′ → r ≡ offOf n v cells′ (linked joins old head (linked named s y (now (links .entry)))) words′ x tail) ⌝ }
 {
     let vci = leaver_after(n, v, cells, words, own, s, x);

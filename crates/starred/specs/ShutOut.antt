@@ -8,7 +8,8 @@ use mathlib.Core.Bool.{Bool, true}
 use mathlib.Core.List.{List}
 use Rattle.meaning.specs.declared.Served.{Served}
 use Rattle.meaning.specs.Numbers.{rangesHold, accepted, empty, slotNumbers}
-use Rattle.meaning.specs.State.{State}
+use Rattle.meaning.specs.State.{State, stateOf}
+use Rattle.meaning.specs.Work.{workOf}
 use Rattle.meaning.specs.Words.{vcAt}
 use Rattle.meaning.specs.Slot.{slot}
 use Rattle.meaning.specs.Promises.{slotPromise}
@@ -32,7 +33,7 @@ pub data Reached (raw : Bool) : State → Type 0 where
 -- demand 2, of the slot
 pub record Meets (raw : Bool) (f : Policer) : Type 0 where
   pub promise : (s : State) → Reached raw s → (cell : List ℕ)
-      → slotPromise s cell (f s cell .served) (f s cell .cells) (f s cell .links) (f s cell .calendar) (f s cell .words)
+      → slotPromise s cell (workOf (stateOf (f s cell .served .ctl) (f s cell .cells) (f s cell .links) (f s cell .calendar) (f s cell .words)) (f s cell .served .answer))
 
 -- "a policer that always refuses"
 abbrev pub AlwaysRefuses : Bool → Policer → Type 0

@@ -5,8 +5,9 @@ ghost use Prim.Native.Nat.{_+_, _*_, _≤_};
 ghost use lib.ListN.{length};
 ghost use Rattle.meaning.specs.Plain.{_=?_};
 ghost use Rattle.meaning.specs.Numbers.{empty};
-ghost use Rattle.meaning.specs.State.{writeCell};
+ghost use Rattle.meaning.specs.State.{writeCell, HasVc};
 ghost use Rattle.meaning.specs.Lists.{writeEntry};
+ghost use Rattle.meaning.specs.Lent.{here};
 ghost use Rattle.arrival.specs.Arrival.{filled};
 ghost use Rattle.spaces.specs.Spaces.{endsOf, linked};
 ghost use Rattle.plan.specs.Plan.{withEnds, rotated, seatEnds};
@@ -18,8 +19,8 @@ use spaces::Seat;
 
 // Steps 2 and 3 in the words where a cell is accepted.
 fn words_fill(k: Record, b: Fall, j: Judged, words: &mut [u32])
-    requires { ⌜ (b .on ≡ true → 7 * k .rotation + 7 ≤ length (now words)) ⌝ }
-    requires { ⌜ 7 * j .vci + 7 ≤ length (now words) ⌝ }
+    requires { ⌜ (b .on ≡ true → HasVc (k .rotation) (now words)) ⌝ }
+    requires { ⌜ HasVc (j .vci) (now words) ⌝ }
     ensures { λ r. ⌜ now (words .exit) ≡ filled (j .vci) (j .s) (k .t) (j .waiting) (rotated k b (now (words .entry))) ⌝ }
 {
     arrival::put_fall(words, b.on, k.rotation, b.s, k.t);
@@ -64,7 +65,7 @@ pub fn store(
     words: &mut [u32],
     cell: &[u8],
 )
-    requires { ⌜ Sized k (now cells) (now links) (now calendar) (now words) ⌝ }
+    requires { ⌜ Sized (here k cells links calendar words) ⌝ }
     requires { ⌜ Accepted k j (now cell) (now words) ⌝ }
     requires { ⌜ Seated k a ⌝ }
     ensures cells { λ r. ⌜ now (cells .exit) ≡ writeCell (now (cells .entry)) (a .x) (now (cell .entry)) ⌝ }

@@ -10,7 +10,7 @@ use native.Mathlib.Decide.{ℕ-discrete}
 use lib.ListN.{getD, set}
 use lib.Seq.{set-getD}
 use Rattle.meaning.specs.declared.Record.{Record}
-use Rattle.meaning.specs.Numbers.{sPlace, lastPlace}
+use Rattle.meaning.specs.Numbers.{sPlace, lastPlace, wordsPerVc}
 use Rattle.arrival.specs.declared.Fall.{Fall}
 use Rattle.arrival.specs.Arrival.{fallOf, broughtOf, fallen}
 use Rattle.arrival.proofs.BroughtLaws.{brought-zero, brought-closed, brought-open}
@@ -29,20 +29,20 @@ module _ (k : Record) (words : List ℕ) where
   stored : set (set words (sPlace z) (getD words (sPlace z) 0)) (lastPlace z) (getD words (lastPlace z) 0) ≡ words
   stored = rw (set-getD words (sPlace z) 0) (set-getD words (lastPlace z) 0)
 
-  not-zero : (z ≡ 0 → getD words 0 0 ≡ 0) → getD words (7 * z) 0 ≡ 1 → z ≢ 0
+  not-zero : (z ≡ 0 → getD words 0 0 ≡ 0) → getD words (wordsPerVc * z) 0 ≡ 1 → z ≢ 0
   not-zero none o e =
-      let q : getD words (7 * z) 0 ≡ getD words 0 0 = ap (λ (i : ℕ). getD words i 0) (omega (arith, e)) in
+      let q : getD words (wordsPerVc * z) 0 ≡ getD words 0 0 = ap (λ (i : ℕ). getD words i 0) (omega (arith, e)) in
       let y = none e in
       absurd (omega (arith, o, q, y))
 
-  closed : getD words (7 * z) 0 ≡ 0 → fallOf true false 0 ≡ brought
+  closed : getD words (wordsPerVc * z) 0 ≡ 0 → fallOf true false 0 ≡ brought
   closed o = go (ℕ-discrete z 0)
     where
       go : Dec (z ≡ 0) → fallOf true false 0 ≡ brought
       go (yes e) = brought-zero (k .n) (k .t) words z e
       go (no ne) = brought-closed (k .n) (k .t) words z ne o
 
-  pub turned-closed : getD words (7 * z) 0 ≡ 0
+  pub turned-closed : getD words (wordsPerVc * z) 0 ≡ 0
       → Turned k words (record { ok = true; s = getD words (sPlace z) 0; last = getD words (lastPlace z) 0 })
   unfolding rotated fallen
   turned-closed o =
@@ -51,7 +51,7 @@ module _ (k : Record) (words : List ℕ) where
         writes = rw (← closed o) stored;
       }
 
-  pub turned-open : (r : Bucketed) → (z ≡ 0 → getD words 0 0 ≡ 0) → getD words (7 * z) 0 ≡ 1 → Met (k .n) (k .t) words z r
+  pub turned-open : (r : Bucketed) → (z ≡ 0 → getD words 0 0 ≡ 0) → getD words (wordsPerVc * z) 0 ≡ 1 → Met (k .n) (k .t) words z r
       → Turned k words (record { ok = r .ok; s = r .s; last = k .t })
   unfolding rotated fallen
   turned-open r none o met =

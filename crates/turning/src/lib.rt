@@ -5,8 +5,16 @@ ghost use mathlib.Core.Path.{_≡_};
 ghost use mathlib.Core.Bool.{true, false};
 ghost use Prim.Native.Nat.{_+_, _*_, _≤_};
 ghost use lib.ListN.{length, getD};
+ghost use Rattle.meaning.specs.Numbers.{mostN};
+ghost use Rattle.meaning.specs.State.{HasVc};
 ghost use Rattle.way.specs.Way.{slotRecord};
 ghost use Rattle.turning.specs.Turning.{Met, Turned};
+use meaning::AT_C;
+use meaning::AT_F;
+use meaning::AT_LAST;
+use meaning::AT_M;
+use meaning::AT_S;
+use meaning::WORDS_PER_VC;
 use way::Way;
 
 // An open VC's bucket: ok where its words but waiting are in range; S as it has fallen, and C-F.
@@ -35,31 +43,31 @@ fn unmet() -> Bucketed
 
 // That C is at least F needs no test: if not, C-F on 32 bits is above 2^31, and (C-F)/L far above N.
 pub fn met(n: usize, words: &[u32], vci: usize, t: u32) -> Bucketed
-    requires { ⌜ (n ≤ 1024) × (7 * vci + 7 ≤ length (now words)) ⌝ }
+    requires { ⌜ (n ≤ mostN) × (HasVc vci (now words)) ⌝ }
     ensures { λ r. ⌜ (r .ok ≡ true → Met n t (now (words .entry)) vci r) ⌝ }
 {
-    let b = 7 * vci;
-    let m = words[b + 1];
+    let b = WORDS_PER_VC * vci;
+    let m = words[b + AT_M];
     if m > 15 {
         return unmet();
     }
-    let f = words[b + 2];
+    let f = words[b + AT_F];
     if f > 16777216 {
         return unmet();
     }
     if f >> m == 0 {
         return unmet();
     }
-    let c = words[b + 3];
+    let c = words[b + AT_C];
     let room = std::num::wrapping_sub_u32(c, f);
     if room >> m >= n as u32 {
         return unmet();
     }
-    let s = words[b + 4];
+    let s = words[b + AT_S];
     if s > c {
         return unmet();
     }
-    let now = bucket::fallen_to(s, m, words[b + 5], t);
+    let now = bucket::fallen_to(s, m, words[b + AT_LAST], t);
     Bucketed {
         ok: true,
         s: now,
@@ -69,16 +77,16 @@ pub fn met(n: usize, words: &[u32], vci: usize, t: u32) -> Bucketed
 
 // Step 2. VC 0 is never open: its words are not read there, so the caller knows that its open word is 0.
 pub fn turned(w: Way, words: &[u32]) -> Turn
-    requires { ⌜ (w .n ≤ 1024) × (7 * w .rotation + 7 ≤ length (now words)) × (w .rotation ≡ 0 → getD (now words) 0 0 ≡ 0) ⌝ }
+    requires { ⌜ (w .n ≤ mostN) × (HasVc (w .rotation) (now words)) × (w .rotation ≡ 0 → getD (now words) 0 0 ≡ 0) ⌝ }
     ensures { λ r. ⌜ (r .ok ≡ true → Turned (slotRecord w) (now (words .entry)) r) ⌝ }
 {
-    let b = 7 * w.rotation;
+    let b = WORDS_PER_VC * w.rotation;
     let o = words[b];
     if o == 0 {
         return Turn {
             ok: true,
-            s: words[b + 4],
-            last: words[b + 5],
+            s: words[b + AT_S],
+            last: words[b + AT_LAST],
         };
     }
     if o == 1 {

@@ -12,7 +12,7 @@ use lib.ListN.{length}
 use Rattle.meaning.specs.declared.Record.{Record}
 use Rattle.meaning.specs.declared.Served.{Served}
 use Rattle.meaning.specs.Plain.{if_then_else_, _≤?_, _=?_, Out, refused, _andThen_}
-use Rattle.meaning.specs.Numbers.{rangesHold}
+use Rattle.meaning.specs.Numbers.{rangesHold, wordsPerVc}
 use Rattle.meaning.specs.State.{State, stateOf, recordWith, withRecord, withClock, wordsLong, lengthsHold}
 use Rattle.meaning.specs.Work.{Work, workOf, bareAnswer}
 use Rattle.meaning.specs.Slot.{step1, step2, step3, step4, step5, fiveSteps, finish, uncheckedSlot}
@@ -73,7 +73,7 @@ module _ (r : Record) (cell cells links calendar words : List ℕ) where
     pub cells-long : length cells ≡ 53 * r .n
     pub links-long : length links ≡ r .n
     pub calendar-long : length calendar ≡ 2 * r .n
-    pub words-long : length words ≡ 7 * r .v
+    pub words-long : length words ≡ wordsPerVc * r .v
     pub cell-long : (length cell ≡ 0 → ⊥) → length cell ≡ 53
 
   either : (a b : Bool) → a || b ≡ true → a ≡ false → b ≡ true
@@ -86,7 +86,7 @@ module _ (r : Record) (cell cells links calendar words : List ℕ) where
       let v2 = and (1 ≤? r .n && r .n ≤? 1024 && 2 ≤? r .v) (r .v ≤? 1024) a in
       let v1 = and (1 ≤? r .n && r .n ≤? 1024) (2 ≤? r .v) (v2 .0) in
       let n2 = and (1 ≤? r .n) (r .n ≤? 1024) (v1 .0) in
-      let w = and (length cells =? 53 * r .n && length links =? r .n && length calendar =? 2 * r .n) (length words =? 7 * r .v) b in
+      let w = and (length cells =? 53 * r .n && length links =? r .n && length calendar =? 2 * r .n) (length words =? wordsPerVc * r .v) b in
       let c = and (length cells =? 53 * r .n && length links =? r .n) (length calendar =? 2 * r .n) (w .0) in
       let l = and (length cells =? 53 * r .n) (length links =? r .n) (c .0) in
       record {
@@ -113,11 +113,11 @@ module _ (r : Record) (cell cells links calendar words : List ℕ) where
   shaped number e z =
       shape-shows (rangesHold (r .n) (r .v)) (lengthsHold (r .n) (r .v) cells links calendar words) (length cell =? 0 || length cell =? 53) refl refl refl (sym e ∙ z)
 
-  pub sized : (k : Record) → k ≡ clocked r → Shaped → Sized k cells links calendar words
+  pub sized : (k : Record) → k ≡ clocked r → Shaped → Sized (stateOf k cells links calendar words)
   unfolding clocked recordWith
-  sized k e h = subst (λ (x : Record). Sized x cells links calendar words) (sym e) at
+  sized k e h = subst (λ (x : Record). Sized (stateOf x cells links calendar words)) (sym e) at
     where
-      at : Sized (clocked r) cells links calendar words
+      at : Sized (stateOf (clocked r) cells links calendar words)
       at =
           record {
             n-low = h .n-low;

@@ -5,11 +5,10 @@ use mathlib.Core.Bool.{not, _||_}
 use mathlib.Core.List.{List}
 use lib.ListN.{length}
 use Rattle.meaning.specs.declared.Record.{Record}
-use Rattle.meaning.specs.declared.Served.{Served}
 use Rattle.meaning.specs.Plain.{if_then_else_, _=?_}
 use Rattle.meaning.specs.Numbers.{rangesHold, octets}
-use Rattle.meaning.specs.State.{State, stateOf, lengthsHold}
-use Rattle.meaning.specs.Work.{workOf}
+use Rattle.meaning.specs.State.{State, lengthsHold}
+use Rattle.meaning.specs.Work.{Work}
 use Rattle.meaning.specs.Slot.{uncheckedSlot}
 
 -- "slot 1, 2, 9": the first that is given, or 0
@@ -21,6 +20,5 @@ shapeOf r cells links calendar words cell =
     else 0
 
 -- document 01's slot, of a cell that needs no check
-abbrev pub uncheckedPromise : State → List ℕ → Served → List ℕ → List ℕ → List ℕ → List ℕ → Type 0
-uncheckedPromise s cell r cells′ links′ calendar′ words′ =
-    workOf (stateOf (r .ctl) cells′ links′ calendar′ words′) (r .answer) ≡ uncheckedSlot s cell
+abbrev pub uncheckedPromise : State → List ℕ → Work → Type 0
+uncheckedPromise s cell w = w ≡ uncheckedSlot s cell

@@ -4,10 +4,10 @@ ghost use mathlib.Core.Path.{_≡_};
 ghost use Prim.Native.Nat.{_+_, _%_, _<_};
 ghost use lib.ListN.{length};
 ghost use Rattle.meaning.specs.Plain.{_andThen_};
-ghost use Rattle.meaning.specs.State.{stateOf};
 ghost use Rattle.meaning.specs.Work.{workOf, bareAnswer};
 ghost use Rattle.meaning.specs.Slot.{step2, step3, step4, step5, finish};
-ghost use Rattle.plan.specs.Plan.{clocked, servedWork};
+ghost use Rattle.meaning.specs.Lent.{here, before, servedAfter};
+ghost use Rattle.plan.specs.Plan.{clocked};
 ghost use Rattle.plan.specs.Facts.{Sized};
 ghost use Rattle.unchecked.specs.Slot.{shapeOf, uncheckedPromise};
 use meaning::Record;
@@ -55,9 +55,9 @@ fn steps(
     words: &mut [u32],
     cell: &[u8],
 ) -> Served
-    requires { ⌜ Sized k (now cells) (now links) (now calendar) (now words) ⌝ }
+    requires { ⌜ Sized (here k cells links calendar words) ⌝ }
     requires { ⌜ ((length (now cell) ≡ 0 → ⊥) → length (now cell) ≡ 53) ⌝ }
-    ensures { λ s. ⌜ servedWork s (now (cells .exit)) (now (links .exit)) (now (calendar .exit)) (now (words .exit)) ≡ finish (stateOf r (now (cells .entry)) (now (links .entry)) (now (calendar .entry)) (now (words .entry))) (step2 (workOf (stateOf k (now (cells .entry)) (now (links .entry)) (now (calendar .entry)) (now (words .entry))) (bareAnswer 0)) andThen step3 (now (cell .entry)) andThen step4 andThen step5) ⌝ }
+    ensures { λ s. ⌜ servedAfter s cells links calendar words ≡ finish (before r cells links calendar words) (step2 (workOf (before k cells links calendar words) (bareAnswer 0)) andThen step3 (now (cell .entry)) andThen step4 andThen step5) ⌝ }
 {
     let b = arrival::bring(k.n, words, k.rotation, k.t);
     if !b.ok {
@@ -116,7 +116,7 @@ pub fn slot(
     words: &mut [u32],
     cell: &[u8],
 ) -> Served
-    ensures { λ s. ⌜ uncheckedPromise (stateOf r (now (cells .entry)) (now (links .entry)) (now (calendar .entry)) (now (words .entry))) (now (cell .entry)) s (now (cells .exit)) (now (links .exit)) (now (calendar .exit)) (now (words .exit)) ⌝ }
+    ensures { λ s. ⌜ uncheckedPromise (before r cells links calendar words) (now (cell .entry)) (servedAfter s cells links calendar words) ⌝ }
 {
     let number = shape(r, cells, links, calendar, words, cell);
     if number != 0 {

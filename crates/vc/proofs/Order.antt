@@ -9,7 +9,7 @@ use borrow.Author.Tests.{eqb-true, ne-eqb, ltb-true}
 use lib.ListN.{length}
 use Rattle.meaning.specs.declared.Record.{Record}
 use Rattle.meaning.specs.Plain.{if_then_else_, _<?_, _≤?_}
-use Rattle.meaning.specs.Numbers.{rangesHold}
+use Rattle.meaning.specs.Numbers.{rangesHold, wordsPerVc, vcPlace}
 use Rattle.meaning.specs.State.{wordsLong}
 use Rattle.meaning.specs.Words.{vcAt, openWordFits, bucketFits, vcFits}
 use Rattle.meaning.specs.Calls.{sharedRefusal}
@@ -88,19 +88,19 @@ module _ (r : Record) (words : List ℕ) (vci : ℕ) where
   shared-late h = order-late inRange isLong isNamed fits h
 
   -- words of the right length, and a VCI below V
-  lent : isLong ≡ true → isNamed ≡ true → 7 * vci + 7 ≤ length words
+  lent : isLong ≡ true → isNamed ≡ true → vcPlace vci + wordsPerVc ≤ length words
   unfolding wordsLong
   lent p q =
       omega (
         arith,
-        eqb-true (length words) (7 * r .v) p,
+        eqb-true (length words) (wordsPerVc * r .v) p,
         ltb-true vci (r .v) (both (1 ≤? vci) (vci <? r .v) q .1),
       )
 
-  pub early-lent : earlyRefusal ≡ 0 → 7 * vci + 7 ≤ length words
+  pub early-lent : earlyRefusal ≡ 0 → vcPlace vci + wordsPerVc ≤ length words
   early-lent h = let p = early-none inRange isLong isNamed h in lent (p .0) (p .1)
 
-  pub shared-lent : sharedRefusal r words vci ≡ 0 → 7 * vci + 7 ≤ length words
+  pub shared-lent : sharedRefusal r words vci ≡ 0 → vcPlace vci + wordsPerVc ≤ length words
   unfolding sharedRefusal
   shared-lent h = let p = shared-zero inRange isLong isNamed fits h in lent (p .0) (p .1)
 

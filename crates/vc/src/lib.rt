@@ -4,13 +4,19 @@ ghost use mathlib.Core.Bool.{_&&_};
 ghost use Prim.Native.Nat.{_+_, _*_, _≤_};
 ghost use lib.ListN.{length};
 ghost use Rattle.meaning.specs.Plain.{_<?_, _≤?_};
+ghost use Rattle.meaning.specs.State.{HasVc};
 ghost use Rattle.meaning.specs.Words.{vcAt, debt};
 ghost use Rattle.meaning.specs.Calls.{sharedRefusal};
 ghost use Rattle.meaning.specs.Promises.{openPromise, closePromise};
 ghost use Rattle.vc.specs.NotYet.{notYet};
 use bucket::fallen_to;
 use bucket::obeys_rules;
+use meaning::AT_LAST;
+use meaning::AT_M;
+use meaning::AT_S;
+use meaning::AT_WAITING;
 use meaning::Record;
+use meaning::WORDS_PER_VC;
 use refusal::first;
 use refusal::ranges_hold;
 use refusal::refuse;
@@ -32,7 +38,7 @@ fn shared_refusal(ctl: Record, words: &[u32], vci: u16) -> u16
     ensures { λ r. ⌜ r ≡ sharedRefusal ctl (now (words .entry)) vci ⌝ }
 {
     let ranges = refuse(1, !ranges_hold(ctl.n, ctl.v));
-    let lengths = refuse(2, words.len() != 7 * (ctl.v as usize));
+    let lengths = refuse(2, words.len() != WORDS_PER_VC * (ctl.v as usize));
     let name = refuse(4, !names_vc(ctl.v, vci));
     let early = first(ranges, lengths);
     let k = first(early, name);
@@ -50,7 +56,7 @@ pub fn open(ctl: Record, words: &mut [u32], vci: u16, m: u8, f: u32, c: u32) -> 
     if shared != 0 {
         return shared;
     }
-    let opened = words[7 * (vci as usize)];
+    let opened = words[WORDS_PER_VC * (vci as usize)];
     let already = refuse(5, opened == 1);
     let against = refuse(6, !obeys_rules(ctl.n, m as u32, f, c));
     let k = first(already, against);
@@ -63,22 +69,22 @@ pub fn open(ctl: Record, words: &mut [u32], vci: u16, m: u8, f: u32, c: u32) -> 
 
 // What is left in the VC's bucket once it is brought up to date as of t. It is worked out, not stored.
 fn debt_of(words: &[u32], vci: u16, t: u32) -> u32
-    requires { ⌜ (7 * vci + 7 ≤ length (now words)) × (vcAt (now words) vci .bucket .m ≤ 15) ⌝ }
+    requires { ⌜ (HasVc vci (now words)) × (vcAt (now words) vci .bucket .m ≤ 15) ⌝ }
     ensures { λ r. ⌜ r ≡ debt t (vcAt (now (words .entry)) vci) ⌝ }
 {
-    let base = 7 * (vci as usize);
-    let m = words[base + 1];
-    let s = words[base + 4];
-    let last = words[base + 5];
+    let base = WORDS_PER_VC * (vci as usize);
+    let m = words[base + AT_M];
+    let s = words[base + AT_S];
+    let last = words[base + AT_LAST];
     fallen_to(s, m, last, t)
 }
 
 // Refusal 8 of an open VC, or 0: a cell of it waits, or it has a debt.
 fn not_yet(words: &[u32], vci: u16, t: u32) -> u16
-    requires { ⌜ (7 * vci + 7 ≤ length (now words)) × (vcAt (now words) vci .bucket .m ≤ 15) ⌝ }
+    requires { ⌜ (HasVc vci (now words)) × (vcAt (now words) vci .bucket .m ≤ 15) ⌝ }
     ensures { λ r. ⌜ r ≡ notYet t (vcAt (now (words .entry)) vci) ⌝ }
 {
-    let waiting = words[7 * (vci as usize) + 6];
+    let waiting = words[WORDS_PER_VC * (vci as usize) + AT_WAITING];
     let waits = refuse(8, waiting != 0);
     let owed = debt_of(words, vci, t);
     let owes = refuse(8, owed != 0);
@@ -93,7 +99,7 @@ pub fn close(ctl: Record, words: &mut [u32], vci: u16) -> u16
     if shared != 0 {
         return shared;
     }
-    let opened = words[7 * (vci as usize)];
+    let opened = words[WORDS_PER_VC * (vci as usize)];
     if opened == 0 {
         return 7;
     }

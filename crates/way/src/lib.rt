@@ -3,6 +3,7 @@
 ghost use mathlib.Core.Path.{_≡_};
 ghost use Prim.Native.Nat.{_+_, _%_, _≤_, _<_};
 ghost use Rattle.meaning.specs.Plain.{if_then_else_, _=?_};
+ghost use Rattle.meaning.specs.Numbers.{mostN, mostV};
 ghost use Rattle.plan.specs.Plan.{clocked};
 ghost use Rattle.way.specs.Way.{wayWith, oneBack, slotRecord, lastRecord, steppedWay, roundedWay, Fits};
 use meaning::Record;
@@ -24,7 +25,7 @@ pub struct Way {
 
 // One more, modulo n, without a division.
 fn after(x: usize, n: usize) -> usize
-    requires { ⌜ (x < n) × (n ≤ 1024) ⌝ }
+    requires { ⌜ (x < n) × (n ≤ mostN) ⌝ }
     ensures { λ r. ⌜ r ≡ (x + 1) % n ⌝ }
 {
     let y = x + 1;
@@ -42,7 +43,7 @@ fn one_back(x: usize, n: usize) -> usize
 
 // A record's way: n is its N in a wide number.
 pub fn way_of(r: Record, n: usize) -> Way
-    requires { ⌜ (n ≡ r .n) × (r .n ≤ 1024) × (r .v ≤ 1024) × (r .turn < r .n) × (r .rotation < r .v) ⌝ }
+    requires { ⌜ (n ≡ r .n) × (r .n ≤ mostN) × (r .v ≤ mostV) × (r .turn < r .n) × (r .rotation < r .v) ⌝ }
     ensures slot { λ w. ⌜ slotRecord w ≡ clocked r ⌝ }
     ensures last { λ w. ⌜ lastRecord w ≡ r ⌝ }
 {
@@ -90,7 +91,7 @@ pub fn record_of(w: Way) -> Record
 
 // A slot is over. T and rotation may stand at N and V: a run ends there.
 pub fn stepped(w: Way) -> Way
-    requires { ⌜ (w .turn < w .n) × (w .rotation < w .v) × (w .n ≤ 1024) × (w .v ≤ 1024) ⌝ }
+    requires { ⌜ (w .turn < w .n) × (w .rotation < w .v) × (w .n ≤ mostN) × (w .v ≤ mostV) ⌝ }
     ensures { λ s. ⌜ s ≡ steppedWay w ⌝ }
 {
     let t = std::num::wrapping_add_u32(w.t, 1);

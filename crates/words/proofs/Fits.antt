@@ -9,6 +9,7 @@ use native.Mathlib.Omega.{arith}
 use borrow.Author.Tests.{lt-leb, eq-eqb, ne-eqb, leb-true}
 use lib.ListN.{getD}
 use Rattle.meaning.specs.Plain.{_≤?_}
+use Rattle.meaning.specs.Numbers.{wordsPerVc}
 use Rattle.meaning.specs.Bucket.{Bucket, bucketOf, obeysRules}
 use Rattle.meaning.specs.Words.{Vc, vcAt, bucketFits, openWordFits, vcFits}
 use Rattle.bucket.proofs.Rules.{Obeys, rules-any-S, rules-facts, both}
@@ -36,9 +37,9 @@ bucket-facts N b e =
     record { rules = rules-facts N b (p .0); S-most = leb-true _ _ (p .1) }
 
 -- the open word is the first of the seven
-pub opened-at : (words : List ℕ) (vci : ℕ) → vcAt words vci .opened ≡ getD words (7 * vci) 0
+pub opened-at : (words : List ℕ) (vci : ℕ) → vcAt words vci .opened ≡ getD words (wordsPerVc * vci) 0
 unfolding vcAt
-opened-at words vci = rw (add-zero (7 * vci))
+opened-at words vci = rw (add-zero (wordsPerVc * vci))
 
 -- ---- a VC, of which the open word is tested first
 pub vc-closed : (N : ℕ) (vc : Vc) → vc .opened ≡ 0 → true ≡ vcFits N vc

@@ -11,6 +11,7 @@ use Rattle.words.proofs.Fits.{opened-at}
 use Rattle.vc.proofs.Order.{shared-lent}
 use Rattle.vc.proofs.Second.{openRefusal, open-shared, open-refused, open-done}
 use borrow.Author.Needs.{needs}
+use Rattle.meaning.specs.Numbers.{wordsPerVc, vcPlace}
 use Rattle.vc.proofs.open.Statement.{statement}
 use Rattle.vc.proofs.open.Tie as tie
 
@@ -22,7 +23,7 @@ none-shared c = sym (c .before .shared-refusal .ensures) ∙ c .if1 .left
 
 none-lent : (c : tie.Else1)
     → let a = c .before .before .before .before .args in
-    7 * a .vci + 7 ≤ length (a .words .now)
+    vcPlace (a .vci) + wordsPerVc ≤ length (a .words .now)
 none-lent c =
     let a = c .before .before .before .before .args in shared-lent (a .ctl) (a .words .now) (a .vci) (none-shared c)
 

@@ -1,0 +1,41 @@
+-- Record and lent memories as one state, for contracts: `here` as a `requires` sees them, `before` and `after` as an
+-- `ensures` does. A further lent memory is one more word here and in the parameter lists, and no other word of a contract.
+--
+--   here r ..         == the record r and what the memories hold at the call
+--   before r ..       == the same, said in an `ensures`
+--   after r ..        == the record r and what they hold at the return
+--   setUpAfter s ..   == what a setup gives back: the number of s, and the state that it leaves, with the record of s
+--   servedAfter s ..  == what a slot gives back: the state that it leaves, with the record of s, and the answer of s
+use Prim.Native.Nat.{ℕ}
+use mathlib.Core.List.{List}
+use denote.Ref.{RefT}
+use denote.Triple.Both.{Both}
+use Rattle.meaning.specs.declared.Record.{Record}
+use Rattle.meaning.specs.declared.Fresh.{Fresh}
+use Rattle.meaning.specs.declared.Served.{Served}
+use Rattle.meaning.specs.State.{State, stateOf}
+use Rattle.meaning.specs.Calls.{SetUp, setUpOf}
+use Rattle.meaning.specs.Work.{Work, workOf}
+
+abbrev pub Slice : Type 0
+Slice = RefT (List ℕ)
+
+abbrev pub Lent : Type 0
+Lent = Both Slice Slice
+
+abbrev pub here : Record → Slice → Slice → Slice → Slice → State
+here r cells links calendar words = stateOf r (cells .now) (links .now) (calendar .now) (words .now)
+
+abbrev pub before : Record → Lent → Lent → Lent → Lent → State
+before r cells links calendar words =
+    stateOf r (cells .entry .now) (links .entry .now) (calendar .entry .now) (words .entry .now)
+
+abbrev pub after : Record → Lent → Lent → Lent → Lent → State
+after r cells links calendar words =
+    stateOf r (cells .exit .now) (links .exit .now) (calendar .exit .now) (words .exit .now)
+
+abbrev pub setUpAfter : Fresh → Lent → Lent → Lent → Lent → SetUp
+setUpAfter s cells links calendar words = setUpOf (s .number) (after (s .ctl) cells links calendar words)
+
+abbrev pub servedAfter : Served → Lent → Lent → Lent → Lent → Work
+servedAfter s cells links calendar words = workOf (after (s .ctl) cells links calendar words) (s .answer)
