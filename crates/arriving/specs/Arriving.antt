@@ -6,21 +6,23 @@
 --   Arrives k words cell.. == the VC that the cell names accepts it
 --   Seats k .. p           == the cell has its space, its entry and the Free List without it
 --   Spotted k .. p         == all of these
-use Prim.Native.Nat.{ℕ, _+_, _<_}
+use Prim.Native.Nat.{ℕ, _+_, _*_, _≤_, _<_}
 use mathlib.Core.Path.{_≡_}
 use mathlib.Core.Bool.{true}
 use mathlib.Core.List.{List}
-use lib.ListN.{getD}
+use lib.ListN.{length, getD}
 use Rattle.meaning.specs.declared.Record.{Record}
-use Rattle.meaning.specs.Numbers.{accepted, fPlace, waitingPlace}
+use Rattle.meaning.specs.Numbers.{mostN, mostV, octets, cellStart, perEntry, wordsIn, accepted, fPlace, waitingPlace}
 use Rattle.meaning.specs.Words.{vcAt, bucketFits}
 use Rattle.meaning.specs.Lists.{endsFit}
+use Rattle.meaning.specs.Lent.{Slice}
 use Rattle.arrival.specs.declared.Judged.{Judged}
 use Rattle.arrival.specs.Arrival.{bucketNow, judgedAs, judgedBucket, judgedOf}
 use Rattle.spaces.specs.declared.Seat.{Seat}
 use Rattle.spaces.specs.Spaces.{endsOf, seatAs, entryOf, seatOf}
 use Rattle.plan.specs.Plan.{freeEnds}
 use Rattle.plan.specs.Facts.{Accepted}
+use Rattle.way.specs.declared.Way.{Way}
 use Rattle.arriving.specs.declared.Spot.{Spot}
 
 -- the accepted cell's judgement and seat, from what was found
@@ -57,3 +59,15 @@ pub record Spotted (k : Record) (links calendar words cell : List ℕ) (p : Spot
   pub judged : judgedAt words p ≡ judgedOf (k .n) (k .v) (k .t) words cell
   pub is-accepted : Accepted k (judgedAt words p) cell words
   pub seats : Seats k links calendar p
+
+-- ---- what is asked of lent memories, for contracts: w is the policer in the slot to come
+abbrev pub MaySeat : Way → Slice → Slice → ℕ → Type 0
+MaySeat w links calendar D =
+    (w .n ≤ mostN) × (length (links .now) ≡ w .n) × (length (calendar .now) ≡ perEntry * w .n) × (w .turn < w .n) × (D < w .n)
+    × (endsFit (w .n) (endsOf (w .freehead) (w .freetail)) ≡ true)
+
+abbrev pub MayArrive : Way → Slice → Slice → Slice → Slice → ℕ → Type 0
+MayArrive w links calendar words arrivals i =
+    (w .n ≤ mostN) × (w .v ≤ mostV) × (length (links .now) ≡ w .n) × (length (calendar .now) ≡ perEntry * w .n)
+    × (length (words .now) ≡ wordsIn (w .v)) × (w .turn < w .n) × (cellStart i + octets ≤ length (arrivals .now))
+    × (endsFit (w .n) (endsOf (w .freehead) (w .freetail)) ≡ true)

@@ -10,7 +10,7 @@ ghost use Rattle.meaning.specs.State.{HasVc};
 ghost use Rattle.meaning.specs.Lists.{endsFit};
 ghost use Rattle.spaces.specs.Spaces.{endsOf};
 ghost use Rattle.way.specs.Way.{slotRecord};
-ghost use Rattle.arriving.specs.Arriving.{Judges, Arrives, Seats, Spotted};
+ghost use Rattle.arriving.specs.Arriving.{Judges, Arrives, Seats, Spotted, MaySeat, MayArrive};
 use meaning::AT_M;
 use meaning::AT_WAITING;
 use meaning::WORDS_PER_VC;
@@ -110,8 +110,9 @@ fn no_spot() -> Spot
 
 // The seat of an accepted cell. A Free List with one space is left to the long way.
 fn seat_of(w: Way, a: Judgement, links: &[u16], calendar: &[u16]) -> Spot
-    requires { ⌜ (w .n ≤ mostN) × (length (now links) ≡ w .n) × (length (now calendar) ≡ perEntry * w .n) × (w .turn < w .n) × (a .d < w .n) × (endsFit (w .n) (endsOf (w .freehead) (w .freetail)) ≡ true) ⌝ }
-    ensures { λ p. ⌜ (p .ok ≡ true → Seats (slotRecord w) (now (links .entry)) (now (calendar .entry)) p × (p .vci ≡ a .vci) × (p .d ≡ a .d) × (p .s ≡ a .s)) ⌝ }
+    requires { ⌜ MaySeat w links calendar (a .d) ⌝ }
+    ensures { λ p. ⌜ (p .ok ≡ true → Seats (slotRecord w) (now (links .entry)) (now (calendar .entry)) p × (p .vci ≡ a .vci)
+        × (p .d ≡ a .d) × (p .s ≡ a .s)) ⌝ }
 {
     if w.freehead == w.freetail {
         return no_spot();
@@ -164,8 +165,9 @@ pub fn accepted_spot(
     arrivals: &[u8],
     i: usize,
 ) -> Spot
-    requires { ⌜ (w .n ≤ mostN) × (w .v ≤ mostV) × (length (now links) ≡ w .n) × (length (now calendar) ≡ perEntry * w .n) × (length (now words) ≡ wordsIn (w .v)) × (w .turn < w .n) × (cellStart i + octets ≤ length (now arrivals)) × (endsFit (w .n) (endsOf (w .freehead) (w .freetail)) ≡ true) ⌝ }
-    ensures { λ p. ⌜ (p .ok ≡ true → Spotted (slotRecord w) (now (links .entry)) (now (calendar .entry)) (now (words .entry)) (take 53 (drop (53 * i) (now (arrivals .entry)))) p) ⌝ }
+    requires { ⌜ MayArrive w links calendar words arrivals i ⌝ }
+    ensures { λ p. ⌜ (p .ok ≡ true
+        → Spotted (slotRecord w) (now (links .entry)) (now (calendar .entry)) (now (words .entry)) (take 53 (drop (53 * i) (now (arrivals .entry)))) p) ⌝ }
 {
     let a = arrived(w, words, arrivals, i);
     if !a.ok {

@@ -8,9 +8,10 @@ ghost use Rattle.meaning.specs.Plain.{_=?_};
 ghost use Rattle.meaning.specs.Numbers.{wordsIn};
 ghost use Rattle.meaning.specs.Promises.{slotPromise};
 ghost use Rattle.meaning.specs.Lent.{before, after, servedAfter};
-ghost use Rattle.burst.specs.Burst.{Stretch, stretchOf, sizeFits, oneSlot, slots, lengthsFit};
+ghost use Rattle.way.specs.Way.{lastRecord};
+ghost use Rattle.burst.specs.Burst.{sizeFits, oneSlot, slots, lengthsFit};
 ghost use Rattle.burst.specs.Promise.{burstPromise, SlotLent, BurstLent};
-ghost use Rattle.burst.specs.Way.{Shaped, Tries, Held, Room, wayStretch};
+ghost use Rattle.burst.specs.Way.{Shaped, Tries, Room, HeldIn, HeldAfter, stretchBefore, stretchAfter, slotsFrom};
 use meaning::Answer;
 use meaning::Record;
 use meaning::Served;
@@ -147,7 +148,8 @@ fn turn(
     i: usize,
 ) -> BurstEnd
     requires { ⌜ SlotLent (now arrivals) (now departures) (now answers) i ⌝ }
-    ensures { λ r. ⌜ stretchOf (after (r .ctl) cells links calendar words) (now (departures .exit)) (now (answers .exit)) (r .number) (r .done) ≡ oneSlot (now (arrivals .entry)) size (stretchOf (before ctl cells links calendar words) (now (departures .entry)) (now (answers .entry)) 0 i) ⌝ }
+    ensures { λ r. ⌜ stretchAfter (after (r .ctl) cells links calendar words) departures answers (r .number) (r .done)
+        ≡ oneSlot (now (arrivals .entry)) size (stretchBefore (before ctl cells links calendar words) departures answers i) ⌝ }
 {
     if !size_fits(size) {
         return ended(ctl, 9, i);
@@ -231,11 +233,12 @@ fn stretch(
     stop: usize,
 ) -> Far
     requires { ⌜ BurstLent (now arrivals) (now sizes) (now departures) (now answers) ⌝ }
-    requires { ⌜ Held from (now cells) (now links) (now calendar) (now words) ⌝ }
+    requires { ⌜ HeldIn from cells links calendar words ⌝ }
     requires { ⌜ (begin ≤ stop) × (stop ≤ length (now sizes)) × Room from (now words) (stop - begin) ⌝ }
-    ensures held { λ f. ⌜ Held (f .way) (now (cells .exit)) (now (links .exit)) (now (calendar .exit)) (now (words .exit)) ⌝ }
+    ensures held { λ f. ⌜ HeldAfter (f .way) cells links calendar words ⌝ }
     ensures far { λ f. ⌜ (begin ≤ f .i) × (f .i ≤ stop) × (f .ok ≡ true → f .i ≡ stop) ⌝ }
-    ensures rest { λ f. ⌜ slots (now (arrivals .entry)) (drop (f .i) (now (sizes .entry))) (wayStretch (f .way) (now (cells .exit)) (now (links .exit)) (now (calendar .exit)) (now (words .exit)) (now (departures .exit)) (now (answers .exit)) (f .i)) ≡ slots (now (arrivals .entry)) (drop begin (now (sizes .entry))) (wayStretch from (now (cells .entry)) (now (links .entry)) (now (calendar .entry)) (now (words .entry)) (now (departures .entry)) (now (answers .entry)) begin) ⌝ }
+    ensures rest { λ f. ⌜ slotsFrom arrivals sizes (f .i) (stretchAfter (after (lastRecord (f .way)) cells links calendar words) departures answers 0 (f .i))
+        ≡ slotsFrom arrivals sizes begin (stretchBefore (before (lastRecord from) cells links calendar words) departures answers begin) ⌝ }
 {
     let mut w = from;
     let mut i = begin;
@@ -284,11 +287,12 @@ fn advance(
     begin: usize,
 ) -> Far
     requires { ⌜ BurstLent (now arrivals) (now sizes) (now departures) (now answers) ⌝ }
-    requires { ⌜ Held from (now cells) (now links) (now calendar) (now words) ⌝ }
+    requires { ⌜ HeldIn from cells links calendar words ⌝ }
     requires { ⌜ (begin ≤ length (now sizes)) × (from .turn < from .n) × (from .rotation < from .v) ⌝ }
-    ensures held { λ f. ⌜ Held (f .way) (now (cells .exit)) (now (links .exit)) (now (calendar .exit)) (now (words .exit)) ⌝ }
+    ensures held { λ f. ⌜ HeldAfter (f .way) cells links calendar words ⌝ }
     ensures far { λ f. ⌜ (begin ≤ f .i) × (f .i ≤ length (now (sizes .entry))) ⌝ }
-    ensures rest { λ f. ⌜ slots (now (arrivals .entry)) (drop (f .i) (now (sizes .entry))) (wayStretch (f .way) (now (cells .exit)) (now (links .exit)) (now (calendar .exit)) (now (words .exit)) (now (departures .exit)) (now (answers .exit)) (f .i)) ≡ slots (now (arrivals .entry)) (drop begin (now (sizes .entry))) (wayStretch from (now (cells .entry)) (now (links .entry)) (now (calendar .entry)) (now (words .entry)) (now (departures .entry)) (now (answers .entry)) begin) ⌝ }
+    ensures rest { λ f. ⌜ slotsFrom arrivals sizes (f .i) (stretchAfter (after (lastRecord (f .way)) cells links calendar words) departures answers 0 (f .i))
+        ≡ slotsFrom arrivals sizes begin (stretchBefore (before (lastRecord from) cells links calendar words) departures answers begin) ⌝ }
 {
     let mut f = Far {
         ok: true,
@@ -341,7 +345,8 @@ fn try_likely(
     requires { ⌜ begin ≤ length (now sizes) ⌝ }
     ensures far { λ r. ⌜ (begin ≤ r .done) × (r .done ≤ length (now (sizes .entry))) × (r .number ≡ 0) ⌝ }
     ensures shaped { λ r. ⌜ Shaped (r .ctl) (now (cells .exit)) (now (links .exit)) (now (calendar .exit)) (now (words .exit)) ⌝ }
-    ensures rest { λ r. ⌜ slots (now (arrivals .entry)) (drop (r .done) (now (sizes .entry))) (stretchOf (after (r .ctl) cells links calendar words) (now (departures .exit)) (now (answers .exit)) 0 (r .done)) ≡ slots (now (arrivals .entry)) (drop begin (now (sizes .entry))) (stretchOf (before ctl cells links calendar words) (now (departures .entry)) (now (answers .entry)) 0 begin) ⌝ }
+    ensures rest { λ r. ⌜ slotsFrom arrivals sizes (r .done) (stretchAfter (after (r .ctl) cells links calendar words) departures answers 0 (r .done))
+        ≡ slotsFrom arrivals sizes begin (stretchBefore (before ctl cells links calendar words) departures answers begin) ⌝ }
 {
     if !may_try(ctl) {
         return ended(ctl, 0, begin);
@@ -377,7 +382,8 @@ fn run(
 ) -> BurstEnd
     requires { ⌜ BurstLent (now arrivals) (now sizes) (now departures) (now answers) ⌝ }
     requires { ⌜ Shaped ctl (now cells) (now links) (now calendar) (now words) ⌝ }
-    ensures { λ r. ⌜ stretchOf (after (r .ctl) cells links calendar words) (now (departures .exit)) (now (answers .exit)) (r .number) (r .done) ≡ slots (now (arrivals .entry)) (now (sizes .entry)) (stretchOf (before ctl cells links calendar words) (now (departures .entry)) (now (answers .entry)) 0 0) ⌝ }
+    ensures { λ r. ⌜ stretchAfter (after (r .ctl) cells links calendar words) departures answers (r .number) (r .done)
+        ≡ slots (now (arrivals .entry)) (now (sizes .entry)) (stretchBefore (before ctl cells links calendar words) departures answers 0) ⌝ }
 {
     let mut end = BurstEnd {
         ctl: ctl,

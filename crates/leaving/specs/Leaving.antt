@@ -5,21 +5,24 @@
 --   Left N links x tail .. == what is left of a list from x to tail once x has gone
 --   Planned k links ..     == what departs, but for its VC
 --   Leaves k entry o Is    == what departs, Is being what "departs" means in memory as it then is
-use Prim.Native.Nat.{ℕ, _<_}
+use Prim.Native.Nat.{ℕ, _*_, _≤_, _<_}
 use mathlib.Core.Path.{_≡_}
 use mathlib.Core.Logic.{_≢_}
 use mathlib.Core.Bool.{Bool, true, false, not}
 use mathlib.Core.List.{List}
-use lib.ListN.{getD}
+use lib.ListN.{length, getD}
 use Rattle.meaning.specs.declared.Record.{Record}
 use Rattle.meaning.specs.Plain.{_=?_}
-use Rattle.meaning.specs.Numbers.{empty}
+use Rattle.meaning.specs.Numbers.{mostN, perEntry, empty}
 use Rattle.meaning.specs.State.{Ends}
-use Rattle.meaning.specs.Lists.{endsFit}
+use Rattle.meaning.specs.Lists.{endsFit, entryAt, writeEntry}
+use Rattle.meaning.specs.Lent.{Slice, Lent}
 use Rattle.spaces.specs.declared.Off.{Off}
 use Rattle.spaces.specs.Spaces.{endsOf, linked, offAs, offOf}
-use Rattle.plan.specs.Plan.{joinedLinks, joinedHead}
+use Rattle.plan.specs.Plan.{joinedLinks, joinedHead, seatEnds}
 use Rattle.plan.specs.Facts.{OffStored}
+use Rattle.way.specs.declared.Way.{Way}
+use Rattle.way.specs.Way.{slotRecord}
 use Rattle.arriving.specs.declared.Spot.{Spot}
 use Rattle.arriving.specs.Arriving.{judgedAt, seatAt}
 use Rattle.leaving.specs.declared.Leave.{Leave}
@@ -90,6 +93,23 @@ abbrev pub OffHere : Record → List ℕ → List ℕ → List ℕ → Bool → 
 OffHere k cells links words joins entry o =
     o ≡ offOf (k .n) (k .v) cells (linked joins (k .outtail) (entry .head) links) words (joinedHead k entry) (entry .tail)
 
+-- entry T once a cell has its seat
+abbrev pub entryThen : Record → Spot → List ℕ → Ends
+entryThen k p calendar = entryAt (writeEntry calendar (p .e) (seatEnds (seatAt k p))) (k .turn)
+
 -- where a cell is accepted into the seat of p
 abbrev pub OffThen : Record → Spot → List ℕ → List ℕ → List ℕ → Bool → Ends → Off → Type 0
 OffThen k p cells links words = OffStored k (judgedAt words p) (seatAt k p) cells links words
+
+-- ---- the same of lent memories, for contracts: w is the policer in the slot to come
+abbrev pub OffHereIn : Way → Lent → Lent → Lent → Bool → Ends → Off → Type 0
+OffHereIn w cells links words = OffHere (slotRecord w) (cells .entry .now) (links .entry .now) (words .entry .now)
+
+abbrev pub OffThenIn : Way → Spot → Lent → Lent → Lent → Bool → Ends → Off → Type 0
+OffThenIn w p cells links words = OffThen (slotRecord w) p (cells .entry .now) (links .entry .now) (words .entry .now)
+
+-- the entries and the Output List may be read
+abbrev pub MayRead : Way → Slice → Slice → Type 0
+MayRead w links calendar =
+    (w .n ≤ mostN) × (length (links .now) ≡ w .n) × (length (calendar .now) ≡ perEntry * w .n) × (w .turn < w .n)
+    × (endsFit (w .n) (endsOf (w .outhead) (w .outtail)) ≡ true)

@@ -14,7 +14,7 @@ ghost use Rattle.plan.specs.Plan.{seatEnds};
 ghost use Rattle.plan.specs.Facts.{Sized};
 ghost use Rattle.way.specs.Way.{slotRecord};
 ghost use Rattle.arriving.specs.Arriving.{seatAt, Seats};
-ghost use Rattle.leaving.specs.Leaving.{Left, PlannedUnmarked, PlannedMarked, Planned, Leaves, leaveWith, OffHere, OffThen};
+ghost use Rattle.leaving.specs.Leaving.{Left, PlannedUnmarked, PlannedMarked, Planned, Leaves, leaveWith, OffHereIn, OffThenIn, entryThen, MayRead};
 use arriving::Spot;
 use meaning::AT_WAITING;
 use meaning::WORDS_PER_VC;
@@ -189,7 +189,7 @@ fn plan_marked(w: Way, links: &[u16], head: usize, tail: usize) -> Leave
 
 // Steps 4 and 5 but for the departing VC.
 fn plan(w: Way, links: &[u16], calendar: &[u16]) -> Leave
-    requires { ⌜ (w .n ≤ mostN) × (length (now links) ≡ w .n) × (length (now calendar) ≡ perEntry * w .n) × (w .turn < w .n) × (endsFit (w .n) (endsOf (w .outhead) (w .outtail)) ≡ true) ⌝ }
+    requires { ⌜ MayRead w links calendar ⌝ }
     ensures { λ o. ⌜ (o .ok ≡ true → Planned (slotRecord w) (now (links .entry)) (entryAt (now (calendar .entry)) (w .turn)) o) ⌝ }
 {
     let head = calendar[2 * w.turn] as usize;
@@ -230,7 +230,7 @@ fn with_vci(o: Leave, vci: usize) -> Leave
 pub fn off_quiet(w: Way, cells: &[u8], links: &[u16], calendar: &[u16], words: &[u32]) -> Leave
     requires { ⌜ Sized (here (slotRecord w) cells links calendar words) ⌝ }
     requires { ⌜ endsFit (w .n) (endsOf (w .outhead) (w .outtail)) ≡ true ⌝ }
-    ensures { λ o. ⌜ (o .ok ≡ true → Leaves (slotRecord w) (entryAt (now (calendar .entry)) (w .turn)) o (OffHere (slotRecord w) (now (cells .entry)) (now (links .entry)) (now (words .entry)))) ⌝ }
+    ensures { λ o. ⌜ (o .ok ≡ true → Leaves (slotRecord w) (entryAt (now (calendar .entry)) (w .turn)) o (OffHereIn w cells links words)) ⌝ }
 {
     let o = plan(w, links, calendar);
     if !o.ok {
@@ -245,9 +245,11 @@ pub fn off_quiet(w: Way, cells: &[u8], links: &[u16], calendar: &[u16], words: &
 
 // The cell has D 0 and joined entry T, which then joins the Output List: the cell itself departs if that is empty.
 fn off_now(w: Way, p: Spot, cells: &[u8], links: &[u16], words: &[u32]) -> Leave
-    requires { ⌜ (w .n ≤ mostN) × (w .v ≤ mostV) × (length (now cells) ≡ octets * w .n) × (length (now links) ≡ w .n) × (length (now words) ≡ wordsIn (w .v)) ⌝ }
-    requires { ⌜ (endsFit (w .n) (endsOf (w .outhead) (w .outtail)) ≡ true) × (endsFit (w .n) (endsOf (p .head) (p .tail)) ≡ true) × (p .x < w .n) × (1 ≤ p .vci) × (p .vci < w .v) ⌝ }
-    ensures { λ o. ⌜ (o .ok ≡ true → Leaves (slotRecord w) (seatEnds (seatAt (slotRecord w) p)) o (OffThen (slotRecord w) p (now (cells .entry)) (now (links .entry)) (now (words .entry)))) ⌝ }
+    requires { ⌜ (w .n ≤ mostN) × (w .v ≤ mostV) × (length (now cells) ≡ octets * w .n) × (length (now links) ≡ w .n)
+        × (length (now words) ≡ wordsIn (w .v)) ⌝ }
+    requires { ⌜ (endsFit (w .n) (endsOf (w .outhead) (w .outtail)) ≡ true) × (endsFit (w .n) (endsOf (p .head) (p .tail)) ≡ true)
+        × (p .x < w .n) × (1 ≤ p .vci) × (p .vci < w .v) ⌝ }
+    ensures { λ o. ⌜ (o .ok ≡ true → Leaves (slotRecord w) (seatEnds (seatAt (slotRecord w) p)) o (OffThenIn w p cells links words)) ⌝ }
 {
     if w.outhead == 65535 {
         return Leave {
@@ -288,7 +290,7 @@ fn off_now(w: Way, p: Spot, cells: &[u8], links: &[u16], words: &[u32]) -> Leave
 fn off_later(w: Way, p: Spot, cells: &[u8], links: &[u16], calendar: &[u16], words: &[u32]) -> Leave
     requires { ⌜ Sized (here (slotRecord w) cells links calendar words) ⌝ }
     requires { ⌜ (endsFit (w .n) (endsOf (w .outhead) (w .outtail)) ≡ true) × (1 ≤ p .vci) × (p .vci < w .v) ⌝ }
-    ensures { λ o. ⌜ (o .ok ≡ true → Leaves (slotRecord w) (entryAt (now (calendar .entry)) (w .turn)) o (OffThen (slotRecord w) p (now (cells .entry)) (now (links .entry)) (now (words .entry)))) ⌝ }
+    ensures { λ o. ⌜ (o .ok ≡ true → Leaves (slotRecord w) (entryAt (now (calendar .entry)) (w .turn)) o (OffThenIn w p cells links words)) ⌝ }
 {
     let o = plan(w, links, calendar);
     if !o.ok {
@@ -317,7 +319,7 @@ pub fn off_accept(
     requires { ⌜ endsFit (w .n) (endsOf (w .outhead) (w .outtail)) ≡ true ⌝ }
     requires { ⌜ Seats (slotRecord w) (now links) (now calendar) p ⌝ }
     requires { ⌜ (p .d < w .n) × (1 ≤ p .vci) × (p .vci < w .v) ⌝ }
-    ensures { λ o. ⌜ (o .ok ≡ true → Leaves (slotRecord w) (entryAt (writeEntry (now (calendar .entry)) (p .e) (seatEnds (seatAt (slotRecord w) p))) (w .turn)) o (OffThen (slotRecord w) p (now (cells .entry)) (now (links .entry)) (now (words .entry)))) ⌝ }
+    ensures { λ o. ⌜ (o .ok ≡ true → Leaves (slotRecord w) (entryThen (slotRecord w) p (now (calendar .entry))) o (OffThenIn w p cells links words)) ⌝ }
 {
     if p.d == 0 {
         return off_now(w, p, cells, links, words);

@@ -40,7 +40,7 @@ use Rattle.turning.specs.declared.Turn.{Turn}
 use Rattle.turning.specs.Turning.{Turned}
 use Rattle.leaving.specs.declared.Leave.{Leave}
 use Rattle.leaving.specs.Leaving.{Goes, offAt, OffHere}
-use Rattle.likely.specs.Served.{from2, Ready, Lent, Done}
+use Rattle.likely.specs.Served.{from2, Ready, HandedTo, Done}
 use Rattle.likely.proofs.EitherLaws.{allowed-long, linked-same}
 
 -- a departing space is below N
@@ -62,7 +62,7 @@ off-facts N z cells links words x tail o is ok =
     rw is (off-shows N z cells links words x tail (ap (λ (y : Off). y .ok) (sym is) ∙ ok))
 
 module _ (w : Way) (r : Turn) (cells links calendar words departures answers : List ℕ) (i : ℕ)
-    (ready : Ready w cells links calendar words) (turned : Turned (slotRecord w) words r) (lent : Lent departures answers i) where
+    (ready : Ready w cells links calendar words) (turned : Turned (slotRecord w) words r) (lent : HandedTo departures answers i) where
   abbrev k : Record
   k = slotRecord w
 

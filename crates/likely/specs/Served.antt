@@ -7,20 +7,24 @@ use Prim.Native.Nat.{ℕ, _+_, _*_, _≤_}
 use mathlib.Core.Path.{_≡_}
 use mathlib.Core.Bool.{true, false}
 use mathlib.Core.List.{List}
-use lib.ListN.{length, getD}
+use lib.ListN.{length, getD, take, drop}
 use Rattle.meaning.specs.declared.Record.{Record}
 use Rattle.meaning.specs.declared.Answer.{Answer}
 use Rattle.meaning.specs.Plain.{Out, next, _andThen_}
-use Rattle.meaning.specs.Numbers.{octets, cellStart}
+use Rattle.meaning.specs.Numbers.{octets, cellStart, fPlace, waitingPlace}
 use Rattle.meaning.specs.State.{Ends, stateOf}
 use Rattle.meaning.specs.Lists.{endsFit}
 use Rattle.meaning.specs.Work.{Work, workOf, bareAnswer}
 use Rattle.meaning.specs.Slot.{step2, step3, step4, step5}
-use Rattle.plan.specs.Plan.{withEnds, freeEnds, outputEnds}
+use Rattle.meaning.specs.Lent.{Slice, Lent}
+use Rattle.arrival.specs.Arrival.{broughtOf, filled}
+use Rattle.plan.specs.Plan.{withEnds, freeEnds, outputEnds, rotated}
 use Rattle.plan.specs.Facts.{Sized}
 use Rattle.handout.specs.Handout.{shownInto, answerLong, writeAnswer}
 use Rattle.way.specs.declared.Way.{Way}
 use Rattle.way.specs.Way.{slotRecord}
+use Rattle.arriving.specs.declared.Spot.{Spot}
+use Rattle.arriving.specs.Arriving.{Spotted}
 use Rattle.likely.specs.declared.Went.{Went}
 
 abbrev pub from2 : Record → List ℕ → List ℕ → List ℕ → List ℕ → List ℕ → Out Work
@@ -34,7 +38,7 @@ pub record Ready (w : Way) (cells links calendar words : List ℕ) : Type 0 wher
   pub zero-closed : w .rotation ≡ 0 → getD words 0 0 ≡ 0
 
 -- slot i has its octets and its six numbers
-pub record Lent (departures answers : List ℕ) (i : ℕ) : Type 0 where
+pub record HandedTo (departures answers : List ℕ) (i : ℕ) : Type 0 where
   pub departure : cellStart i + octets ≤ length departures
   pub answer : answerLong * i + answerLong ≤ length answers
 
@@ -55,3 +59,45 @@ pub record Either (k : Record) (target : Out Work) (g : Went) (cells links calen
   pub went : g .ok ≡ true → Done k target (g .way) cells′ links′ calendar′ words′ departures departures′ answers answers′ i
   pub stayed : g .ok ≡ false
       → (cells′ ≡ cells) × (links′ ≡ links) × (calendar′ ≡ calendar) × (words′ ≡ words) × (departures′ ≡ departures) × (answers′ ≡ answers)
+
+-- ---- the same of lent memories and buffers, for contracts: w is the policer in slot i, cell what is lent to it
+abbrev pub cellBefore : Lent → ℕ → List ℕ
+cellBefore arrivals i = take octets (drop (cellStart i) (arrivals .entry .now))
+
+abbrev pub ReadyIn : Way → Slice → Slice → Slice → Slice → Type 0
+ReadyIn w cells links calendar words = Ready w (cells .now) (links .now) (calendar .now) (words .now)
+
+abbrev pub SpottedIn : Way → Spot → Slice → Slice → Slice → Slice → ℕ → Type 0
+SpottedIn w p links calendar words arrivals i =
+    Spotted (slotRecord w) (links .now) (calendar .now) (words .now) (take octets (drop (cellStart i) (arrivals .now))) p
+
+-- steps 2 to 5 of the memories as they came
+abbrev pub fromHere : Way → List ℕ → Lent → Lent → Lent → Lent → Out Work
+fromHere w cell cells links calendar words =
+    from2 (slotRecord w) cell (cells .entry .now) (links .entry .now) (calendar .entry .now) (words .entry .now)
+
+-- served: s is the way that follows
+abbrev pub ServedBy : Way → List ℕ → Way → Lent → Lent → Lent → Lent → Lent → Lent → ℕ → Type 0
+ServedBy w cell s cells links calendar words departures answers i =
+    Done (slotRecord w) (fromHere w cell cells links calendar words) s
+    (cells .exit .now) (links .exit .now) (calendar .exit .now) (words .exit .now)
+    (departures .entry .now) (departures .exit .now) (answers .entry .now) (answers .exit .now) i
+
+-- served, and nothing departs: whatever departures there are, they stay
+abbrev pub ServedSilent : Way → List ℕ → Way → Lent → Lent → Lent → Lent → Lent → ℕ → Type 0
+ServedSilent w cell s cells links calendar words answers i = (departures : List ℕ) → cellStart i + octets ≤ length departures
+    → Done (slotRecord w) (fromHere w cell cells links calendar words) s
+    (cells .exit .now) (links .exit .now) (calendar .exit .now) (words .exit .now)
+    departures departures (answers .entry .now) (answers .exit .now) i
+
+abbrev pub ServedOrLeft : Way → List ℕ → Went → Lent → Lent → Lent → Lent → Lent → Lent → ℕ → Type 0
+ServedOrLeft w cell g cells links calendar words departures answers i =
+    Either (slotRecord w) (fromHere w cell cells links calendar words) g
+    (cells .entry .now) (links .entry .now) (calendar .entry .now) (words .entry .now) (departures .entry .now) (answers .entry .now)
+    (cells .exit .now) (links .exit .now) (calendar .exit .now) (words .exit .now) (departures .exit .now) (answers .exit .now) i
+
+-- the words once steps 2 and 3 have written what they found
+abbrev pub wordsFilled : Way → Spot → List ℕ → List ℕ
+wordsFilled w p words =
+    filled (p .vci) (p .s + getD words (fPlace (p .vci)) 0) (w .t) (getD words (waitingPlace (p .vci)) 0 + 1)
+    (rotated (slotRecord w) (broughtOf (w .n) (w .t) words (w .rotation)) words)

@@ -11,15 +11,15 @@ ghost use Rattle.meaning.specs.Numbers.{empty, fPlace, sPlace, lastPlace, waiti
 ghost use Rattle.meaning.specs.State.{writeCell, HasVc};
 ghost use Rattle.meaning.specs.Lists.{emptyList, endsFit, entryAt, writeEntry};
 ghost use Rattle.meaning.specs.Work.{answerOf};
-ghost use Rattle.arrival.specs.Arrival.{broughtOf, filled, oneLess};
+ghost use Rattle.arrival.specs.Arrival.{filled, oneLess};
 ghost use Rattle.spaces.specs.Spaces.{endsOf, linked};
-ghost use Rattle.plan.specs.Plan.{rotated, seatEnds};
+ghost use Rattle.plan.specs.Plan.{seatEnds};
 ghost use Rattle.handout.specs.Handout.{writeAnswer};
 ghost use Rattle.way.specs.Way.{slotRecord};
 ghost use Rattle.turning.specs.Turning.{Turned};
-ghost use Rattle.arriving.specs.Arriving.{seatAt, Spotted};
-ghost use Rattle.leaving.specs.Leaving.{Leaves, OffHere, OffThen};
-ghost use Rattle.likely.specs.Served.{from2, Ready, Lent, Done, Either};
+ghost use Rattle.arriving.specs.Arriving.{seatAt};
+ghost use Rattle.leaving.specs.Leaving.{Leaves, OffHere, OffThen, entryThen};
+ghost use Rattle.likely.specs.Served.{HandedTo, cellBefore, ReadyIn, SpottedIn, ServedBy, ServedSilent, ServedOrLeft, wordsFilled};
 use arriving::Spot;
 use leaving::Leave;
 use meaning::AT_F;
@@ -50,7 +50,8 @@ fn put_turn(words: &mut [u32], rotation: usize, s: u32, last: u32)
 // The words of an accepted cell's VC: S grows by F, and one more waits.
 fn put_fill(words: &mut [u32], vci: usize, s: u32, t: u32)
     requires { ⌜ (HasVc vci (now words)) × (s + getD (now words) (fPlace vci) 0 < 4294967296) × (getD (now words) (waitingPlace vci) 0 + 1 < 4294967296) ⌝ }
-    ensures { λ r. ⌜ now (words .exit) ≡ filled vci (s + getD (now (words .entry)) (fPlace vci) 0) t (getD (now (words .entry)) (waitingPlace vci) 0 + 1) (now (words .entry)) ⌝ }
+    ensures { λ r. ⌜ now (words .exit)
+        ≡ filled vci (s + getD (now (words .entry)) (fPlace vci) 0) t (getD (now (words .entry)) (waitingPlace vci) 0 + 1) (now (words .entry)) ⌝ }
 {
     let b = WORDS_PER_VC * vci;
     words[b + AT_S] = s + words[b + AT_F];
@@ -91,7 +92,8 @@ fn put_link(links: &mut [u16], on: bool, i: usize, x: usize)
 // The cell's entry: at the head, and at the tail where it was empty.
 fn put_entry(calendar: &mut [u16], e: usize, x: usize, head: usize)
     requires { ⌜ (2 * e + 2 ≤ length (now calendar)) × (x ≤ 65535) × (head ≡ getD (now calendar) (2 * e) 0) ⌝ }
-    ensures { λ r. ⌜ now (calendar .exit) ≡ writeEntry (now (calendar .entry)) e (endsOf x (if head =? empty then x else getD (now (calendar .entry)) (2 * e + 1) 0)) ⌝ }
+    ensures { λ r. ⌜ now (calendar .exit)
+        ≡ writeEntry (now (calendar .entry)) e (endsOf x (if head =? empty then x else getD (now (calendar .entry)) (2 * e + 1) 0)) ⌝ }
 {
     calendar[2 * e] = x as u16;
     if head == 65535 {
@@ -102,7 +104,7 @@ fn put_entry(calendar: &mut [u16], e: usize, x: usize, head: usize)
 // Slot i's cell into its space.
 fn put_cell(cells: &mut [u8], x: usize, arrivals: &[u8], i: usize)
     requires { ⌜ (cellStart x + octets ≤ length (now cells)) × (cellStart i + octets ≤ length (now arrivals)) ⌝ }
-    ensures { λ r. ⌜ now (cells .exit) ≡ writeCell (now (cells .entry)) x (take 53 (drop (53 * i) (now (arrivals .entry)))) ⌝ }
+    ensures { λ r. ⌜ now (cells .exit) ≡ writeCell (now (cells .entry)) x (cellBefore arrivals i) ⌝ }
 {
     let a = 53 * x;
     let e = a + 53;
@@ -167,11 +169,11 @@ fn bare_leave(
     answers: &mut [u16],
     i: usize,
 ) -> Way
-    requires { ⌜ Ready w (now cells) (now links) (now calendar) (now words) ⌝ }
+    requires { ⌜ ReadyIn w cells links calendar words ⌝ }
     requires { ⌜ Turned (slotRecord w) (now words) r ⌝ }
     requires { ⌜ (o .none ≡ false) × Leaves (slotRecord w) (entryAt (now calendar) (w .turn)) o (OffHere (slotRecord w) (now cells) (now links) (now words)) ⌝ }
-    requires { ⌜ Lent (now departures) (now answers) i ⌝ }
-    ensures { λ s. ⌜ Done (slotRecord w) (from2 (slotRecord w) [] (now (cells .entry)) (now (links .entry)) (now (calendar .entry)) (now (words .entry))) s (now (cells .entry)) (now (links .exit)) (now (calendar .exit)) (now (words .exit)) (now (departures .entry)) (now (departures .exit)) (now (answers .entry)) (now (answers .exit)) i ⌝ }
+    requires { ⌜ HandedTo (now departures) (now answers) i ⌝ }
+    ensures { λ s. ⌜ ServedBy w [] s cells links calendar words departures answers i ⌝ }
 {
     put_turn(words, w.rotation, r.s, r.last);
     put_less(words, o.vci);
@@ -210,10 +212,10 @@ fn bare(
     answers: &mut [u16],
     i: usize,
 ) -> Went
-    requires { ⌜ Ready w (now cells) (now links) (now calendar) (now words) ⌝ }
+    requires { ⌜ ReadyIn w cells links calendar words ⌝ }
     requires { ⌜ Turned (slotRecord w) (now words) r ⌝ }
-    requires { ⌜ Lent (now departures) (now answers) i ⌝ }
-    ensures { λ g. ⌜ Either (slotRecord w) (from2 (slotRecord w) [] (now (cells .entry)) (now (links .entry)) (now (calendar .entry)) (now (words .entry))) g (now (cells .entry)) (now (links .entry)) (now (calendar .entry)) (now (words .entry)) (now (departures .entry)) (now (answers .entry)) (now (cells .entry)) (now (links .exit)) (now (calendar .exit)) (now (words .exit)) (now (departures .exit)) (now (answers .exit)) i ⌝ }
+    requires { ⌜ HandedTo (now departures) (now answers) i ⌝ }
+    ensures { λ g. ⌜ ServedOrLeft w [] g cells links calendar words departures answers i ⌝ }
 {
     let o = leaving::off_quiet(w, cells, links, calendar, words);
     if !o.ok {
@@ -250,14 +252,14 @@ fn store(
     arrivals: &[u8],
     i: usize,
 )
-    requires { ⌜ Ready w (now cells) (now links) (now calendar) (now words) ⌝ }
+    requires { ⌜ ReadyIn w cells links calendar words ⌝ }
     requires { ⌜ Turned (slotRecord w) (now words) r ⌝ }
-    requires { ⌜ Spotted (slotRecord w) (now links) (now calendar) (now words) (take 53 (drop (53 * i) (now arrivals))) p ⌝ }
+    requires { ⌜ SpottedIn w p links calendar words arrivals i ⌝ }
     requires { ⌜ cellStart i + octets ≤ length (now arrivals) ⌝ }
-    ensures cells { λ u. ⌜ now (cells .exit) ≡ writeCell (now (cells .entry)) (p .x) (take 53 (drop (53 * i) (now (arrivals .entry)))) ⌝ }
+    ensures cells { λ u. ⌜ now (cells .exit) ≡ writeCell (now (cells .entry)) (p .x) (cellBefore arrivals i) ⌝ }
     ensures links { λ u. ⌜ now (links .exit) ≡ linked (not (p .head =? empty)) (p .x) (p .head) (now (links .entry)) ⌝ }
     ensures calendar { λ u. ⌜ now (calendar .exit) ≡ writeEntry (now (calendar .entry)) (p .e) (seatEnds (seatAt (slotRecord w) p)) ⌝ }
-    ensures words { λ u. ⌜ now (words .exit) ≡ filled (p .vci) (p .s + getD (now (words .entry)) (fPlace (p .vci)) 0) (w .t) (getD (now (words .entry)) (waitingPlace (p .vci)) 0 + 1) (rotated (slotRecord w) (broughtOf (w .n) (w .t) (now (words .entry)) (w .rotation)) (now (words .entry))) ⌝ }
+    ensures words { λ u. ⌜ now (words .exit) ≡ wordsFilled w p (now (words .entry)) ⌝ }
 {
     put_turn(words, w.rotation, r.s, r.last);
     put_fill(words, p.vci, p.s, w.t);
@@ -279,12 +281,13 @@ fn accept_none(
     answers: &mut [u16],
     i: usize,
 ) -> Way
-    requires { ⌜ Ready w (now cells) (now links) (now calendar) (now words) ⌝ }
+    requires { ⌜ ReadyIn w cells links calendar words ⌝ }
     requires { ⌜ Turned (slotRecord w) (now words) r ⌝ }
-    requires { ⌜ Spotted (slotRecord w) (now links) (now calendar) (now words) (take 53 (drop (53 * i) (now arrivals))) p ⌝ }
+    requires { ⌜ SpottedIn w p links calendar words arrivals i ⌝ }
     requires { ⌜ (cellStart i + octets ≤ length (now arrivals)) × (6 * i + 6 ≤ length (now answers)) ⌝ }
-    requires { ⌜ (endsFit (w .n) (entryAt (writeEntry (now calendar) (p .e) (seatEnds (seatAt (slotRecord w) p))) (w .turn)) ≡ true) × (entryAt (writeEntry (now calendar) (p .e) (seatEnds (seatAt (slotRecord w) p))) (w .turn) .head ≡ empty) × (w .outhead ≡ empty) ⌝ }
-    ensures { λ s. ⌜ ((departures : List ℕ) → cellStart i + octets ≤ length departures → Done (slotRecord w) (from2 (slotRecord w) (take 53 (drop (53 * i) (now (arrivals .entry)))) (now (cells .entry)) (now (links .entry)) (now (calendar .entry)) (now (words .entry))) s (now (cells .exit)) (now (links .exit)) (now (calendar .exit)) (now (words .exit)) departures departures (now (answers .entry)) (now (answers .exit)) i) ⌝ }
+    requires { ⌜ (endsFit (w .n) (entryThen (slotRecord w) p (now calendar)) ≡ true)
+        × (entryThen (slotRecord w) p (now calendar) .head ≡ empty) × (w .outhead ≡ empty) ⌝ }
+    ensures { λ s. ⌜ ServedSilent w (cellBefore arrivals i) s cells links calendar words answers i ⌝ }
 {
     store(w, r, p, cells, links, calendar, words, arrivals, i);
     handout::put_answer(
@@ -317,12 +320,13 @@ fn accept_leave(
     answers: &mut [u16],
     i: usize,
 ) -> Way
-    requires { ⌜ Ready w (now cells) (now links) (now calendar) (now words) ⌝ }
+    requires { ⌜ ReadyIn w cells links calendar words ⌝ }
     requires { ⌜ Turned (slotRecord w) (now words) r ⌝ }
-    requires { ⌜ Spotted (slotRecord w) (now links) (now calendar) (now words) (take 53 (drop (53 * i) (now arrivals))) p ⌝ }
-    requires { ⌜ (o .none ≡ false) × Leaves (slotRecord w) (entryAt (writeEntry (now calendar) (p .e) (seatEnds (seatAt (slotRecord w) p))) (w .turn)) o (OffThen (slotRecord w) p (now cells) (now links) (now words)) ⌝ }
-    requires { ⌜ (cellStart i + octets ≤ length (now arrivals)) × Lent (now departures) (now answers) i ⌝ }
-    ensures { λ s. ⌜ Done (slotRecord w) (from2 (slotRecord w) (take 53 (drop (53 * i) (now (arrivals .entry)))) (now (cells .entry)) (now (links .entry)) (now (calendar .entry)) (now (words .entry))) s (now (cells .exit)) (now (links .exit)) (now (calendar .exit)) (now (words .exit)) (now (departures .entry)) (now (departures .exit)) (now (answers .entry)) (now (answers .exit)) i ⌝ }
+    requires { ⌜ SpottedIn w p links calendar words arrivals i ⌝ }
+    requires { ⌜ (o .none ≡ false)
+        × Leaves (slotRecord w) (entryThen (slotRecord w) p (now calendar)) o (OffThen (slotRecord w) p (now cells) (now links) (now words)) ⌝ }
+    requires { ⌜ (cellStart i + octets ≤ length (now arrivals)) × HandedTo (now departures) (now answers) i ⌝ }
+    ensures { λ s. ⌜ ServedBy w (cellBefore arrivals i) s cells links calendar words departures answers i ⌝ }
 {
     store(w, r, p, cells, links, calendar, words, arrivals, i);
     put_less(words, o.vci);
@@ -358,11 +362,11 @@ fn accept(
     answers: &mut [u16],
     i: usize,
 ) -> Went
-    requires { ⌜ Ready w (now cells) (now links) (now calendar) (now words) ⌝ }
+    requires { ⌜ ReadyIn w cells links calendar words ⌝ }
     requires { ⌜ Turned (slotRecord w) (now words) r ⌝ }
-    requires { ⌜ Spotted (slotRecord w) (now links) (now calendar) (now words) (take 53 (drop (53 * i) (now arrivals))) p ⌝ }
-    requires { ⌜ (cellStart i + octets ≤ length (now arrivals)) × Lent (now departures) (now answers) i ⌝ }
-    ensures { λ g. ⌜ Either (slotRecord w) (from2 (slotRecord w) (take 53 (drop (53 * i) (now (arrivals .entry)))) (now (cells .entry)) (now (links .entry)) (now (calendar .entry)) (now (words .entry))) g (now (cells .entry)) (now (links .entry)) (now (calendar .entry)) (now (words .entry)) (now (departures .entry)) (now (answers .entry)) (now (cells .exit)) (now (links .exit)) (now (calendar .exit)) (now (words .exit)) (now (departures .exit)) (now (answers .exit)) i ⌝ }
+    requires { ⌜ SpottedIn w p links calendar words arrivals i ⌝ }
+    requires { ⌜ (cellStart i + octets ≤ length (now arrivals)) × HandedTo (now departures) (now answers) i ⌝ }
+    ensures { λ g. ⌜ ServedOrLeft w (cellBefore arrivals i) g cells links calendar words departures answers i ⌝ }
 {
     let o = leaving::off_accept(w, p, cells, links, calendar, words);
     if !o.ok {
@@ -402,10 +406,10 @@ fn arrive(
     answers: &mut [u16],
     i: usize,
 ) -> Went
-    requires { ⌜ Ready w (now cells) (now links) (now calendar) (now words) ⌝ }
+    requires { ⌜ ReadyIn w cells links calendar words ⌝ }
     requires { ⌜ Turned (slotRecord w) (now words) r ⌝ }
-    requires { ⌜ (cellStart i + octets ≤ length (now arrivals)) × Lent (now departures) (now answers) i ⌝ }
-    ensures { λ g. ⌜ Either (slotRecord w) (from2 (slotRecord w) (take 53 (drop (53 * i) (now (arrivals .entry)))) (now (cells .entry)) (now (links .entry)) (now (calendar .entry)) (now (words .entry))) g (now (cells .entry)) (now (links .entry)) (now (calendar .entry)) (now (words .entry)) (now (departures .entry)) (now (answers .entry)) (now (cells .exit)) (now (links .exit)) (now (calendar .exit)) (now (words .exit)) (now (departures .exit)) (now (answers .exit)) i ⌝ }
+    requires { ⌜ (cellStart i + octets ≤ length (now arrivals)) × HandedTo (now departures) (now answers) i ⌝ }
+    ensures { λ g. ⌜ ServedOrLeft w (cellBefore arrivals i) g cells links calendar words departures answers i ⌝ }
 {
     let p = arriving::accepted_spot(w, links, calendar, words, arrivals, i);
     if !p.ok {
@@ -440,10 +444,10 @@ pub fn slot(
     answers: &mut [u16],
     i: usize,
 ) -> Went
-    requires { ⌜ Ready w (now cells) (now links) (now calendar) (now words) ⌝ }
-    requires { ⌜ (cellStart i + octets ≤ length (now arrivals)) × Lent (now departures) (now answers) i ⌝ }
+    requires { ⌜ ReadyIn w cells links calendar words ⌝ }
+    requires { ⌜ (cellStart i + octets ≤ length (now arrivals)) × HandedTo (now departures) (now answers) i ⌝ }
     ensures fits { λ g. ⌜ (g .ok ≡ true → (size ≡ 0) ⊎ (size ≡ 53)) ⌝ }
-    ensures is { λ g. ⌜ Either (slotRecord w) (from2 (slotRecord w) (take size (drop (53 * i) (now (arrivals .entry)))) (now (cells .entry)) (now (links .entry)) (now (calendar .entry)) (now (words .entry))) g (now (cells .entry)) (now (links .entry)) (now (calendar .entry)) (now (words .entry)) (now (departures .entry)) (now (answers .entry)) (now (cells .exit)) (now (links .exit)) (now (calendar .exit)) (now (words .exit)) (now (departures .exit)) (now (answers .exit)) i ⌝ }
+    ensures is { λ g. ⌜ ServedOrLeft w (take size (drop (cellStart i) (now (arrivals .entry)))) g cells links calendar words departures answers i ⌝ }
 {
     let r = turning::turned(w, words);
     if !r.ok {

@@ -5,7 +5,7 @@
 use Prim.Native.Nat.{ℕ, _+_, _-_, _%_, _≤_}
 use Rattle.meaning.specs.declared.Record.{Record}
 use Rattle.meaning.specs.Plain.{if_then_else_, _=?_}
-use Rattle.meaning.specs.Numbers.{slotNumbers, empty}
+use Rattle.meaning.specs.Numbers.{mostN, mostV, slotNumbers, empty}
 use Rattle.way.specs.declared.Way.{Way}
 
 abbrev pub wayWith : Way → ℕ → ℕ → ℕ → ℕ → ℕ → ℕ → ℕ → Way
@@ -64,9 +64,9 @@ roundedWay w =
 -- what fits into a record's narrower numbers
 pub record Fits (w : Way) : Type 0 where
   pub n-low : 1 ≤ w .n
-  pub n-high : w .n ≤ 1024
+  pub n-high : w .n ≤ mostN
   pub v-low : 1 ≤ w .v
-  pub v-high : w .v ≤ 1024
+  pub v-high : w .v ≤ mostV
   pub turn-low : w .turn ≤ w .n
   pub rotation-low : w .rotation ≤ w .v
   pub freehead-low : w .freehead ≤ empty

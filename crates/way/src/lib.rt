@@ -23,6 +23,34 @@ pub struct Way {
     pub mode: u16,
 }
 
+// The same policer with another clock and other ends of its two lists: whatever else a way holds is kept here, in one place.
+fn way_with(
+    w: Way,
+    t: u32,
+    turn: usize,
+    rotation: usize,
+    freehead: usize,
+    freetail: usize,
+    outhead: usize,
+    outtail: usize,
+) -> Way
+    ensures { λ r. ⌜ r ≡ wayWith w t turn rotation freehead freetail outhead outtail ⌝ }
+{
+    Way {
+        n: w.n,
+        v: w.v,
+        t: t,
+        turn: turn,
+        rotation: rotation,
+        freehead: freehead,
+        freetail: freetail,
+        outhead: outhead,
+        outtail: outtail,
+        raw: w.raw,
+        mode: w.mode,
+    }
+}
+
 // One more, modulo n, without a division.
 fn after(x: usize, n: usize) -> usize
     requires { ⌜ (x < n) × (n ≤ mostN) ⌝ }
@@ -95,19 +123,18 @@ pub fn stepped(w: Way) -> Way
     ensures { λ s. ⌜ s ≡ steppedWay w ⌝ }
 {
     let t = std::num::wrapping_add_u32(w.t, 1);
-    Way {
-        n: w.n,
-        v: w.v,
-        t: t,
-        turn: w.turn + 1,
-        rotation: w.rotation + 1,
-        freehead: w.freehead,
-        freetail: w.freetail,
-        outhead: w.outhead,
-        outtail: w.outtail,
-        raw: w.raw,
-        mode: w.mode,
-    }
+    let turn = w.turn + 1;
+    let rotation = w.rotation + 1;
+    way_with(
+        w,
+        t,
+        turn,
+        rotation,
+        w.freehead,
+        w.freetail,
+        w.outhead,
+        w.outtail,
+    )
 }
 
 // 0 for n.
@@ -123,36 +150,30 @@ pub fn rounded(w: Way) -> Way
 {
     let turn = round(w.turn, w.n);
     let rotation = round(w.rotation, w.v);
-    Way {
-        n: w.n,
-        v: w.v,
-        t: w.t,
-        turn: turn,
-        rotation: rotation,
-        freehead: w.freehead,
-        freetail: w.freetail,
-        outhead: w.outhead,
-        outtail: w.outtail,
-        raw: w.raw,
-        mode: w.mode,
-    }
+    way_with(
+        w,
+        w.t,
+        turn,
+        rotation,
+        w.freehead,
+        w.freetail,
+        w.outhead,
+        w.outtail,
+    )
 }
 
 // The same with other ends of the Free List and of the Output List.
 pub fn with_ends(w: Way, freehead: usize, freetail: usize, outhead: usize, outtail: usize) -> Way
     ensures { λ r. ⌜ r ≡ wayWith w (w .t) (w .turn) (w .rotation) freehead freetail outhead outtail ⌝ }
 {
-    Way {
-        n: w.n,
-        v: w.v,
-        t: w.t,
-        turn: w.turn,
-        rotation: w.rotation,
-        freehead: freehead,
-        freetail: freetail,
-        outhead: outhead,
-        outtail: outtail,
-        raw: w.raw,
-        mode: w.mode,
-    }
+    way_with(
+        w,
+        w.t,
+        w.turn,
+        w.rotation,
+        freehead,
+        freetail,
+        outhead,
+        outtail,
+    )
 }
