@@ -43,20 +43,18 @@ pub fn left(k: Record, verdict: u16, vci: u16, d: u16, o: Off) -> Served
     ensures { λ s. ⌜ (s .ctl ≡ withEnds k (freed k (o .space)) (endsOf (o .head) (o .tail))) × (s .answer ≡ answerOf 0 verdict vci d (o .space) (o .vci)) ⌝ }
 {
     let freehead = first_of(k.freehead, o.space);
+    let ctl = meaning::record_with(
+        k,
+        k.t,
+        k.turn,
+        k.rotation,
+        freehead,
+        o.space,
+        o.head,
+        o.tail,
+    );
     Served {
-        ctl: Record {
-            n: k.n,
-            v: k.v,
-            t: k.t,
-            turn: k.turn,
-            rotation: k.rotation,
-            freehead: freehead,
-            freetail: o.space,
-            outhead: o.head,
-            outtail: o.tail,
-            raw: k.raw,
-            mode: k.mode,
-        },
+        ctl: ctl,
         answer: Answer {
             number: 0,
             verdict: verdict,

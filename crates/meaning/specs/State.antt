@@ -25,11 +25,14 @@ pub record Ends : Type 0 where
   pub head : ℕ
   pub tail : ℕ
 
+abbrev pub endsOf : ℕ → ℕ → Ends
+endsOf head tail = record { head = head; tail = tail }
+
 abbrev pub freeList : State → Ends
-freeList s = record { head = s .ctl .freehead; tail = s .ctl .freetail }
+freeList s = endsOf (s .ctl .freehead) (s .ctl .freetail)
 
 abbrev pub outputList : State → Ends
-outputList s = record { head = s .ctl .outhead; tail = s .ctl .outtail }
+outputList s = endsOf (s .ctl .outhead) (s .ctl .outtail)
 
 -- refusal 2: "a lent buffer has another length than above"
 unfoldable pub wordsLong : ℕ → List ℕ → Bool

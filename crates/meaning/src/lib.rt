@@ -1,5 +1,9 @@
-// The structs that pass by value, as C sees them too, and the places of a VC's words; what every call does with them stands
-// in specs/.
+// The structs that pass by value, as C sees them too, the builders of a record, and the places of a VC's words; what every
+// call does with them stands in specs/.
+ghost use mathlib.Core.Path.{_≡_};
+ghost use Prim.Native.Nat.{_≤_};
+ghost use Rattle.meaning.specs.State.{endsOf, recordWith, recordInMode};
+ghost use Rattle.meaning.specs.Calls.{zeros, freshRecord};
 
 // How many words a VC has in the lent memory, and where among them each but the first stands (the first is the open word).
 pub const WORDS_PER_VC: usize = 7;
@@ -15,6 +19,9 @@ pub const AT_S: usize = 4;
 pub const AT_LAST: usize = 5;
 
 pub const AT_WAITING: usize = 6;
+
+// The mode of the header check in which a single wrong bit is mended.
+const CORRECTION: u16 = 0;
 
 // The control record: N, V, t, T (turn), rotation, head and tail of the Free List and of the Output List; whether cells
 // come raw, 0 or 1, and the mode of the header check, 0 correction, 1 detection.
@@ -56,4 +63,91 @@ pub struct Fresh {
 pub struct Served {
     pub ctl: Record,
     pub answer: Answer,
+}
+
+// A record is built here: as setup leaves it, from another one, and of zeros. A further field is one more line in each.
+// The record with another clock and other lists; whatever else it holds is kept.
+pub fn record_with(
+    r: Record,
+    t: u32,
+    turn: u16,
+    rotation: u16,
+    freehead: u16,
+    freetail: u16,
+    outhead: u16,
+    outtail: u16,
+) -> Record
+    ensures { λ k. ⌜ k ≡ recordWith r t turn rotation (endsOf freehead freetail) (endsOf outhead outtail) ⌝ }
+{
+    Record {
+        n: r.n,
+        v: r.v,
+        t: t,
+        turn: turn,
+        rotation: rotation,
+        freehead: freehead,
+        freetail: freetail,
+        outhead: outhead,
+        outtail: outtail,
+        raw: r.raw,
+        mode: r.mode,
+    }
+}
+
+// The record in this mode of the header check.
+pub fn record_in_mode(r: Record, mode: u16) -> Record
+    ensures { λ k. ⌜ k ≡ recordInMode r mode ⌝ }
+{
+    Record {
+        n: r.n,
+        v: r.v,
+        t: r.t,
+        turn: r.turn,
+        rotation: r.rotation,
+        freehead: r.freehead,
+        freetail: r.freetail,
+        outhead: r.outhead,
+        outtail: r.outtail,
+        raw: r.raw,
+        mode: mode,
+    }
+}
+
+// "a record of zeros"
+pub fn no_record() -> Record
+    ensures { λ r. ⌜ r ≡ zeros ⌝ }
+{
+    Record {
+        n: 0,
+        v: 0,
+        t: 0,
+        turn: 0,
+        rotation: 0,
+        freehead: 0,
+        freetail: 0,
+        outhead: 0,
+        outtail: 0,
+        raw: 0,
+        mode: 0,
+    }
+}
+
+// "t is 2^32-1, T is N-1, rotation is V-1"; "correction mode, the first"
+pub fn fresh_record(n: u16, v: u16, raw: bool) -> Record
+    requires { ⌜ (1 ≤ n) × (1 ≤ v) ⌝ }
+    ensures { λ r. ⌜ r ≡ freshRecord n v raw ⌝ }
+{
+    Record {
+        n: n,
+        v: v,
+        t: 4294967295,
+        turn: n - 1,
+        rotation: v - 1,
+        freehead: 0,
+        freetail: n - 1,
+        outhead: 65535,
+        outtail: 65535,
+        raw: raw as u16,
+        mode: CORRECTION,
+    }
 }

@@ -6,19 +6,17 @@ ghost use Prim.Native.Nat.{_+_, _-_, _*_, _≤_, _<_};
 ghost use lib.ListN.{length, replicate};
 ghost use Rattle.meaning.specs.Plain.{_=?_};
 ghost use Rattle.meaning.specs.Numbers.{rangesHold, octets, perEntry, wordsIn};
-ghost use Rattle.meaning.specs.Calls.{zeros, freshRecord, countUp};
+ghost use Rattle.meaning.specs.Calls.{zeros, countUp};
 ghost use Rattle.meaning.specs.Promises.{setupPromise};
 ghost use Rattle.meaning.specs.Lent.{before, setUpAfter};
 ghost use Rattle.refusal.specs.Order.{refuseOf, firstOf};
 use meaning::Fresh;
-use meaning::Record;
+use meaning::fresh_record;
+use meaning::no_record;
 use refusal::first;
 use refusal::lengths_hold;
 use refusal::ranges_hold;
 use refusal::refuse;
-
-// The mode of the header check in which a single wrong bit is mended.
-const CORRECTION: u16 = 0;
 
 // All octets of the cell memory 0.
 fn clear_cells(cells: &mut [u8])
@@ -74,45 +72,6 @@ fn setup_refusal(n: u16, v: u16, cells: usize, links: usize, calendar: usize, wo
     let ranges = refuse(1, !ranges_hold(n, v));
     let lengths = refuse(2, !lengths_hold(n, v, cells, links, calendar, words));
     first(ranges, lengths)
-}
-
-// "a refused one gives back a record of zeros"
-fn no_record() -> Record
-    ensures { λ r. ⌜ r ≡ zeros ⌝ }
-{
-    Record {
-        n: 0,
-        v: 0,
-        t: 0,
-        turn: 0,
-        rotation: 0,
-        freehead: 0,
-        freetail: 0,
-        outhead: 0,
-        outtail: 0,
-        raw: 0,
-        mode: 0,
-    }
-}
-
-// "t is 2^32-1, T is N-1, rotation is V-1"; "correction mode, the first"
-fn fresh_record(n: u16, v: u16, raw: bool) -> Record
-    requires { ⌜ (1 ≤ n) × (1 ≤ v) ⌝ }
-    ensures { λ r. ⌜ r ≡ freshRecord n v raw ⌝ }
-{
-    Record {
-        n: n,
-        v: v,
-        t: 4294967295,
-        turn: n - 1,
-        rotation: v - 1,
-        freehead: 0,
-        freetail: n - 1,
-        outhead: 65535,
-        outtail: 65535,
-        raw: raw as u16,
-        mode: CORRECTION,
-    }
 }
 
 // "Setup clears all lent memory, then chains spaces 0 to N-1 into the Free List in that order and empties the calendar".

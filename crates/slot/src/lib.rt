@@ -15,25 +15,7 @@ use hec::Checked;
 use meaning::Answer;
 use meaning::Record;
 use meaning::Served;
-
-// The record in this mode of the check.
-fn in_mode(r: Record, mode: u16) -> Record
-    ensures { λ k. ⌜ k ≡ recordInMode r mode ⌝ }
-{
-    Record {
-        n: r.n,
-        v: r.v,
-        t: r.t,
-        turn: r.turn,
-        rotation: r.rotation,
-        freehead: r.freehead,
-        freetail: r.freetail,
-        outhead: r.outhead,
-        outtail: r.outtail,
-        raw: r.raw,
-        mode: mode,
-    }
-}
+use meaning::record_in_mode;
 
 // A refused slot gives the record back as it came, in its old mode. "A dropped cell: verdict 4, H".
 fn back_to(r: Record, dropped: bool, s: Served) -> Served
@@ -96,7 +78,7 @@ fn mended_slot(
     let mut held = [0u8; 53];
     cell::copy_cell(&mut held, cell);
     put_header(&mut held, c.head, c.fifth);
-    let k = in_mode(r, c.mode);
+    let k = record_in_mode(r, c.mode);
     let s = unchecked::slot(k, cells, links, calendar, words, &held);
     back_to(r, false, s)
 }
@@ -113,7 +95,7 @@ fn dropped_slot(
 ) -> Served
     ensures { λ s. ⌜ workOf (after (s .ctl) cells links calendar words) (s .answer) ≡ back (before r cells links calendar words) true (uncheckedSlot (before (recordInMode r mode) cells links calendar words) []) ⌝ }
 {
-    let k = in_mode(r, mode);
+    let k = record_in_mode(r, mode);
     let s = unchecked::slot(k, cells, links, calendar, words, &cell[0..0]);
     back_to(r, true, s)
 }
@@ -129,7 +111,7 @@ fn clean_slot(
 ) -> Served
     ensures { λ s. ⌜ workOf (after (s .ctl) cells links calendar words) (s .answer) ≡ back (before r cells links calendar words) false (uncheckedSlot (before (recordInMode r 0) cells links calendar words) (now (cell .entry))) ⌝ }
 {
-    let k = in_mode(r, 0);
+    let k = record_in_mode(r, 0);
     let s = unchecked::slot(k, cells, links, calendar, words, cell);
     back_to(r, false, s)
 }

@@ -12,14 +12,12 @@ use lib.ListN.{getD, set}
 use Rattle.meaning.specs.Plain.{if_then_else_, _<?_, _≤?_, _=?_}
 use Rattle.meaning.specs.Numbers.{empty, cellStart}
 use Rattle.meaning.specs.State.{Ends}
+pub use Rattle.meaning.specs.State.{endsOf}
 use Rattle.meaning.specs.Header.{headerAt, namesOpenVc}
 use Rattle.meaning.specs.Words.{vcAt}
 use Rattle.meaning.specs.Lists.{endsFit, entryAt}
 use Rattle.spaces.specs.declared.Seat.{Seat}
 use Rattle.spaces.specs.declared.Off.{Off}
-
-abbrev pub endsOf : ℕ → ℕ → Ends
-endsOf head tail = record { head = head; tail = tail }
 
 unfoldable pub linked : Bool → ℕ → ℕ → List ℕ → List ℕ
 linked on i x l = if on then set l i x else l

@@ -38,19 +38,16 @@ pub fn tail_of(a: Seat) -> u16
 pub fn seated(k: Record, a: Seat) -> Record
     ensures { λ r. ⌜ r ≡ withEnds k (endsOf (a .freehead) (a .freetail)) (endsOf (k .outhead) (k .outtail)) ⌝ }
 {
-    Record {
-        n: k.n,
-        v: k.v,
-        t: k.t,
-        turn: k.turn,
-        rotation: k.rotation,
-        freehead: a.freehead,
-        freetail: a.freetail,
-        outhead: k.outhead,
-        outtail: k.outtail,
-        raw: k.raw,
-        mode: k.mode,
-    }
+    meaning::record_with(
+        k,
+        k.t,
+        k.turn,
+        k.rotation,
+        a.freehead,
+        a.freetail,
+        k.outhead,
+        k.outtail,
+    )
 }
 
 // Step 3 of an accepted cell: all that it writes.

@@ -30,19 +30,16 @@ fn clock(r: Record) -> Record
     let t = std::num::wrapping_add_u32(r.t, 1);
     let turn = after(r.turn, r.n);
     let rotation = after(r.rotation, r.v);
-    Record {
-        n: r.n,
-        v: r.v,
-        t: t,
-        turn: turn,
-        rotation: rotation,
-        freehead: r.freehead,
-        freetail: r.freetail,
-        outhead: r.outhead,
-        outtail: r.outtail,
-        raw: r.raw,
-        mode: r.mode,
-    }
+    meaning::record_with(
+        r,
+        t,
+        turn,
+        rotation,
+        r.freehead,
+        r.freetail,
+        r.outhead,
+        r.outtail,
+    )
 }
 
 // Steps 2 to 5, the clock having moved.

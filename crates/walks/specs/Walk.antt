@@ -14,6 +14,7 @@ use lib.ListN.{getD}
 use Rattle.meaning.specs.Plain.{if_then_else_, _<?_, _=?_}
 use Rattle.meaning.specs.Numbers.{empty, cellStart}
 use Rattle.meaning.specs.State.{Ends}
+pub use Rattle.meaning.specs.State.{endsOf}
 use Rattle.meaning.specs.Header.{headerAt}
 use Rattle.meaning.specs.Lists.{isEmpty, entryAt}
 use Rattle.walks.specs.Budget.{spent, sum}
@@ -35,9 +36,6 @@ pub record Walked : Type 0 where
 
 abbrev pub walked : Bool → List ℕ → List ℕ → Walked
 walked ok spaces waits = record { ok = ok; spaces = spaces; waits = waits }
-
-abbrev pub endsOf : ℕ → ℕ → Ends
-endsOf head tail = record { head = head; tail = tail }
 
 -- in a queue one VC is taken off the cells' budget; in the Free List none is
 unfoldable pub mayWait : Bool → List ℕ → ℕ → Bool

@@ -7,8 +7,8 @@ use borrow.Author.Needs.{needs}
 use Rattle.slot.proofs.clean_slot.Statement.{statement}
 use Rattle.slot.proofs.clean_slot.Tie as tie
 
-in-mode-requires : tie.Need-in-mode-requires
-in-mode-requires c κs = search needs
+record-in-mode-requires : tie.Need-record-in-mode-requires
+record-in-mode-requires c κs = search needs
 
 slot-requires : tie.Need-slot-requires
 slot-requires c κs = search needs
@@ -32,13 +32,13 @@ returns : tie.Need-returns
 returns c =
     let s = c .before .before .before .before .before .before .before .before .before .slot in
     let a = c .before .before .before .before .before .before .before .before .before .before .before .before .before .before .before .before .before .before .before .before .args in
-    backed (a .r) _ 0 false _ (s .result) (now (a .cells)) (now (a .links)) (now (a .calendar)) (now (a .words)) (now (a .cell)) _ _ _ _ (c .before .before .before .before .before .before .before .before .before .before .before .before .before .before .in-mode .ensures) (c .back-to .ensures) (s .ensures)
+    backed (a .r) _ 0 false _ (s .result) (now (a .cells)) (now (a .links)) (now (a .calendar)) (now (a .words)) (now (a .cell)) _ _ _ _ (c .before .before .before .before .before .before .before .before .before .before .before .before .before .before .record-in-mode .ensures) (c .back-to .ensures) (s .ensures)
 
 pub clean-slot-spec : {M : Type 1} → statement M
 clean-slot-spec =
     tie.close
     (tie.spec
-    in-mode-requires
+    record-in-mode-requires
     slot-requires
     back-to-requires
     same-length

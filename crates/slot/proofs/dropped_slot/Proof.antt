@@ -8,8 +8,8 @@ use borrow.Author.Needs.{needs}
 use Rattle.slot.proofs.dropped_slot.Statement.{statement}
 use Rattle.slot.proofs.dropped_slot.Tie as tie
 
-in-mode-requires : tie.Need-in-mode-requires
-in-mode-requires c κs = search needs
+record-in-mode-requires : tie.Need-record-in-mode-requires
+record-in-mode-requires c κs = search needs
 
 sub-slot : tie.Need-sub-slot
 sub-slot c = search needs
@@ -42,13 +42,13 @@ returns : tie.Need-returns
 returns c =
     let s = c .before .before .before .before .before .before .before .before .before .slot in
     let a = c .before .before .before .before .before .before .before .before .before .before .before .before .before .before .before .before .before .before .before .before .before .args in
-    backed (a .r) _ (a .mode) true _ (s .result) (now (a .cells)) (now (a .links)) (now (a .calendar)) (now (a .words)) [] _ _ _ _ (c .before .before .before .before .before .before .before .before .before .before .before .before .before .before .before .in-mode .ensures) (c .back-to .ensures) (s .ensures)
+    backed (a .r) _ (a .mode) true _ (s .result) (now (a .cells)) (now (a .links)) (now (a .calendar)) (now (a .words)) [] _ _ _ _ (c .before .before .before .before .before .before .before .before .before .before .before .before .before .before .before .record-in-mode .ensures) (c .back-to .ensures) (s .ensures)
 
 pub dropped-slot-spec : {M : Type 1} → statement M
 dropped-slot-spec =
     tie.close
     (tie.spec
-    in-mode-requires
+    record-in-mode-requires
     sub-slot
     part-slot-start
     part-slot-end

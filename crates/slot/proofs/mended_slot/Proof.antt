@@ -26,8 +26,8 @@ slice-aggregate-put-header c = search needs
 put-header-requires : tie.Need-put-header-requires
 put-header-requires c κs = search needs
 
-in-mode-requires : tie.Need-in-mode-requires
-in-mode-requires c κs = search needs
+record-in-mode-requires : tie.Need-record-in-mode-requires
+record-in-mode-requires c κs = search needs
 
 slice-aggregate-slot : tie.Need-slice-aggregate-slot
 slice-aggregate-slot c = search needs
@@ -55,9 +55,9 @@ returns c =
     let s = c .before .before .before .before .before .before .before .before .before .slot in
     let a = c .before .before .before .before .before .before .before .before .before .before .before .before .before .before .before .before .before .before .before .before .before .before .before .before .before .before .before .args in
     backed (a .r) _ (a .c .mode) false _ (s .result) (now (a .cells)) (now (a .links)) (now (a .calendar)) (now (a .words)) (octetsOf (a .c .head) (a .c .fifth) ++ drop 5 (now (a .cell))) _ _ _ _
-    (c .before .before .before .before .before .before .before .before .before .before .before .before .before .before .before .in-mode .ensures) (c .back-to .ensures)
+    (c .before .before .before .before .before .before .before .before .before .before .before .before .before .before .before .record-in-mode .ensures) (c .back-to .ensures)
     (s .ensures
-    ∙ ap (λ (l : List ℕ). uncheckedSlot (stateOf (c .before .before .before .before .before .before .before .before .before .before .before .before .before .before .before .in-mode .result) (now (a .cells)) (now (a .links)) (now (a .calendar)) (now (a .words))) l)
+    ∙ ap (λ (l : List ℕ). uncheckedSlot (stateOf (c .before .before .before .before .before .before .before .before .before .before .before .before .before .before .before .record-in-mode .result) (now (a .cells)) (now (a .links)) (now (a .calendar)) (now (a .words))) l)
     (c .before .before .before .before .before .before .before .before .before .before .before .before .before .before .before .before .before .put-header .ensures ∙ ap (λ (l : List ℕ). octetsOf (a .c .head) (a .c .fifth) ++ drop 5 l) (c .before .before .before .before .before .before .before .before .before .before .before .before .before .before .before .before .before .before .before .before .copy-cell .ensures)))
 
 pub mended-slot-spec : {M : Type 1} → statement M
@@ -68,7 +68,7 @@ mended-slot-spec =
     copy-cell-requires
     slice-aggregate-put-header
     put-header-requires
-    in-mode-requires
+    record-in-mode-requires
     slice-aggregate-slot
     slot-requires
     back-to-requires

@@ -1,14 +1,16 @@
--- `store::seated` meets its contract: the record is written out field by field.
+-- `store::seated` meets its contract: the record keeps its clock and its Output List.
 -- Assumes nothing.
-use mathlib.Core.Path.{refl}
 use Rattle.plan.specs.Plan.{withEnds}
-use Rattle.meaning.specs.State.{recordWith}
+use borrow.Author.Needs.{needs}
 use Rattle.store.proofs.seated.Statement.{statement}
 use Rattle.store.proofs.seated.Tie as tie
 
+record-with-requires : tie.Need-record-with-requires
+record-with-requires c κs = search needs
+
 returns : tie.Need-returns
-unfolding withEnds recordWith
-returns c = refl
+unfolding withEnds
+returns c = c .record-with .ensures
 
 pub seated-spec : {M : Type 1} → statement M
-seated-spec = tie.close (tie.spec returns)
+seated-spec = tie.close (tie.spec record-with-requires returns)

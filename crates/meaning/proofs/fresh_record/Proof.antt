@@ -1,13 +1,13 @@
--- `setup::fresh_record` meets its contract: its eleven numbers are those of `freshRecord`, raw among them as 1 or 0.
+-- `meaning::fresh_record` meets its contract: its eleven numbers are those of `freshRecord`, raw among them as 1 or 0.
 -- Assumes nothing.
 use mathlib.Core.Path.{_≡_, refl}
 use mathlib.Core.Bool.{Bool, true, false}
 use mir.Val.{boolByte}
 use Rattle.meaning.specs.Numbers.{slotNumbers}
 use Rattle.meaning.specs.Calls.{rawNumber, freshRecord}
 use borrow.Author.Needs.{needs}
-use Rattle.setup.proofs.fresh_record.Statement.{statement}
-use Rattle.setup.proofs.fresh_record.Tie as tie
+use Rattle.meaning.proofs.fresh_record.Statement.{statement}
+use Rattle.meaning.proofs.fresh_record.Tie as tie
 
 -- a yes or no as a number
 byte-is : (raw : Bool) → boolByte raw ≡ rawNumber raw
