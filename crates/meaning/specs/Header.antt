@@ -35,10 +35,14 @@ headerAt l i = headerOf (getD l i 0) (getD l (i + 1) 0) (getD l (i + 2) 0) (getD
 unfoldable pub noUserCell : Header → Bool
 noUserCell h = h .vpi =? 0 && h .vci =? 0
 
+-- the number of the connection that a header names: by it its words are found. Here its VCI, among V of them.
+abbrev pub connection : ℕ → Header → ℕ
+connection z h = h .vci
+
 -- "VPI is 0 and its VCI is 1 to V-1"
 unfoldable pub namesVc : ℕ → Header → Bool
 namesVc z h = h .vpi =? 0 && 1 ≤? h .vci && h .vci <? z
 
 -- "A header names an open VC when its VPI is 0 and its VCI is 1 to V-1 and open."
 unfoldable pub namesOpenVc : ℕ → List ℕ → Header → Bool
-namesOpenVc z words h = namesVc z h && getD words (openPlace (h .vci)) 0 =? 1
+namesOpenVc z words h = namesVc z h && getD words (openPlace (connection z h)) 0 =? 1

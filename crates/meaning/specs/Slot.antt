@@ -9,7 +9,7 @@ use Rattle.meaning.specs.Plain.{if_then_else_, _<?_, _≤?_, _=?_, Out, 
 use Rattle.meaning.specs.Numbers.{rangesHold, octets, cellStart, slotNumbers, unknown, dropped}
 use Rattle.meaning.specs.State.{State, freeList, outputList, lengthsHold}
 use Rattle.meaning.specs.State.{withLinks, withCalendar, withClock, withFreeList, withOutputList, withMode}
-use Rattle.meaning.specs.Header.{headerAt, noUserCell, namesVc, namesOpenVc}
+use Rattle.meaning.specs.Header.{headerAt, noUserCell, namesVc, namesOpenVc, connection}
 use Rattle.meaning.specs.Words.{vcAt, withWaiting, openWordFits, upToDate}
 use Rattle.meaning.specs.Lists.{emptyList, isEmpty, endsFit, entryAt, writeEntry, Taken, takeHead, joinTail, addTail}
 use Rattle.meaning.specs.Work.{Work, workOf, bareAnswer, withState, withVc, withArrival, withDeparture}
@@ -42,13 +42,14 @@ unfoldable pub step3 : List ℕ → Work → Out Work
 step3 cell w =
     let s = w .state in
     let h = headerAt cell 0 in
-    let vc = vcAt (s .words) (h .vci) in
+    let vci = connection (s .ctl .v) h in
+    let vc = vcAt (s .words) vci in
     let isUnknown = next (withArrival w unknown (h .vci) 0) in
     if length cell =? 0 || noUserCell h then next w
     else if not (namesVc (s .ctl .v) h) then isUnknown
     else needs (openWordFits vc)
     (if vc .opened =? 0 then isUnknown
-    else (upToDate (s .ctl .n) (s .ctl .t) vc andThen judge cell (h .vci) w))
+    else (upToDate (s .ctl .n) (s .ctl .t) vc andThen judge cell vci w))
 
 -- "4. Entry T, if marked, is joined to the end of the Output List .. The entry is emptied." Steps 4 and 5 read both heads
 -- and tails in every slot; what step 4 leaves of the Output List fits again, so step 5 need not judge it.
@@ -72,14 +73,15 @@ depart w taken =
     let N = s .ctl .n in
     let x = taken .space in
     let h = headerAt (s .cells) (cellStart x) in
-    let vc = vcAt (s .words) (h .vci) in
+    let vci = connection (s .ctl .v) h in
+    let vc = vcAt (s .words) vci in
     let grown = addTail (s .links) (freeList s) x in
     let s1 = withOutputList s (taken .left) in
     let s2 = withLinks (withFreeList s1 (grown .ends)) (grown .links) in
-    let w1 = withVc (withState w s2) (h .vci) (withWaiting vc (vc .waiting - 1)) in
+    let w1 = withVc (withState w s2) vci (withWaiting vc (vc .waiting - 1)) in
     needs (namesOpenVc (s .ctl .v) (s .words) h)
     (needs (1 ≤? vc .waiting && vc .waiting ≤? N)
-    (needs (endsFit N (freeList s)) (next (withDeparture w1 x (h .vci)))))
+    (needs (endsFit N (freeList s)) (next (withDeparture w1 x vci))))
 
 -- "5. The head of the Output List, if any, departs."
 unfoldable pub step5 : Work → Out Work
