@@ -13,6 +13,7 @@ use Rattle.meaning.specs.Plain.{if_then_else_, _<?_, _≤?_, _=?_}
 use Rattle.meaning.specs.Numbers.{wordsPerVc}
 use Rattle.meaning.specs.Words.{vcAt}
 use Rattle.audit.specs.Budgets.{inside, waitsOf, waitsAt}
+use Rattle.meaning.proofs.WordsLaws.{opened-at, waiting-at}
 use Rattle.walks.proofs.Choice.{if-elim, both}
 
 -- Spaces
@@ -98,22 +99,13 @@ module _ (words : List ℕ) where
       go (yes z) = ap (λ (j : ℕ). waitsAt words 1 j) z ∙ waits-zero 1
       go (no z) = waits-past 1 k (omega arith)
 
-  -- the two words that the code reads
-  opened-at : (k : ℕ) → vcAt words k .opened ≡ getD words (wordsPerVc * k) 0
-  unfolding vcAt
-  opened-at k = ap (λ (i : ℕ). getD words i 0) (omega arith)
-
-  waiting-at : (k : ℕ) → vcAt words k .waiting ≡ getD words (wordsPerVc * k + 6) 0
-  unfolding vcAt
-  waiting-at k = refl
-
   pub waits-read : (k : ℕ) → getD words (wordsPerVc * k) 0 ≡ 1 → getD words (wordsPerVc * k + 6) 0 ≡ waitsOf (vcAt words k)
   unfolding waitsOf
-  waits-read k h = rw (eq-eqb (vcAt words k .opened) 1 (opened-at k ∙ h)) (sym (waiting-at k))
+  waits-read k h = rw (eq-eqb (vcAt words k .opened) 1 (opened-at words k ∙ h)) (sym (waiting-at words k))
 
   pub waits-read-shut : (k : ℕ) → (getD words (wordsPerVc * k) 0 ≡ 1 → ⊥) → 0 ≡ waitsOf (vcAt words k)
   unfolding waitsOf
-  waits-read-shut k h = rw (ne-eqb (vcAt words k .opened) 1 (λ e. h (sym (opened-at k) ∙ e)))
+  waits-read-shut k h = rw (ne-eqb (vcAt words k .opened) 1 (λ e. h (sym (opened-at words k) ∙ e)))
 
   -- a VC that may have cells: open, and 1 to V-1
   abbrev pub MayWait : ℕ → ℕ → Type 0

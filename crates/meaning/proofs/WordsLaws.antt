@@ -4,6 +4,7 @@ use Prim.Native.Nat.{ℕ, _+_, _*_, _≤_, _<_}
 use mathlib.Core.Path.{_≡_, refl, sym, _∙_, ap}
 use mathlib.Core.Logic.{_≢_}
 use mathlib.Core.List.{List}
+use native.Mathlib.Nat.{add-zero}
 use native.Mathlib.Omega.{arith}
 use lib.ListN.{length, getD, set, length-set}
 use lib.Seq.{getD-set-same, getD-set-other, set-getD, set-set, set-comm}
@@ -14,6 +15,15 @@ use Rattle.meaning.specs.Words.{Vc, vcAt, writeVc, withWaiting, withBuck
 -- a write at another place is not seen
 past : (l : List ℕ) (i j a r : ℕ) → j ≢ i → getD l j 0 ≡ r → getD (set l i a) j 0 ≡ r
 past l i j a r ne e = getD-set-other l i j a 0 ne ∙ e
+
+-- where the open word and waiting are read
+pub opened-at : (words : List ℕ) (vci : ℕ) → vcAt words vci .opened ≡ getD words (wordsPerVc * vci) 0
+unfolding vcAt
+opened-at words vci = rw (add-zero (wordsPerVc * vci))
+
+pub waiting-at : (words : List ℕ) (vci : ℕ) → vcAt words vci .waiting ≡ getD words (waitingPlace vci) 0
+unfolding vcAt
+waiting-at words vci = refl
 
 module _ (l : List ℕ) (v : ℕ) (vc : Vc) where
   abbrev l1 : List ℕ

@@ -22,30 +22,8 @@ use Rattle.meaning.specs.Work.{Work, workOf, bareAnswer, withVc, withArrival}
 use Rattle.meaning.specs.Arrival.{place, accept, judge}
 use Rattle.meaning.specs.Slot.{step1, step2, step3, step4, depart, step5, fiveSteps, finish, uncheckedSlot}
 use Rattle.meaning.proofs.ListsLaws.{fit-head, fit-tail, fit-marked, fit-empty}
-
--- what holds of an outcome that is not refused
-abbrev pub AllOut : {A : Type 0} → (A → Type 0) → Out A → Type 0
-AllOut P refused = Unit {0}
-AllOut P (next x) = P x
-
-pub needs-all : {A : Type 0} (P : A → Type 0) (b : Bool) (x : Out A) → (b ≡ true → AllOut P x) → AllOut P (needs b x)
-needs-all P true x h = h refl
-needs-all P false x h = tt
-
-pub if-all : {A : Type 0} (P : A → Type 0) (b : Bool) (x y : Out A) → (b ≡ true → AllOut P x) → (b ≡ false → AllOut P y)
-    → AllOut P (if b then x else y)
-if-all P true x y h k = h refl
-if-all P false x y h k = k refl
-
-pub then-all : {A B : Type 0} (P : A → Type 0) (Q : B → Type 0) (x : Out A) (f : A → Out B) → AllOut P x
-    → ((a : A) → P a → AllOut Q (f a))
-    → AllOut Q (x andThen f)
-then-all P Q refused f p h = tt
-then-all P Q (next a) f p h = h a p
-
-pub any-all : {A B : Type 0} (Q : B → Type 0) (x : Out A) (f : A → Out B) → ((a : A) → AllOut Q (f a)) → AllOut Q (x andThen f)
-any-all Q refused f h = tt
-any-all Q (next a) f h = h a
+pub use Rattle.meaning.proofs.OutLaws.{AllOut, needs-all, if-all, then-all, any-all}
+use Rattle.meaning.proofs.OutLaws.{if-holds}
 
 pub both-true : (a b : Bool) → a && b ≡ true → (a ≡ true) × (b ≡ true)
 both-true true b p = (refl, p)
@@ -305,10 +283,6 @@ refused-with s k ne =
       low = λ e. absurd (e refl);
     }
 
-choose : (P : Work → Type 0) (b : Bool) (x y : Work) → P x → (b ≡ false → P y) → P (if b then x else y)
-choose P true x y p f = p
-choose P false x y p f = f refl
-
 finished : (s : State) (x : Out Work) → AllOut (Ended (s .ctl)) x → rangesHold (s .ctl .n) (s .ctl .v) ≡ true
     → lengthsHold (s .ctl .n) (s .ctl .v) (s .cells) (s .links) (s .calendar) (s .words) ≡ true
     → Answered s (finish s x)
@@ -330,9 +304,9 @@ unfolding uncheckedSlot
 unchecked-answered s cell =
     let N = s .ctl .n in
     let z = s .ctl .v in
-    choose (Answered s) (not (rangesHold N z)) _ _ (refused-with s 1 (λ e. omega arith)) (λ r.
-    choose (Answered s) (not (lengthsHold N z (s .cells) (s .links) (s .calendar) (s .words))) _ _ (refused-with s 2 (λ e. omega arith)) (λ l.
-    choose (Answered s) (not (length cell =? 0 || length cell =? octets)) _ _ (refused-with s 9 (λ e. omega arith)) (λ _.
+    if-holds (Answered s) (not (rangesHold N z)) _ _ (λ _. refused-with s 1 (λ e. omega arith)) (λ r.
+    if-holds (Answered s) (not (lengthsHold N z (s .cells) (s .links) (s .calendar) (s .words))) _ _ (λ _. refused-with s 2 (λ e. omega arith)) (λ l.
+    if-holds (Answered s) (not (length cell =? 0 || length cell =? octets)) _ _ (λ _. refused-with s 9 (λ e. omega arith)) (λ _.
     finished s _
     (five-ended (s .ctl) cell (workOf s (bareAnswer 0)) (begun (s .ctl) s refl))
     (not-false _ r)

@@ -4,7 +4,6 @@ use Prim.Native.Nat.{ℕ, _*_, _≤_, _<_}
 use mathlib.Core.Path.{_≡_, sym, _∙_}
 use mathlib.Core.Bool.{true, false}
 use mathlib.Core.List.{List}
-use native.Mathlib.Nat.{add-zero}
 use native.Mathlib.Omega.{arith}
 use borrow.Author.Tests.{lt-leb, eq-eqb, ne-eqb, leb-true}
 use lib.ListN.{getD}
@@ -12,6 +11,7 @@ use Rattle.meaning.specs.Plain.{_≤?_}
 use Rattle.meaning.specs.Numbers.{wordsPerVc}
 use Rattle.meaning.specs.Bucket.{Bucket, bucketOf, obeysRules}
 use Rattle.meaning.specs.Words.{Vc, vcAt, bucketFits, openWordFits, vcFits}
+pub use Rattle.meaning.proofs.WordsLaws.{opened-at}
 use Rattle.bucket.proofs.Rules.{Obeys, rules-any-S, rules-facts, both}
 
 -- ---- a bucket, of which the rules on m, F and C are tested first
@@ -35,11 +35,6 @@ unfolding bucketFits
 bucket-facts N b e =
     let p = both (obeysRules N b) (b .S ≤? b .C) e in
     record { rules = rules-facts N b (p .0); S-most = leb-true _ _ (p .1) }
-
--- the open word is the first of the seven
-pub opened-at : (words : List ℕ) (vci : ℕ) → vcAt words vci .opened ≡ getD words (wordsPerVc * vci) 0
-unfolding vcAt
-opened-at words vci = rw (add-zero (wordsPerVc * vci))
 
 -- ---- a VC, of which the open word is tested first
 pub vc-closed : (N : ℕ) (vc : Vc) → vc .opened ≡ 0 → true ≡ vcFits N vc
