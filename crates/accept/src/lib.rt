@@ -1,16 +1,17 @@
 // A slot in which a cell is accepted: its seat, then steps 4 and 5, are read and judged, then all is written.
 ghost use mathlib.Core.Path.{_≡_};
-ghost use mathlib.Core.Bool.{true, not};
+ghost use mathlib.Core.Bool.{true};
 ghost use Prim.Native.Nat.{_+_, _*_, _≤_, _<_};
 ghost use lib.ListN.{length, getD};
-ghost use Rattle.meaning.specs.Plain.{if_then_else_, _=?_, _andThen_};
-ghost use Rattle.meaning.specs.Numbers.{empty, waitingPlace, mostN, mostV, octets, wordsIn};
+ghost use Rattle.meaning.specs.Plain.{_andThen_};
+ghost use Rattle.meaning.specs.Numbers.{waitingPlace, mostN, mostV, octets, wordsIn};
 ghost use Rattle.meaning.specs.Lists.{emptyList, endsFit, entryAt, writeEntry};
-ghost use Rattle.meaning.specs.Slot.{step4, step5, finish};
-ghost use Rattle.meaning.specs.Lent.{here, before, servedAfter};
+ghost use Rattle.meaning.specs.Slot.{step4, step5};
+ghost use Rattle.meaning.specs.Lent.{here, before, servedAfter, Gives};
 ghost use Rattle.arrival.specs.Arrival.{filled};
-ghost use Rattle.spaces.specs.Spaces.{endsOf, linked};
-ghost use Rattle.plan.specs.Plan.{rotated, seating, acceptWork, seatEnds, leftBy, joinedHead, leavingMarked, leavingOutput};
+ghost use Rattle.spaces.specs.Spaces.{endsOf};
+ghost use Rattle.plan.specs.Plan.{rotated, seatEnds, joinedHead, leavingMarked, leavingOutput};
+ghost use Rattle.plan.specs.Works.{seatingOf, acceptOf, acceptLeft, lastSteps};
 ghost use Rattle.plan.specs.Facts.{Sized, Accepted, Seated, OffStored};
 use arrival::Fall;
 use arrival::Judged;
@@ -41,7 +42,7 @@ fn accept_end(
     requires { ⌜ Seated k a ⌝ }
     requires { ⌜ (joins ≡ true → k .outtail < k .n) ⌝ }
     requires { ⌜ (o .vci < k .v) × (1 ≤ getD (filled (j .vci) (j .s) (k .t) (j .waiting) (rotated k b (now words))) (waitingPlace (o .vci)) 0) ⌝ }
-    ensures { λ s. ⌜ servedAfter s cells links calendar words ≡ leftBy (acceptWork k j a (now (cell .entry)) (now (cells .entry)) (now (links .entry)) (now (calendar .entry)) (rotated k b (now (words .entry)))) (linked joins (k .outtail) head (linked (not (a .head =? empty)) (a .x) (a .head) (now (links .entry)))) (if clears then writeEntry (writeEntry (now (calendar .entry)) (a .e) (seatEnds a)) (k .turn) emptyList else writeEntry (now (calendar .entry)) (a .e) (seatEnds a)) o ⌝ }
+    ensures { λ s. ⌜ servedAfter s cells links calendar words ≡ acceptLeft (before k cells links calendar words) b j a (now (cell .entry)) o joins head clears ⌝ }
 {
     store::store(k, b, j, a, cells, links, calendar, words, cell);
     arrival::put_less(words, o.vci);
@@ -113,7 +114,7 @@ fn accept_marked(
     requires { ⌜ Accepted k j (now cell) (now words) ⌝ }
     requires { ⌜ Seated k a ⌝ }
     requires { ⌜ (head < k .n) × (endsFit (k .n) (endsOf (k .outhead) (k .outtail)) ≡ true) ⌝ }
-    ensures { λ s. ⌜ servedAfter s cells links calendar words ≡ finish (before r cells links calendar words) (leavingMarked (acceptWork k j a (now (cell .entry)) (now (cells .entry)) (now (links .entry)) (now (calendar .entry)) (rotated k b (now (words .entry)))) (endsOf head tail)) ⌝ }
+    ensures { λ s. ⌜ Gives r (leavingMarked (acceptOf (before k cells links calendar words) b j a (now (cell .entry))) (endsOf head tail)) s cells links calendar words ⌝ }
 {
     let o = off_stored(k, j, a, k.outhead != 65535, head, tail, cells, links, words);
     if !o.ok {
@@ -153,7 +154,7 @@ fn accept_output(
     requires { ⌜ Accepted k j (now cell) (now words) ⌝ }
     requires { ⌜ Seated k a ⌝ }
     requires { ⌜ k .outhead < k .n ⌝ }
-    ensures { λ s. ⌜ servedAfter s cells links calendar words ≡ finish (before r cells links calendar words) (leavingOutput (acceptWork k j a (now (cell .entry)) (now (cells .entry)) (now (links .entry)) (now (calendar .entry)) (rotated k b (now (words .entry))))) ⌝ }
+    ensures { λ s. ⌜ Gives r (leavingOutput (acceptOf (before k cells links calendar words) b j a (now (cell .entry)))) s cells links calendar words ⌝ }
 {
     let o = off_stored(k, j, a, false, 0, k.outtail, cells, links, words);
     if !o.ok {
@@ -191,7 +192,7 @@ fn accept_none(
     requires { ⌜ Sized (here k cells links calendar words) ⌝ }
     requires { ⌜ Accepted k j (now cell) (now words) ⌝ }
     requires { ⌜ Seated k a ⌝ }
-    ensures { λ s. ⌜ servedAfter s cells links calendar words ≡ acceptWork k j a (now (cell .entry)) (now (cells .entry)) (now (links .entry)) (now (calendar .entry)) (rotated k b (now (words .entry))) ⌝ }
+    ensures { λ s. ⌜ servedAfter s cells links calendar words ≡ acceptOf (before k cells links calendar words) b j a (now (cell .entry)) ⌝ }
 {
     store::store(k, b, j, a, cells, links, calendar, words, cell);
     let taken = store::seated(k, a);
@@ -247,7 +248,7 @@ fn accept_unmarked(
     requires { ⌜ Accepted k j (now cell) (now words) ⌝ }
     requires { ⌜ Seated k a ⌝ }
     requires { ⌜ (endsFit (k .n) (endsOf (k .outhead) (k .outtail)) ≡ true) × (entryAt (writeEntry (now calendar) (a .e) (seatEnds a)) (k .turn) ≡ emptyList) ⌝ }
-    ensures { λ s. ⌜ servedAfter s cells links calendar words ≡ finish (before r cells links calendar words) (step4 (acceptWork k j a (now (cell .entry)) (now (cells .entry)) (now (links .entry)) (now (calendar .entry)) (rotated k b (now (words .entry)))) andThen step5) ⌝ }
+    ensures { λ s. ⌜ Gives r (lastSteps (acceptOf (before k cells links calendar words) b j a (now (cell .entry)))) s cells links calendar words ⌝ }
 {
     if k.outhead != 65535 {
         return accept_output(r, k, b, j, a, cells, links, calendar, words, cell);
@@ -274,7 +275,7 @@ fn accept_seated(
     requires { ⌜ Accepted k j (now cell) (now words) ⌝ }
     requires { ⌜ Seated k a ⌝ }
     requires { ⌜ endsFit (k .n) (endsOf (k .outhead) (k .outtail)) ≡ true ⌝ }
-    ensures { λ s. ⌜ servedAfter s cells links calendar words ≡ finish (before r cells links calendar words) (step4 (acceptWork k j a (now (cell .entry)) (now (cells .entry)) (now (links .entry)) (now (calendar .entry)) (rotated k b (now (words .entry)))) andThen step5) ⌝ }
+    ensures { λ s. ⌜ Gives r (lastSteps (acceptOf (before k cells links calendar words) b j a (now (cell .entry)))) s cells links calendar words ⌝ }
 {
     let x = head_joined(k.turn, a, calendar);
     let y = tail_joined(k.turn, a, calendar);
@@ -307,7 +308,7 @@ pub fn accept(
 ) -> Served
     requires { ⌜ Sized (here k cells links calendar words) ⌝ }
     requires { ⌜ Accepted k j (now cell) (now words) ⌝ }
-    ensures { λ s. ⌜ servedAfter s cells links calendar words ≡ finish (before r cells links calendar words) (seating k j (now (cell .entry)) (now (cells .entry)) (now (links .entry)) (now (calendar .entry)) (rotated k b (now (words .entry))) andThen step4 andThen step5) ⌝ }
+    ensures { λ s. ⌜ Gives r (seatingOf (before k cells links calendar words) b j (now (cell .entry)) andThen step4 andThen step5) s cells links calendar words ⌝ }
 {
     let a = spaces::seat_for(k.n, links, calendar, k.turn, k.freehead, k.freetail, j.d);
     if !a.ok {

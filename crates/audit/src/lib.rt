@@ -6,11 +6,11 @@ ghost use Prim.Native.Nat.{ℕ, _+_, _*_, _≤_, _<_};
 ghost use lib.ListN.{length, getD};
 ghost use Rattle.meaning.specs.Numbers.{wordsIn};
 ghost use Rattle.meaning.specs.State.{HasVc};
-ghost use Rattle.meaning.specs.Words.{vcAt, vcFits};
+ghost use Rattle.meaning.specs.Words.{vcAt};
 ghost use Rattle.meaning.specs.Promises.{AuditPromise};
 ghost use Rattle.meaning.specs.Lent.{before};
 ghost use Rattle.walks.specs.Budget.{Gone};
-ghost use Rattle.audit.specs.Budgets.{inside, waitsOf, waitsAt};
+ghost use Rattle.audit.specs.Budgets.{inside, waitsOf, waitsAt, AllFit};
 ghost use Rattle.audit.specs.Shape.{recordFits, shapeHolds};
 use meaning::AT_WAITING;
 use meaning::Record;
@@ -47,8 +47,8 @@ fn waits_of(words: &[u32], vci: u16) -> u32
 // The words of VC 1 to V-1 are in their ranges; their waiting cells go into the cells' budget.
 fn fill_waits(n: u16, v: u16, words: &[u32], waits: &mut [u32]) -> bool
     requires { ⌜ (1 < v) × (v ≤ length (now waits)) × (wordsIn v ≤ length (now words)) × Gone (now waits) ⌝ }
-    ensures yes { λ a. ⌜ (a ≡ true → (((vci : ℕ) → 1 ≤ vci → vci < v → vcFits n (vcAt (now (words .entry)) vci) ≡ true) × ((k : ℕ) → getD (now (waits .exit)) k 0 ≡ waitsAt (now (words .entry)) v k))) ⌝ }
-    ensures no { λ a. ⌜ (((vci : ℕ) → 1 ≤ vci → vci < v → vcFits n (vcAt (now (words .entry)) vci) ≡ true) → a ≡ true) ⌝ }
+    ensures yes { λ a. ⌜ (a ≡ true → (AllFit n v (now (words .entry)) × ((k : ℕ) → getD (now (waits .exit)) k 0 ≡ waitsAt (now (words .entry)) v k))) ⌝ }
+    ensures no { λ a. ⌜ (AllFit n v (now (words .entry)) → a ≡ true) ⌝ }
 {
     let mut vci = 1u16;
     while vci < v {

@@ -6,16 +6,20 @@
 --   after r ..        == the record r and what they hold at the return
 --   setUpAfter s ..   == what a setup gives back: the number of s, and the state that it leaves, with the record of s
 --   servedAfter s ..  == what a slot gives back: the state that it leaves, with the record of s, and the answer of s
+--   Gives r o s ..    == a slot that came with the record r gives back s and what o says, or, o being refused, all as it came
 use Prim.Native.Nat.{ℕ}
+use mathlib.Core.Path.{_≡_}
 use mathlib.Core.List.{List}
 use denote.Ref.{RefT}
 use denote.Triple.Both.{Both}
 use Rattle.meaning.specs.declared.Record.{Record}
 use Rattle.meaning.specs.declared.Fresh.{Fresh}
 use Rattle.meaning.specs.declared.Served.{Served}
+use Rattle.meaning.specs.Plain.{Out}
 use Rattle.meaning.specs.State.{State, stateOf}
 use Rattle.meaning.specs.Calls.{SetUp, setUpOf}
 use Rattle.meaning.specs.Work.{Work, workOf}
+use Rattle.meaning.specs.Slot.{finish}
 
 abbrev pub Slice : Type 0
 Slice = RefT (List ℕ)
@@ -39,3 +43,7 @@ setUpAfter s cells links calendar words = setUpOf (s .number) (after (s .ctl) ce
 
 abbrev pub servedAfter : Served → Lent → Lent → Lent → Lent → Work
 servedAfter s cells links calendar words = workOf (after (s .ctl) cells links calendar words) (s .answer)
+
+abbrev pub Gives : Record → Out Work → Served → Lent → Lent → Lent → Lent → Type 0
+Gives r o s cells links calendar words =
+    servedAfter s cells links calendar words ≡ finish (before r cells links calendar words) o

@@ -4,16 +4,17 @@ ghost use mathlib.Core.Bool.{true};
 ghost use mathlib.Core.List.{List};
 ghost use Prim.Native.Nat.{ℕ, _+_, _*_, _≤_, _<_};
 ghost use lib.ListN.{length, getD};
-ghost use Rattle.meaning.specs.Plain.{_=?_, _andThen_};
+ghost use Rattle.meaning.specs.Plain.{_=?_};
 ghost use Rattle.meaning.specs.Numbers.{excess, waitingPlace, mostN, mostV, octets, wordsIn};
-ghost use Rattle.meaning.specs.State.{stateOf, HasVc};
+ghost use Rattle.meaning.specs.State.{HasVc};
 ghost use Rattle.meaning.specs.Lists.{emptyList, endsFit, entryAt};
-ghost use Rattle.meaning.specs.Slot.{step4, step5, finish};
-ghost use Rattle.meaning.specs.Lent.{here, before};
+ghost use Rattle.meaning.specs.Lent.{here, before, Gives};
 ghost use Rattle.arrival.specs.Arrival.{fallen};
-ghost use Rattle.spaces.specs.Spaces.{endsOf, linked, offOf};
-ghost use Rattle.plan.specs.Plan.{rotated, quietWork, leftBy, joinedLinks, joinedHead, leavingMarked, leavingOutput, servedWork};
+ghost use Rattle.spaces.specs.Spaces.{endsOf, offOf};
+ghost use Rattle.plan.specs.Plan.{rotated, joinedLinks, joinedHead, leavingMarked, leavingOutput};
+ghost use Rattle.plan.specs.Works.{quietOf, lastSteps};
 ghost use Rattle.plan.specs.Facts.{Sized};
+ghost use Rattle.quiet.specs.Quiet.{EndsWith, GivesWith, KeepsWith};
 use arrival::Fall;
 use arrival::Judged;
 use meaning::Answer;
@@ -46,7 +47,7 @@ fn quiet_end(
     requires { ⌜ (j .verdict =? excess ≡ true → j .vci < k .v) ⌝ }
     requires { ⌜ (joins ≡ true → k .outtail < k .n) ⌝ }
     requires { ⌜ endsFit (k .n) (endsOf (k .freehead) (k .freetail)) ≡ true ⌝ }
-    ensures { λ s. ⌜ ((cells calendar calendar′ : List ℕ) → servedWork s cells (now (links .exit)) calendar′ (now (words .exit)) ≡ leftBy (quietWork k j cells (now (links .entry)) calendar (rotated k b (now (words .entry)))) (linked joins (k .outtail) head (now (links .entry))) calendar′ o) ⌝ }
+    ensures { λ s. ⌜ ((cells calendar calendar′ : List ℕ) → EndsWith cells calendar calendar′ k b j o joins head s links words) ⌝ }
 {
     words_fall(k, b, j, words);
     arrival::put_less(words, o.vci);
@@ -106,7 +107,7 @@ fn quiet_marked(
     requires { ⌜ Sized (here k cells links calendar words) ⌝ }
     requires { ⌜ (j .verdict =? excess ≡ true → j .vci < k .v) ⌝ }
     requires { ⌜ (head < k .n) × (endsFit (k .n) (endsOf (k .outhead) (k .outtail)) ≡ true) ⌝ }
-    ensures { λ s. ⌜ servedWork s (now (cells .entry)) (now (links .exit)) (now (calendar .exit)) (now (words .exit)) ≡ finish (before r cells links calendar words) (leavingMarked (quietWork k j (now (cells .entry)) (now (links .entry)) (now (calendar .entry)) (rotated k b (now (words .entry)))) (endsOf head tail)) ⌝ }
+    ensures { λ s. ⌜ Gives r (leavingMarked (quietOf (before k cells links calendar words) b j) (endsOf head tail)) s cells links calendar words ⌝ }
 {
     let o = off_marked(k, head, tail, cells, links, words);
     if !o.ok {
@@ -129,9 +130,10 @@ fn quiet_output(
     links: &mut [u16],
     words: &mut [u32],
 ) -> Served
-    requires { ⌜ (k .n ≤ mostN) × (k .v ≤ mostV) × (length (now cells) ≡ octets * k .n) × (length (now links) ≡ k .n) × (length (now words) ≡ wordsIn (k .v)) × (k .rotation < k .v) × (k .outhead < k .n) ⌝ }
+    requires { ⌜ (k .n ≤ mostN) × (k .v ≤ mostV) × (length (now cells) ≡ octets * k .n) × (length (now links) ≡ k .n) × (length (now words) ≡ wordsIn (k .v)) × (k .rotation < k .v) ⌝ }
+    requires { ⌜ k .outhead < k .n ⌝ }
     requires { ⌜ (j .verdict =? excess ≡ true → j .vci < k .v) ⌝ }
-    ensures { λ s. ⌜ ((calendar : List ℕ) → servedWork s (now (cells .entry)) (now (links .exit)) calendar (now (words .exit)) ≡ finish (stateOf r (now (cells .entry)) (now (links .entry)) calendar (now (words .entry))) (leavingOutput (quietWork k j (now (cells .entry)) (now (links .entry)) calendar (rotated k b (now (words .entry)))))) ⌝ }
+    ensures { λ s. ⌜ ((calendar : List ℕ) → GivesWith calendar r k b j leavingOutput s cells links words) ⌝ }
 {
     let o = spaces::off_head(k.n, k.v, cells, links, words, k.outhead, k.outtail);
     if !o.ok {
@@ -147,7 +149,7 @@ fn quiet_output(
 fn quiet_none(k: Record, b: Fall, j: Judged, words: &mut [u32]) -> Served
     requires { ⌜ (length (now words) ≡ wordsIn (k .v)) × (k .rotation < k .v) ⌝ }
     requires { ⌜ (j .verdict =? excess ≡ true → j .vci < k .v) ⌝ }
-    ensures { λ s. ⌜ ((cells links calendar : List ℕ) → servedWork s cells links calendar (now (words .exit)) ≡ quietWork k j cells links calendar (rotated k b (now (words .entry)))) ⌝ }
+    ensures { λ s. ⌜ ((cells links calendar : List ℕ) → KeepsWith cells links calendar k b j s words) ⌝ }
 {
     words_fall(k, b, j, words);
     Served {
@@ -176,7 +178,7 @@ fn quiet_unmarked(
 ) -> Served
     requires { ⌜ (k .n ≤ mostN) × (k .v ≤ mostV) × (length (now cells) ≡ octets * k .n) × (length (now links) ≡ k .n) × (length (now words) ≡ wordsIn (k .v)) × (k .rotation < k .v) ⌝ }
     requires { ⌜ (j .verdict =? excess ≡ true → j .vci < k .v) ⌝ }
-    ensures { λ s. ⌜ ((calendar : List ℕ) → entryAt calendar (k .turn) ≡ emptyList → servedWork s (now (cells .entry)) (now (links .exit)) calendar (now (words .exit)) ≡ finish (stateOf r (now (cells .entry)) (now (links .entry)) calendar (now (words .entry))) (step4 (quietWork k j (now (cells .entry)) (now (links .entry)) calendar (rotated k b (now (words .entry)))) andThen step5)) ⌝ }
+    ensures { λ s. ⌜ ((calendar : List ℕ) → entryAt calendar (k .turn) ≡ emptyList → GivesWith calendar r k b j lastSteps s cells links words) ⌝ }
 {
     if k.outhead == 65535 {
         if k.outtail != 65535 {
@@ -206,7 +208,7 @@ pub fn quiet(
 ) -> Served
     requires { ⌜ Sized (here k cells links calendar words) ⌝ }
     requires { ⌜ (j .verdict =? excess ≡ true → j .vci < k .v) ⌝ }
-    ensures { λ s. ⌜ servedWork s (now (cells .entry)) (now (links .exit)) (now (calendar .exit)) (now (words .exit)) ≡ finish (before r cells links calendar words) (step4 (quietWork k j (now (cells .entry)) (now (links .entry)) (now (calendar .entry)) (rotated k b (now (words .entry)))) andThen step5) ⌝ }
+    ensures { λ s. ⌜ Gives r (lastSteps (quietOf (before k cells links calendar words) b j)) s cells links calendar words ⌝ }
 {
     let at = 2 * (k.turn as usize);
     let head = calendar[at];

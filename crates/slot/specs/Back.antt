@@ -4,8 +4,9 @@
 --   isChecked raw octets  == the header check comes in front
 --   backServed r drop s   == of record and answer
 --   back s drop w         == of the whole work, w being the slot without the check
+--   backFrom s mode ..    == the same, s having been served in this mode with this cell
 --   headWritten head l    == l with its first four octets from one number
---   unfitOf r ..          == what is given where raw or mode is neither 0 nor 1
+--   unfitOf r ..          == what is given where raw or mode is neither 0 nor 1; unfitIn s the same of a state
 use Prim.Native.Nat.{ℕ, _/_, _%_, _^_}
 use mathlib.Core.Bool.{Bool, not, _&&_}
 use mathlib.Core.List.{List}
@@ -15,9 +16,9 @@ use Rattle.meaning.specs.declared.Answer.{Answer}
 use Rattle.meaning.specs.declared.Served.{Served}
 use Rattle.meaning.specs.Plain.{if_then_else_, _=?_}
 use Rattle.meaning.specs.Numbers.{rangesHold, octets, dropped}
-use Rattle.meaning.specs.State.{State, lengthsHold, withRecord}
+use Rattle.meaning.specs.State.{State, stateOf, lengthsHold, withRecord, recordInMode}
 use Rattle.meaning.specs.Work.{Work, workOf, answerOf, bareAnswer}
-use Rattle.meaning.specs.Slot.{told}
+use Rattle.meaning.specs.Slot.{told, uncheckedSlot}
 
 -- the policer is raw, and a cell arrived; a raw that is neither 0 nor 1 is refused there
 unfoldable pub isChecked : ℕ → ℕ → Bool
@@ -38,6 +39,11 @@ unfoldable pub back : State → Bool → Work → Work
 back s drop w =
     if w .answer .number =? 0 then told drop w else workOf (withRecord (w .state) (s .ctl)) (w .answer)
 
+abbrev pub backFrom : State → ℕ → Bool → List ℕ → Work
+backFrom s mode drop cell =
+    back s drop
+    (uncheckedSlot (stateOf (recordInMode (s .ctl) mode) (s .cells) (s .links) (s .calendar) (s .words)) cell)
+
 -- a raw or a mode out of its range: 1 and 2 come before 3
 unfoldable pub unfitOf : Record → List ℕ → List ℕ → List ℕ → List ℕ → Served
 unfitOf r cells links calendar words =
@@ -46,6 +52,9 @@ unfitOf r cells links calendar words =
     (if not (rangesHold (r .n) (r .v)) then 1
     else if not (lengthsHold (r .n) (r .v) cells links calendar words) then 2
     else 3))
+
+abbrev pub unfitIn : State → Served
+unfitIn s = unfitOf (s .ctl) (s .cells) (s .links) (s .calendar) (s .words)
 
 -- the first four octets written from one number
 unfoldable pub headWritten : ℕ → List ℕ → List ℕ

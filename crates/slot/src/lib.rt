@@ -5,12 +5,9 @@ ghost use mathlib.Core.List.{[], _++_};
 ghost use Prim.Native.Nat.{_≤_};
 ghost use lib.ListN.{length, drop};
 ghost use Rattle.hec.specs.Word.{octetsOf};
-ghost use Rattle.meaning.specs.State.{recordInMode};
-ghost use Rattle.meaning.specs.Work.{workOf};
-ghost use Rattle.meaning.specs.Slot.{uncheckedSlot};
 ghost use Rattle.meaning.specs.Promises.{slotPromise};
-ghost use Rattle.meaning.specs.Lent.{before, after, servedAfter};
-ghost use Rattle.slot.specs.Back.{isChecked, backServed, back, unfitOf, headWritten};
+ghost use Rattle.meaning.specs.Lent.{before, servedAfter};
+ghost use Rattle.slot.specs.Back.{isChecked, backServed, backFrom, unfitIn, headWritten};
 use hec::Checked;
 use meaning::Answer;
 use meaning::Record;
@@ -73,7 +70,7 @@ fn mended_slot(
     cell: &[u8],
 ) -> Served
     requires { ⌜ length (now cell) ≡ 53 ⌝ }
-    ensures { λ s. ⌜ workOf (after (s .ctl) cells links calendar words) (s .answer) ≡ back (before r cells links calendar words) false (uncheckedSlot (before (recordInMode r (c .mode)) cells links calendar words) (octetsOf (c .head) (c .fifth) ++ drop 5 (now (cell .entry)))) ⌝ }
+    ensures { λ s. ⌜ servedAfter s cells links calendar words ≡ backFrom (before r cells links calendar words) (c .mode) false (octetsOf (c .head) (c .fifth) ++ drop 5 (now (cell .entry))) ⌝ }
 {
     let mut held = [0u8; 53];
     cell::copy_cell(&mut held, cell);
@@ -93,7 +90,7 @@ fn dropped_slot(
     words: &mut [u32],
     cell: &[u8],
 ) -> Served
-    ensures { λ s. ⌜ workOf (after (s .ctl) cells links calendar words) (s .answer) ≡ back (before r cells links calendar words) true (uncheckedSlot (before (recordInMode r mode) cells links calendar words) []) ⌝ }
+    ensures { λ s. ⌜ servedAfter s cells links calendar words ≡ backFrom (before r cells links calendar words) mode true [] ⌝ }
 {
     let k = record_in_mode(r, mode);
     let s = unchecked::slot(k, cells, links, calendar, words, &cell[0..0]);
@@ -109,7 +106,7 @@ fn clean_slot(
     words: &mut [u32],
     cell: &[u8],
 ) -> Served
-    ensures { λ s. ⌜ workOf (after (s .ctl) cells links calendar words) (s .answer) ≡ back (before r cells links calendar words) false (uncheckedSlot (before (recordInMode r 0) cells links calendar words) (now (cell .entry))) ⌝ }
+    ensures { λ s. ⌜ servedAfter s cells links calendar words ≡ backFrom (before r cells links calendar words) 0 false (now (cell .entry)) ⌝ }
 {
     let k = record_in_mode(r, 0);
     let s = unchecked::slot(k, cells, links, calendar, words, cell);
@@ -148,7 +145,7 @@ fn unfit_slot(
     cell: &[u8],
 ) -> Served
     requires { ⌜ length (now cell) ≡ 53 ⌝ }
-    ensures { λ s. ⌜ s ≡ unfitOf r (now (cells .entry)) (now (links .entry)) (now (calendar .entry)) (now (words .entry)) ⌝ }
+    ensures { λ s. ⌜ s ≡ unfitIn (before r cells links calendar words) ⌝ }
 {
     let number = unchecked::shape(r, cells, links, calendar, words, cell);
     if number != 0 {

@@ -19,6 +19,9 @@ shapeOf r cells links calendar words cell =
     else if not (length cell =? 0 || length cell =? octets) then 9
     else 0
 
+abbrev pub shapeIn : State → List ℕ → ℕ
+shapeIn s cell = shapeOf (s .ctl) (s .cells) (s .links) (s .calendar) (s .words) cell
+
 -- document 01's slot, of a cell that needs no check
 abbrev pub uncheckedPromise : State → List ℕ → Work → Type 0
 uncheckedPromise s cell w = w ≡ uncheckedSlot s cell

@@ -5,11 +5,11 @@ ghost use Prim.Native.Nat.{_+_, _%_, _<_};
 ghost use lib.ListN.{length};
 ghost use Rattle.meaning.specs.Plain.{_andThen_};
 ghost use Rattle.meaning.specs.Work.{workOf, bareAnswer};
-ghost use Rattle.meaning.specs.Slot.{step2, step3, step4, step5, finish};
-ghost use Rattle.meaning.specs.Lent.{here, before, servedAfter};
+ghost use Rattle.meaning.specs.Slot.{step2, step3, step4, step5};
+ghost use Rattle.meaning.specs.Lent.{here, before, servedAfter, Gives};
 ghost use Rattle.plan.specs.Plan.{clocked};
 ghost use Rattle.plan.specs.Facts.{Sized};
-ghost use Rattle.unchecked.specs.Slot.{shapeOf, uncheckedPromise};
+ghost use Rattle.unchecked.specs.Slot.{shapeIn, uncheckedPromise};
 use meaning::Record;
 use meaning::Served;
 
@@ -54,7 +54,7 @@ fn steps(
 ) -> Served
     requires { ⌜ Sized (here k cells links calendar words) ⌝ }
     requires { ⌜ ((length (now cell) ≡ 0 → ⊥) → length (now cell) ≡ 53) ⌝ }
-    ensures { λ s. ⌜ servedAfter s cells links calendar words ≡ finish (before r cells links calendar words) (step2 (workOf (before k cells links calendar words) (bareAnswer 0)) andThen step3 (now (cell .entry)) andThen step4 andThen step5) ⌝ }
+    ensures { λ s. ⌜ Gives r (step2 (workOf (before k cells links calendar words) (bareAnswer 0)) andThen step3 (now (cell .entry)) andThen step4 andThen step5) s cells links calendar words ⌝ }
 {
     let b = arrival::bring(k.n, words, k.rotation, k.t);
     if !b.ok {
@@ -80,7 +80,7 @@ pub fn shape(
     words: &[u32],
     cell: &[u8],
 ) -> u16
-    ensures { λ x. ⌜ x ≡ shapeOf r (now (cells .entry)) (now (links .entry)) (now (calendar .entry)) (now (words .entry)) (now (cell .entry)) ⌝ }
+    ensures { λ x. ⌜ x ≡ shapeIn (before r cells links calendar words) (now (cell .entry)) ⌝ }
 {
     if !refusal::ranges_hold(r.n, r.v) {
         return 1;

@@ -4,7 +4,10 @@ use Prim.Native.Nat.{ℕ, suc}
 use mathlib.Core.Path.{_≡_}
 use mathlib.Core.List.{List, [], _∷_, _++_, map}
 use lib.ListN.{length, getD}
-use Rattle.meaning.specs.State.{Ends}
+use Rattle.meaning.specs.declared.Record.{Record}
+use Rattle.meaning.specs.Lent.{Lent}
+use Rattle.meaning.specs.State.{Ends, endsOf}
+use Rattle.walks.specs.Walk.{nameOf}
 use Rattle.meaning.specs.Numbers.{empty}
 use Rattle.meaning.specs.Lists.{entryAt}
 use Rattle.meaning.specs.Audit.{Chain, count, joined}
@@ -28,3 +31,9 @@ pub record Stored (l calendar : List ℕ) (nm : ℕ → ℕ) (N : ℕ) (free-end
   pub queues-are : Queues l calendar 0 queues
   pub spaces : (x : ℕ) → count x (free ++ (output ++ joined queues)) ≡ getD b x 0
   pub cells : (k : ℕ) → count k (map nm (output ++ joined queues)) ≡ getD w k 0
+
+-- the same of a record r and of what is lent, for contracts
+abbrev pub StoredIn : Record → Lent → Lent → Lent → Lent → Lent → Type 0
+StoredIn r cells links calendar spaces waits =
+    Stored (links .entry .now) (calendar .entry .now) (nameOf (cells .entry .now)) (r .n) (endsOf (r .freehead) (r .freetail))
+    (endsOf (r .outhead) (r .outtail)) (spaces .entry .now) (waits .entry .now)

@@ -7,6 +7,7 @@
 --   listOf l nm q e b w   == the list that begins and ends at e
 --   entriesOf k e         == k calendar entries from e on
 --   listsOf N free output == the Free List, the Output List, then all N entries; it stops where a list fails
+--   listsIn r ..          == the same of a record r and of what is lent, for contracts; walkedAfter a .. == what a walk leaves
 use Prim.Native.Nat.{ℕ, zero, suc, _<_}
 use mathlib.Core.Bool.{Bool, true, false}
 use mathlib.Core.List.{List, [], map}
@@ -15,6 +16,8 @@ use Rattle.meaning.specs.Plain.{if_then_else_, _<?_, _=?_}
 use Rattle.meaning.specs.Numbers.{empty, cellStart}
 use Rattle.meaning.specs.State.{Ends}
 pub use Rattle.meaning.specs.State.{endsOf}
+use Rattle.meaning.specs.declared.Record.{Record}
+use Rattle.meaning.specs.Lent.{Lent}
 use Rattle.meaning.specs.Header.{headerAt}
 use Rattle.meaning.specs.Lists.{isEmpty, entryAt}
 use Rattle.walks.specs.Budget.{spent, sum}
@@ -75,3 +78,11 @@ listsOf l calendar nm N free output b w =
     let r₀ = listOf l nm false free b w in
     let r₁ = listOf l nm true output (r₀ .spaces) (r₀ .waits) in
     if r₀ .ok then (if r₁ .ok then entriesOf l calendar nm N 0 (r₁ .spaces) (r₁ .waits) else r₁) else r₀
+
+abbrev pub listsIn : Record → Lent → Lent → Lent → Lent → Lent → Walked
+listsIn r cells links calendar spaces waits =
+    listsOf (links .entry .now) (calendar .entry .now) (nameOf (cells .entry .now)) (r .n) (endsOf (r .freehead) (r .freetail))
+    (endsOf (r .outhead) (r .outtail)) (spaces .entry .now) (waits .entry .now)
+
+abbrev pub walkedAfter : Bool → Lent → Lent → Walked
+walkedAfter a spaces waits = walked a (spaces .exit .now) (waits .exit .now)

@@ -7,8 +7,8 @@ ghost use Prim.Native.Nat.{_<_};
 ghost use lib.ListN.{getD};
 ghost use Rattle.meaning.specs.Plain.{_<?_};
 ghost use Rattle.walks.specs.Budget.{spent, Gone};
-ghost use Rattle.walks.specs.Walk.{nameOf, walked, endsOf, mayWait, lessWait, walk, listOf, entriesOf, listsOf};
-ghost use Rattle.walks.specs.Stored.{NoMark, Stored};
+ghost use Rattle.walks.specs.Walk.{nameOf, walkedAfter, endsOf, mayWait, lessWait, walk, listOf, entriesOf, listsIn};
+ghost use Rattle.walks.specs.Stored.{NoMark, StoredIn};
 use meaning::Record;
 
 // One x is taken off a budget, if any is left.
@@ -94,7 +94,7 @@ fn walk(
     tail: u16,
     head: u16,
 ) -> bool
-    ensures { λ a. ⌜ walked a (now (spaces .exit)) (now (waits .exit)) ≡ walk (now (links .entry)) (nameOf (now (cells .entry))) queued tail head (now (spaces .entry)) (now (waits .entry)) ⌝ }
+    ensures { λ a. ⌜ walkedAfter a spaces waits ≡ walk (now (links .entry)) (nameOf (now (cells .entry))) queued tail head (now (spaces .entry)) (now (waits .entry)) ⌝ }
 {
     let mut x = head;
     loop {
@@ -123,7 +123,7 @@ fn list(
     head: u16,
     tail: u16,
 ) -> bool
-    ensures { λ a. ⌜ walked a (now (spaces .exit)) (now (waits .exit)) ≡ listOf (now (links .entry)) (nameOf (now (cells .entry))) queued (endsOf head tail) (now (spaces .entry)) (now (waits .entry)) ⌝ }
+    ensures { λ a. ⌜ walkedAfter a spaces waits ≡ listOf (now (links .entry)) (nameOf (now (cells .entry))) queued (endsOf head tail) (now (spaces .entry)) (now (waits .entry)) ⌝ }
 {
     if head == 65535 {
         return tail == 65535;
@@ -140,7 +140,7 @@ fn entries(
     waits: &mut [u32],
     n: u16,
 ) -> bool
-    ensures { λ a. ⌜ walked a (now (spaces .exit)) (now (waits .exit)) ≡ entriesOf (now (links .entry)) (now (calendar .entry)) (nameOf (now (cells .entry))) n 0 (now (spaces .entry)) (now (waits .entry)) ⌝ }
+    ensures { λ a. ⌜ walkedAfter a spaces waits ≡ entriesOf (now (links .entry)) (now (calendar .entry)) (nameOf (now (cells .entry))) n 0 (now (spaces .entry)) (now (waits .entry)) ⌝ }
 {
     let mut e = 0u16;
     while e < n {
@@ -165,7 +165,7 @@ fn lists(
     spaces: &mut [u32],
     waits: &mut [u32],
 ) -> bool
-    ensures { λ a. ⌜ walked a (now (spaces .exit)) (now (waits .exit)) ≡ listsOf (now (links .entry)) (now (calendar .entry)) (nameOf (now (cells .entry))) (r .n) (endsOf (r .freehead) (r .freetail)) (endsOf (r .outhead) (r .outtail)) (now (spaces .entry)) (now (waits .entry)) ⌝ }
+    ensures { λ a. ⌜ walkedAfter a spaces waits ≡ listsIn r cells links calendar spaces waits ⌝ }
 {
     if list(links, cells, spaces, waits, false, r.freehead, r.freetail) {
         if list(links, cells, spaces, waits, true, r.outhead, r.outtail) {
@@ -185,9 +185,9 @@ pub fn stored(
     waits: &mut [u32],
 ) -> bool
     requires { ⌜ NoMark (now spaces) ⌝ }
-    ensures yes { λ a. ⌜ (a ≡ true → Stored (now (links .entry)) (now (calendar .entry)) (nameOf (now (cells .entry))) (r .n) (endsOf (r .freehead) (r .freetail)) (endsOf (r .outhead) (r .outtail)) (now (spaces .entry)) (now (waits .entry))) ⌝ }
-    ensures no { λ a. ⌜ (Stored (now (links .entry)) (now (calendar .entry)) (nameOf (now (cells .entry))) (r .n) (endsOf (r .freehead) (r .freetail)) (endsOf (r .outhead) (r .outtail)) (now (spaces .entry)) (now (waits .entry)) → a ≡ true) ⌝ }
-    ensures left { λ a. ⌜ (now (spaces .exit) ≡ listsOf (now (links .entry)) (now (calendar .entry)) (nameOf (now (cells .entry))) (r .n) (endsOf (r .freehead) (r .freetail)) (endsOf (r .outhead) (r .outtail)) (now (spaces .entry)) (now (waits .entry)) .spaces) × (now (waits .exit) ≡ listsOf (now (links .entry)) (now (calendar .entry)) (nameOf (now (cells .entry))) (r .n) (endsOf (r .freehead) (r .freetail)) (endsOf (r .outhead) (r .outtail)) (now (spaces .entry)) (now (waits .entry)) .waits) ⌝ }
+    ensures yes { λ a. ⌜ (a ≡ true → StoredIn r cells links calendar spaces waits) ⌝ }
+    ensures no { λ a. ⌜ (StoredIn r cells links calendar spaces waits → a ≡ true) ⌝ }
+    ensures left { λ a. ⌜ (now (spaces .exit) ≡ listsIn r cells links calendar spaces waits .spaces) × (now (waits .exit) ≡ listsIn r cells links calendar spaces waits .waits) ⌝ }
 {
     if lists(r, cells, links, calendar, spaces, waits) {
         if gone(spaces) {
