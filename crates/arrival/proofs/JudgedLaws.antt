@@ -6,9 +6,9 @@ use mathlib.Core.Logic.{_≢_}
 use mathlib.Core.Bool.{true, false}
 use mathlib.Core.List.{List}
 use native.Mathlib.Omega.{arith}
-use native.Mathlib.Decide.{ℕ-discrete}
+use native.Mathlib.Decide.{ℕ-discrete, decLt}
 use native.Mathlib.Nat.{div-lt-iff-lt-mul}
-use borrow.Author.Tests.{eq-eqb, ne-eqb}
+use borrow.Author.Tests.{eq-eqb, ne-eqb, lt-ltb, le-ltb}
 use lib.ListN.{length, getD}
 use lib.Pow.{pow-pos}
 use Rattle.meaning.specs.Numbers.{nothing, unknown, mPlace, fPlace, cPlace, waitingPlace, wordsPerVc}
@@ -18,7 +18,7 @@ use Rattle.meaning.specs.Words.{vcAt, bucketFits}
 use Rattle.header.specs.Name.{nameOf}
 use Rattle.header.proofs.NameLaws.{name-none, name-user, name-names, name-past, names-vci}
 use Rattle.words.proofs.Fits.{opened-at}
-use Rattle.arrival.specs.Arrival.{Named, judgedAs, outOfRange, judgedBucket, judgedVc, judgedOf}
+use Rattle.arrival.specs.Arrival.{Named, judgedAs, outOfRange, judgedBucket, judgedVc, cellName, judgedName, judgedOf}
 use Rattle.arrival.proofs.BroughtLaws.{fallenS, now-bucket}
 
 -- D of an S up to C-F is at most that of C-F
@@ -59,6 +59,20 @@ module _ (N t : ℕ) (words : List ℕ) (vci : ℕ) where
         ne-eqb (vcAt words vci .opened) 0 (λ e. o₀ (sym (opened-at words vci) ∙ e)),
         ne-eqb (vcAt words vci .opened) 1 (λ e. o₁ (sym (opened-at words vci) ∙ e)),
       )
+
+-- ---- a name
+module _ (N z t : ℕ) (words : List ℕ) (name : ℕ) where
+  pub by-none : name ≡ 0 → judgedAs true nothing 0 0 0 0 ≡ judgedName N z t words name
+  unfolding judgedName
+  by-none e = simp (eq-eqb _ _ e)
+
+  pub by-vc : name ≢ 0 → name < z → judgedVc N t words name ≡ judgedName N z t words name
+  unfolding judgedName
+  by-vc user below = simp (ne-eqb _ _ user, lt-ltb _ _ below)
+
+  pub by-unknown : name ≢ 0 → z ≤ name → judgedAs true unknown (name % 65536) 0 0 0 ≡ judgedName N z t words name
+  unfolding judgedName
+  by-unknown user past = simp (ne-eqb _ _ user, le-ltb name z past)
 
 -- ---- a cell of 0 or 53 octets
 module _ (N z t : ℕ) (words cell : List ℕ) where
@@ -112,3 +126,25 @@ module _ (N z t : ℕ) (words cell : List ℕ) where
       let is = named .present some in
       ap (λ (u : ℕ). judgedAs true unknown u 0 0 0) (is .1)
       ∙ judged-unknown some (λ e. user (is .0 ∙ e)) (omega (arith, is .0, past))
+
+  named-cell : (name : ℕ) → name ≡ cellName cell → (length cell ≢ 0 → name % 65536 ≡ h .vci) → Named cell name
+  unfolding cellName
+  named-cell name is vci =
+      record {
+        absent = λ none. is ∙ simp (eq-eqb _ _ none);
+        present = λ some. (is ∙ simp (ne-eqb _ _ some), vci some);
+      }
+
+  -- the name says all that step 3 asks of a cell
+  pub judged-cell : (name : ℕ) → z ≤ 65536 → name ≡ cellName cell → (length cell ≢ 0 → name % 65536 ≡ h .vci)
+      → judgedName N z t words name ≡ judgedOf N z t words cell
+  judged-cell name few is vci = go (ℕ-discrete name 0) (decLt name z)
+    where
+      named : Named cell name
+      named = named-cell name is vci
+
+      go : Dec (name ≡ 0) → Dec (name < z) → judgedName N z t words name ≡ judgedOf N z t words cell
+      go (yes e) d = sym (by-none N z t words name e) ∙ named-none name named e
+      go (no user) (yes below) = sym (by-vc N z t words name user below) ∙ named-known name named few user below
+      go (no user) (no past) =
+          sym (by-unknown N z t words name user (omega arith)) ∙ named-unknown name named user (omega arith)

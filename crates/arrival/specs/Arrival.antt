@@ -57,6 +57,17 @@ judgedVc N t words vci =
     else outOfRange
 
 -- the number that stands for a cell: VPI and VCI of its header, or 0 where it has no octets
+unfoldable pub cellName : List ℕ → ℕ
+cellName cell = if length cell =? 0 then 0 else nameOf (headerAt cell 0)
+
+-- step 3 of a cell with this name
+unfoldable pub judgedName : ℕ → ℕ → ℕ → List ℕ → ℕ → Judged
+judgedName N z t words name =
+    if name =? 0 then judgedAs true nothing 0 0 0 0
+    else if name <? z then judgedVc N t words name
+    else judgedAs true unknown (name % 65536) 0 0 0
+
+-- what is known of a cell's name where it is made of octets
 pub record Named (cell : List ℕ) (name : ℕ) : Type 0 where
   pub absent : length cell ≡ 0 → name ≡ 0
   pub present : length cell ≢ 0 → (name ≡ nameOf (headerAt cell 0)) × (name % 65536 ≡ headerAt cell 0 .vci)

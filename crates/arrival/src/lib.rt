@@ -1,13 +1,13 @@
 // Steps 2 and 3 of a slot, up to the VC words: what is read and decided, before anything is written.
 ghost use mathlib.Core.Path.{_≡_};
 ghost use mathlib.Core.Bool.{true};
-ghost use mathlib.Core.List.{List};
-ghost use Prim.Native.Nat.{ℕ, _+_, _-_, _*_, _/_, _^_, _≤_, _<_};
+ghost use Prim.Native.Nat.{_-_, _/_, _%_, _^_, _≤_, _<_};
 ghost use lib.ListN.{length, getD};
 ghost use Rattle.meaning.specs.Numbers.{nothing, unknown, waitingPlace, mostV, wordsIn};
 ghost use Rattle.meaning.specs.State.{HasVc};
+ghost use Rattle.meaning.specs.Header.{headerAt};
 ghost use Rattle.meaning.specs.Bucket.{bucketOf};
-ghost use Rattle.arrival.specs.Arrival.{Named, broughtOf, judgedAs, outOfRange, judgedBucket, judgedVc, judgedOf, fallen, filled, oneLess};
+ghost use Rattle.arrival.specs.Arrival.{broughtOf, judgedAs, outOfRange, judgedBucket, judgedVc, cellName, judgedName, fallen, filled, oneLess};
 use meaning::AT_C;
 use meaning::AT_F;
 use meaning::AT_LAST;
@@ -170,7 +170,8 @@ pub fn judge_vc(n: u16, words: &[u32], vci: u16, t: u32) -> Judged
 // VPI and VCI of a cell of 0 or 53 octets as one number; 0 where there is none.
 pub fn name_of(cell: &[u8]) -> u32
     requires { ⌜ ((length (now cell) ≡ 0 → ⊥) → length (now cell) ≡ 53) ⌝ }
-    ensures { λ r. ⌜ Named (now (cell .entry)) r ⌝ }
+    ensures name { λ r. ⌜ r ≡ cellName (now (cell .entry)) ⌝ }
+    ensures vci { λ r. ⌜ ((length (now (cell .entry)) ≡ 0 → ⊥) → r % 65536 ≡ headerAt (now (cell .entry)) 0 .vci) ⌝ }
 {
     if cell.len() == 0 {
         return 0;
@@ -181,7 +182,7 @@ pub fn name_of(cell: &[u8]) -> u32
 // Step 3 of a cell with this name. Apart from the name's reading, so that each of the two is laid into both of its users.
 pub fn judge(n: u16, v: u16, words: &[u32], name: u32, t: u32) -> Judged
     requires { ⌜ (wordsIn v ≡ length (now words)) × (v ≤ mostV) ⌝ }
-    ensures { λ r. ⌜ ((cell : List ℕ) → Named cell name → r ≡ judgedOf n v t (now (words .entry)) cell) ⌝ }
+    ensures { λ r. ⌜ r ≡ judgedName n v t (now (words .entry)) name ⌝ }
 {
     if name == 0 {
         return no_cell();

@@ -110,8 +110,8 @@ module _ (calendar : List ℕ) (a : Seat) (T : ℕ) where
   unfolding seatEnds
   own-head e inside = ap (λ (x : Ends). x .head) (sym (own-entry e inside))
 
-  pub own-tail : (t : ℕ) → endsOf (a .x) t ≡ seatEnds a → a .e ≡ T → 2 * T + 2 ≤ length calendar → t ≡ joined .tail
-  own-tail t is e inside = ap (λ (x : Ends). x .tail) (is ∙ sym (own-entry e inside))
+  pub own-tail : (t : ℕ) → t ≡ seatEnds a .tail → a .e ≡ T → 2 * T + 2 ≤ length calendar → t ≡ joined .tail
+  own-tail t is e inside = is ∙ ap (λ (x : Ends). x .tail) (sym (own-entry e inside))
 
   pub far-head : a .e ≢ T → getD calendar (2 * T) 0 ≡ joined .head
   far-head ne = ap (λ (x : Ends). x .head) (sym (far-entry ne))

@@ -5,33 +5,24 @@ use mathlib.Core.Path.{_≡_, refl, sym, _∙_, ap}
 use mathlib.Core.Logic.{_≢_}
 use mathlib.Core.Bool.{Bool, true, false}
 use mathlib.Core.List.{List}
-use native.Mathlib.Nat.{add-zero}
 use native.Mathlib.Omega.{arith}
 use native.Mathlib.Decide.{decLt}
-use borrow.Author.Tests.{eqb-false, lt-ltb, le-ltb, le-leb, eq-eqb, ne-eqb}
+use borrow.Author.Tests.{eqb-true, eqb-false, lt-ltb, le-ltb, le-leb, eq-eqb, ne-eqb}
 use lib.ListN.{getD}
 use Rattle.meaning.specs.Plain.{if_then_else_, _≤?_, _=?_}
 use Rattle.meaning.specs.Numbers.{cellStart, waitingPlace, wordsPerVc}
 use Rattle.meaning.specs.Header.{Header, headerAt, namesVc, namesOpenVc}
 use Rattle.meaning.specs.Words.{vcAt}
+use Rattle.meaning.proofs.WordsLaws.{opened-at, waiting-at}
 use Rattle.header.specs.Name.{nameOf}
 use Rattle.header.proofs.NameLaws.{names-some, names-vci, names-below, name-names}
 use Rattle.spaces.specs.Spaces.{mayLeave, Stored, Counted}
-use Rattle.spaces.specs.Leaver.{mayGo, namedVc, leaverOf}
+use Rattle.spaces.specs.Leaver.{mayGo, namedVc, leaverOf, leaverAfter}
 
 pos-of : (k : ℕ) → k ≢ 0 → 1 ≤ k
 pos-of k ne = omega arith
 
--- ---- a VC's open word and waiting, where they are read
-pub opened-at : (words : List ℕ) (u : ℕ) → vcAt words u .opened ≡ getD words (wordsPerVc * u) 0
-unfolding vcAt
-opened-at words u = rw (add-zero (wordsPerVc * u))
-
-pub waiting-at : (words : List ℕ) (u : ℕ) → vcAt words u .waiting ≡ getD words (waitingPlace u) 0
-unfolding vcAt
-waiting-at words u = refl
-
--- the tests one after the other
+-- ---- a VC's open word and waiting, tested one after the other
 module _ (N : ℕ) (words : List ℕ) (u : ℕ) where
   abbrev waits : ℕ
   waits = getD words (waitingPlace u) 0
@@ -140,3 +131,13 @@ module _ (N z own s : ℕ) (cells words cells′ words′ : List ℕ) (x : ℕ)
     after-other ne other =
         (named-other (nameOf (headerAt cells (cellStart x))) other ∙ ap (namedVc N z words′) (kept ne))
         ∙ leaver-named N z cells′ words′ x few
+
+    pub leaver-after-is : leaverAfter N z cells words own s x ≡ leaverOf N z cells′ words′ x
+    unfolding leaverAfter
+    leaver-after-is = go (x =? s) (nameOf (headerAt cells (cellStart x)) =? own) refl refl
+      where
+        go : (d e : Bool) → (x =? s) ≡ d → (nameOf (headerAt cells (cellStart x)) =? own) ≡ e
+            → leaverAfter N z cells words own s x ≡ leaverOf N z cells′ words′ x
+        go true e p q = rw p (after-own (eqb-true _ _ p))
+        go false true p q = rw (p, q) (after-same (eqb-false _ _ p) (eqb-true _ _ q))
+        go false false p q = rw (p, q) (after-other (eqb-false _ _ p) (eqb-false _ _ q))

@@ -1,6 +1,6 @@
 -- What departs: the definition with the header's VC in it, and with a VC's number, 0 for none. Assumes nothing.
-use Prim.Native.Nat.{ℕ}
-use mathlib.Core.Path.{_≡_, refl, sym, _∙_}
+use Prim.Native.Nat.{ℕ, _≤_, _<_}
+use mathlib.Core.Path.{_≡_, refl, sym, _∙_, ap}
 use mathlib.Core.Logic.{_≢_}
 use mathlib.Core.Bool.{Bool, true, false}
 use mathlib.Core.List.{List}
@@ -11,9 +11,9 @@ use lib.ListN.{getD}
 use Rattle.meaning.specs.Numbers.{cellStart}
 use Rattle.meaning.specs.Header.{headerAt, namesVc}
 use Rattle.header.proofs.NameLaws.{names-some, names-vci}
-use Rattle.spaces.specs.Spaces.{mayLeave, offOf}
-use Rattle.spaces.specs.Leaver.{leaverOf, offFrom}
-use Rattle.spaces.proofs.LeaverLaws.{leave-none}
+use Rattle.spaces.specs.Spaces.{mayLeave, offOf, Stored, Counted}
+use Rattle.spaces.specs.Leaver.{leaverOf, offFrom, offAfter}
+use Rattle.spaces.proofs.LeaverLaws.{leave-none, leaver-after-is}
 
 module _ (N z : ℕ) (cells links words : List ℕ) (x tail : ℕ) where
   -- a VC of which a cell may depart is not VC 0
@@ -37,3 +37,23 @@ module _ (N z : ℕ) (cells links words : List ℕ) (x tail : ℕ) where
       go true true p q = simp (p, ne-eqb _ _ (leave-some p), q)
       go true false p q = simp (p, ne-eqb _ _ (leave-some p), q, next (eqb-false x tail q))
       go false e p q = simp p
+
+-- the same, of any VC's number
+pub from-same : (N vci x follower next tail : ℕ) → (x ≢ tail → follower ≡ next) → offFrom N vci x follower tail ≡ offFrom N vci x next tail
+unfolding offFrom
+from-same N vci x follower next tail same = go (x =? tail) refl
+  where
+    go : (e : Bool) → (x =? tail) ≡ e → offFrom N vci x follower tail ≡ offFrom N vci x next tail
+    go true q = simp q
+    go false q = rw (same (eqb-false x tail q))
+
+-- once a cell has been accepted, what departs is what memory then shows
+pub off-after-is : (N z own s : ℕ) (cells links words cells′ words′ : List ℕ) (x tail : ℕ) → z ≤ 65536 → 1 ≤ own → own < z
+    → Stored own s cells cells′
+    → Counted N own words words′
+    → offAfter N z cells links words own s x tail ≡ offOf N z cells′ links words′ x tail
+unfolding offAfter
+off-after-is N z own s cells links words cells′ words′ x tail few some below stored counted =
+    ap (λ (g : ℕ). offFrom N g x (getD links x 0) tail)
+    (leaver-after-is N z own s cells words cells′ words′ x few some below stored counted)
+    ∙ off-is N z cells′ links words′ x tail (getD links x 0) (λ _. refl)

@@ -1,14 +1,13 @@
 // Lists of spaces by head, tail and links: what a slot reads of them, and the few words that it writes.
 ghost use mathlib.Core.Path.{_≡_};
 ghost use mathlib.Core.Bool.{true};
-ghost use mathlib.Core.List.{List};
-ghost use Prim.Native.Nat.{ℕ, _+_, _-_, _*_, _≤_, _<_};
+ghost use Prim.Native.Nat.{_+_, _*_, _≤_, _<_};
 ghost use lib.ListN.{length, getD, set};
 ghost use Rattle.meaning.specs.Numbers.{mostN, mostV, octets, cellStart, perEntry, wordsIn};
 ghost use Rattle.meaning.specs.State.{HasVc};
 ghost use Rattle.meaning.specs.Lists.{endsFit, writeEntry};
-ghost use Rattle.spaces.specs.Spaces.{endsOf, linked, noSeat, seatIn, seatAt, seatOf, offOf, Stored, Counted};
-ghost use Rattle.spaces.specs.Leaver.{mayGo, namedVc, leaverOf, offFrom};
+ghost use Rattle.spaces.specs.Spaces.{endsOf, linked, noSeat, seatIn, seatAt, seatOf, offOf};
+ghost use Rattle.spaces.specs.Leaver.{mayGo, namedVc, leaverOf, offFrom, leaverAfter, offAfter};
 use meaning::AT_WAITING;
 use meaning::WORDS_PER_VC;
 
@@ -195,7 +194,7 @@ pub fn leaver(n: u16, v: u16, cells: &[u8], words: &[u32], x: u16) -> u16
 // The same once a cell of VC own has been accepted into space s: own's words need no reading.
 fn leaver_after(n: u16, v: u16, cells: &[u8], words: &[u32], own: u16, s: u16, x: u16) -> u16
     requires { ⌜ (v ≤ mostV) × (1 ≤ own) × (own < v) × (cellStart x + octets ≤ length (now cells)) × (length (now words) ≡ wordsIn v) ⌝ }
-    ensures { λ r. ⌜ ((cells′ words′ : List ℕ) → Stored own s (now (cells .entry)) cells′ → Counted n own (now (words .entry)) words′ → r ≡ leaverOf n v cells′ words′ x) ⌝ }
+    ensures { λ r. ⌜ r ≡ leaverAfter n v (now (cells .entry)) (now (words .entry)) own s x ⌝ }
 {
     if x == s {
         return own;
@@ -350,7 +349,7 @@ pub fn off_after(
     tail: u16,
 ) -> Off
     requires { ⌜ (n ≤ mostN) × (v ≤ mostV) × (x < n) × (1 ≤ own) × (own < v) × (length (now cells) ≡ octets * n) × (length (now links) ≡ n) × (length (now words) ≡ wordsIn v) ⌝ }
-    ensures { λ r. ⌜ ((cells′ words′ : List ℕ) → Stored own s (now (cells .entry)) cells′ → Counted n own (now (words .entry)) words′ → r ≡ offOf n v cells′ (linked joins old head (linked named s y (now (links .entry)))) words′ x tail) ⌝ }
+    ensures { λ r. ⌜ r ≡ offAfter n v (now (cells .entry)) (linked joins old head (linked named s y (now (links .entry)))) (now (words .entry)) own s x tail ⌝ }
 {
     let vci = leaver_after(n, v, cells, words, own, s, x);
     let follower = if x == tail {

@@ -29,7 +29,7 @@ fn words_fill(k: Record, b: Fall, j: Judged, words: &mut [u32])
 
 // The tail of an entry that a cell has joined at the head.
 pub fn tail_of(a: Seat) -> u16
-    ensures { λ r. ⌜ endsOf (a .x) r ≡ seatEnds a ⌝ }
+    ensures { λ r. ⌜ r ≡ seatEnds a .tail ⌝ }
 {
     if a.head == 65535 { a.x } else { a.tail }
 }

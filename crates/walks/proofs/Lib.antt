@@ -5,3 +5,4 @@ pub mod ListLaws
 pub mod EntryLaws
 pub mod StoredLaws
 pub mod NameRead
+pub mod Once

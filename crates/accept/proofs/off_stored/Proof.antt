@@ -1,6 +1,9 @@
 -- `accept::off_stored` meets its contract: it hands on what departs, the head of the joined list being worked out first.
 -- Assumes nothing.
+use mathlib.Core.Path.{_∙_}
+use native.Mathlib.Omega.{arith}
 use denote.Ref.{now}
+use Rattle.spaces.proofs.OffLaws.{off-after-is}
 use Rattle.spaces.specs.Spaces.{endsOf}
 use Rattle.plan.specs.Plan.{joinedHead}
 use Rattle.plan.proofs.AcceptCases.{off-first}
@@ -21,10 +24,15 @@ off-after-requires c κs =
 returns : tie.Need-returns
 unfolding joinedHead
 returns c =
-    let a = c .before .before .before .before .before .before .args in
+    let start = c .before .before .before .before .before .before in
+    let a = start .args in
+    let p = start .pre .0 in
     off-first (a .k) (a .j) (a .a) (now (a .cells)) (now (a .links)) (now (a .words)) (a .joins) (endsOf (a .head) (a .tail))
     (c .before .before .first-of .result) (c .off-after .result) (c .before .before .first-of .ensures)
-    (c .off-after .ensures)
+    (λ cells′ words′ stored counted.
+    c .off-after .ensures
+    ∙ off-after-is (a .k .n) (a .k .v) (a .j .vci) (a .a .x) (now (a .cells)) _ (now (a .words)) cells′ words′ _ (a .tail)
+    (omega (arith, p .1)) (p .2) (p .3) stored counted)
 
 pub off-stored-spec : {M : Type 1} → statement M
 off-stored-spec = tie.close (tie.spec first-of-requires off-after-requires returns)

@@ -1,5 +1,5 @@
 -- `arrival::judge` meets its contract: case by case, by the cell's name. Assumes nothing.
-use Rattle.arrival.proofs.JudgedLaws.{named-none, named-known, named-unknown}
+use Rattle.arrival.proofs.JudgedLaws.{by-none, by-vc, by-unknown}
 use native.Mathlib.Omega.{arith}
 use mathlib.Core.Path.{_∙_}
 use borrow.Author.Needs.{needs}
@@ -11,8 +11,8 @@ no-cell-requires c κs = search needs
 
 returns : tie.Need-returns
 returns c =
-    λ cell named. let a = c .before .before .before .args in
-    c .no-cell .ensures ∙ named-none (a .n) (a .v) (a .t) (a .words .now) cell (a .name) named (c .before .if1 .taken)
+    let a = c .before .before .before .args in
+    c .no-cell .ensures ∙ by-none (a .n) (a .v) (a .t) (a .words .now) (a .name) (c .before .if1 .taken)
 
 cast-judge-vc : tie.Need-cast-judge-vc
 cast-judge-vc c = search needs
@@ -22,10 +22,9 @@ judge-vc-requires c κs = search needs
 
 returns-2 : tie.Need-returns-2
 returns-2 c =
-    λ cell named. let from = c .before .before .before .before in
-    let a = from .args in
+    let a = c .before .before .before .before .args in
     c .judge-vc .ensures
-    ∙ named-known (a .n) (a .v) (a .t) (a .words .now) cell (a .name) named (omega (arith, from .pre .1)) (c .before .before .if1 .left) (c .before .if2 .taken)
+    ∙ by-vc (a .n) (a .v) (a .t) (a .words .now) (a .name) (c .before .before .if1 .left) (c .before .if2 .taken)
 
 cast-no-vc : tie.Need-cast-no-vc
 cast-no-vc c = search needs
@@ -35,9 +34,9 @@ no-vc-requires c κs = search needs
 
 returns-3 : tie.Need-returns-3
 returns-3 c =
-    λ cell named. let a = c .before .before .before .before .args in
+    let a = c .before .before .before .before .args in
     c .no-vc .ensures
-    ∙ named-unknown (a .n) (a .v) (a .t) (a .words .now) cell (a .name) named (c .before .before .if1 .left) (omega (arith, c .before .if2 .left))
+    ∙ by-unknown (a .n) (a .v) (a .t) (a .words .now) (a .name) (c .before .before .if1 .left) (omega (arith, c .before .if2 .left))
 
 pub judge-spec : {M : Type 1} → statement M
 judge-spec =

@@ -1,8 +1,7 @@
 -- `spaces::off_after` meets its contract: as off_head, with VC and link as the accepted cell and the join will leave them.
 -- Assumes nothing.
-use Rattle.spaces.proofs.OffLaws.{off-is}
-use Rattle.spaces.specs.Leaver.{offFrom}
-use Rattle.spaces.specs.Spaces.{linked}
+use Rattle.spaces.proofs.OffLaws.{from-same}
+use Rattle.spaces.specs.Leaver.{offFrom, offAfter}
 use mathlib.Core.Logic.{⊎-elim}
 use mathlib.Core.Path.{_∙_, ap}
 use Prim.Native.Nat.{ℕ}
@@ -20,14 +19,13 @@ off-from-requires : tie.Need-off-from-requires
 off-from-requires c κs = search needs
 
 returns : tie.Need-returns
+unfolding offAfter
 returns c =
     let a = c .before .before .before .before .before .before .args in
-    let links = linked (a .joins) (a .old) (a .head) (linked (a .named) (a .s) (a .y) (a .links .now)) in
     let next = c .before .if1 .follower in
-    λ cells′ words′ stored counted.
     (c .off-from .ensures
-    ∙ ap (λ (g : ℕ). offFrom (a .n) g (a .x) next (a .tail)) (c .before .before .leaver-after .ensures cells′ words′ stored counted))
-    ∙ off-is (a .n) (a .v) cells′ links words′ (a .x) (a .tail) next
+    ∙ ap (λ (g : ℕ). offFrom (a .n) g (a .x) next (a .tail)) (c .before .before .leaver-after .ensures))
+    ∙ from-same (a .n) _ (a .x) next _ (a .tail)
     (⊎-elim (λ w ne. absurd (ne (w .0 .taken))) (λ w ne. w .2 ∙ w .1 .ensures) (c .before .if1 .came))
 
 pub off-after-spec : {M : Type 1} → statement M

@@ -2,8 +2,10 @@
 -- Assumes nothing.
 use mathlib.Core.Path.{_∙_, ap}
 use denote.Ref.{now}
-use Rattle.meaning.specs.State.{Ends}
+use Prim.Native.Nat.{ℕ}
+use Rattle.meaning.specs.State.{endsOf}
 use Rattle.meaning.specs.Lists.{writeEntry}
+use Rattle.plan.specs.Plan.{seatEnds}
 use borrow.Author.Needs.{needs}
 use Rattle.store.proofs.store.Statement.{statement}
 use Rattle.store.proofs.store.Tie as tie
@@ -36,6 +38,7 @@ same-length-4 : tie.Need-same-length-4
 same-length-4 c = search needs
 
 returns : tie.Need-returns
+unfolding seatEnds
 returns c =
     let at-put-entry = c .before .before in
     let at-tail-of = at-put-entry .before .before in
@@ -47,7 +50,8 @@ returns c =
       (
         at-put-link .put-link .ensures,
         (
-          at-put-entry .put-entry .ensures ∙ ap (λ (e : Ends). writeEntry (now (start .args .calendar)) (start .args .a .e) e)
+          at-put-entry .put-entry .ensures
+              ∙ ap (λ (tail : ℕ). writeEntry (now (start .args .calendar)) (start .args .a .e) (endsOf (start .args .a .x) tail))
               (at-tail-of .tail-of .ensures),
           at-words-fill .words-fill .ensures,
         ),

@@ -7,6 +7,7 @@ use borrow.Author.Tests.{eqb-true, not-true, not-false}
 use Rattle.meaning.specs.State.{stateOf}
 use Rattle.meaning.specs.Slot.{finish}
 use Rattle.arrival.specs.declared.Judged.{Judged}
+use Rattle.arrival.proofs.JudgedLaws.{judged-cell}
 use Rattle.plan.proofs.Found.{judged-shows}
 use Rattle.plan.proofs.Ends.{as-came}
 use Rattle.plan.proofs.Steps.{rotating-none, arriving-none, arriving-accepted, arriving-quiet}
@@ -58,7 +59,9 @@ returns-2 c =
     let pre = start .pre in
     as-came (a .r) (now (a .cells)) (now (a .links)) (now (a .calendar)) (now (a .words)) _ _ (c .refuse2 .ensures)
     (arriving-none (a .k) (now (a .cell)) (now (a .cells)) (now (a .links)) (now (a .calendar)) (now (a .words)) _
-    (at-bring .bring .ensures) _ (at-judge .judge .ensures (now (a .cell)) (at-name .name-of .ensures)) (omega (arith, pre .0 .rotation-low, pre .0 .words-long))
+    (at-bring .bring .ensures) _ (at-judge .judge .ensures
+    ∙ judged-cell (a .k .n) (a .k .v) (a .k .t) (now (a .words)) (now (a .cell)) _ (omega (arith, pre .0 .v-high))
+    (at-name .name-of .ensures .0) (at-name .name-of .ensures .1)) (omega (arith, pre .0 .rotation-low, pre .0 .words-long))
     (not-false _ (at-if1 .if1 .left)) (not-true _ (at-if2 .if2 .taken)))
 
 accept-requires : tie.Need-accept-requires
@@ -70,7 +73,9 @@ accept-requires c κs =
     let start = at-name .before .before .before .before .before .before .before .before .before .before in
     let a = start .args in
     let pre = start .pre in
-    let e = at-judge .judge .ensures (now (a .cell)) (at-name .name-of .ensures) in (
+    let e = at-judge .judge .ensures
+    ∙ judged-cell (a .k .n) (a .k .v) (a .k .t) (now (a .words)) (now (a .cell)) _ (omega (arith, pre .0 .v-high))
+    (at-name .name-of .ensures .0) (at-name .name-of .ensures .1) in (
       pre .0,
       rw e (judged-shows (a .k) (now (a .cell)) (now (a .words)) .accepted-is (pre .1)
           (ap (λ (j : Judged). j .ok) (sym e) ∙ not-false _ (at-if2 .if2 .left))
@@ -103,7 +108,9 @@ returns-3 c =
     let pre = start .pre in
     at-accept .accept .ensures ∙ ap (finish (stateOf (a .r) (now (a .cells)) (now (a .links)) (now (a .calendar))
     (now (a .words)))) (sym (arriving-accepted (a .k) (now (a .cell)) (now (a .cells)) (now (a .links)) (now (a .calendar))
-    (now (a .words)) _ (at-bring .bring .ensures) _ (at-judge .judge .ensures (now (a .cell)) (at-name .name-of .ensures))
+    (now (a .words)) _ (at-bring .bring .ensures) _ (at-judge .judge .ensures
+    ∙ judged-cell (a .k .n) (a .k .v) (a .k .t) (now (a .words)) (now (a .cell)) _ (omega (arith, pre .0 .v-high))
+    (at-name .name-of .ensures .0) (at-name .name-of .ensures .1))
     (omega (arith, pre .0 .rotation-low, pre .0 .words-long)) (not-false _ (at-if1 .if1 .left))
     (not-false _ (at-if2 .if2 .left)) (at-if3 .if3 .taken)))
 
@@ -115,7 +122,9 @@ quiet-requires c κs =
     let start = at-name .before .before .before .before .before .before .before .before .before .before in
     let a = start .args in
     let pre = start .pre in
-    let e = at-judge .judge .ensures (now (a .cell)) (at-name .name-of .ensures) in (
+    let e = at-judge .judge .ensures
+    ∙ judged-cell (a .k .n) (a .k .v) (a .k .t) (now (a .words)) (now (a .cell)) _ (omega (arith, pre .0 .v-high))
+    (at-name .name-of .ensures .0) (at-name .name-of .ensures .1) in (
       pre .0,
       λ x. rw (ap (λ (j : Judged). j .vci) e) (judged-shows (a .k) (now (a .cell)) (now (a .words)) .excess-is
           (ap (λ (j : Judged). j .ok) (sym e) ∙ not-false _ (at-if2 .if2 .left))
@@ -148,7 +157,9 @@ returns-4 c =
     let pre = start .pre in
     at-quiet .quiet .ensures ∙ ap (finish (stateOf (a .r) (now (a .cells)) (now (a .links)) (now (a .calendar))
     (now (a .words)))) (sym (arriving-quiet (a .k) (now (a .cell)) (now (a .cells)) (now (a .links)) (now (a .calendar))
-    (now (a .words)) _ (at-bring .bring .ensures) _ (at-judge .judge .ensures (now (a .cell)) (at-name .name-of .ensures))
+    (now (a .words)) _ (at-bring .bring .ensures) _ (at-judge .judge .ensures
+    ∙ judged-cell (a .k .n) (a .k .v) (a .k .t) (now (a .words)) (now (a .cell)) _ (omega (arith, pre .0 .v-high))
+    (at-name .name-of .ensures .0) (at-name .name-of .ensures .1))
     (omega (arith, pre .0 .rotation-low, pre .0 .words-long)) (not-false _ (at-if1 .if1 .left))
     (not-false _ (at-if2 .if2 .left)) (at-if3 .if3 .left)))
 
