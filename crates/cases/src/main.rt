@@ -13,7 +13,20 @@ fn one_case(k: u8) -> bool {
     libc::close(fd);
     io::write_all(1, &name);
     io::write_all(1, b"\n");
-    handover::list(1, &input[..long]);
+    let mut cells = [0u8; 54272];
+    let mut links = [0u16; 1024];
+    let mut calendar = [0u16; 2048];
+    let mut words = [0u32; 7168];
+    let mut out = [0u8; 65536];
+    handover::list(
+        1,
+        &input[..long],
+        &mut cells,
+        &mut links,
+        &mut calendar,
+        &mut words,
+        &mut out,
+    );
     true
 }
 

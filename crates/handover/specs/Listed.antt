@@ -1,19 +1,69 @@
--- What it means that a listing was made whole: from the start to the end line, fill after fill, each from where the one
--- before left the run and the memories; what they put is the listing of the input. Which octets then were written is
--- outside every contract.
-use Prim.Native.Nat.{ℕ}
+-- What it means that a listing was handed over: fill after fill from where a run begins, each handed to the writer before the
+-- next is made. Which octets were then written, and what the writer answers, is outside every contract.
+--
+--   frontOf z w   == the world w with those parts of the memories that N and V of z ask for;  behindOf z w == the other parts
+--   Handed        == so many fills were handed over, and what they left
+--   Listed        == the same out of the front parts of larger memories
+use Prim.Native.Nat.{ℕ, _*_, _<_, _≤_}
 use mathlib.Core.Path.{_≡_}
-use mathlib.Core.Bool.{true}
-use mathlib.Core.List.{List}
+use mathlib.Core.Bool.{Bool, true}
+use mathlib.Core.List.{List, [], _++_}
+use lib.ListN.{length, take, drop}
+use Rattle.meaning.specs.Numbers.{mostN, mostV, octets, perEntry, wordsPerVc}
+use Rattle.meaning.specs.State.{State, stateOf}
 use Rattle.listing.specs.Listing.{listingOf}
 use Rattle.steps.specs.declared.Run.{Run}
+use Rattle.steps.specs.declared.Sizes.{Sizes}
 use Rattle.steps.specs.Run.{World, worldOf}
-use Rattle.steps.specs.Fill.{Fills, startRun}
+use Rattle.steps.specs.Fill.{Fills, startRun, sizesOf}
 
--- a primed name is what a lent memory holds afterwards
-pub record Listed (input cells links calendar words cells′ links′ calendar′ words′ : List ℕ) : Type 0 where
+-- what a call leaves: the memories after it hold, with the run that is named, this world
+abbrev pub Left : Type 0
+Left = Run → World
+
+-- From world w, where a run begins, and buffer out, to what is left of them. Fills were handed over, one at least, and all
+-- that they put is a beginning of the listing; the answer is yes only where it is all of it.
+pub record Handed (input : List ℕ) (w : World) (out : List ℕ) (left : Left) (out′ : List ℕ) (answer : Bool) : Type 0 where
   pub run : Run
+  pub count : ℕ
   pub text : List ℕ
-  pub fills : Fills input (worldOf startRun cells links calendar words) text (worldOf run cells′ links′ calendar′ words′)
-  pub done : run .done ≡ true
-  pub whole : text ≡ listingOf input
+  pub rest : List ℕ
+  pub some : 0 < count
+  pub fills : Fills input w out count text (left run) out′
+  pub begins : listingOf input ≡ text ++ rest
+  pub whole : answer ≡ true → (left run .done ≡ true) × (rest ≡ [])
+
+abbrev pub frontOf : Sizes → World → World
+frontOf z w =
+    record {
+      state =
+          stateOf (w .state .ctl)
+          (take (octets * z .n) (w .state .cells))
+          (take (z .n) (w .state .links))
+          (take (perEntry * z .n) (w .state .calendar))
+          (take (wordsPerVc * z .v) (w .state .words));
+      at = w .at;
+      left = w .left;
+      done = w .done;
+      tally = w .tally;
+    }
+
+abbrev pub behindOf : Sizes → World → State
+behindOf z w =
+    stateOf (w .state .ctl)
+    (drop (octets * z .n) (w .state .cells))
+    (drop (z .n) (w .state .links))
+    (drop (perEntry * z .n) (w .state .calendar))
+    (drop (wordsPerVc * z .v) (w .state .words))
+
+-- long enough for every N and V
+pub record Ample (w : World) : Type 0 where
+  pub cells-long : octets * mostN ≤ length (w .state .cells)
+  pub links-long : mostN ≤ length (w .state .links)
+  pub calendar-long : perEntry * mostN ≤ length (w .state .calendar)
+  pub words-long : wordsPerVc * mostV ≤ length (w .state .words)
+
+-- the same, out of memories of which only the front is used
+pub record Listed (input : List ℕ) (w : World) (out : List ℕ) (left : Left) (out′ : List ℕ) (answer : Bool) : Type 0 where
+  pub handed : Handed input (frontOf (sizesOf input) w) out (λ (run : Run). frontOf (sizesOf input) (left run)) out′ answer
+  pub kept : behindOf (sizesOf input) (left startRun) ≡ behindOf (sizesOf input) w

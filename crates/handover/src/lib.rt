@@ -1,11 +1,12 @@
-// The listing of an input, handed to a file descriptor one buffer after the other. Which octets an operating system is
-// handed is outside every contract, so these two functions are kept short enough to judge by eye.
+// The listing of an input, handed to a file descriptor one buffer after the other. What is handed over, in which order and
+// what is left in the lent memories is promised; whether the operating system takes it is outside every contract.
 ghost use mathlib.Core.Path.{_≡_};
-ghost use mathlib.Core.Bool.{true};
 ghost use Prim.Native.Nat.{_≤_};
 ghost use lib.ListN.{length};
-ghost use Rattle.handover.specs.Listed.{Listed};
-ghost use Rattle.steps.specs.Fill.{room, Sized, sizesOf};
+ghost use Rattle.handover.specs.Listed.{Handed, Ample, Listed};
+ghost use Rattle.steps.specs.declared.Run.{Run};
+ghost use Rattle.steps.specs.Lent.{worldHere, worldBefore, worldAfter};
+ghost use Rattle.steps.specs.Fill.{room, LentFor, startRun, sizesOf};
 
 // Fills the buffer and writes it out, until the listing is whole, or until a write fails.
 fn hand_over(
@@ -17,9 +18,9 @@ fn hand_over(
     words: &mut [u32],
     out: &mut [u8],
 ) -> bool
-    requires { ⌜ Sized (sizesOf (now input)) (now cells) (now links) (now calendar) (now words) ⌝ }
+    requires { ⌜ LentFor (sizesOf (now input)) (worldHere startRun cells links calendar words) ⌝ }
     requires { ⌜ room ≤ length (now out) ⌝ }
-    ensures { λ r. ⌜ (r ≡ true → Listed (now (input .entry)) (now (cells .entry)) (now (links .entry)) (now (calendar .entry)) (now (words .entry)) (now (cells .exit)) (now (links .exit)) (now (calendar .exit)) (now (words .exit))) ⌝ }
+    ensures { λ r. ⌜ Handed (now (input .entry)) (worldBefore startRun cells links calendar words) (now (out .entry)) (λ (run : Run). worldAfter run cells links calendar words) (now (out .exit)) r ⌝ }
 {
     let mut run = spool::start();
     while !run.done {
@@ -33,7 +34,7 @@ fn hand_over(
     true
 }
 
-// Lends memory of the sizes that the first record asks for.
+// Lends those parts of its memory that N and V of the first record ask for.
 fn lend(
     fd: i32,
     input: &[u8],
@@ -43,8 +44,9 @@ fn lend(
     words: &mut [u32],
     out: &mut [u8],
 ) -> bool
-    requires { ⌜ (54272 ≤ length (now cells)) × (1024 ≤ length (now links)) × (2048 ≤ length (now calendar)) × (7168 ≤ length (now words)) ⌝ }
+    requires { ⌜ Ample (worldHere startRun cells links calendar words) ⌝ }
     requires { ⌜ room ≤ length (now out) ⌝ }
+    ensures { λ r. ⌜ Listed (now (input .entry)) (worldBefore startRun cells links calendar words) (now (out .entry)) (λ (run : Run). worldAfter run cells links calendar words) (now (out .exit)) r ⌝ }
 {
     let sizes = spool::sizes_of(input);
     let n = sizes.n as usize;
@@ -63,20 +65,18 @@ fn lend(
     )
 }
 
-// Writes the listing of an input, and answers whether all of it was written.
-pub fn list(fd: i32, input: &[u8]) -> bool {
-    let mut cells = [0u8; 54272];
-    let mut links = [0u16; 1024];
-    let mut calendar = [0u16; 2048];
-    let mut words = [0u32; 7168];
-    let mut out = [0u8; 65536];
-    lend(
-        fd,
-        input,
-        &mut cells,
-        &mut links,
-        &mut calendar,
-        &mut words,
-        &mut out,
-    )
+// Writes the listing of an input, out of memory that is long enough for every N and V, and answers whether all of it was
+// written.
+pub fn list(
+    fd: i32,
+    input: &[u8],
+    cells: &mut [u8; 54272],
+    links: &mut [u16; 1024],
+    calendar: &mut [u16; 2048],
+    words: &mut [u32; 7168],
+    out: &mut [u8; 65536],
+) -> bool
+    ensures { λ r. ⌜ Listed (now (input .entry)) (worldBefore startRun cells links calendar words) (now (out .entry)) (λ (run : Run). worldAfter run cells links calendar words) (now (out .exit)) r ⌝ }
+{
+    lend(fd, input, cells, links, calendar, words, out)
 }

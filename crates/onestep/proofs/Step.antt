@@ -21,18 +21,31 @@ use Rattle.trace.specs.Fits.{Fits, stands-fits}
 use Rattle.lines.proofs.Puts.{put-is, put-none, put-once}
 use Rattle.steps.specs.declared.Run.{Run}
 use Rattle.listing.specs.Trace.{Call, serve, cellOf}
-use Rattle.steps.specs.Run.{World, Step, onward, worldOf, called, paused, ended, recordStep, standsStep, stopsAt}
+use Rattle.steps.specs.Run.{World, Step, onward, worldOf, called, paused, ended, recordStep, standsStep}
 use Rattle.steps.specs.Fill.{room, Did, CellWithin}
 
--- what can't be read on ends the run
-pub stops-step : (more : Bool) (trace : List ℕ) (w : World) (f : Found)
-    → ((tagOf the-type f ≡ 1) ⊎ (tagOf the-type f ≡ 2))
-    → standsStep more trace w (saidOf f) ≡ ended w (if stopsAt more (saidOf f) then stopLine (w .at) else [])
-unfolding standsStep stopsAt
-stops-step more trace w (Read e next) (inl h) = let z : _≡_ {A = ℕ} 0 1 = h in cc
-stops-step more trace w (Read e next) (inr h) = let z : _≡_ {A = ℕ} 0 2 = h in cc
-stops-step more trace w End h = refl
-stops-step more trace w (Unreadable place) h = refl
+-- what is neither a record nor unreadable is the end
+pub end-said : (f : Found) → ((tagOf the-type f ≡ 1) ⊎ (tagOf the-type f ≡ 2)) → ((tagOf the-type f ≡ 0) ⊎ (tagOf the-type f ≡ 1))
+    → finish ≡ saidOf f
+end-said (Read e next) (inl h) k = let z : _≡_ {A = ℕ} 0 1 = h in cc
+end-said (Read e next) (inr h) k = let z : _≡_ {A = ℕ} 0 2 = h in cc
+end-said End h k = refl
+end-said (Unreadable place) h (inl k) = let z : _≡_ {A = ℕ} 2 0 = k in cc
+end-said (Unreadable place) h (inr k) = let z : _≡_ {A = ℕ} 2 1 = k in cc
+
+-- the end, where the input goes on and where it doesn't; a refusal
+pub more-step : (more : Bool) (trace : List ℕ) (w : World) → more ≡ true → ended w (stopLine (w .at)) ≡ standsStep more trace w finish
+unfolding standsStep
+more-step more trace w e = rw e
+
+pub end-step : (more : Bool) (trace : List ℕ) (w : World) → more ≡ false → ended w [] ≡ standsStep more trace w finish
+unfolding standsStep
+end-step more trace w e = rw e
+
+pub stop-step : (more : Bool) (trace : List ℕ) (w : World) (number place : ℕ)
+    → ended w (stopLine place) ≡ standsStep more trace w (refusal number place)
+unfolding standsStep
+stop-step more trace w number place = refl
 
 -- the octets of a cell that an event names
 pub cell-within : (trace : List ℕ) (e : Event) (start : ℕ) → e ≡ Cell start → CellWithin trace (recordOf e) → start + octets ≤ length trace

@@ -1,20 +1,20 @@
 // One step of a run with what it writes: a slot, or one record of the trace, or the end.
 ghost use mathlib.Core.Path.{_≡_};
 ghost use mathlib.Core.Bool.{true, false};
-ghost use mathlib.Core.List.{List, []};
-ghost use Prim.Native.Nat.{ℕ, _+_, _≤_};
+ghost use mathlib.Core.List.{[]};
+ghost use Prim.Native.Nat.{_+_, _≤_};
 ghost use lib.ListN.{length};
-ghost use Rattle.meaning.specs.Plain.{if_then_else_};
 ghost use Rattle.lines.specs.Put.{Put};
 ghost use Rattle.lines.specs.Lines.{stopLine};
-ghost use Rattle.trace.specs.Trace.{recordOf, saidOf, standsAt};
+ghost use Rattle.trace.specs.Trace.{recordOf};
 ghost use Rattle.listing.specs.Trace.{setUp, openVc, closeVc, limit};
 ghost use Rattle.listing.specs.Trace.{serve as Trace·serve};
 ghost use Rattle.listing.specs.Listing.{endOf};
-ghost use Rattle.steps.specs.Run.{onward, worldOf, countedIf, called, ended, recordStep, standsStep, stopsAt};
+ghost use Rattle.steps.specs.Run.{World, onward, countedIf, called, ended, recordStep, readStep};
 ghost use Rattle.steps.specs.declared.Run.{Run as declared·Run};
 ghost use Rattle.steps.specs.Run.{counted as Run·counted};
-ghost use Rattle.steps.specs.Fill.{room, Did, CellWithin};
+ghost use Rattle.steps.specs.Fill.{room, CellWithin};
+ghost use Rattle.steps.specs.Lent.{worldBefore, DidLent, DidWords, DidAlone};
 use listing::Tally;
 use meaning::Answer;
 use meaning::Record;
@@ -58,7 +58,7 @@ pub fn serve(
     used: usize,
 ) -> Filled
     requires { ⌜ used + 64 ≤ length (now out) ⌝ }
-    ensures { λ r. ⌜ Did (called (worldOf run (now (cells .entry)) (now (links .entry)) (now (calendar .entry)) (now (words .entry))) (Trace·serve (now (cell .entry))) at left) 64 (now (out .entry)) used (worldOf (r .run) (now (cells .exit)) (now (links .exit)) (now (calendar .exit)) (now (words .exit))) (now (out .exit)) (r .used) ⌝ }
+    ensures { λ r. ⌜ DidLent (called (worldBefore run cells links calendar words) (Trace·serve (now (cell .entry))) at left) 64 cells links calendar words out used r ⌝ }
 {
     let served = slot::slot(run.ctl, cells, links, calendar, words, cell);
     let ctl = served.ctl;
@@ -101,7 +101,7 @@ fn set_up(
     used: usize,
 ) -> Filled
     requires { ⌜ used + room ≤ length (now out) ⌝ }
-    ensures { λ r. ⌜ ((run : declared·Run) → Did (called (worldOf run (now (cells .entry)) (now (links .entry)) (now (calendar .entry)) (now (words .entry))) (setUp n v raw) next 0) room (now (out .entry)) used (worldOf (r .run) (now (cells .exit)) (now (links .exit)) (now (calendar .exit)) (now (words .exit))) (now (out .exit)) (r .used)) ⌝ }
+    ensures { λ r. ⌜ ((run : declared·Run) → DidLent (called (worldBefore run cells links calendar words) (setUp n v raw) next 0) room cells links calendar words out used r) ⌝ }
 {
     let fresh = setup::setup(n, v, raw, cells, links, calendar, words);
     let ctl = fresh.ctl;
@@ -165,7 +165,7 @@ fn open_vc(
     used: usize,
 ) -> Filled
     requires { ⌜ (used + room ≤ length (now out)) × (run .done ≡ false) ⌝ }
-    ensures { λ r. ⌜ ((cells links calendar : List ℕ) → Did (called (worldOf run cells links calendar (now (words .entry))) (openVc vci m f c) next 0) room (now (out .entry)) used (worldOf (r .run) cells links calendar (now (words .exit))) (now (out .exit)) (r .used)) ⌝ }
+    ensures { λ r. ⌜ DidWords (λ (w : World). called w (openVc vci m f c) next 0) room run words out used r ⌝ }
 {
     let answer = vc::open(run.ctl, words, vci, m, f, c);
     let line = lines::open_line(out, used, vci, answer);
@@ -179,7 +179,7 @@ fn open_vc(
 // A closing with its line.
 fn close_vc(run: Run, vci: u16, next: u32, words: &mut [u32], out: &mut [u8], used: usize) -> Filled
     requires { ⌜ (used + room ≤ length (now out)) × (run .done ≡ false) ⌝ }
-    ensures { λ r. ⌜ ((cells links calendar : List ℕ) → Did (called (worldOf run cells links calendar (now (words .entry))) (closeVc vci) next 0) room (now (out .entry)) used (worldOf (r .run) cells links calendar (now (words .exit))) (now (out .exit)) (r .used)) ⌝ }
+    ensures { λ r. ⌜ DidWords (λ (w : World). called w (closeVc vci) next 0) room run words out used r ⌝ }
 {
     let answer = vc::close(run.ctl, words, vci);
     let line = lines::close_line(out, used, vci, answer);
@@ -205,20 +205,25 @@ fn over(run: Run) -> Run
     }
 }
 
-// The end line, after a stop line where the trace can't be read on.
-fn end_run(run: Run, stop: bool, out: &mut [u8], used: usize) -> Filled
+// The end line.
+fn end_run(run: Run, out: &mut [u8], used: usize) -> Filled
     requires { ⌜ used + room ≤ length (now out) ⌝ }
-    ensures { λ r. ⌜ ((cells links calendar words : List ℕ) → Did (ended (worldOf run cells links calendar words) (if stop then stopLine (run .at) else [])) room (now (out .entry)) used (worldOf (r .run) cells links calendar words) (now (out .exit)) (r .used)) ⌝ }
+    ensures { λ r. ⌜ DidAlone (λ (w : World). ended w []) room run out used r ⌝ }
 {
-    if stop {
-        let line = lines::stop_line(out, used, run.at);
-        let end = end_tally(out, line, run.tally);
-        return Filled {
-            run: over(run),
-            used: end,
-        };
-    }
     let end = end_tally(out, used, run.tally);
+    Filled {
+        run: over(run),
+        used: end,
+    }
+}
+
+// The stop line with the place from which the trace can't be read on, then the end line.
+fn stop_run(run: Run, place: u32, out: &mut [u8], used: usize) -> Filled
+    requires { ⌜ used + room ≤ length (now out) ⌝ }
+    ensures { λ r. ⌜ DidAlone (λ (w : World). ended w (stopLine place)) room run out used r ⌝ }
+{
+    let line = lines::stop_line(out, used, place);
+    let end = end_tally(out, line, run.tally);
     Filled {
         run: over(run),
         used: end,
@@ -240,7 +245,7 @@ fn happen(
 ) -> Filled
     requires { ⌜ (used + room ≤ length (now out)) × (run .done ≡ false) ⌝ }
     requires { ⌜ CellWithin (now trace) (recordOf event) ⌝ }
-    ensures { λ r. ⌜ Did (recordStep (now (trace .entry)) (worldOf run (now (cells .entry)) (now (links .entry)) (now (calendar .entry)) (now (words .entry))) (recordOf event) next) room (now (out .entry)) used (worldOf (r .run) (now (cells .exit)) (now (links .exit)) (now (calendar .exit)) (now (words .exit))) (now (out .exit)) (r .used) ⌝ }
+    ensures { λ r. ⌜ DidLent (recordStep (now (trace .entry)) (worldBefore run cells links calendar words) (recordOf event) next) room cells links calendar words out used r ⌝ }
 {
     match event {
         Event::Setup { n, v, raw } => {
@@ -273,17 +278,6 @@ fn happen(
     }
 }
 
-// Whether a stop line comes: where a record can't be read, and at the trace's end where the input goes on.
-fn stops(found: Found, more: bool) -> bool
-    ensures { λ r. ⌜ r ≡ stopsAt more (saidOf found) ⌝ }
-{
-    match found {
-        Found::Read { event: _, next: _ } => false,
-        Found::End => more,
-        Found::Unreadable { place: _ } => true,
-    }
-}
-
 // One step that is no slot of a pause.
 pub fn one(
     trace: &[u8],
@@ -298,11 +292,17 @@ pub fn one(
 ) -> Filled
     requires { ⌜ (used + room ≤ length (now out)) × (run .done ≡ false) ⌝ }
     requires { ⌜ length (now trace) ≤ limit ⌝ }
-    ensures { λ r. ⌜ Did (standsStep more (now (trace .entry)) (worldOf run (now (cells .entry)) (now (links .entry)) (now (calendar .entry)) (now (words .entry))) (standsAt (now (trace .entry)) (run .at))) room (now (out .entry)) used (worldOf (r .run) (now (cells .exit)) (now (links .exit)) (now (calendar .exit)) (now (words .exit))) (now (out .exit)) (r .used) ⌝ }
+    ensures { λ r. ⌜ DidLent (readStep more (now (trace .entry)) (worldBefore run cells links calendar words)) room cells links calendar words out used r ⌝ }
 {
     let found = trace::event_at(trace, run.at as usize);
     let Found::Read { event, next } = found else {
-        return end_run(run, stops(found, more), out, used);
+        let Found::Unreadable { place } = found else {
+            if more {
+                return stop_run(run, run.at, out, used);
+            }
+            return end_run(run, out, used);
+        };
+        return stop_run(run, place as u32, out, used);
     };
     happen(
         trace,

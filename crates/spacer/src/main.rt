@@ -11,5 +11,18 @@ fn main() {
             return;
         }
     }
-    handover::list(1, &input[..long]);
+    let mut cells = [0u8; 54272];
+    let mut links = [0u16; 1024];
+    let mut calendar = [0u16; 2048];
+    let mut words = [0u32; 7168];
+    let mut out = [0u8; 65536];
+    handover::list(
+        1,
+        &input[..long],
+        &mut cells,
+        &mut links,
+        &mut calendar,
+        &mut words,
+        &mut out,
+    );
 }

@@ -6,8 +6,8 @@ ghost use lib.ListN.{length};
 ghost use Rattle.meaning.specs.Numbers.{mostN, mostV};
 ghost use Rattle.trace.specs.Trace.{saidOf};
 ghost use Rattle.listing.specs.Trace.{limit};
-ghost use Rattle.steps.specs.Run.{worldOf};
-ghost use Rattle.steps.specs.Fill.{room, Ran, Advanced, FillOf, FillPromise, startRun, sizesAt, sizesOf};
+ghost use Rattle.steps.specs.Fill.{room, FillPromise, startRun, sizesAt, sizesOf};
+ghost use Rattle.steps.specs.Lent.{worldBefore, worldAfter, RanLent, AdvancedLent, FillLent};
 use listing::Tally;
 use meaning::Record;
 use steps::Filled;
@@ -30,7 +30,7 @@ fn pause(
 ) -> Filled
     requires { ⌜ (count ≤ run .left) × (run .done ≡ false) ⌝ }
     requires { ⌜ used + count * 64 + 96 ≤ length (now out) ⌝ }
-    ensures { λ r. ⌜ ((more : Bool) → Ran more (now (trace .entry)) count (worldOf run (now (cells .entry)) (now (links .entry)) (now (calendar .entry)) (now (words .entry))) (now (out .entry)) used (worldOf (r .run) (now (cells .exit)) (now (links .exit)) (now (calendar .exit)) (now (words .exit))) (now (out .exit)) (r .used)) ⌝ }
+    ensures { λ r. ⌜ ((more : Bool) → RanLent more (now (trace .entry)) count run cells links calendar words out used r) ⌝ }
     ensures { λ r. ⌜ r .used ≤ used + count * 64 ⌝ }
 {
     let none = 0usize;
@@ -80,7 +80,7 @@ fn advance(
 ) -> Filled
     requires { ⌜ (used + room ≤ length (now out)) × (run .done ≡ false) ⌝ }
     requires { ⌜ length (now trace) ≤ limit ⌝ }
-    ensures { λ r. ⌜ Advanced more (now (trace .entry)) (worldOf run (now (cells .entry)) (now (links .entry)) (now (calendar .entry)) (now (words .entry))) (now (out .entry)) used (worldOf (r .run) (now (cells .exit)) (now (links .exit)) (now (calendar .exit)) (now (words .exit))) (now (out .exit)) (r .used) ⌝ }
+    ensures { λ r. ⌜ AdvancedLent more (now (trace .entry)) run cells links calendar words out used r ⌝ }
 {
     if 0 < run.left {
         let count = least(run.left as usize, (out.len() - used - 96) / 64);
@@ -101,7 +101,7 @@ fn fill_trace(
     out: &mut [u8],
 ) -> Filled
     requires { ⌜ length (now trace) ≤ limit ⌝ }
-    ensures { λ r. ⌜ FillOf more (now (trace .entry)) (worldOf run (now (cells .entry)) (now (links .entry)) (now (calendar .entry)) (now (words .entry))) (now (out .entry)) (worldOf (r .run) (now (cells .exit)) (now (links .exit)) (now (calendar .exit)) (now (words .exit))) (now (out .exit)) (r .used) ⌝ }
+    ensures { λ r. ⌜ FillLent more (now (trace .entry)) run cells links calendar words out r ⌝ }
 {
     let mut now = run;
     let mut used = 0usize;
@@ -126,7 +126,7 @@ pub fn fill(
     words: &mut [u32],
     out: &mut [u8],
 ) -> Filled
-    ensures { λ r. ⌜ FillPromise (now (input .entry)) (worldOf run (now (cells .entry)) (now (links .entry)) (now (calendar .entry)) (now (words .entry))) (now (out .entry)) (worldOf (r .run) (now (cells .exit)) (now (links .exit)) (now (calendar .exit)) (now (words .exit))) (now (out .exit)) (r .used) ⌝ }
+    ensures { λ r. ⌜ FillPromise (now (input .entry)) (worldBefore run cells links calendar words) (now (out .entry)) (worldAfter (r .run) cells links calendar words) (now (out .exit)) (r .used) ⌝ }
 {
     let end = least(input.len(), 65536);
     let more = 65536 < input.len();

@@ -5,3 +5,4 @@ pub mod Cut
 pub mod Recount
 pub mod Rest
 pub mod Whole
+pub mod Once

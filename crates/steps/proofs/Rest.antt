@@ -110,8 +110,7 @@ module _ (more : Bool) (trace : List ℕ) where
         finish-left : (b : Bool) → Left more trace (ended w (if b then stopLine (w .at) else [])) (linesOf (w .state) h (if b then stopped (w .at) else finished))
         finish-left true = ended-left w h (suc k) (stopLine (w .at)) n counts
         finish-left false = ended-left w h (suc k) [] n counts
-    stands-left (refusal number place) f k n =
-        rw (f .1) (ended-left w h (suc k) (stopLine (w .at)) n counts)
+    stands-left (refusal number place) f k n = ended-left w h (suc k) (stopLine place) n counts
 
   -- one step of a run that isn't done
   idle-left : (w : World) (t : List ℕ) → w .done ≡ false → 0 < w .left → Rest more trace w t

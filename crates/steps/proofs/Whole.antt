@@ -24,7 +24,7 @@ use Rattle.steps.specs.declared.Sizes.{Sizes}
 use Rattle.listing.specs.Trace.{Call, setUp, openVc, closeVc, serve, Calls, finished, stopped, call, pauses, recordCalls, callsAt, callsFrom, callsOf, limit, goesOn}
 use Rattle.listing.specs.Listing.{endOf, recount, lineOf, stateAfter, answersAfter, endsRun, linesOf, lentFor, listingOf}
 use Rattle.steps.specs.Run.{World, worldOf, after, textOf}
-use Rattle.steps.specs.Fill.{room, Ran, FillOf, FillPromise, Fills, noFill, fillThen, Sized, startRun, sizesAt, sizesOf}
+use Rattle.steps.specs.Fill.{room, Ran, FillOf, FillPromise, Fills, noFill, fillMore, LentFor, startRun, sizesAt, sizesOf}
 use Rattle.steps.proofs.Ran.{sided}
 use Rattle.steps.proofs.Cut.{take-take, goes-on}
 use Rattle.steps.proofs.Recount.{recount-none}
@@ -33,10 +33,11 @@ use Rattle.steps.proofs.Weight.{weight, Onward, weight-falls, steps-onw
 
 -- ---- memory of the right sizes
 
-sized-holds : (N z : ℕ) (cells links calendar words : List ℕ) → Sized (record { n = N; v = z }) cells links calendar words
+lent-holds : (N z : ℕ) (cells links calendar words : List ℕ)
+    → LentFor (record { n = N; v = z }) (worldOf startRun cells links calendar words)
     → lengthsHold N z cells links calendar words ≡ true
 unfolding lengthsHold wordsLong
-sized-holds N z cells links calendar words s =
+lent-holds N z cells links calendar words s =
     simp (eq-eqb _ _ (s .cells-long), eq-eqb _ _ (s .links-long), eq-eqb _ _ (s .calendar-long), eq-eqb _ _ (s .words-long))
 
 -- setup on any memory of the right sizes
@@ -67,7 +68,7 @@ refused-lines N z rest a b = refl
 
 module _ (cells links calendar words : List ℕ) where
   setup-lines : (N z : ℕ) (raw : Bool) (rest : Calls) (b : Bool) → rangesHold N z ≡ b
-      → Sized (if b then record { n = N; v = z } else record { n = 0; v = 0 }) cells links calendar words
+      → LentFor (if b then record { n = N; v = z } else record { n = 0; v = 0 }) (worldOf startRun cells links calendar words)
       → linesOf (stateOf zeros cells links calendar words) [] (call (setUp N z raw) rest) ≡ linesOf (lentFor (call (setUp N z raw) rest)) [] (call (setUp N z raw) rest)
   unfolding lentFor
   setup-lines N z raw rest true r s =
@@ -75,7 +76,7 @@ module _ (cells links calendar words : List ℕ) where
       let l : List ℕ = replicate N 0 in
       let k : List ℕ = replicate (perEntry * N) 0 in
       let w : List ℕ = replicate (wordsPerVc * z) 0 in
-      let h : Sized (record { n = N; v = z }) c l k w =
+      let h : LentFor (record { n = N; v = z }) (worldOf startRun c l k w) =
       record {
         cells-long = length-replicate {A = ℕ} (octets * N) 0;
         links-long = length-replicate {A = ℕ} N 0;
@@ -83,7 +84,7 @@ module _ (cells links calendar words : List ℕ) where
         words-long = length-replicate {A = ℕ} (wordsPerVc * z) 0;
       } in
       lines-setup (stateOf zeros cells links calendar words) N z raw rest
-      ∙ ap (setupLines N z rest) (setup-fresh N z raw cells links calendar words r (sized-holds N z cells links calendar words s) ∙ sym (setup-fresh N z raw c l k w r (sized-holds N z c l k w h)))
+      ∙ ap (setupLines N z rest) (setup-fresh N z raw cells links calendar words r (lent-holds N z cells links calendar words s) ∙ sym (setup-fresh N z raw c l k w r (lent-holds N z c l k w h)))
       ∙ sym (lines-setup (stateOf zeros c l k w) N z raw rest)
   setup-lines N z raw rest false r s =
       let c : List ℕ = replicate (octets * N) 0 in
@@ -97,7 +98,7 @@ module _ (cells links calendar words : List ℕ) where
       ∙ sym (lines-setup (stateOf zeros c l k w) N z raw rest)
 
   stands-lines : (more : Bool) (trace : List ℕ) (go : ℕ → Calls) (s : Stands) → Fits trace 0 s
-      → Sized (sizesAt s) cells links calendar words
+      → LentFor (sizesAt s) (worldOf startRun cells links calendar words)
       → linesOf (stateOf zeros cells links calendar words) [] (callsAt more trace go 0 s) ≡ linesOf (lentFor (callsAt more trace go 0 s)) [] (callsAt more trace go 0 s)
   unfolding callsAt recordCalls sizesAt linesOf
   stands-lines more trace go (event (GM N z raw) next) f s = setup-lines N z raw (go next) (rangesHold N z) refl s
@@ -112,13 +113,13 @@ module _ (cells links calendar words : List ℕ) where
       stop-lines p = refl
 
   -- on memory of the right sizes the listing is that of the input, whatever the memory holds
-  pub lines-are : (input : List ℕ) → Sized (sizesOf input) cells links calendar words
+  pub lines-are : (input : List ℕ) → LentFor (sizesOf input) (worldOf startRun cells links calendar words)
       → linesOf (stateOf zeros cells links calendar words) [] (callsOf input) ≡ listingOf input
   unfolding listingOf callsOf callsFrom sizesOf
   lines-are input s =
       stands-lines (goesOn input) (take limit input) _ (standsAt (take limit input) 0) (stands-fits (take limit input) 0) s
 
-  pub start-rest : (input : List ℕ) → Sized (sizesOf input) cells links calendar words
+  pub start-rest : (input : List ℕ) → LentFor (sizesOf input) (worldOf startRun cells links calendar words)
       → Rest (goesOn input) (take limit input) (worldOf startRun cells links calendar words) (listingOf input)
   unfolding startRun callsOf pauses
   start-rest input s =
@@ -136,27 +137,42 @@ fill-text : (input : List ℕ) {out out′ : List ℕ} {w w′ : World} {used : 
     → take used out′ ≡ textOf (goesOn input) (take limit input) (f .steps) w
 fill-text input f = put-front (f .ran .put) (f .within)
 
-fills-left : (input : List ℕ) {u : List ℕ} {w w′ : World} (t : List ℕ) → Rest (goesOn input) (take limit input) w t
-    → Fills input w u w′ → w′ .done ≡ true → t ≡ u
-fills-left input {w = w} t r noFill d = done-left (goesOn input) (take limit input) w t d r
-fills-left input {w = w} t r (fillThen out out′ used f g) d =
-    let a = steps-left (goesOn input) (take limit input) w t (f .steps) (λ j h. f .ran .before j h .0) r in
-    let b = subst (λ (x : World). Rest (goesOn input) (take limit input) x (a .later)) (sym (f .ran .here)) (a .rest) in
-    a .cut ∙ ap (λ (x : List ℕ). x ++ a .later) (sym (fill-text input f)) ∙ ap (λ (x : List ℕ). take used out′ ++ x) (fills-left input (a .later) b g d)
+-- u was put by fills that leave the run at w, and later is what a run still writes of t
+pub record Begun (input t u : List ℕ) (w : World) : Type 0 where
+  pub later : List ℕ
+  pub cut : t ≡ u ++ later
+  pub rest : Rest (goesOn input) (take limit input) w later
 
--- THE LISTING: whatever the buffers, fills from the start to the end put together are `listingOf` the input
-pub fills-list : (input cells links calendar words u : List ℕ) (w : World) → Sized (sizesOf input) cells links calendar words
-    → Fills input (worldOf startRun cells links calendar words) u w → w .done ≡ true → u ≡ listingOf input
-fills-list input cells links calendar words u w s f d =
-    sym (fills-left input (listingOf input) (start-rest cells links calendar words input s) f d)
+fills-left : (input : List ℕ) {k : ℕ} {out out′ u : List ℕ} {w w′ : World} (t : List ℕ)
+    → Rest (goesOn input) (take limit input) w t → Fills input w out k u w′ out′ → Begun input t u w′
+fills-left input t r noFill = record { later = t; cut = refl; rest = r }
+fills-left input t r (fillMore {t = u} {out″ = out″} {w′ = w′} used fs going f) =
+    let b = fills-left input t r fs in
+    let a = steps-left (goesOn input) (take limit input) w′ (b .later) (f .steps) (λ j h. f .ran .before j h .0) (b .rest) in
+    record {
+      later = a .later;
+      cut = b .cut ∙ ap (λ (x : List ℕ). u ++ x) (a .cut ∙ ap (λ (x : List ℕ). x ++ a .later) (sym (fill-text input f)))
+          ∙ sym (append-assoc u (take used out″) (a .later));
+      rest = subst (λ (x : World). Rest (goesOn input) (take limit input) x (a .later)) (sym (f .ran .here)) (a .rest);
+    }
 
--- a fill more
-pub fills-then : (input : List ℕ) {t : List ℕ} {w w′ : World} (w″ : World) (out out′ : List ℕ) (used : ℕ) → Fills input w t w′
-    → FillPromise input w′ out w″ out′ used → Fills input w (t ++ take used out′) w″
-fills-then input {w = w} w″ out out′ used noFill f =
-    subst (λ (x : List ℕ). Fills input w x w″) (append-nil (take used out′)) (fillThen out out′ used f noFill)
-fills-then input {w = w} w″ out out′ used (fillThen {t = t} o o′ u g gs) f =
-    subst (λ (x : List ℕ). Fills input w x w″) (sym (append-assoc (take u o′) t (take used out′))) (fillThen o o′ u g (fills-then input w″ out out′ used gs f))
+-- what fills put is a beginning of the listing
+pub fills-begin : (input cells links calendar words : List ℕ) {k : ℕ} {out out′ u : List ℕ} {w : World}
+    → LentFor (sizesOf input) (worldOf startRun cells links calendar words)
+    → Fills input (worldOf startRun cells links calendar words) out k u w out′ → Begun input (listingOf input) u w
+fills-begin input cells links calendar words s f =
+    fills-left input (listingOf input) (start-rest cells links calendar words input s) f
+
+pub begun-done : (input : List ℕ) {t u : List ℕ} {w : World} → (b : Begun input t u w) → w .done ≡ true → b .later ≡ []
+begun-done input {w = w} b d = done-left (goesOn input) (take limit input) w (b .later) d (b .rest)
+
+-- THE LISTING: whatever the buffer, fills from the start to the end put together are `listingOf` the input
+pub fills-list : (input cells links calendar words : List ℕ) {k : ℕ} {out out′ u : List ℕ} {w : World}
+    → LentFor (sizesOf input) (worldOf startRun cells links calendar words)
+    → Fills input (worldOf startRun cells links calendar words) out k u w out′ → w .done ≡ true → u ≡ listingOf input
+fills-list input cells links calendar words {u = u} s f d =
+    let b = fills-begin input cells links calendar words s f in
+    sym (b .cut ∙ ap (λ (x : List ℕ). u ++ x) (begun-done input b d) ∙ append-nil u)
 
 -- ---- one fill
 

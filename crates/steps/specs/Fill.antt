@@ -1,6 +1,6 @@
 -- What a fill of the buffer promises: it makes steps while the run isn't done and a step's lines surely fit, no fewer and
 -- no more.
-use Prim.Native.Nat.{ℕ, _+_, _*_, _<_, _≤_}
+use Prim.Native.Nat.{ℕ, suc, _+_, _*_, _<_, _≤_}
 use mathlib.Core.Path.{_≡_}
 use mathlib.Core.Bool.{Bool, true, false}
 use mathlib.Core.List.{List, [], _++_}
@@ -52,11 +52,12 @@ pub record FillOf (more : Bool) (trace : List ℕ) (w : World) (out : List ℕ) 
 abbrev pub FillPromise : List ℕ → World → List ℕ → World → List ℕ → ℕ → Type 0
 FillPromise input w out w′ out′ used′ = FillOf (goesOn input) (take limit input) w out w′ out′ used′
 
--- fills one after the other, each from where the one before left the run, and what they put together
-pub data Fills (input : List ℕ) : World → List ℕ → World → Type 0 where
-  noFill : {w : World} → Fills input w [] w
-  fillThen : {w w′ w″ : World} {t : List ℕ} (out out′ : List ℕ) (used : ℕ) → FillPromise input w out w′ out′ used
-      → Fills input w′ t w″ → Fills input w (take used out′ ++ t) w″
+-- k fills from w and the buffer out, each of a run that isn't done, from where the one before left the run and the buffer:
+-- what they put together, and the run and the buffer that they leave
+pub data Fills (input : List ℕ) (w : World) (out : List ℕ) : ℕ → List ℕ → World → List ℕ → Type 0 where
+  noFill : Fills input w out 0 [] w out
+  fillMore : {k : ℕ} {t out′ out″ : List ℕ} {w′ w″ : World} (used : ℕ) → Fills input w out k t w′ out′ → w′ .done ≡ false
+      → FillPromise input w′ out′ w″ out″ used → Fills input w out (suc k) (t ++ take used out″) w″ out″
 
 -- a cell that a record names lies within the trace
 abbrev pub CellWithin : List ℕ → TraceRecord → Type 0
@@ -84,8 +85,8 @@ unfoldable pub sizesOf : List ℕ → Sizes
 sizesOf input = sizesAt (standsAt (take limit input) 0)
 
 -- "Lent memory: 53 × N octets of cells; N links of 16 bits; 2 × N calendar numbers of 16 bits; 7 × V words"
-pub record Sized (n : Sizes) (cells links calendar words : List ℕ) : Type 0 where
-  pub cells-long : length cells ≡ octets * n .n
-  pub links-long : length links ≡ n .n
-  pub calendar-long : length calendar ≡ perEntry * n .n
-  pub words-long : length words ≡ wordsPerVc * n .v
+pub record LentFor (n : Sizes) (w : World) : Type 0 where
+  pub cells-long : length (w .state .cells) ≡ octets * n .n
+  pub links-long : length (w .state .links) ≡ n .n
+  pub calendar-long : length (w .state .calendar) ≡ perEntry * n .n
+  pub words-long : length (w .state .words) ≡ wordsPerVc * n .v

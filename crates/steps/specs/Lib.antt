@@ -1,2 +1,3 @@
 pub mod Run
 pub mod Fill
+pub mod Lent

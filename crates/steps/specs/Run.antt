@@ -105,22 +105,22 @@ recordStep trace w (VX vci) next = called w (closeVc vci) next 0
 recordStep trace w (CA start) next = called w (serve (cellOf trace start)) next 0
 recordStep trace w (SL count) next = paused w next count
 
--- "A record that can't be read ends the run there"; so does the trace's end, with a stop line where the input goes on
-unfoldable pub stopsAt : Bool → Stands → Bool
-stopsAt more (event r next) = false
-stopsAt more finish = more
-stopsAt more (refusal number place) = true
-
+-- "A record that can't be read ends the run there", with its place on the stop line; so does the trace's end, with a stop
+-- line at that place where the input goes on
 unfoldable pub standsStep : Bool → List ℕ → World → Stands → Step
 standsStep more trace w (event r next) = recordStep trace w r next
 standsStep more trace w finish = ended w (if more then stopLine (w .at) else [])
-standsStep more trace w (refusal number place) = ended w (stopLine (w .at))
+standsStep more trace w (refusal number place) = ended w (stopLine place)
+
+-- the step of a run that has no slot of a pause left
+abbrev pub readStep : Bool → List ℕ → World → Step
+readStep more trace w = standsStep more trace w (standsAt trace (w .at))
 
 unfoldable pub step : Bool → List ℕ → World → Step
 step more trace w =
     if w .done then record { text = []; world = w }
     else if 0 <? w .left then called w (serve []) (w .at) (w .left - 1)
-    else standsStep more trace w (standsAt trace (w .at))
+    else readStep more trace w
 
 unfoldable pub after : Bool → List ℕ → ℕ → World → World
 after more trace zero w = w

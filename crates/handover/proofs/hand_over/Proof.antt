@@ -1,9 +1,9 @@
 -- `handover::hand_over` fills and writes until the run is done: the invariant is the fills so far, the measure the run's
--- weight. Assumes nothing.
-use Prim.Native.Nat.{ℕ, _≤_}
-use mathlib.Core.Path.{_≡_, refl, sym, ap, subst}
+-- weight. A write that fails leaves the fills that were handed over, the last among them.
+use Prim.Native.Nat.{ℕ, suc, _<_, _≤_}
+use mathlib.Core.Path.{_≡_, refl, sym, ap, subst, _∙_}
 use mathlib.Core.Bool.{Bool, true, false, not}
-use mathlib.Core.List.{List, []}
+use mathlib.Core.List.{List, [], _++_}
 use native.Mathlib.Omega.{arith}
 use borrow.Author.Needs.{needs}
 use lib.ListN.{length, take}
@@ -11,9 +11,11 @@ use lib.Seq.{length-take-le}
 use Rattle.listing.specs.Trace.{limit}
 use Rattle.steps.specs.declared.Run.{Run}
 use Rattle.steps.specs.Run.{World, worldOf}
-use Rattle.steps.specs.Fill.{room, Fills, noFill, startRun}
+use Rattle.steps.specs.Fill.{room, FillPromise, Fills, noFill, fillMore, LentFor, startRun, sizesOf}
 use Rattle.steps.proofs.Weight.{weight}
-use Rattle.steps.proofs.Whole.{fills-then, fills-list, fill-falls}
+use Rattle.steps.proofs.Whole.{fills-begin, begun-done, fill-falls}
+use Rattle.steps.proofs.Once.{fills-some}
+use Rattle.handover.specs.Listed.{Left, Handed}
 use Rattle.handover.proofs.hand_over.Statement.{statement}
 use Rattle.handover.proofs.hand_over.Tie as tie
 
@@ -26,13 +28,41 @@ over true e = refl
 over false e = sym e
 
 -- the fills so far
-record Made (input : List ℕ) (w₀ w : World) : Type 0 where
+record Made (input : List ℕ) (w₀ w : World) (out₀ out : List ℕ) : Type 0 where
+  pub count : ℕ
   pub text : List ℕ
-  pub fills : Fills input w₀ text w
+  pub fills : Fills input w₀ out₀ count text w out
+
+-- one more
+abbrev more : {input out₀ out out′ : List ℕ} {w₀ w w′ : World} (used : ℕ) → Made input w₀ w out₀ out → w .done ≡ false
+    → FillPromise input w out w′ out′ used → Made input w₀ w′ out₀ out′
+more {out′ = out′} used m d f =
+    record { count = suc (m .count); text = m .text ++ take used out′; fills = fillMore used (m .fills) d f }
+
+-- the fills so far, of a run that began as `start` answered, are what is promised
+handed : (input cells links calendar words out : List ℕ) (run₀ run : Run) (left : Left) (out′ : List ℕ) (answer : Bool) → run₀ ≡ startRun
+    → LentFor (sizesOf input) (worldOf startRun cells links calendar words)
+    → (m : Made input (worldOf run₀ cells links calendar words) (left run) out out′) → 0 < m .count
+    → (answer ≡ true → left run .done ≡ true)
+    → Handed input (worldOf startRun cells links calendar words) out left out′ answer
+handed input cells links calendar words out run₀ run left out′ answer s l m p d =
+    let f : Fills input (worldOf startRun cells links calendar words) out (m .count) (m .text) (left run) out′ =
+    subst (λ (x : Run). Fills input (worldOf x cells links calendar words) out (m .count) (m .text) (left run) out′) s (m .fills) in
+    let b = fills-begin input cells links calendar words l f in
+    record {
+      run = run;
+      count = m .count;
+      text = m .text;
+      rest = b .later;
+      some = p;
+      fills = f;
+      begins = b .cut;
+      whole = λ e. (d e, begun-done input b (d e));
+    }
 
 abbrev Inv-loop : tie.InvT-loop
 Inv-loop fd input cells₀ links₀ calendar₀ words₀ out₀ run₀ cells links calendar words out run =
-    Made input (worldOf run₀ cells₀ links₀ calendar₀ words₀) (worldOf run cells links calendar words)
+    Made input (worldOf run₀ cells₀ links₀ calendar₀ words₀) (worldOf run cells links calendar words) out₀ out
     × (length cells ≡ length cells₀)
     × (length links ≡ length links₀)
     × (length calendar ≡ length calendar₀)
@@ -47,7 +77,7 @@ start-requires : tie.Need-start-requires Inv-loop μ-loop
 start-requires c κs = search needs
 
 loop-holds : tie.Need-loop-holds Inv-loop μ-loop
-loop-holds c = (record { text = []; fills = noFill }, refl, refl, refl, refl, refl)
+loop-holds c = (record { count = 0; text = []; fills = noFill }, refl, refl, refl, refl, refl)
 
 fill-requires : tie.Need-fill-requires Inv-loop μ-loop
 fill-requires c κs = search needs
@@ -79,7 +109,14 @@ same-length-5 : tie.Need-same-length-5 Inv-loop μ-loop
 same-length-5 c = search needs
 
 returns : tie.Need-returns Inv-loop μ-loop
-returns c = λ e. absurd (let z : _≡_ {A = ℕ} 0 1 = cc in omega arith)
+returns c =
+    let f = c .before .before .before .before .before .before .before .before .before .before .before .before .before in
+    let h = f .before .before .before .before .before .before .before .before in
+    let s = h .before .before .before .before .before .before .before .before in
+    handed (s .args .input .now) (s .args .cells .now) (s .args .links .now) (s .args .calendar .now) (s .args .words .now) (s .args .out .now)
+    (h .before .start .result) (f .fill .result .run) _ _ false (h .before .start .ensures) (s .pre .0)
+    (more _ (h .loop .inv .0) (off _ (f .before .before .before .before .before .before .if1 .taken)) (f .fill .ensures)) (omega arith)
+    (λ e. absurd (let z : _≡_ {A = ℕ} 0 1 = cc in omega arith))
 
 loop-less : tie.Need-loop-less Inv-loop μ-loop
 loop-less c =
@@ -89,9 +126,9 @@ loop-less c =
 
 loop-again : tie.Need-loop-again Inv-loop μ-loop
 loop-again c =
-    let f = c .before .before .before .before .before .before .before .before .before .before .before .before .before .before .fill in
-    let h = c .before .before .before .before .before .before .before .before .before .before .before .before .before .before .before .before .before .before .before .before .before .before .loop in
-    (record { text = _; fills = fills-then _ _ _ _ _ (h .inv .0 .fills) (f .ensures) }, search needs, search needs, search needs, search needs, search needs)
+    let f = c .before .before .before .before .before .before .before .before .before .before .before .before .before .before in
+    let h = f .before .before .before .before .before .before .before .before in
+    (more _ (h .loop .inv .0) (off _ (f .before .before .before .before .before .before .if1 .taken)) (f .fill .ensures), search needs, search needs, search needs, search needs, search needs)
 
 same-length-6 : tie.Need-same-length-6 Inv-loop μ-loop
 same-length-6 c = search needs
@@ -109,19 +146,15 @@ same-length-10 : tie.Need-same-length-10 Inv-loop μ-loop
 same-length-10 c = search needs
 
 returns-2 : tie.Need-returns-2 Inv-loop μ-loop
+unfolding startRun
 returns-2 c =
-    let h = c .before .before .loop in
-    let s = c .before .before .before .before .before .before .before .before .before .before in
-    let made = h .inv .0 in
-    let f : Fills (s .args .input .now) (worldOf startRun (s .args .cells .now) (s .args .links .now) (s .args .calendar .now) (s .args .words .now)) (made .text) (worldOf (h .run) (h .cells) (h .links) (h .calendar) (h .words)) =
-    subst (λ (x : Run). Fills (s .args .input .now) (worldOf x (s .args .cells .now) (s .args .links .now) (s .args .calendar .now) (s .args .words .now)) (made .text) (worldOf (h .run) (h .cells) (h .links) (h .calendar) (h .words))) (c .before .before .before .start .ensures) (made .fills) in
-    λ _. record {
-      run = h .run;
-      text = made .text;
-      fills = f;
-      done = over _ (c .if1 .left);
-      whole = fills-list _ _ _ _ _ _ _ (s .pre .0) f (over _ (c .if1 .left));
-    }
+    let h = c .before .before in
+    let s = h .before .before .before .before .before .before .before .before in
+    let d = over _ (c .if1 .left) in
+    let e = h .before .start .ensures in
+    handed (s .args .input .now) (s .args .cells .now) (s .args .links .now) (s .args .calendar .now) (s .args .words .now) (s .args .out .now)
+    (h .before .start .result) (h .loop .run) _ _ true e (s .pre .0) (h .loop .inv .0)
+    (fills-some (h .loop .inv .0 .fills) (ap (λ (x : Run). x .done) e) d) (λ _. d)
 
 pub hand-over-spec : {M : Type 1} → statement M
 hand-over-spec =

@@ -1,13 +1,19 @@
--- `handover::lend` lends parts of its memory: their lengths are those that `sizes_of` answers, so they are `Sized`.
--- Assumes nothing.
-use Prim.Native.Nat.{_*_}
-use mathlib.Core.Path.{sym, ap, _∙_}
+-- `handover::lend` lends the front parts of its memory: `sizes_of` answers N and V within their ranges, so the parts are there
+-- and of the right lengths, and they come back in front of what stood behind them.
+use mathlib.Core.Path.{sym, subst, _∙_}
 use native.Mathlib.Omega.{arith}
-use lib.Seq.{length-take-le}
 use Rattle.steps.specs.declared.Sizes.{Sizes}
+use Rattle.steps.specs.Run.{World, worldOf}
+use Rattle.steps.specs.Fill.{LentFor, startRun}
+use Rattle.handover.specs.Listed.{frontOf}
+use Rattle.handover.proofs.Parts.{front-long, lent-listed}
 use borrow.Author.Needs.{needs}
 use Rattle.handover.proofs.lend.Statement.{statement}
 use Rattle.handover.proofs.lend.Tie as tie
+
+-- the memories as they were lent
+abbrev whole : tie.Start → World
+whole s = worldOf startRun (s .args .cells .now) (s .args .links .now) (s .args .calendar .now) (s .args .words .now)
 
 sizes-of-requires : tie.Need-sizes-of-requires
 sizes-of-requires c κs = search needs
@@ -34,7 +40,7 @@ slice-aggregate-hand-over : tie.Need-slice-aggregate-hand-over
 slice-aggregate-hand-over c =
     let z = c .before .before .before .sizes-of in
     let s = c .before .before .before .before .before .before .before .before .before .before in
-    sym (length-take-le (53 * z .result .n) (s .args .cells .now) (omega (arith, z .ensures .1 .0, s .pre .0 .0)))
+    sym (front-long (z .result) (whole s) (z .ensures .1) (s .pre .0) .cells-long)
 
 slice-relend-prefix-hand-over-2 : tie.Need-slice-relend-prefix-hand-over-2
 slice-relend-prefix-hand-over-2 c = search needs
@@ -43,7 +49,7 @@ slice-aggregate-hand-over-2 : tie.Need-slice-aggregate-hand-over-2
 slice-aggregate-hand-over-2 c =
     let z = c .before .before .before .before .sizes-of in
     let s = c .before .before .before .before .before .before .before .before .before .before .before in
-    sym (length-take-le (z .result .n) (s .args .links .now) (omega (arith, z .ensures .1 .0, s .pre .0 .1)))
+    sym (front-long (z .result) (whole s) (z .ensures .1) (s .pre .0) .links-long)
 
 slice-relend-prefix-hand-over-3 : tie.Need-slice-relend-prefix-hand-over-3
 slice-relend-prefix-hand-over-3 c = search needs
@@ -52,7 +58,7 @@ slice-aggregate-hand-over-3 : tie.Need-slice-aggregate-hand-over-3
 slice-aggregate-hand-over-3 c =
     let z = c .before .before .before .before .before .sizes-of in
     let s = c .before .before .before .before .before .before .before .before .before .before .before .before in
-    sym (length-take-le (2 * z .result .n) (s .args .calendar .now) (omega (arith, z .ensures .1 .0, s .pre .0 .2)))
+    sym (front-long (z .result) (whole s) (z .ensures .1) (s .pre .0) .calendar-long)
 
 slice-relend-prefix-hand-over-4 : tie.Need-slice-relend-prefix-hand-over-4
 slice-relend-prefix-hand-over-4 c = search needs
@@ -61,21 +67,13 @@ slice-aggregate-hand-over-4 : tie.Need-slice-aggregate-hand-over-4
 slice-aggregate-hand-over-4 c =
     let z = c .before .before .before .before .before .before .sizes-of in
     let s = c .before .before .before .before .before .before .before .before .before .before .before .before .before in
-    sym (length-take-le (7 * z .result .v) (s .args .words .now) (omega (arith, z .ensures .1 .1, s .pre .0 .3)))
+    sym (front-long (z .result) (whole s) (z .ensures .1) (s .pre .0) .words-long)
 
 hand-over-requires : tie.Need-hand-over-requires
 hand-over-requires c κs =
     let z = c .before .before .before .before .before .before .before .sizes-of in
     let s = c .before .before .before .before .before .before .before .before .before .before .before .before .before .before in
-    let e = z .ensures .0 in (
-      record {
-        cells-long = length-take-le (53 * z .result .n) (s .args .cells .now) (omega (arith, z .ensures .1 .0, s .pre .0 .0)) ∙ ap (λ (x : Sizes). 53 * x .n) e;
-        links-long = length-take-le (z .result .n) (s .args .links .now) (omega (arith, z .ensures .1 .0, s .pre .0 .1)) ∙ ap (λ (x : Sizes). x .n) e;
-        calendar-long = length-take-le (2 * z .result .n) (s .args .calendar .now) (omega (arith, z .ensures .1 .0, s .pre .0 .2)) ∙ ap (λ (x : Sizes). 2 * x .n) e;
-        words-long = length-take-le (7 * z .result .v) (s .args .words .now) (omega (arith, z .ensures .1 .1, s .pre .0 .3)) ∙ ap (λ (x : Sizes). 7 * x .v) e;
-      },
-      s .pre .1,
-    )
+    (subst (λ (x : Sizes). LentFor x (frontOf (z .result) (whole s))) (z .ensures .0) (front-long (z .result) (whole s) (z .ensures .1) (s .pre .0)), s .pre .1)
 
 same-length : tie.Need-same-length
 same-length c = search needs
@@ -93,7 +91,22 @@ same-length-5 : tie.Need-same-length-5
 same-length-5 c = search needs
 
 returns : tie.Need-returns
-returns c = search needs
+returns c =
+    let h = c .before .before .before .before .before .before .before .before .before .before in
+    let z = h .before .before .before .before .before .before .before .before .sizes-of in
+    let s = h .before .before .before .before .before .before .before .before .before .before .before .before .before .before .before in
+    let o = h .hand-over in
+    let f = front-long (z .result) (whole s) (z .ensures .1) (s .pre .0) in
+    lent-listed (s .args .input .now) (s .args .out .now) (o .last .1 .1 .1 .1 .1 .1 .0) (o .result) (z .result)
+    (s .args .cells .now) (s .args .links .now) (s .args .calendar .now) (s .args .words .now)
+    (o .last .1 .1 .0) (o .last .1 .1 .1 .0) (o .last .1 .1 .1 .1 .0) (o .last .1 .1 .1 .1 .1 .0)
+    (record {
+      cells-long = o .kept .1 .1 .0 ∙ f .cells-long;
+      links-long = o .kept .1 .1 .1 .0 ∙ f .links-long;
+      calendar-long = o .kept .1 .1 .1 .1 .0 ∙ f .calendar-long;
+      words-long = o .kept .1 .1 .1 .1 .1 .0 ∙ f .words-long;
+    })
+    (z .ensures .0) (o .ensures)
 
 pub lend-spec : {M : Type 1} → statement M
 lend-spec =

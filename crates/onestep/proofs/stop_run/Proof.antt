@@ -1,0 +1,35 @@
+-- `onestep::stop_run` ends the run with the stop line of its place and the end line: one text after the other.
+use native.Mathlib.Omega.{arith}
+use mathlib.Core.Path.{ap}
+use Rattle.lines.proofs.Puts.{put-then}
+use Rattle.steps.specs.declared.Run.{Run}
+use Rattle.steps.specs.Run.{worldOf, ended}
+use borrow.Author.Needs.{needs}
+use Rattle.onestep.proofs.stop_run.Statement.{statement}
+use Rattle.onestep.proofs.stop_run.Tie as tie
+
+stop-line-requires : tie.Need-stop-line-requires
+stop-line-requires c κs = search needs
+
+end-tally-requires : tie.Need-end-tally-requires
+end-tally-requires c κs = search needs
+
+over-requires : tie.Need-over-requires
+over-requires c κs = search needs
+
+same-length : tie.Need-same-length
+same-length c = search needs
+
+returns : tie.Need-returns
+unfolding ended
+returns c cells links calendar words =
+    let e = c .before .before .before in
+    let l = e .before .before .before .before in
+    record {
+      world = ap (λ (x : Run). worldOf x cells links calendar words) (c .over .ensures);
+      put = put-then (l .stop-line .ensures .0) (e .end-tally .ensures .0);
+      few = omega (arith, l .stop-line .ensures .1, e .end-tally .ensures .1);
+    }
+
+pub stop-run-spec : {M : Type 1} → statement M
+stop-run-spec = tie.close (tie.spec stop-line-requires end-tally-requires over-requires same-length returns)
