@@ -1,0 +1,3 @@
+pub mod Polled
+pub mod Holds
+pub mod Worked
