@@ -1,2 +1,3 @@
 pub mod Starred
 pub mod ShutOut
+pub mod OwnLaws
