@@ -9,7 +9,7 @@ use native.Mathlib.Omega.{arith}
 use borrow.Author.Tests.{leb-true}
 use lib.ListN.{length, getD, replicate, length-replicate, getD-replicate, length-append, List·getD-append}
 use Rattle.meaning.specs.Plain.{if_then_else_, _≤?_}
-use Rattle.meaning.specs.Numbers.{rangesHold, mostN, leastV, mostV, empty, slotNumbers}
+use Rattle.meaning.specs.Numbers.{rangesHold, mostN, leastV, mostV, empty, slotNumbers, wordsPerVc, openPlace}
 use Rattle.meaning.specs.State.{State, stateOf, freeList, outputList, lengthsHold}
 use Rattle.meaning.specs.Words.{vcAt}
 use Rattle.meaning.specs.Lists.{entryAt}
@@ -164,8 +164,8 @@ module _ (N z : ℕ) (raw : Bool) (r : Ranges N z) where
           turn-low = omega (arith, r .N-low);
           rotation-is = sym (ap (λ (k : ℕ). k % z) first ∙ mod-eq-of-lt {n = z - 1} {m = z} (omega (arith, r .z-low)));
           has = fresh-has;
-          words-long = length-replicate (7 * z) 0;
-          table = λ v h1 h2. getD-replicate (7 * z) (7 * v + 0) 0 0 (omega arith);
+          words-long = length-replicate (wordsPerVc * z) 0;
+          table = λ v h1 h2. getD-replicate (wordsPerVc * z) (openPlace v) 0 0 (omega arith);
         };
         raw-low = number-low raw;
         mode-low = omega arith;

@@ -11,7 +11,7 @@ use native.Mathlib.Omega.{arith}
 use borrow.Author.Tests.{eq-eqb, ne-eqb, lt-ltb}
 use lib.ListN.{length}
 use Rattle.meaning.specs.Plain.{Out, next}
-use Rattle.meaning.specs.Numbers.{slotNumbers}
+use Rattle.meaning.specs.Numbers.{slotNumbers, wordsPerVc}
 use Rattle.meaning.specs.State.{State, withRecord, recordWith, withClock, withWords}
 use Rattle.meaning.specs.Words.{Vc, vcAt, writeVc, upToDate}
 use Rattle.meaning.specs.Work.{Work, withState, withVc}
@@ -104,7 +104,7 @@ module _ (openings : ℕ → Option Opening) (free : List ℕ) (o : List Queued)
     rot-low = omega (arith, at-now, mod-lt now {m = z} (omega (arith, st .ranges .z-low)))
 
     -- the words after step 2
-    again : (words : List ℕ) → length words ≡ 7 * z
+    again : (words : List ℕ) → length words ≡ wordsPerVc * z
         → ((v : ℕ) → 1 ≤ v → v < z → VcIs N z (suc now) v (vcAt words v) (waits v o r) (openings v))
         → Stage N z (suc now) (suc now) (s .ctl .turn) (withWords s words) openings free o r
     unfolding withWords

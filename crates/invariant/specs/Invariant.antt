@@ -13,6 +13,7 @@ use mathlib.Core.Bool.{true}
 use mathlib.Core.List.{List, _++_, map}
 use mathlib.Core.Option.{Option, none, some}
 use lib.ListN.{length}
+use Rattle.meaning.specs.Numbers.{wordsPerVc}
 use Rattle.meaning.specs.State.{State, freeList, outputList}
 use Rattle.meaning.specs.Header.{headerAt, namesVc}
 use Rattle.meaning.specs.Words.{vcAt}
@@ -72,7 +73,7 @@ pub record Stage (N z k j b : ℕ) (s : State) (openings : ℕ → Option Openin
   pub turn-low : s .ctl .turn < N
   pub rotation-is : s .ctl .rotation ≡ (k + (z - 1)) % z
   pub has : Has N b (s .cells) (s .links) (s .calendar) (freeList s) (outputList s) free o r
-  pub words-long : length (s .words) ≡ 7 * z
+  pub words-long : length (s .words) ≡ wordsPerVc * z
   pub table : (v : ℕ) → 1 ≤ v → v < z → VcIs N z j v (vcAt (s .words) v) (waits v o r) (openings v)
 
 -- not before its due slot, and at most w slots after it

@@ -1,9 +1,9 @@
 -- A burst after a run from a fresh state, whole: ranges and the four memories' lengths hold, so it is refused with 2 alone;
 -- else it is its slots, and what it wrote reads back as their events. Assumes nothing.
-use Prim.Native.Nat.{ℕ, suc, _+_, _*_, _≤_, _<_}
-use mathlib.Core.Path.{_≡_, refl, sym, ap, _∙_}
+use Prim.Native.Nat.{ℕ, suc, _*_, _≤_}
+use mathlib.Core.Path.{_≡_, refl, ap, _∙_}
 use mathlib.Core.Bool.{Bool, true, false, not, _&&_}
-use mathlib.Core.List.{List, [], _∷_, _++_, map}
+use mathlib.Core.List.{List, [], _∷_, map}
 use native.Mathlib.Omega.{arith}
 use native.Mathlib.Nat.{zero-add}
 use borrow.Author.Tests.{eq-eqb, eqb-true}
@@ -11,7 +11,7 @@ use lib.ListN.{length, take, drop, length-drop}
 use Rattle.meaning.specs.Plain.{if_then_else_, _=?_}
 use Rattle.meaning.specs.Numbers.{octets, wordsPerVc}
 use Rattle.meaning.specs.State.{State}
-use Rattle.runs.specs.Run.{Call, onSlot, Run, runOf, calls}
+use Rattle.runs.specs.Run.{onSlot, Run, runOf, calls}
 use Rattle.queues.specs.Queue.{All}
 use Rattle.invariant.proofs.LengthLaws.{ranges-hold}
 use Rattle.invariant.proofs.RunLaws.{Kept}
@@ -19,7 +19,7 @@ use Rattle.promises.specs.Checked.{Lent}
 use Rattle.unchecked.proofs.EndLaws.{both-true}
 use Rattle.handout.specs.Handout.{answerLong}
 use Rattle.burst.specs.Burst.{Stretch, stretchOf, sizeFits, stopped, slots, lengthsFit, burst}
-use Rattle.polled.specs.Polled.{Poll, many, lentTo, upTo, allFit, lentWell, cellsServed, endsWith, asCalls, handedOut, answered}
+use Rattle.polled.specs.Polled.{many, lentTo, upTo, allFit, lentWell, cellsServed, endsWith, asCalls, handedOut, answered}
 use Rattle.polled.specs.Polled.{throughs, readBack, poll}
 use Rattle.polled.specs.Holds.{BurstIs}
 use Rattle.polled.proofs.BurstRuns.{take-lent, slots-are}

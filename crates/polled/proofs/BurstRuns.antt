@@ -1,25 +1,23 @@
 -- A burst after a run from a fresh state, slot for slot: each slot that is lent no cell or 53 octets is served, since the
 -- invariant holds, so the burst goes on to its first other size. Assumes nothing.
-use Prim.Native.Nat.{ℕ, suc, _+_, _*_, _/_, _≤_, _<_}
+use Prim.Native.Nat.{ℕ, suc, _+_, _*_, _≤_}
 use mathlib.Core.Path.{_≡_, refl, sym, ap, _∙_}
-use mathlib.Core.Bool.{Bool, true, false, not, _&&_, _||_}
+use mathlib.Core.Bool.{Bool, true, false, _&&_}
 use mathlib.Core.List.{List, [], _∷_, _++_, map, append-assoc}
 use native.Mathlib.Omega.{arith}
 use native.Mathlib.Nat.{add-zero}
 use borrow.Author.Tests.{eq-eqb}
 use lib.ListN.{length, take, drop, length-append, length-drop}
 use lib.Seq.{length-take-le, drop-drop}
-use Rattle.meaning.specs.Plain.{if_then_else_, _=?_}
-use Rattle.meaning.specs.Numbers.{octets}
-use Rattle.meaning.specs.State.{State}
+use Rattle.meaning.specs.Plain.{if_then_else_}
 use Rattle.meaning.specs.Work.{Work}
 use Rattle.meaning.specs.Slot.{slot}
-use Rattle.runs.specs.Run.{Call, onSlot, Run, call, calls}
+use Rattle.runs.specs.Run.{onSlot, Run, call, calls}
 use Rattle.invariant.proofs.CheckLaws.{slot-served}
 use Rattle.invariant.proofs.RunLaws.{Kept, call-kept}
 use Rattle.promises.specs.Checked.{Lent}
 use Rattle.slot.proofs.Answered.{slot-answered}
-use Rattle.handout.specs.Handout.{shownInto, writeAnswer, Shows}
+use Rattle.handout.specs.Handout.{writeAnswer, Shows}
 use Rattle.burst.specs.Burst.{Stretch, stretchOf, sizeFits, cellLent, served, stopped, slotDone, oneSlot, slots}
 use Rattle.burst.proofs.ShowLaws.{slot-shows, size-most}
 use Rattle.polled.specs.Polled.{lentTo, upTo, allFit, handedOut, sixOf, answered}

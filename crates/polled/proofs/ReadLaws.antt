@@ -1,13 +1,12 @@
 -- What a burst has written, read back: the answers are those of its slots, the octets the line cells that their events
 -- note, and the header check goes on from slot to slot in the mode that the slot leaves. Assumes nothing.
-use Prim.Native.Nat.{ℕ, suc, _+_, _*_, _/_, _≤_, _<_}
+use Prim.Native.Nat.{ℕ, _+_, _*_, _≤_}
 use mathlib.Core.Path.{_≡_, refl, sym, ap, _∙_}
 use mathlib.Core.Bool.{Bool, true, false}
 use mathlib.Core.List.{List, [], _∷_, _++_, map}
 use native.Mathlib.Omega.{arith}
 use lib.ListN.{length, take, drop, length-drop}
 use lib.Seq.{take-at, drop-at}
-use Rattle.hec.specs.Modes.{Arriving}
 use Rattle.meaning.specs.declared.Answer.{Answer}
 use Rattle.meaning.specs.Plain.{if_then_else_, _=?_}
 use Rattle.meaning.specs.Numbers.{octets, empty}
@@ -15,16 +14,15 @@ use Rattle.meaning.specs.State.{State}
 use Rattle.meaning.specs.Work.{Work}
 use Rattle.meaning.specs.Slot.{slot}
 use Rattle.meaning.specs.Line.{lineCell}
-use Rattle.runs.specs.Run.{Call, onSlot, Event, ran, Run, idle, shown, letIn, call, calls}
+use Rattle.runs.specs.Run.{onSlot, Event, ran, Run, idle, shown, letIn, call, calls}
 use Rattle.runs.proofs.ModeLaws.{raw-kept, mode-moved}
 use Rattle.queues.specs.Queue.{All}
 use Rattle.invariant.proofs.RunLaws.{Kept, call-kept}
 use Rattle.promises.specs.Checked.{Lent}
 use Rattle.handout.specs.Handout.{Shows}
-use Rattle.burst.specs.Burst.{sizeFits}
-use Rattle.polled.specs.Polled.{lentTo, upTo, handedOut, answered, sixOf, firstSix, throughs, readBack}
+use Rattle.polled.specs.Polled.{handedOut, answered, sixOf, firstSix, throughs, readBack}
 use Rattle.polled.proofs.WrittenLaws.{outOf, out-long}
-use Rattle.polled.proofs.BurstRuns.{take-lent, slot-leaves}
+use Rattle.polled.proofs.BurstRuns.{slot-leaves}
 
 -- the octets read are those noted
 out-read : (w : Work) (d rest : List ℕ) → Shows (w .state .cells) (w .answer .space) → 53 ≤ length d

@@ -15,7 +15,7 @@ use Rattle.promises.specs.Runs.{InOrder}
 use Rattle.promises.specs.Checked.{HeaderCheck}
 use Rattle.promises.proofs.Top.{demand3, in-order, debt-kept, header-check}
 use Rattle.polled.specs.Polled.{Poll, single, many, asCalls, allCalls, poll, polls}
-use Rattle.polled.specs.Holds.{BurstIs, Polled, PolledHolds, OfPolledRuns, RunsToo}
+use Rattle.polled.specs.Holds.{Polled, PolledHolds, OfPolledRuns, RunsToo}
 use Rattle.polled.proofs.BurstLaws.{burst-is, poll-is}
 
 calls-append : (r : Run) (cs ds : List Call) → calls r (cs ++ ds) ≡ calls (calls r cs) ds

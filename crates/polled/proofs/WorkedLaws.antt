@@ -1,8 +1,7 @@
 -- The promises on bursts speak of some: one of eight slots stands for document 01's eight calls, and one with a size of 7
 -- ends with 9 after the slot before it. By computation. Assumes nothing.
-use Prim.Native.Nat.{ℕ}
 use mathlib.Core.Path.{_≡_, refl}
-use mathlib.Core.List.{List, [], _∷_}
+use mathlib.Core.List.{[], _∷_}
 use lib.ListN.{replicate}
 use Rattle.runs.specs.Eight.{cellFor, eightCalls}
 use Rattle.burst.specs.Burst.{sizeFits}

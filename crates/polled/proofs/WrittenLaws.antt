@@ -1,13 +1,13 @@
 -- What a served slot of a burst writes, where what stands before its own octets and numbers is set apart: its 53 octets of
 -- departures are its line cell, or stay where nothing departs, and its six numbers are its answer. Assumes nothing.
-use Prim.Native.Nat.{ℕ, suc, _+_, _*_, _/_, _≤_, _<_}
-use mathlib.Core.Path.{_≡_, refl, sym, ap, _∙_, subst}
+use Prim.Native.Nat.{ℕ, _+_, _*_, _/_, _≤_, _<_}
+use mathlib.Core.Path.{_≡_, refl, sym, ap, _∙_}
 use mathlib.Core.Logic.{_≢_}
 use mathlib.Core.Bool.{Bool, true, false}
 use mathlib.Core.List.{List, [], _∷_, _++_, append-assoc}
 use native.Mathlib.Omega.{arith}
 use native.Mathlib.Nat.{zero-add, suc-add}
-use borrow.Author.Tests.{eqb-true, eqb-false, eq-eqb, lt-ltb}
+use borrow.Author.Tests.{eqb-true, eqb-false, lt-ltb}
 use lib.ListN.{length, take, drop, set, length-append, length-drop, take-append-drop}
 use lib.Seq.{length-take-le, take-at, drop-append-add}
 use Rattle.meaning.specs.declared.Answer.{Answer}
@@ -15,7 +15,7 @@ use Rattle.meaning.specs.Plain.{if_then_else_, _=?_}
 use Rattle.meaning.specs.Numbers.{octets, empty}
 use Rattle.meaning.specs.State.{writeCell}
 use Rattle.meaning.specs.Work.{Work}
-use Rattle.meaning.specs.Line.{cellsAllowed, linePart, octetsOf, lineCell}
+use Rattle.meaning.specs.Line.{linePart, octetsOf, lineCell}
 use Rattle.runs.specs.Run.{idle, shown}
 use Rattle.runs.proofs.LineLaws.{shown-any}
 use Rattle.handout.specs.Handout.{ownOctets, shownInto, writeAnswer, Shows}

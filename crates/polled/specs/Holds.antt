@@ -11,9 +11,7 @@ use mathlib.Core.List.{List, []}
 use lib.ListN.{length}
 use Rattle.meaning.specs.Calls.{setup}
 use Rattle.runs.specs.Run.{Call, Run, runOf, calls}
-use Rattle.burst.specs.Burst.{Stretch, burst}
-use Rattle.promises.specs.Demand3.{Demand3}
-use Rattle.promises.specs.Runs.{InOrder}
+use Rattle.burst.specs.Burst.{burst}
 use Rattle.polled.specs.Polled.{Poll, many, cellsServed, endsWith, asCalls, allCalls, handedOut, answered, polls}
 
 pub record BurstIs (r : Run) (arrivals sizes departures answers : List ℕ) : Type 0 where

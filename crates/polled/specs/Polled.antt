@@ -16,11 +16,11 @@ use Rattle.meaning.specs.declared.Answer.{Answer}
 use Rattle.meaning.specs.Plain.{if_then_else_, _=?_}
 use Rattle.meaning.specs.Numbers.{octets, empty}
 use Rattle.meaning.specs.State.{State}
-use Rattle.meaning.specs.Work.{Work, answerOf}
+use Rattle.meaning.specs.Work.{answerOf}
 use Rattle.meaning.specs.Slot.{slot}
 use Rattle.runs.specs.Run.{Call, onSlot, Event, ran, Run, runOf, shown, call}
 use Rattle.handout.specs.Handout.{answerLong}
-use Rattle.burst.specs.Burst.{Stretch, sizeFits, burst}
+use Rattle.burst.specs.Burst.{sizeFits, burst}
 
 pub data Poll : Type 0 where
   single : Call → Poll

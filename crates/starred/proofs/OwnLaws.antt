@@ -14,7 +14,7 @@ use Rattle.meaning.specs.Plain.{if_then_else_, _=?_}
 use Rattle.meaning.specs.Numbers.{rangesHold, accepted, empty}
 use Rattle.meaning.specs.State.{State}
 use Rattle.invariant.proofs.FreshLaws.{ranges-are}
-use Rattle.runs.specs.Run.{Call, onOpen, onClose, onSlot, Event, Run, shown, letIn, call, freshRun, served}
+use Rattle.runs.specs.Run.{Call, onOpen, onClose, onSlot, Event, Run, letIn, call, freshRun, served}
 use Rattle.runs.specs.Leak.{openingOf}
 use Rattle.runs.specs.Seen.{Cell, cellUnder, noCell, ofVc, cellsIn, departuresIn, cellsOf, departuresOf, cellAt}
 use Rattle.runs.specs.Computed.{byComputation}

@@ -12,9 +12,9 @@ use mathlib.Core.Logic.{_≢_}
 use mathlib.Core.Bool.{Bool, true}
 use mathlib.Core.List.{List, [], _∷_}
 use lib.ListN.{length}
-use Rattle.meaning.specs.Plain.{if_then_else_, _=?_, _andThen_}
+use Rattle.meaning.specs.Plain.{_andThen_}
 use Rattle.meaning.specs.Numbers.{rangesHold, accepted, excess, empty}
-use Rattle.meaning.specs.State.{State, stateOf}
+use Rattle.meaning.specs.State.{stateOf}
 use Rattle.meaning.specs.Work.{Work, workOf, answerOf, bareAnswer}
 use Rattle.meaning.specs.Slot.{step1, step2, step3, step4, finish}
 use Rattle.runs.specs.Run.{Call, onOpen, onClose, onSlot, Event, ran, Run, runOf, shown, letIn, call, freshRun, served}

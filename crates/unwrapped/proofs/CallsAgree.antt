@@ -9,7 +9,7 @@ use borrow.Author.Tests.{leb-true, ltb-true, eqb-true, eqb-false, ne-eqb, not-fa
 use lib.ListN.{length}
 use Rattle.meaning.specs.declared.Record.{Record}
 use Rattle.meaning.specs.Plain.{_<?_, _≤?_, _=?_}
-use Rattle.meaning.specs.Numbers.{rangesHold}
+use Rattle.meaning.specs.Numbers.{rangesHold, wordsPerVc}
 use Rattle.meaning.specs.State.{State, wordsLong, withRecord, withWords, recordWith, withClock}
 use Rattle.meaning.specs.Bucket.{bucketOf, obeysRules, fall}
 use Rattle.meaning.specs.Words.{Vc, vcAt, writeVc, openedVc, closedVc, openWordFits, vcFits, debt}
@@ -34,14 +34,14 @@ unfolding vcFits openWordFits storedVc
 fits-stored N vc = refl
 
 -- refusals 1, 2, 4 and 3 read nothing that differs
-shared-stored : (u : State) (vci : ℕ) → length (u .words) ≡ 7 * u .ctl .v
+shared-stored : (u : State) (vci : ℕ) → length (u .words) ≡ wordsPerVc * u .ctl .v
     → sharedRefusal (storedState u .ctl) (storedState u .words) vci ≡ sharedRefusal (u .ctl) (u .words) vci
 unfolding sharedRefusal storedState withClock withRecord withWords recordWith wordsLong
 shared-stored u vci long =
     let r = u .ctl in
     if-both (λ (n : ℕ). n) (not (rangesHold (r .n) (r .v))) _ _ _ _ (λ _. refl)
     (λ _. rw (stored-length (r .v) (u .words))
-    (if-both (λ (n : ℕ). n) (not (length (u .words) =? 7 * r .v)) _ _ _ _ (λ _. refl)
+    (if-both (λ (n : ℕ). n) (not (length (u .words) =? wordsPerVc * r .v)) _ _ _ _ (λ _. refl)
     (λ _. if-both (λ (n : ℕ). n) (not (1 ≤? vci && vci <? r .v)) _ _ _ _ (λ _. refl)
     (λ e. let low = in-range (r .v) vci (not-false (1 ≤? vci && vci <? r .v) e) .1 in
     rw (stored-read (r .v) (u .words) vci low (omega arith), fits-stored (r .n) (vcAt (u .words) vci))))))

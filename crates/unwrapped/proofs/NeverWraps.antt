@@ -9,7 +9,7 @@ use native.Mathlib.Nat.{mod-eq-of-lt}
 use borrow.Author.Tests.{eq-eqb, not-false}
 use lib.ListN.{getD, replicate, length-replicate}
 use Rattle.meaning.specs.Plain.{if_then_else_, _=?_}
-use Rattle.meaning.specs.Numbers.{rangesHold, openPlace}
+use Rattle.meaning.specs.Numbers.{rangesHold, openPlace, wordsPerVc}
 use Rattle.meaning.specs.State.{State, lengthsHold, withRecord, withWords, recordWith, withClock}
 use Rattle.meaning.specs.Words.{Vc, vcAt, writeVc}
 use Rattle.meaning.specs.Calls.{Called, SetUp, freshRecord, freshState, setup}
@@ -51,7 +51,7 @@ fresh-words (suc z) k =
 -- after setup t is 2^32-1, which is what is stored of 0 slots served
 pub fresh-agrees : (N z : ℕ) (raw : Bool) → storedState (unwrappedFresh N z raw) ≡ freshState N z raw
 unfolding storedState unwrappedFresh freshState freshRecord withClock withRecord withWords recordWith zeros
-fresh-agrees N z raw = rw (stored-zero, fresh-words z (7 * z))
+fresh-agrees N z raw = rw (stored-zero, fresh-words z (wordsPerVc * z))
 
 pub fresh-kept : (N z : ℕ) (raw : Bool) → 2 ≤ z → Kept (unwrappedFresh N z raw)
 unfolding unwrappedFresh freshState freshRecord withClock withRecord recordWith vcAt zeros
@@ -59,8 +59,8 @@ fresh-kept N z raw h =
     record {
       turns = omega (arith, mod-eq-of-lt {n = 0 + z - 1} {m = z} (omega arith));
       recent = record {
-        long = length-replicate (7 * z) 0;
-        behind = λ vci a b o. absurd (o (zeros-at (7 * z) (openPlace vci)));
+        long = length-replicate (wordsPerVc * z) 0;
+        behind = λ vci a b o. absurd (o (zeros-at (wordsPerVc * z) (openPlace vci)));
       };
     }
 

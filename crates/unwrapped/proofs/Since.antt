@@ -8,6 +8,7 @@ use native.Mathlib.Nat.{mod-lt, mod-eq-of-lt, mod-self, mod-add-mod}
 use native.Mathlib.Decide.{decLt, decLe, ℕ-discrete}
 use borrow.Author.Tests.{le-leb, lt-leb}
 use lib.ListN.{length}
+use Rattle.meaning.specs.Numbers.{wordsPerVc}
 use Rattle.meaning.specs.Words.{Vc, vcAt, writeVc}
 use Rattle.meaning.proofs.WordsLaws.{write-length, write-read, write-read-other}
 use Rattle.unwrapped.specs.Kept.{since, Behind, Recent}
@@ -51,7 +52,7 @@ pub rotation-next : (z k : ℕ) → 1 ≤ z → ((k + z - 1) % z + 1) % z ≡ (k
 rotation-next z k h = mod-add-mod (k + z - 1) z 1 ∙ ap (λ (n : ℕ). n % z) (omega arith)
 
 -- one VC's words are written: it and the others are as near as they may be
-pub recent-write : (z k : ℕ) (most : ℕ → ℕ) (l : List ℕ) (v : ℕ) (vc : Vc) → v < z → length l ≡ 7 * z
+pub recent-write : (z k : ℕ) (most : ℕ → ℕ) (l : List ℕ) (v : ℕ) (vc : Vc) → v < z → length l ≡ wordsPerVc * z
     → ((u : ℕ) → 1 ≤ u → u < z → u ≢ v → Behind k (most u) (vcAt l u))
     → Behind k (most v) vc → Recent z k most (writeVc l v vc)
 recent-write z k most l v vc h long others b =

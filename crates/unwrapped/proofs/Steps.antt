@@ -8,7 +8,7 @@ use native.Mathlib.Omega.{arith}
 use borrow.Author.Tests.{ltb-true, leb-true, eqb-false, not-false}
 use lib.ListN.{length, getD}
 use Rattle.meaning.specs.Plain.{if_then_else_, _<?_, _≤?_, _=?_, Out, next, needs, _andThen_}
-use Rattle.meaning.specs.Numbers.{excess, accepted, unknown, openPlace, cellStart}
+use Rattle.meaning.specs.Numbers.{excess, accepted, unknown, openPlace, cellStart, wordsPerVc}
 use Rattle.meaning.specs.State.{withRecord, withCells, withLinks, withCalendar, withWords, recordWith}
 use Rattle.meaning.specs.State.{withClock, withFreeList, withOutputList, freeList, outputList}
 use Rattle.meaning.specs.Header.{Header, headerAt, noUserCell, namesVc, namesOpenVc}
@@ -44,7 +44,7 @@ up-stored N k vc o a b =
     (λ _. rw o (rw (elapsed-true k (vc .last) a b)))
 
 -- a VC's words are written
-pub vc-stored : (w : Work) (v : ℕ) (vc : Vc) → v < w .state .ctl .v → length (w .state .words) ≡ 7 * w .state .ctl .v
+pub vc-stored : (w : Work) (v : ℕ) (vc : Vc) → v < w .state .ctl .v → length (w .state .words) ≡ wordsPerVc * w .state .ctl .v
     → withVc (storedWork w) v (storedVc vc) ≡ storedWork (withVc w v vc)
 unfolding storedWork storedState withClock withRecord withWords recordWith
 vc-stored w v vc h long =
@@ -60,7 +60,7 @@ names-low z h p =
 
 -- what steps 2 and 3 do with a VC: nothing of their own (x) where it is closed, and f or g of it up to date where it is open
 at-stored : (w : Work) (v : ℕ) (x : Out Work) (f g : Vc → Out Work) → v < w .state .ctl .v
-    → length (w .state .words) ≡ 7 * w .state .ctl .v
+    → length (w .state .words) ≡ wordsPerVc * w .state .ctl .v
     → Behind (w .state .ctl .t) longest (vcAt (w .state .words) v)
     → ((vc : Vc) → f (storedVc vc) ≡ mapOut storedWork (g vc))
     → needs (openWordFits (vcAt (storedWords (w .state .ctl .v) (w .state .words)) v))
@@ -82,7 +82,7 @@ at-stored w v x f g low long near same =
     ∙ then-map storedVc storedWork (caughtUp (s .ctl .n) (s .ctl .t) vc) f g same)))
 
 -- "2. If the VC that rotation names is open, it is brought up to date"
-pub step2-stored : (w : Work) → w .state .ctl .rotation < w .state .ctl .v → length (w .state .words) ≡ 7 * w .state .ctl .v
+pub step2-stored : (w : Work) → w .state .ctl .rotation < w .state .ctl .v → length (w .state .words) ≡ wordsPerVc * w .state .ctl .v
     → ((vci : ℕ) → 1 ≤ vci → vci < w .state .ctl .v → Behind (w .state .ctl .t) longest (vcAt (w .state .words) vci))
     → step2 (storedWork w) ≡ mapOut storedWork (rotate w)
 unfolding step2 rotate storedWork storedState withClock withRecord withWords recordWith
@@ -103,7 +103,7 @@ place-stored cell D w taken =
     let s = w .state in
     needs-map storedWork (endsFit (s .ctl .n) (entryAt (s .calendar) ((s .ctl .turn + D) % s .ctl .n))) _ _ (λ _. refl)
 
-pub judge-stored : (cell : List ℕ) (v : ℕ) (w : Work) (vc : Vc) → v < w .state .ctl .v → length (w .state .words) ≡ 7 * w .state .ctl .v
+pub judge-stored : (cell : List ℕ) (v : ℕ) (w : Work) (vc : Vc) → v < w .state .ctl .v → length (w .state .words) ≡ wordsPerVc * w .state .ctl .v
     → judge cell v (storedWork w) (storedVc vc) ≡ mapOut storedWork (judge cell v w vc)
 unfolding judge accept storedWork storedState storedVc withClock withRecord withWords recordWith
 judge-stored cell v w vc h long =
@@ -118,7 +118,7 @@ judge-stored cell v w vc h long =
     (λ taken. ap (λ (w′ : Work). place cell D (withArrival w′ accepted v D) taken) (vc-stored w v filled h long)
     ∙ place-stored cell D (withArrival (withVc w v filled) accepted v D) taken))))
 
-pub step3-stored : (cell : List ℕ) (w : Work) → length (w .state .words) ≡ 7 * w .state .ctl .v
+pub step3-stored : (cell : List ℕ) (w : Work) → length (w .state .words) ≡ wordsPerVc * w .state .ctl .v
     → ((vci : ℕ) → 1 ≤ vci → vci < w .state .ctl .v → Behind (w .state .ctl .t) longest (vcAt (w .state .words) vci))
     → step3 cell (storedWork w) ≡ mapOut storedWork (arrive cell w)
 unfolding step3 arrive storedWork storedState withClock withRecord withWords recordWith
@@ -142,7 +142,7 @@ step4-stored w =
     (λ _. if-map storedWork (isEmpty entry) _ _ _ _ (λ _. refl) (λ _. refl))
 
 -- "5. The head of the Output List, if any, departs.": the departing header reads alike
-pub names-stored : (z : ℕ) (l : List ℕ) (h : Header) → length l ≡ 7 * z
+pub names-stored : (z : ℕ) (l : List ℕ) (h : Header) → length l ≡ wordsPerVc * z
     → namesOpenVc z (storedWords z l) h ≡ namesOpenVc z l h
 unfolding namesOpenVc
 names-stored z l h long = go (namesVc z h) refl
@@ -156,7 +156,7 @@ pub open-low : (z : ℕ) (l : List ℕ) (h : Header) → namesOpenVc z l h ≡ t
 unfolding namesOpenVc
 open-low z l h p = names-low z h (both-true (namesVc z h) (getD l (openPlace (h .vci)) 0 =? 1) p .0)
 
-pub depart-stored : (w : Work) (taken : Taken) → length (w .state .words) ≡ 7 * w .state .ctl .v
+pub depart-stored : (w : Work) (taken : Taken) → length (w .state .words) ≡ wordsPerVc * w .state .ctl .v
     → depart (storedWork w) taken ≡ mapOut storedWork (depart w taken)
 unfolding depart storedVc storedWork storedState withClock withRecord withWords recordWith withFreeList withOutputList withLinks
 depart-stored w taken long =
@@ -174,7 +174,7 @@ depart-stored w taken long =
     (λ _. ap (λ (w′ : Work). next (withDeparture w′ (taken .space) (h .vci)))
     (vc-stored (withState w s2) (h .vci) (withWaiting vc (vc .waiting - 1)) low long))))))
 
-pub step5-stored : (w : Work) → length (w .state .words) ≡ 7 * w .state .ctl .v
+pub step5-stored : (w : Work) → length (w .state .words) ≡ wordsPerVc * w .state .ctl .v
     → step5 (storedWork w) ≡ mapOut storedWork (step5 w)
 unfolding step5 storedWork storedState withClock withRecord withWords recordWith
 step5-stored w long =

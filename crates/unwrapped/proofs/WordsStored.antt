@@ -7,7 +7,7 @@ use native.Mathlib.Omega.{arith}
 use native.Mathlib.Decide.{ℕ-discrete}
 use lib.ListN.{length, getD}
 use lib.Seq.{ext-getD}
-use Rattle.meaning.specs.Numbers.{openPlace}
+use Rattle.meaning.specs.Numbers.{openPlace, wordsPerVc}
 use Rattle.meaning.specs.Words.{Vc, vcAt, writeVc}
 use Rattle.meaning.proofs.WordsLaws.{write-length, write-read, write-read-other}
 use Rattle.unwrapped.specs.Stored.{storedVc, storedWords}
@@ -16,7 +16,7 @@ use Rattle.unwrapped.specs.Stored.{storedVc, storedWords}
 word : ℕ → Vc → ℕ
 word k vc = getD (vc .opened ∷ vc .bucket .m ∷ vc .bucket .F ∷ vc .bucket .C ∷ vc .bucket .S ∷ vc .last ∷ vc .waiting ∷ []) k 0
 
-word-at : (l : List ℕ) (v k : ℕ) → k < 7 → getD l (7 * v + k) 0 ≡ word k (vcAt l v)
+word-at : (l : List ℕ) (v k : ℕ) → k < wordsPerVc → getD l (wordsPerVc * v + k) 0 ≡ word k (vcAt l v)
 unfolding word vcAt
 word-at l v zero h = refl
 word-at l v (suc zero) h = refl
@@ -27,19 +27,19 @@ word-at l v (suc (suc (suc (suc (suc zero))))) h = refl
 word-at l v (suc (suc (suc (suc (suc (suc zero)))))) h = refl
 word-at l v (suc (suc (suc (suc (suc (suc (suc k))))))) h = absurd (omega arith)
 
-pub words-same : (z : ℕ) (a b : List ℕ) → length a ≡ 7 * z → length b ≡ 7 * z
+pub words-same : (z : ℕ) (a b : List ℕ) → length a ≡ wordsPerVc * z → length b ≡ wordsPerVc * z
     → ((v : ℕ) → v < z → vcAt a v ≡ vcAt b v) → a ≡ b
 words-same z a b la lb same = ext-getD 0 a b (la ∙ sym lb) each
   where
     each : (j : ℕ) → j < length a → getD a j 0 ≡ getD b j 0
     each j h =
         ap (λ (n : ℕ). getD a n 0) split
-        ∙ word-at a (j / 7) (j % 7) (omega arith)
-        ∙ ap (word (j % 7)) (same (j / 7) (omega arith))
-        ∙ sym (word-at b (j / 7) (j % 7) (omega arith))
+        ∙ word-at a (j / wordsPerVc) (j % wordsPerVc) (omega arith)
+        ∙ ap (word (j % wordsPerVc)) (same (j / wordsPerVc) (omega arith))
+        ∙ sym (word-at b (j / wordsPerVc) (j % wordsPerVc) (omega arith))
         ∙ ap (λ (n : ℕ). getD b n 0) (sym split)
       where
-        split : j ≡ 7 * (j / 7) + j % 7
+        split : j ≡ wordsPerVc * (j / wordsPerVc) + j % wordsPerVc
         split = omega arith
 
 pub stored-length : (z : ℕ) (l : List ℕ) → length (storedWords z l) ≡ length l
@@ -47,7 +47,7 @@ unfolding storedWords
 stored-length zero l = refl
 stored-length (suc z) l = write-length (storedWords z l) z (storedVc (vcAt l z)) ∙ stored-length z l
 
-pub stored-read : (z : ℕ) (l : List ℕ) (v : ℕ) → v < z → 7 * z ≤ length l
+pub stored-read : (z : ℕ) (l : List ℕ) (v : ℕ) → v < z → wordsPerVc * z ≤ length l
     → vcAt (storedWords z l) v ≡ storedVc (vcAt l v)
 unfolding storedWords
 stored-read zero l v h long = absurd (omega arith)
@@ -59,7 +59,7 @@ stored-read (suc z) l v h long = go (ℕ-discrete v z) (λ b. stored-read z l v 
         rw e (write-read (storedWords z l) z (storedVc (vcAt l z)) (omega (arith, stored-length z l)))
     go (no ne) rest = write-read-other (storedWords z l) z (storedVc (vcAt l z)) v ne ∙ rest (omega arith)
 
-pub stored-write : (z : ℕ) (l : List ℕ) (v : ℕ) (vc : Vc) → v < z → length l ≡ 7 * z
+pub stored-write : (z : ℕ) (l : List ℕ) (v : ℕ) (vc : Vc) → v < z → length l ≡ wordsPerVc * z
     → storedWords z (writeVc l v vc) ≡ writeVc (storedWords z l) v (storedVc vc)
 stored-write z l v vc h long =
     words-same z _ _
@@ -80,7 +80,7 @@ stored-write z l v vc h long =
         ∙ sym (stored-read z l u b (omega arith))
         ∙ sym (write-read-other (storedWords z l) v (storedVc vc) u ne)
 
-pub opened-stored : (z : ℕ) (l : List ℕ) (v : ℕ) → v < z → 7 * z ≤ length l
+pub opened-stored : (z : ℕ) (l : List ℕ) (v : ℕ) → v < z → wordsPerVc * z ≤ length l
     → getD (storedWords z l) (openPlace v) 0 ≡ getD l (openPlace v) 0
 unfolding vcAt storedVc
 opened-stored z l v h long = ap (λ (vc : Vc). vc .opened) (stored-read z l v h long)
