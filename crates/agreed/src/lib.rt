@@ -1,0 +1,1 @@
+// No code: the engine of request (v) beside the policer, over runs.

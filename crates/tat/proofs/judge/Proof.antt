@@ -1,0 +1,74 @@
+-- `tat::judge` meets its contract: too early, or in time; how early it is comes back from the bits that hold it.
+-- Assumes nothing.
+use Prim.Native.Nat.{ℕ, _+_}
+use mathlib.Core.Path.{sym, ap, _∙_}
+use mathlib.Core.Bool.{true}
+use native.Mathlib.Omega.{arith}
+use lib.IntN.{ℤ, subℕ}
+use Rattle.tat.specs.declared.Tat.{Tat}
+use Rattle.tat.specs.Schedule.{tatOf, timedOf}
+use Rattle.tat.proofs.Cases.{back, too-early, in-time}
+use borrow.Author.Needs.{needs}
+use Rattle.tat.proofs.judge.Statement.{statement}
+use Rattle.tat.proofs.judge.Tie as tie
+
+early-by-requires : tie.Need-early-by-requires
+early-by-requires c κs = search needs
+
+later-of-requires : tie.Need-later-of-requires
+later-of-requires c κs = search needs
+
+add-next : tie.Need-add-next
+add-next c = search needs
+
+sub-before : tie.Need-sub-before
+sub-before c = search needs
+
+sub-tolerance : tie.Need-sub-tolerance
+sub-tolerance c = search needs
+
+cast-tolerance : tie.Need-cast-tolerance
+cast-tolerance c = search needs
+
+state-of-requires : tie.Need-state-of-requires
+state-of-requires c κs = search needs
+
+returns : tie.Need-returns
+returns c =
+    let a = c .before .before .before .before .args in
+    let p = c .before .before .before .before .pre in
+    let due = c .before .before .later-of .ensures in
+    ap (λ (z : ℤ). timedOf 0 2 z 0 (c .state-of .result))
+    (back _ (a .state .tat) (a .now) (c .before .before .before .early-by .ensures) (p .2) (p .1))
+    ∙ ap (λ (s : Tat). timedOf 0 2 (subℕ (a .state .tat) (a .now)) 0 s) (c .state-of .ensures)
+    ∙ sym (too-early (a .f) (a .c) (a .arrival) (a .now) (a .state .tat) (omega (arith, due, c .before .if1 .taken)))
+
+state-of-requires-2 : tie.Need-state-of-requires-2
+state-of-requires-2 c κs = search needs
+
+returns-2 : tie.Need-returns-2
+returns-2 c =
+    let a = c .before .before .before .before .args in
+    let p = c .before .before .before .before .pre in
+    let due = c .before .before .later-of .ensures in
+    ap (λ (z : ℤ). timedOf 0 1 z (c .before .before .later-of .result) (c .state-of2 .result))
+    (back _ (a .state .tat) (a .now) (c .before .before .before .early-by .ensures) (p .2) (p .1))
+    ∙ ap (λ (s : Tat). timedOf 0 1 (subℕ (a .state .tat) (a .now)) (c .before .before .later-of .result) s)
+    (c .state-of2 .ensures)
+    ∙ ap (λ (d : ℕ). timedOf 0 1 (subℕ (a .state .tat) (a .now)) d (tatOf (d + a .f) (a .arrival) true)) due
+    ∙ sym (in-time (a .f) (a .c) (a .arrival) (a .now) (a .state .tat) (omega (arith, due, c .before .if1 .left)))
+
+pub judge-spec : {M : Type 1} → statement M
+judge-spec =
+    tie.close
+    (tie.spec
+    early-by-requires
+    later-of-requires
+    add-next
+    sub-before
+    sub-tolerance
+    cast-tolerance
+    state-of-requires
+    returns
+    state-of-requires-2
+    returns-2)

@@ -1,0 +1,4 @@
+pub mod Schedule
+pub mod Asked
+pub mod Laws
+pub mod Tables
