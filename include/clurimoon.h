@@ -67,7 +67,8 @@ enum clurimoon_number {
   CLURIMOON_NOT_OPEN = 7,     /* close: not open */
   CLURIMOON_WAITING = 8,      /* close: a cell of it waits, or it has a debt: not yet */
   CLURIMOON_CELL_LENGTH = 9,  /* slot: cell length neither 0 nor 53 */
-  CLURIMOON_UNREADABLE = 10   /* trace: record unreadable */
+  CLURIMOON_UNREADABLE = 10,  /* trace: record unreadable */
+  CLURIMOON_NOT_AFTER = 12    /* time: arrival not after the previous one, or outside the run */
 };
 
 /* Verdicts on what arrived. */
@@ -149,6 +150,27 @@ typedef struct {
   uint16_t number;
   size_t done;
 } clurimoon_burst_end;
+
+/* What the generator's engine keeps between two cells of one connection, 24
+   octets: TAT, the theoretical arrival time of the next cell, in parts of 1/L slot;
+   the previous cell's slot, which doesn't wrap; and whether a cell came yet. All
+   zeros, and anything else whose `started` is false, is a connection before its
+   first cell: neither number is read then. */
+typedef struct {
+  uint64_t tat, arrival;
+  bool started;
+} clurimoon_tat;
+
+/* What the engine answers: refusal number; verdict (1 conforming, 2 nonconforming);
+   earliness, TAT less arrival, negative when late, and due time (0 when
+   nonconforming), both in parts of 1/L slot; and the state for the next cell. In a
+   refusal verdict, earliness and due time are 0, and the state is as it came. */
+typedef struct {
+  uint16_t number, verdict;
+  int64_t early;
+  uint64_t due;
+  clurimoon_tat tat;
+} clurimoon_timed;
 
 #ifdef __cplusplus
 extern "C" {
@@ -310,6 +332,33 @@ clurimoon_burst_end clurimoon_burst(clurimoon_record record,
                                     const uint8_t *sizes, size_t sizes_length,
                                     uint8_t *departures, size_t departures_length,
                                     uint16_t *answers, size_t answers_length);
+
+/*
+ * Judges one cell by the generator's own rule, virtual scheduling: a cell of a
+ * connection with L = 2^m, fill F and capacity C that arrives in slot `arrival`, at
+ * arrival * L in parts of 1/L slot. It needs no policer, reads no memory and writes
+ * none. The run has 2^32 slots, 0 to 4,294,967,295, which don't wrap.
+ *
+ * Refusals, in this order: 1 if n is not 1 to 1,024; 6 unless m is at most 15, F
+ * from L to 16,777,216, C at least F and floor((C-F)/L) at most n-1; 3 if the state
+ * is started and its TAT is 2^48 or more or its arrival 2^32 or more; 12 if the
+ * state is started and the arrival is not after its arrival, or the arrival is 2^32
+ * or more. From a state that is not started, where each call gets the state that
+ * the call before answered, 3 is never given.
+ *
+ * Done: the first cell is on time: it is expected when it arrives, earliness 0. Any
+ * later one is early by TAT less its arrival. It is nonconforming, verdict 2,
+ * exactly when it is early by more than C-F. A conforming one, verdict 1, is due at
+ * the later of its arrival and TAT, and TAT becomes its due time plus F; of a
+ * nonconforming one TAT stays. The arrival is stored for both.
+ *
+ * On a VC that clurimoon_open opened before the first slot with this m, F and C, in
+ * a policer with this N, and that nobody closes: called for each of its cells, with
+ * the slot that it arrives in, the verdict is that of clurimoon_slot, and of a
+ * conforming cell D is due / L, rounded down, less the arrival.
+ */
+clurimoon_timed clurimoon_time(clurimoon_tat state, uint16_t n, uint8_t m,
+                               uint32_t f, uint32_t c, uint64_t arrival);
 
 #ifdef __cplusplus
 }

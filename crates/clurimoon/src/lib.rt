@@ -6,12 +6,15 @@ ghost use Rattle.meaning.specs.Calls.{zeros};
 ghost use Rattle.meaning.specs.Promises.{setupPromise, openPromise, closePromise, slotPromise, AuditPromise};
 ghost use Rattle.meaning.specs.Lent.{before, after, setUpAfter, servedAfter};
 ghost use Rattle.burst.specs.Promise.{burstPromise};
+ghost use Rattle.tat.specs.Schedule.{timed};
 ghost use Rattle.clurimoon.specs.Places.{placePromise};
 use burst::BurstEnd;
 use line::Place;
 use meaning::Fresh;
 use meaning::Record;
 use meaning::Served;
+use tat::Tat;
+use tat::Timed;
 
 #[no_mangle]
 pub extern "C" fn clurimoon_setup(
@@ -109,4 +112,12 @@ pub extern "C" fn clurimoon_burst(
         departures,
         answers,
     )
+}
+
+// The generator's own rule: it stands beside the policer and needs none of its memory.
+#[no_mangle]
+pub extern "C" fn clurimoon_time(state: Tat, n: u16, m: u8, f: u32, c: u32, arrival: u64) -> Timed
+    ensures { λ r. ⌜ r ≡ timed state n m f c arrival ⌝ }
+{
+    tat::time(state, n, m, f, c, arrival)
 }
