@@ -60,6 +60,16 @@ static void structs(void) {
   LAID(clurimoon_burst_end, record, 0, 24);
   LAID(clurimoon_burst_end, number, 24, 2);
   LAID(clurimoon_burst_end, done, 24 + sizeof(size_t), sizeof(size_t));
+  CHECK(sizeof(clurimoon_tat) == 24);
+  LAID(clurimoon_tat, tat, 0, 8);
+  LAID(clurimoon_tat, arrival, 8, 8);
+  LAID(clurimoon_tat, started, 16, 1);
+  CHECK(sizeof(clurimoon_timed) == 48);
+  LAID(clurimoon_timed, number, 0, 2);
+  LAID(clurimoon_timed, verdict, 2, 2);
+  LAID(clurimoon_timed, early, 8, 8);
+  LAID(clurimoon_timed, due, 16, 8);
+  LAID(clurimoon_timed, tat, 24, 24);
 }
 
 static void macros(void) {
@@ -71,6 +81,7 @@ static void macros(void) {
   CHECK(CLURIMOON_DONE == 0 && CLURIMOON_RANGE == 1 && CLURIMOON_LENGTH == 2 && CLURIMOON_STORED == 3);
   CHECK(CLURIMOON_VCI == 4 && CLURIMOON_ALREADY_OPEN == 5 && CLURIMOON_RULES == 6 && CLURIMOON_NOT_OPEN == 7);
   CHECK(CLURIMOON_WAITING == 8 && CLURIMOON_CELL_LENGTH == 9 && CLURIMOON_UNREADABLE == 10);
+  CHECK(CLURIMOON_NOT_AFTER == 12);
   CHECK(CLURIMOON_NOTHING == 0 && CLURIMOON_ACCEPTED == 1 && CLURIMOON_EXCESS == 2 && CLURIMOON_UNKNOWN == 3);
   CHECK(CLURIMOON_DROPPED == 4 && CLURIMOON_CORRECTION == 0 && CLURIMOON_DETECTION == 1);
 }
@@ -499,6 +510,55 @@ static void bursts(void) {
   CHECK(e.number == CLURIMOON_LENGTH && e.done == 0 && same_record(e.record, r));
 }
 
+/* Source 003, Tables I and II: a cell every 120 slots, and how early each is. */
+static void engine_table(uint16_t n, uint32_t c, const char *conforming, const int *early) {
+  clurimoon_tat state = {0, 0, false};
+  int k;
+  for (k = 0; k < 10; ++k) {
+    clurimoon_timed t = clurimoon_time(state, n, 0, 125, c, (uint64_t)k * 120);
+    CHECK(t.number == CLURIMOON_DONE && t.early == early[k]);
+    CHECK(t.verdict == (conforming[k] == 'y' ? CLURIMOON_ACCEPTED : CLURIMOON_EXCESS));
+    CHECK(t.due == (conforming[k] != 'y' ? 0 : (uint64_t)(120 * k + (early[k] > 0 ? early[k] : 0))));
+    CHECK(t.tat.started && t.tat.arrival == (uint64_t)k * 120);
+    CHECK(t.tat.tat == (conforming[k] == 'y' ? t.due + 125 : state.tat));
+    state = t.tat;
+  }
+}
+
+/* A refusal gives the state back as it came, and zeros. */
+static int engine_refuses(clurimoon_tat s, uint16_t n, uint8_t m, uint32_t f, uint32_t c, uint64_t arrival,
+                          unsigned number) {
+  clurimoon_timed t = clurimoon_time(s, n, m, f, c, arrival);
+  return t.number == number && t.verdict == 0 && t.early == 0 && t.due == 0 && t.tat.tat == s.tat &&
+         t.tat.arrival == s.arrival && t.tat.started == s.started;
+}
+
+static void engine(void) {
+  static const int early_i[10] = {0, 5, -115, 5, -115, 5, -115, 5, -115, 5};
+  static const int early_ii[10] = {0, 5, 10, 15, -105, 5, 10, 15, -105, 5};
+  const uint64_t run = (uint64_t)1 << 32, far = (uint64_t)1 << 48;
+  clurimoon_tat s = {0, 0, true}, fresh = {0, 0, false};
+  clurimoon_timed t;
+  engine_table(1, 125, "ynynynynyn", early_i);
+  engine_table(12, 136, "yyynyyynyy", early_ii);
+  /* Each refusal with all that come after it. */
+  s.tat = far, s.arrival = run;
+  CHECK(engine_refuses(s, 0, 16, 0, 0, run, CLURIMOON_RANGE) && engine_refuses(s, 1025, 2, 10, 26, 5, CLURIMOON_RANGE));
+  CHECK(engine_refuses(s, 5, 16, 65536, 65536, run, CLURIMOON_RULES) && engine_refuses(s, 5, 2, 10, 30, run, CLURIMOON_RULES));
+  CHECK(engine_refuses(s, 5, 2, 10, 26, run, CLURIMOON_STORED));
+  s.tat = far - 1;
+  CHECK(engine_refuses(s, 5, 2, 10, 26, 5, CLURIMOON_STORED));
+  s.tat = 10, s.arrival = 7;
+  CHECK(engine_refuses(s, 5, 2, 10, 26, 7, CLURIMOON_NOT_AFTER) && engine_refuses(s, 5, 2, 10, 26, 6, CLURIMOON_NOT_AFTER));
+  CHECK(engine_refuses(s, 5, 2, 10, 26, run, CLURIMOON_NOT_AFTER) && engine_refuses(fresh, 5, 2, 10, 26, run, CLURIMOON_NOT_AFTER));
+  t = clurimoon_time(s, 5, 2, 10, 26, 8);
+  CHECK(t.number == CLURIMOON_DONE && t.verdict == CLURIMOON_ACCEPTED && t.early == -22 && t.due == 32 && t.tat.tat == 42);
+  /* Before the first cell no stored number is read. */
+  fresh.tat = far, fresh.arrival = run;
+  t = clurimoon_time(fresh, 5, 2, 10, 26, 4);
+  CHECK(t.number == CLURIMOON_DONE && t.early == 0 && t.due == 16 && t.tat.tat == 26 && t.tat.arrival == 4);
+}
+
 int main(void) {
   unsigned bit;
   structs();
@@ -518,6 +578,7 @@ int main(void) {
   line_parts();
   nulls();
   bursts();
+  engine();
   if (failures == 0)
     printf("caller (%s): %lu checks hold\n",
 #ifdef __cplusplus

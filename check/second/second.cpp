@@ -225,6 +225,7 @@ std::string Spacer::arrive(const Header &cell) {
 std::string Spacer::arrive_open(Opening &vc, unsigned vci) {
   const uint64_t leak = uint64_t{1} << vc.m, arrival = now * leak;
   const uint64_t due_time = std::max(arrival, vc.next_due);
+  meet_engine(vc, due_time, due_time - arrival > vc.c - vc.f);
   // The exact leak rule: what is still owed may be at most C-F.
   if (due_time - arrival > vc.c - vc.f) {
     excess += 1;
@@ -241,6 +242,15 @@ std::string Spacer::arrive_open(Opening &vc, unsigned vci) {
   if (spaces > 1 && due_slot - now == spaces - 1) met("A: D is N-1");
   if (due[due_slot].size() > 1) met("A: joins others");
   return met("A"), "A " + text(vci) + " " + text(due_slot - now);
+}
+
+// Virtual scheduling says of each cell what the leak rule says, with the same due time.
+void Spacer::meet_engine(Opening &vc, uint64_t due_time, bool is_excess) {
+  const Told told = gcra(vc.engine, {spaces, vc.m, vc.f, vc.c}, now);
+  vc.engine = told.kept;
+  if (told.number != 0 || told.verdict != (is_excess ? 2u : 1u) || told.due != (is_excess ? 0 : due_time))
+    return met("FALSE: the generator's rule says otherwise");
+  met(told.early > 0 ? is_excess ? "rule: nonconforming" : "rule: conforming, early" : "rule: conforming, late or on time");
 }
 
 // "The first due time is at least the last due time of the old opening plus its F",

@@ -10,6 +10,7 @@
 #include <string>
 #include <vector>
 
+#include "gcra.hpp"
 #include "hec.hpp"
 
 namespace second {
@@ -35,6 +36,7 @@ private:
     uint64_t f = 0, c = 0;
     uint64_t next_due = 0; // the last accepted cell's due time plus F, or 0
     uint64_t waiting = 0;
+    Kept engine; // the generator's rule beside it, from its first cell on
   };
   // A VC's last opening that accepted a cell and is closed, to hold the next against.
   struct Past {
@@ -74,6 +76,7 @@ private:
   void meet_check(const Header &came, bool correcting, bool taken, char verdict);
   std::string arrive(const Header &);
   std::string arrive_open(Opening &, unsigned vci);
+  void meet_engine(Opening &, uint64_t due_time, bool is_excess);
   bool within_rules(uint64_t m, uint64_t f, uint64_t c);
   void stop(size_t place, const char *why);
 };
