@@ -1,0 +1,9 @@
+pub mod CountLaws
+pub mod SpacedLaws
+pub mod CellLaws
+pub mod OpeningLaws
+pub mod AcceptedLaws
+pub mod EveryLaws
+pub mod BoundLaws
+pub mod LineLaws
+pub mod Top
