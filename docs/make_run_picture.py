@@ -1,8 +1,9 @@
 #!/usr/bin/env python3
-"""The numbers of PLANNERS.md: the picture of the eight slots, the delays at usual line rates, and the worked example.
+"""The numbers of PLANNERS.md: the picture of the eight slots, the delays at usual line rates, and the worked example; of the
+burst behind the policer a picture, two tables and a worked example.
 
 Computed from due times and queues alone, by the few lines below, not by the library.
-  python3 docs/make_run_picture.py           print the three blocks
+  python3 docs/make_run_picture.py           print the blocks
   python3 docs/make_run_picture.py --check   exit 1 unless PLANNERS.md holds them word for word
 """
 import math
@@ -41,12 +42,12 @@ def run(spaces, vcs, arrivals):
     return cells, slot
 
 
-def picture():
+def drawn(cells, slots, wide=5, first=0, only=None):
     """One line a slot number, one a cell: a arrives, - waits for its due slot d, = waits for the line, * leaves."""
-    cells, slots = run(5, {40: (2, 10, 26), 41: (2, 4, 4)}, [40, 40, 40, 40, 40, 41, 0, 0])
-    wide = 5
-    lines = ["slot           " + "".join(f"{t:<{wide}}" for t in range(slots))]
+    lines = ["slot           " + "".join(f"{t:<{wide}}" for t in range(first, slots))]
     for vci, arrives, verdict, due, leaves in cells:
+        if only not in (None, vci):
+            continue
         row = [" "] * (wide * slots)
         if verdict == "X":
             row[wide * arrives] = "x"
@@ -56,10 +57,15 @@ def picture():
             row[wide * due : wide * leaves] = ["="] * (wide * (leaves - due))
             row[wide * arrives], row[wide * due], row[wide * leaves] = "a", "d", "*"
             note = f"D {due - arrives}, late {leaves - due}"
-        lines.append(f"cell of VC {vci}  " + "".join(row) + note)
+        lines.append(f"{f'cell of VC {vci}':<15}" + "".join(row[wide * first :]) + note)
     sent = {leaves: vci for vci, _, _, _, leaves in cells if leaves is not None}
-    lines.append("leaves         " + "".join(f"{sent.get(t, '.')!s:<{wide}}" for t in range(slots)))
+    lines.append("leaves         " + "".join(f"{sent.get(t, '.')!s:<{wide}}" for t in range(first, slots)))
     return "\n".join(line.rstrip() for line in lines)
+
+
+def picture():
+    cells, slots = run(5, {40: (2, 10, 26), 41: (2, 4, 4)}, [40, 40, 40, 40, 40, 41, 0, 0])
+    return drawn(cells, slots)
 
 
 def at_most(micros):
@@ -96,8 +102,67 @@ def example():
     )
 
 
+def burst(spaces, f, parts, w):
+    """The most cells of one connection that leave in w slots."""
+    return min(w, 1 + ((w + spaces - 1) * parts - 1) // f)
+
+
+def burst_picture():
+    """N 5: VCs 2 to 6 have a cell each due in slot 9; VC 1, with one cell in 2.5 slots, sends from slot 10 on."""
+    spaces, f, parts = 5, 10, 4
+    vcs = {1: (2, f, 13), 2: (0, 9, 13), 3: (0, 8, 11), 4: (0, 7, 9), 5: (0, 6, 7), 6: (0, 1, 1)}
+    arrivals = [2, 3, 4, 5, 0, 2, 3, 4, 5, 6] + [0] * 13
+    for j in range(6):
+        arrivals[10 + j * f // parts] = 1
+    cells, slots = run(spaces, vcs, arrivals)
+    left = [cell[4] for cell in cells if cell[0] == 1]
+    for w in (1, 2, 3, 4, 10):
+        assert sum(14 <= slot < 14 + w for slot in left) == burst(spaces, f, parts, w), "the run does not meet the bound"
+    return drawn(cells, slots, wide=4, first=9, only=1)
+
+
+def burst_table():
+    """By N and by F/L: 2.5, 18.6875 (the worked example), 100."""
+    rates = [(10, 4), (299, 16), (100, 1)]
+    columns = [(spaces, f, parts) for spaces in (22, 76) for f, parts in rates]
+    rows = ["| w, slots | " + " | ".join(f"N {n}, one in {f / parts:g}" for n, f, parts in columns) + " |"]
+    rows.append("|---" * (len(columns) + 1) + "|")
+    for w in (1, 5, 10, 50, 100, 1_000, 10_000):
+        rows.append(f"| {w:,} | " + " | ".join(f"{burst(*column, w):,}" for column in columns) + " |")
+    return "\n".join(rows)
+
+
+def buffer(spaces, connections, period):
+    """The most cells that stand in a queue which one cell leaves in `period` slots: over all w, what came in w slots less
+    what had left by then. Beyond 100,000 slots it only falls, since the connections' rates are below the queue's."""
+    return max(min(w, sum(burst(spaces, f, parts, w) for f, parts in connections)) - w // period for w in range(1, 100_000))
+
+
+def buffer_table():
+    rows = ["| connections of one cell in 18.6875 slots | N 22 | N 76 |", "|---|---|---|"]
+    for many in (1, 2, 4):
+        rows.append(f"| {many} | " + " | ".join(f"{buffer(n, [(299, 16)] * many, 4)} cells" for n in (22, 76)) + " |")
+    return "\n".join(rows)
+
+
+def burst_example():
+    """The VC of the worked example, at N 76."""
+    spaces, f, parts = 76, 299, 16
+    close = max(w for w in range(1, 1_000) if burst(spaces, f, parts, w) == w)
+    second = math.ceil(149_760_000 / 424)
+    return "\n".join(
+        [
+            f"L = {parts}, F = {f}, N = {spaces}: 1 + floor(((w + 75) × 16 - 1) / 299), and never more than w",
+            f"back to back: {close} cells in {close} slots, and {burst(spaces, f, parts, close + 1)} in {close + 1}",
+            f"in 100 slots: 1 + floor(2799 / 299) = {burst(spaces, f, parts, 100)}; its rate alone would be {math.ceil(100 * parts / f)}",
+            f"in a second ({second:,} slots): {burst(spaces, f, parts, second):,}; its rate alone would be {math.ceil(second * parts / f):,}",
+        ]
+    )
+
+
 def main():
     blocks = [f"```\n{picture()}\n```", delays(76), f"```\n{example()}\n```"]
+    blocks += [f"```\n{burst_picture()}\n```", burst_table(), f"```\n{burst_example()}\n```", buffer_table()]
     if "--check" not in sys.argv[1:]:
         print("\n\n".join(blocks))
         return 0
