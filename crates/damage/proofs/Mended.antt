@@ -12,6 +12,7 @@ use Rattle.mend.specs.Salvage.{Reading, none, upTo, readsTo, stepOf, stepAt, Pi
 use Rattle.mend.specs.Salvage.{Salvage, refused, mended, salvageOf, salvageFront, salvage, writtenOf}
 use Rattle.damage.specs.Promises.{Records, Readable, packed, Damaged}
 use Rattle.mend.proofs.Shape.{Shape, reads-shape, shape-reads, shape-moved, kind-long}
+use Rattle.mend.proofs.Pieces.{written-append}
 use Rattle.mend.proofs.Walk.{Walks, step-on}
 use Rattle.damage.proofs.Theorems.{walk-walks, readable-whole, first-kept, rest-kept}
 
@@ -34,13 +35,6 @@ records-written s p e (skips q l ∷ ps) h = absurd h
 
 pub readable-written : (s : List ℕ) (ps : List Piece) → Records s 0 ps (length s) → writtenOf s ps ≡ s
 readable-written s ps h = records-written s 0 (length s) ps h .1 ∙ take-all (length s - 0) s (omega arith)
-
-written-append : (s : List ℕ) (xs ys : List Piece) → writtenOf s (xs ++ ys) ≡ writtenOf s xs ++ writtenOf s ys
-written-append s [] ys = refl
-written-append s (keeps p l ∷ xs) ys =
-    ap (λ (x : List ℕ). take l (drop p s) ++ x) (written-append s xs ys)
-    ∙ sym (append-assoc (take l (drop p s)) (writtenOf s xs) (writtenOf s ys))
-written-append s (skips p l ∷ xs) ys = written-append s xs ys
 
 -- ---- S4 in octets: of the damaged trace exactly a and b are written
 

@@ -1,3 +1,4 @@
 pub mod Shape
 pub mod Walk
 pub mod Cases
+pub mod Pieces

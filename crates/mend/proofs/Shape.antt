@@ -108,6 +108,15 @@ kind-long (sl z m n q) = omega arith
 kind-long (vo z m q) = omega arith
 kind-long (vx z m q) = omega arith
 
+-- a cell's record is the longest
+pub kind-short : {m n p e : ℕ} → Kind m n p e → e ≤ p + longCA
+kind-short (gm z m q) = omega arith
+kind-short (gr z m q) = omega arith
+kind-short (ca z m q) = omega arith
+kind-short (sl z m n q) = omega arith
+kind-short (vo z m q) = omega arith
+kind-short (vx z m q) = omega arith
+
 kind-mark : {m n p e : ℕ} → Kind m n p e → isMark m ≡ true
 unfolding isMark
 kind-mark {m} (gm z h q) = rw h

@@ -1,0 +1,3 @@
+pub mod Parts
+pub mod FillLaws
+pub mod PieceLaws

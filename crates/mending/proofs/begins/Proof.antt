@@ -1,0 +1,30 @@
+use borrow.Author.Needs.{needs}
+-- `mending::begins`: the reader's answer at the start tells. Assumes nothing.
+use mathlib.Core.Path.{sym, ap}
+use borrow.Author.Needs.{needs}
+use Rattle.mend.proofs.Cases.{answer-none}
+use Rattle.mending.specs.Fill.{begun}
+use Rattle.mending.proofs.PieceLaws.{read-begun}
+use Rattle.mending.proofs.begins.Statement.{statement}
+use Rattle.mending.proofs.begins.Tie as tie
+use Rattle.mending.proofs.begins.Reads as reads
+use Rattle.mending.proofs.begins.Lts as lts
+use Rattle.trace.proofs.event_at.Reads as event-at-reads
+
+-- src/lib.rt:135:9
+event-at-requires : tie.Need-event-at-requires
+event-at-requires c κs = search needs
+
+enum-told : tie.Need-enum-told
+enum-told c = search needs
+
+-- src/lib.rt:137:9
+returns : tie.Need-returns
+returns c = sym (ap begun (answer-none _ _ (c .before .event-at .result) (c .before .event-at .ensures) (c .match .keys2)))
+
+-- src/lib.rt:132:1
+returns-2 : tie.Need-returns-2
+returns-2 c = read-begun _ _ (c .before .before .event-at .result) (c .before .before .event-at .ensures) (c .before .match .keys1)
+
+pub begins-spec : {M : Type 1} → statement M
+begins-spec = tie.close (tie.spec event-at-requires enum-told returns returns-2)

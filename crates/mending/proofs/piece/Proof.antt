@@ -1,0 +1,76 @@
+use borrow.Author.Needs.{needs}
+-- `mending::piece` puts a record or a line, and leaves the other buffer as it is. Assumes nothing.
+use Prim.Native.Nat.{ℕ, _+_, _-_, _≤_, _<_}
+use mathlib.Core.Path.{_≡_, refl, sym, ap, _∙_}
+use native.Mathlib.Omega.{arith}
+use borrow.Author.Needs.{needs}
+use lib.ListN.{length}
+use Rattle.lines.proofs.Puts.{put-is, put-none}
+use Rattle.mend.proofs.Pieces.{kept-within}
+use Rattle.mending.proofs.Parts.{part-long}
+use Rattle.mending.proofs.PieceLaws.{kept-writes, kept-lists, skip-writes, skip-lists, leads-on}
+use Rattle.mending.proofs.piece.Statement.{statement}
+use Rattle.mending.proofs.piece.Tie as tie
+use Rattle.mending.proofs.piece.Reads as reads
+use Rattle.mending.proofs.piece.Lts as lts
+use Rattle.mending.proofs.part.Reads as part-reads
+use Rattle.mending.proofs.stretch_line.Reads as stretch-line-reads
+
+-- src/lib.rt:97:13
+part-requires : tie.Need-part-requires
+part-requires c κs =
+    let a = c .before .before .before .before .before in
+    let k = kept-within (a .args .trace .now) (a .args .total) (a .args .at) (a .args .s) (a .pre .0 .0) (c .before .if1 .taken) in
+    (k .0, k .1, omega (arith, k .0, k .2, a .pre .1 .0))
+
+-- src/lib.rt:98:9
+same-length : tie.Need-same-length
+same-length c = search needs
+
+-- src/lib.rt:98:9
+returns : tie.Need-returns
+returns c =
+    let a = c .before .before .before .before .before .before .before .before in
+    let y = c .before .before .before .before .if1 .taken in
+    let k = kept-within (a .args .trace .now) (a .args .total) (a .args .at) (a .args .s) (a .pre .0 .0) y in
+    let f = c .before .before .part in
+    let m = part-long (a .args .trace .now) (a .args .at) (a .args .s .next) (k .0) (k .1) in (
+      put-is (kept-writes (a .args .at) (a .args .s) (a .args .trace .now) y) (f .ensures),
+      (put-is (kept-lists (a .args .at) (a .args .s) y) (put-none _ _), (omega (arith, f .ensures .next, m, k .2), omega arith)),
+    )
+
+-- src/lib.rt:100:46
+sub-stretch-line : tie.Need-sub-stretch-line
+sub-stretch-line c =
+    let a = c .before .before .before .before .before .before in
+    omega (arith, leads-on (a .args .at) (a .args .s) (a .args .trace .now) (a .args .total) (a .pre .0 .0) (a .pre .0 .1))
+
+-- src/lib.rt:100:9
+stretch-line-requires : tie.Need-stretch-line-requires
+stretch-line-requires c κs = search needs
+
+-- src/lib.rt:80:1
+same-length-2 : tie.Need-same-length-2
+same-length-2 c = search needs
+
+-- src/lib.rt:80:1
+returns-2 : tie.Need-returns-2
+returns-2 c =
+    let a = c .before .before .before .before .before .before .before .before .before in
+    let y = c .before .before .before .before .before .if1 .left in
+    let f = c .before .before .stretch-line in (
+      put-is (skip-writes (a .args .at) (a .args .s) (a .args .trace .now) y) (put-none _ _),
+      (put-is (skip-lists (a .args .at) (a .args .s) y) (f .ensures .0), (omega arith, f .ensures .1)),
+    )
+
+pub piece-spec : {M : Type 1} → statement M
+piece-spec =
+    tie.close
+    (tie.spec
+    part-requires
+    same-length
+    returns
+    sub-stretch-line
+    stretch-line-requires
+    same-length-2
+    returns-2)

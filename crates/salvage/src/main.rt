@@ -1,0 +1,13 @@
+// salvage: a damaged trace on standard input, the mended one on standard output, and on standard error a line `FIRST LENGTH`
+// for each stretch that was skipped; `stop 17` alone where the input doesn't begin with a readable GM or GR.
+//
+// 524,288 octets are kept; what lies beyond is read and counted, as part of the last stretch. A read that fails ends the
+// program with nothing written; a write that fails ends it there.
+fn main() {
+    let mut input = [0u8; 524288];
+    let long = io::read_full(0, &mut input);
+    let counted = rescue::count_on(0, long);
+    if counted.good {
+        rescue::mend(1, 2, &input[..long], counted.total);
+    }
+}
