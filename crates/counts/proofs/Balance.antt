@@ -10,7 +10,7 @@ use borrow.Author.Tests.{ltb-true, ltb-false}
 use lib.Dec.{eqb, ltb}
 use lib.ListN.{length}
 use Rattle.meaning.specs.Plain.{if_then_else_, Out, refused, next, needs, _andThen_}
-use Rattle.meaning.specs.Numbers.{empty}
+use Rattle.meaning.specs.Numbers.{empty, wordsPerVc}
 use Rattle.meaning.specs.Words.{Vc, vcAt, writeVc}
 use Rattle.meaning.specs.Work.{Work, bareAnswer}
 use Rattle.meaning.proofs.WordsLaws.{write-length, write-read, write-read-other}
@@ -56,7 +56,7 @@ module _ (z base : ℕ) where
 
   -- words of VCs below z, of which so many cells wait
   pub record Words (words : List ℕ) (many : ℕ) : Type 0 where
-    pub long : length words ≡ 7 * z
+    pub long : length words ≡ wordsPerVc * z
     pub sum : sumWaiting z words ≡ many
     pub closed : Closed words
 
@@ -82,7 +82,7 @@ module _ (z base : ℕ) where
   pub write-words : (l : List ℕ) (many v k : ℕ) (vc : Vc) → Words l many → v < z → vc .opened ≢ 0
       → k + vcAt l v .waiting ≡ many + vc .waiting → Words (writeVc l v vc) k
   write-words l many v k vc w low open-word e =
-      let inside : 7 * v + 7 ≤ length l = omega (arith, w .long, low) in
+      let inside : wordsPerVc * v + wordsPerVc ≤ length l = omega (arith, w .long, low) in
       record {
         long = write-length l v vc ∙ w .long;
         sum = omega (arith, e, w .sum, sum-after l v vc inside z low);

@@ -46,7 +46,7 @@ module _ (s : State) (h : List Answer) (vci : ℕ) (vc : Vc) (b : Balanced s h) 
   written-balanced : Balanced (withWords s (writeVc (s .words) vci vc)) h
   unfolding withWords
   written-balanced =
-      let inside : 7 * vci + 7 ≤ length (s .words) = omega (arith, long, low) in
+      let inside : wordsPerVc * vci + wordsPerVc ≤ length (s .words) = omega (arith, long, low) in
       record {
         even = omega (arith, b .even, same, sum-after (s .words) vci vc inside (s .ctl .v) low);
         closed = λ u l o.

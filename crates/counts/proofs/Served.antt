@@ -110,10 +110,10 @@ module _ (z base : ℕ) where
 
 -- ---- the slot
 
-lengths-words : (N z : ℕ) (cells links calendar words : List ℕ) → lengthsHold N z cells links calendar words ≡ true → length words ≡ 7 * z
+lengths-words : (N z : ℕ) (cells links calendar words : List ℕ) → lengthsHold N z cells links calendar words ≡ true → length words ≡ wordsPerVc * z
 unfolding lengthsHold wordsLong
 lengths-words N z cells links calendar words l =
-    eqb-true (length words) (7 * z)
+    eqb-true (length words) (wordsPerVc * z)
     (both (length cells =? octets * N && length links =? N && length calendar =? perEntry * N) (length words =? wordsPerVc * z) l .1)
 
 one-more : (test : Answer → Bool) (a : Answer) (h : List Answer) → manyOf test (a ∷ h) ≡ manyOf test h + one (test a)

@@ -9,6 +9,7 @@ use native.Mathlib.Omega.{arith}
 use borrow.Author.Tests.{eqb-true, eqb-false}
 use lib.Dec.{eqb}
 use lib.ListN.{length}
+use Rattle.meaning.specs.Numbers.{wordsPerVc}
 use Rattle.meaning.specs.Words.{Vc, vcAt, writeVc}
 use Rattle.meaning.proofs.WordsLaws.{write-read, write-read-other}
 use Rattle.counts.specs.Waiting.{sumWaiting}
@@ -26,7 +27,7 @@ module _ (words : List ℕ) (v : ℕ) (vc : Vc) where
       let e : vcAt (writeVc words v vc) k .waiting ≡ vcAt words k .waiting = ap (λ (x : Vc). x .waiting) (write-read-other words v vc k (λ q. omega arith)) in
       omega (arith, e, sum-before k (omega arith))
 
-  module _ (inside : 7 * v + 7 ≤ length words) where
+  module _ (inside : wordsPerVc * v + wordsPerVc ≤ length words) where
     -- from v on, the sum has lost what waited and gained what waits
     pub sum-after : (k : ℕ) → v < k → sumWaiting k (writeVc words v vc) + vcAt words v .waiting ≡ sumWaiting k words + vc .waiting
     unfolding sumWaiting

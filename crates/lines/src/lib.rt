@@ -211,15 +211,24 @@ pub fn setup_line(out: &mut [u8], at: usize, n: u16, v: u16, answer: u16) -> usi
     number(out, c, answer as u32, 10)
 }
 
+// A word, a VCI and a number: the line of an opening or of a closing.
+fn vci_line(out: &mut [u8], at: usize, word: &[u8], vci: u16, answer: u16) -> usize
+    requires { ⌜ (length (now word) ≤ 6) × (at + 64 ≤ length (now out)) ⌝ }
+    ensures { λ r. ⌜ Put (now (out .entry)) at ((now (word .entry) ++ (decimalOf vci ++ (32 ∷ []))) ++ (decimalOf answer ++ (10 ∷ []))) (now (out .exit)) r ⌝ }
+    ensures { λ r. ⌜ r ≤ at + 64 ⌝ }
+{
+    let a = text(out, at, word);
+    let b = number(out, a, vci as u32, 32);
+    number(out, b, answer as u32, 10)
+}
+
 // `open VCI number`
 pub fn open_line(out: &mut [u8], at: usize, vci: u16, answer: u16) -> usize
     requires { ⌜ at + 64 ≤ length (now out) ⌝ }
     ensures { λ r. ⌜ Put (now (out .entry)) at (openLine vci answer) (now (out .exit)) r ⌝ }
     ensures { λ r. ⌜ r ≤ at + 64 ⌝ }
 {
-    let a = text(out, at, b"open ");
-    let b = number(out, a, vci as u32, 32);
-    number(out, b, answer as u32, 10)
+    vci_line(out, at, b"open ", vci, answer)
 }
 
 // `close VCI number`
@@ -228,9 +237,7 @@ pub fn close_line(out: &mut [u8], at: usize, vci: u16, answer: u16) -> usize
     ensures { λ r. ⌜ Put (now (out .entry)) at (closeLine vci answer) (now (out .exit)) r ⌝ }
     ensures { λ r. ⌜ r ≤ at + 64 ⌝ }
 {
-    let a = text(out, at, b"close ");
-    let b = number(out, a, vci as u32, 32);
-    number(out, b, answer as u32, 10)
+    vci_line(out, at, b"close ", vci, answer)
 }
 
 // `stop 10 place`

@@ -3,8 +3,7 @@
 --   TraceRecord          == a record, by its mark, with its numbers in document 01's order
 --   Stands               == what stands at a place: a record and the next place, the end, or a refusal with its place
 --   standsAt trace at    == what stands at place at of a trace
---   saidOf r             == document 01's values of the reader's answer r, by case
---   numberOf x           == document 01's number of it
+--   saidOf r             == document 01's number and values of the reader's answer r, by case
 use Prim.Native.Nat.{ℕ, _+_, _*_}
 use mathlib.Core.Bool.{Bool, true, false, _&&_}
 use mathlib.Core.List.{List}
@@ -140,9 +139,3 @@ abbrev pub saidOf : Found → Stands
 saidOf (Read e next) = event (recordOf e) next
 saidOf End = finish
 saidOf (Unreadable place) = unreadable place
-
--- "0: done" but for a refusal
-abbrev pub numberOf : Stands → ℕ
-numberOf (event r next) = 0
-numberOf finish = 0
-numberOf (refusal number place) = number

@@ -195,7 +195,7 @@ pub fn event_at(trace: &[u8], at: usize) -> Found
     let long = trace.len();
     if at == long {
         // an empty trace has no first record
-        if at == 0 {
+        if long == 0 {
             return Found::Unreadable { place: at };
         }
         return Found::End;

@@ -1,43 +1,22 @@
--- `lines::close_line` puts the line of a closing: the word, then two numbers.
--- Assumes nothing.
+-- `lines::close_line` puts the line of a closing, by `vci_line`.
 use borrow.Author.Needs.{needs}
 use native.Mathlib.Omega.{arith}
 use Rattle.lines.proofs.Words.{close-words}
-use Rattle.lines.proofs.Puts.{put-is, put-then}
+use Rattle.lines.proofs.Puts.{put-is}
 use Rattle.lines.proofs.close_line.Statement.{statement}
 use Rattle.lines.proofs.close_line.Tie as tie
 
-slice-aggregate-text : tie.Need-slice-aggregate-text
-slice-aggregate-text c = search needs
+slice-aggregate-vci-line : tie.Need-slice-aggregate-vci-line
+slice-aggregate-vci-line c = search needs
 
-text-requires : tie.Need-text-requires
-text-requires c κs = search needs
-
-number-requires : tie.Need-number-requires
-number-requires c κs = search needs
-
-number-requires-2 : tie.Need-number-requires-2
-number-requires-2 c κs = search needs
+vci-line-requires : tie.Need-vci-line-requires
+vci-line-requires c κs = search needs
 
 same-length : tie.Need-same-length
 same-length c = search needs
 
 returns : tie.Need-returns
-returns c =
-    let n2 = c .before .before in
-    let n1 = n2 .before .before .before .before in
-    let t = n1 .before .before .before .before in (
-      put-is (close-words _ _) (put-then (put-then (t .text .ensures) (n1 .number .ensures .0)) (n2 .number2 .ensures .0)),
-      omega (arith, t .text .ensures .next, n1 .number .ensures .1, n2 .number2 .ensures .1),
-    )
+returns c = (put-is (close-words _ _) (c .before .before .vci-line .ensures .0), search needs)
 
 pub close-line-spec : {M : Type 1} → statement M
-close-line-spec =
-    tie.close
-    (tie.spec
-    slice-aggregate-text
-    text-requires
-    number-requires
-    number-requires-2
-    same-length
-    returns)
+close-line-spec = tie.close (tie.spec slice-aggregate-vci-line vci-line-requires same-length returns)

@@ -1,0 +1,30 @@
+-- `lines::vci_line` puts a word, then two numbers, each behind the one before.
+use borrow.Author.Needs.{needs}
+use native.Mathlib.Omega.{arith}
+use Rattle.lines.proofs.Puts.{put-then}
+use Rattle.lines.proofs.vci_line.Statement.{statement}
+use Rattle.lines.proofs.vci_line.Tie as tie
+
+text-requires : tie.Need-text-requires
+text-requires c κs = search needs
+
+number-requires : tie.Need-number-requires
+number-requires c κs = search needs
+
+number-requires-2 : tie.Need-number-requires-2
+number-requires-2 c κs = search needs
+
+same-length : tie.Need-same-length
+same-length c = search needs
+
+returns : tie.Need-returns
+returns c =
+    let n2 = c .before .before in
+    let n1 = n2 .before .before .before .before in
+    let t = n1 .before .before .before .before in (
+      put-then (put-then (t .text .ensures) (n1 .number .ensures .0)) (n2 .number2 .ensures .0),
+      omega (arith, t .text .ensures .next, n1 .number .ensures .1, n2 .number2 .ensures .1),
+    )
+
+pub vci-line-spec : {M : Type 1} → statement M
+vci-line-spec = tie.close (tie.spec text-requires number-requires number-requires-2 same-length returns)
