@@ -46,6 +46,7 @@ end-one p q st xs h = go (st .kept)
   where
     same : q + (st .next - q) ≡ st .next
     same = omega (arith, h)
+
     go : (b : Bool) → endOf p ((if b then keeps q (st .next - q) else skips q (st .next - q)) ∷ xs) ≡ endOf (st .next) xs
     go true = ap (λ (k : ℕ). endOf k xs) same
     go false = ap (λ (k : ℕ). endOf k xs) same

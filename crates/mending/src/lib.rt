@@ -95,7 +95,10 @@ fn piece(
 {
     if s.kept {
         let end = part(out, written, trace, at, s.next);
-        return Places { written: end, listed };
+        return Places {
+            written: end,
+            listed,
+        };
     }
     let end = stretch_line(text, listed, at, s.next - at);
     Places {

@@ -5,7 +5,7 @@ use mathlib.Core.Path.{_≡_, refl, sym, ap, subst, _∙_}
 use mathlib.Core.Bool.{Bool, true, false, not, _&&_}
 use mathlib.Core.List.{List, [], _∷_, _++_, append-nil, append-assoc}
 use lib.ListN.{length, take}
-use borrow.Author.Tests.{ltb-true, lt-ltb, le-ltb}
+use borrow.Author.Tests.{ltb-true, lt-ltb, le-ltb, le-leb, lt-leb}
 use native.Mathlib.Omega.{arith}
 use Rattle.meaning.specs.Plain.{if_then_else_, _<?_, _≤?_, _=?_}
 use Rattle.lines.proofs.Puts.{put-front}
@@ -16,7 +16,7 @@ use Rattle.mending.specs.declared.Filled.{Filled}
 use Rattle.mending.specs.Lines.{linesOf}
 use Rattle.mending.specs.Fill.{recordRoom, lineRoom, fillFrom, fillOf, endOf, Took, begun, refuses, FillPromise}
 use Rattle.mending.proofs.FillLaws.{and-first, and-last, lines-append, end-one, one-more}
-use Rattle.rescue.specs.Handed.{Fills, noFill, thenFill, Handed}
+use Rattle.rescue.specs.Handed.{Fills, noFill, thenFill, Handed, mends, MendPromise}
 
 module _ (s : List ℕ) (n : ℕ) where
   walk-fuel : (k j p : ℕ) → n - p ≤ k → n - p ≤ j → walkFrom s n k p ≡ walkFrom s n j p
@@ -53,8 +53,10 @@ module _ (s : List ℕ) (n : ℕ) where
     where
       ys : List Piece
       ys = fillFrom s n k (stepAt s n p .next) (a - length (writtenOf s (pieceOf p (stepAt s n p) ∷ []))) (b - length (linesOf (pieceOf p (stepAt s n p) ∷ [])))
+
       P : List Piece → Type 0
       P zs = walkFrom s n (suc k) p ≡ zs ++ to (endOf p zs)
+
       go : (t : Bool) → p <? n && (recordRoom ≤? a && lineRoom ≤? b) ≡ t
           → (p < stepAt s n p .next → walkFrom s n k (stepAt s n p .next) ≡ ys ++ to (endOf (stepAt s n p .next) ys))
           → P (if t then pieceOf p (stepAt s n p) ∷ ys else [])
@@ -75,6 +77,7 @@ module _ (s : List ℕ) (n : ℕ) where
     where
       ys : List Piece
       ys = fillFrom s n k (stepAt s n p .next) (a - length (writtenOf s (pieceOf p (stepAt s n p) ∷ []))) (b - length (linesOf (pieceOf p (stepAt s n p) ∷ [])))
+
       go : (t : Bool) → p <? n && (recordRoom ≤? a && lineRoom ≤? b) ≡ t → stepAt s n p .next ≤ endOf (stepAt s n p .next) ys
           → p ≤ endOf p (if t then pieceOf p (stepAt s n p) ∷ ys else [])
       go true e more =
@@ -171,3 +174,36 @@ module _ (s : List ℕ) (n : ℕ) where
         all = λ e. absurd (let y : _≡_ {A = ℕ} 0 1 = cc in omega arith);
         some = λ _. h;
       }
+
+  -- ---- whether it is mended
+
+  pub not-mended : (out text : List ℕ) {r : Bool} → mends s out text ≡ false → MendPromise s n out text r out text
+  not-mended out text h =
+      record {
+        handed = λ e. absurd (let x : false ≡ true = sym h ∙ e in let y : _≡_ {A = ℕ} 0 1 = cc in omega arith);
+        kept = λ _. (refl, refl);
+      }
+
+  pub is-mended : {out text out′ text′ : List ℕ} {r : Bool} → mends s out text ≡ true → Handed s n out text r out′ text′
+      → MendPromise s n out text r out′ text′
+  is-mended h f =
+      record {
+        handed = λ _. f;
+        kept = λ e. absurd (let x : true ≡ false = sym h ∙ e in let y : _≡_ {A = ℕ} 0 1 = cc in omega arith);
+      }
+
+module _ (s out text : List ℕ) where
+  pub mends-17 : begun (readsTo s 0) ≡ false → mends s out text ≡ false
+  mends-17 h = ap (λ (b : Bool). b && (recordRoom ≤? length out && lineRoom ≤? length text)) h
+
+  pub mends-short : length out < recordRoom → mends s out text ≡ false
+  mends-short h = and-last (begun (readsTo s 0)) (ap (λ (b : Bool). b && lineRoom ≤? length text) (lt-leb recordRoom (length out) h))
+
+  pub mends-narrow : length text < lineRoom → mends s out text ≡ false
+  mends-narrow h = and-last (begun (readsTo s 0)) (and-last (recordRoom ≤? length out) (lt-leb lineRoom (length text) h))
+
+  pub mends-all : begun (readsTo s 0) ≡ true → recordRoom ≤ length out → lineRoom ≤ length text → mends s out text ≡ true
+  mends-all h a b =
+      ap (λ (x : Bool). x && (recordRoom ≤? length out && lineRoom ≤? length text)) h
+      ∙ ap (λ (x : Bool). x && lineRoom ≤? length text) (le-leb recordRoom (length out) a)
+      ∙ le-leb lineRoom (length text) b

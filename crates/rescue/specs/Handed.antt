@@ -3,13 +3,14 @@
 -- buffers. Which octets then were written is outside every contract.
 use Prim.Native.Nat.{ℕ, _≤_, _<_}
 use mathlib.Core.Path.{_≡_}
-use mathlib.Core.Bool.{Bool, true, false}
+use mathlib.Core.Bool.{Bool, true, false, _&&_}
 use mathlib.Core.List.{List, [], _++_}
-use lib.ListN.{take}
-use Rattle.mend.specs.Salvage.{walk, writtenOf}
+use lib.ListN.{length, take}
+use Rattle.meaning.specs.Plain.{_≤?_}
+use Rattle.mend.specs.Salvage.{readsTo, walk, writtenOf}
 use Rattle.mending.specs.declared.Filled.{Filled}
 use Rattle.mending.specs.Lines.{linesOf}
-use Rattle.mending.specs.Fill.{FillPromise}
+use Rattle.mending.specs.Fill.{recordRoom, lineRoom, begun, FillPromise}
 
 -- w and l are what the fills put, one after the other; a primed name is what a buffer holds afterwards
 pub data Fills (trace : List ℕ) (n : ℕ) (out text : List ℕ) : (w l : List ℕ) (at : ℕ) (out′ text′ : List ℕ) → Type 0 where
@@ -27,3 +28,12 @@ pub record Handed (trace : List ℕ) (n : ℕ) (out text : List ℕ) (r : Bool) 
   pub fills : Fills trace n out text w l at out′ text′
   pub all : r ≡ true → (n ≤ at) × (w ≡ writtenOf trace (walk trace n)) × (l ≡ linesOf (walk trace n))
   pub some : r ≡ false → 0 < at
+
+-- the input is mended: it begins with a record, and both buffers have room for any piece
+abbrev pub mends : List ℕ → List ℕ → List ℕ → Bool
+mends trace out text = begun (readsTo trace 0) && (recordRoom ≤? length out && lineRoom ≤? length text)
+
+-- otherwise, 17 among it, both buffers keep every octet
+pub record MendPromise (trace : List ℕ) (n : ℕ) (out text : List ℕ) (r : Bool) (out′ text′ : List ℕ) : Type 0 where
+  pub handed : mends trace out text ≡ true → Handed trace n out text r out′ text′
+  pub kept : mends trace out text ≡ false → (out′ ≡ out) × (text′ ≡ text)

@@ -6,7 +6,12 @@ ghost use Prim.Native.Nat.{_≤_};
 ghost use lib.ListN.{length};
 ghost use Rattle.mend.specs.Salvage.{readsTo};
 ghost use Rattle.mending.specs.Fill.{recordRoom, lineRoom, begun};
-ghost use Rattle.rescue.specs.Handed.{Handed};
+ghost use Rattle.rescue.specs.Handed.{Handed, MendPromise};
+
+// As `mending` has them: the longest record, the longest line.
+const RECORD_ROOM: usize = 55;
+
+const LINE_ROOM: usize = 42;
 
 // Fills both buffers and writes them out, until the input's end is reached, or until a write fails.
 fn hand_over(
@@ -37,14 +42,28 @@ fn hand_over(
     true
 }
 
-// Mends an input of `total` octets, of which `trace` is all or the front, and answers whether all of it was written.
-pub fn mend(mended: i32, list: i32, trace: &[u8], total: usize) -> bool {
+// Mends an input of `total` octets, of which `trace` is all or the front, by way of two lent buffers, and answers whether
+// all of it was written. Buffers that a record or a line might not fit are not used, and nothing is written.
+pub fn mend(
+    mended: i32,
+    list: i32,
+    trace: &[u8],
+    total: usize,
+    out: &mut [u8],
+    text: &mut [u8],
+) -> bool
+    ensures { λ r. ⌜ MendPromise (now (trace .entry)) total (now (out .entry)) (now (text .entry)) r (now (out .exit)) (now (text .exit)) ⌝ }
+{
     if !mending::begins(trace) {
         return io::write_all(list, b"stop 17\n");
     }
-    let mut out = [0u8; 65536];
-    let mut text = [0u8; 65536];
-    hand_over(mended, list, trace, total, &mut out, &mut text)
+    if out.len() < RECORD_ROOM {
+        return false;
+    }
+    if text.len() < LINE_ROOM {
+        return false;
+    }
+    hand_over(mended, list, trace, total, out, text)
 }
 
 // An input counted to its end; not good where a read failed.

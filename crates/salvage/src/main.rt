@@ -8,6 +8,8 @@ fn main() {
     let long = io::read_full(0, &mut input);
     let counted = rescue::count_on(0, long);
     if counted.good {
-        rescue::mend(1, 2, &input[..long], counted.total);
+        let mut out = [0u8; 65536];
+        let mut text = [0u8; 65536];
+        rescue::mend(1, 2, &input[..long], counted.total, &mut out, &mut text);
     }
 }

@@ -1,14 +1,20 @@
--- `rescue::mend` lends buffers with room for any piece, once the trace is seen to begin with a record. Assumes nothing.
+-- `rescue::mend`: where the trace doesn't begin with a record, or a buffer is too short, both buffers stay as they are; else
+-- `hand_over` does what it promises. Assumes nothing.
 use mathlib.Core.Path.{_≡_, refl, sym, _∙_}
 use mathlib.Core.Bool.{Bool, true, false, not}
 use native.Mathlib.Omega.{arith}
 use borrow.Author.Needs.{needs}
+use Rattle.rescue.proofs.Whole.{not-mended, is-mended, mends-17, mends-short, mends-narrow, mends-all}
 use Rattle.rescue.proofs.mend.Statement.{statement}
 use Rattle.rescue.proofs.mend.Tie as tie
 
 over : (b : Bool) → not b ≡ false → b ≡ true
 over true e = refl
 over false e = sym e
+
+off : (b : Bool) → not b ≡ true → b ≡ false
+off true e = sym e
+off false e = refl
 
 begins-requires : tie.Need-begins-requires
 begins-requires c κs = search needs
@@ -20,19 +26,35 @@ write-all-requires : tie.Need-write-all-requires
 write-all-requires c κs = search needs
 
 returns : tie.Need-returns
-returns c = search needs
-
-slice-aggregate-hand-over : tie.Need-slice-aggregate-hand-over
-slice-aggregate-hand-over c = search needs
-
-slice-aggregate-hand-over-2 : tie.Need-slice-aggregate-hand-over-2
-slice-aggregate-hand-over-2 c = search needs
-
-hand-over-requires : tie.Need-hand-over-requires
-hand-over-requires c κs = (sym (c .before .before .before .begins .ensures) ∙ over _ (c .before .before .if1 .left), (search needs, search needs))
+returns c =
+    let a = c .before .before .before .before .before .before .before .args in
+    not-mended _ _ _ _ (mends-17 (a .trace .now) (a .out .now) (a .text .now) (sym (c .before .before .before .begins .ensures) ∙ off _ (c .before .before .if1 .taken)))
 
 returns-2 : tie.Need-returns-2
-returns-2 c = search needs
+returns-2 c =
+    let a = c .before .before .before .before .before .before .args in
+    not-mended _ _ _ _ (mends-short (a .trace .now) (a .out .now) (a .text .now) (c .if2 .taken))
+
+returns-3 : tie.Need-returns-3
+returns-3 c =
+    let a = c .before .before .before .before .before .before .before .args in
+    not-mended _ _ _ _ (mends-narrow (a .trace .now) (a .out .now) (a .text .now) (c .if3 .taken))
+
+hand-over-requires : tie.Need-hand-over-requires
+hand-over-requires c κs = (sym (c .before .before .before .before .before .begins .ensures) ∙ over _ (c .before .before .before .before .if1 .left), (c .before .before .before .if2 .left, c .before .before .if3 .left))
+
+same-length : tie.Need-same-length
+same-length c = search needs
+
+same-length-2 : tie.Need-same-length-2
+same-length-2 c = search needs
+
+returns-4 : tie.Need-returns-4
+returns-4 c =
+    let a = c .before .before .before .before .before .before .before .before .before .before .before .before .before .before .args in
+    is-mended _ _
+    (mends-all (a .trace .now) (a .out .now) (a .text .now) (sym (c .before .before .before .before .before .before .before .before .before .before .begins .ensures) ∙ over _ (c .before .before .before .before .before .before .before .before .before .if1 .left)) (c .before .before .before .before .before .before .before .before .if2 .left) (c .before .before .before .before .before .before .before .if3 .left))
+    (c .before .before .before .before .hand-over .ensures)
 
 pub mend-spec : {M : Type 1} → statement M
 mend-spec =
@@ -42,7 +64,9 @@ mend-spec =
     slice-aggregate-write-all
     write-all-requires
     returns
-    slice-aggregate-hand-over
-    slice-aggregate-hand-over-2
+    returns-2
+    returns-3
     hand-over-requires
-    returns-2)
+    same-length
+    same-length-2
+    returns-4)
