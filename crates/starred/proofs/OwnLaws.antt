@@ -21,7 +21,7 @@ use Rattle.runs.specs.Computed.{byComputation}
 use Rattle.queues.proofs.OrderLaws.{ofVc-append}
 use Rattle.promises.specs.Demand3.{Demand3}
 use Rattle.starred.specs.ShutOut.{Policer}
-use Rattle.starred.specs.Own.{callBy, callsBy, OnEvents, Meets3, SendsNothing, AcceptsNothing, ServesOn, Stores, keeper, discarder}
+use Rattle.starred.specs.Own.{callBy, callsBy, OnEvents, Meets3, SendsNothing, AcceptsNothing, ServesOn, Stores, keeper, swallower, discarder}
 
 -- they are demand 3's clauses
 pub on-events : (N z : ℕ) (h : List Event) (s : State) → Demand3 N z h s → OnEvents N h
@@ -175,6 +175,16 @@ pub keeper-breaks : (raw : Bool) → Meets3 raw keeper → ⊥
 unfolding byComputation callsBy callBy
 keeper-breaks true meets = omega (arith, meets 5 2 five-allowed kept .leaves 1 0 (lit< tt) (lit< tt))
 keeper-breaks false meets = omega (arith, meets 5 2 five-allowed kept .leaves 1 0 (lit< tt) (lit< tt))
+
+-- ── one that meets all that the law asks for: so it speaks of some ──
+swallows : (raw : Bool) → Stores raw swallower
+unfolding byComputation callsBy callBy
+swallows true = record { N = 5; z = 2; allowed = five-allowed; before = onSlot clean ∷ []; vci = 1; stored = lit< tt }
+swallows false = record { N = 5; z = 2; allowed = five-allowed; before = onSlot clean ∷ []; vci = 1; stored = lit< tt }
+
+pub swallower-breaks : (raw : Bool) → Meets3 raw swallower → ⊥
+swallower-breaks raw =
+    never-sends-breaks raw swallower (swallows raw) (λ N z e cs. refl) (λ N z e cs cell. refl)
 
 -- ── discarding everything ──
 pub discards-meets : (raw : Bool) (f : Policer) → AcceptsNothing raw f → SendsNothing raw f → Meets3 raw f

@@ -5,6 +5,7 @@
 --   OnEvents N h     == the clauses of demand 3 that speak of the events alone, as they stand in promises/specs/Demand3
 --   Meets3 raw f     == they hold of each of its own runs from a fresh state
 --   keeper           == a policer that stores and never sends: steps 1 to 4, and never 5
+--   swallower        == one that accepts every cell and keeps none
 --   discarder        == a policer that finds every cell excess
 use Prim.Native.Nat.{ℕ, _+_, _-_, _≤_, _<_}
 use mathlib.Core.Path.{_≡_}
@@ -12,8 +13,8 @@ use mathlib.Core.Logic.{_≢_}
 use mathlib.Core.Bool.{Bool, true}
 use mathlib.Core.List.{List, [], _∷_}
 use lib.ListN.{length}
-use Rattle.meaning.specs.Plain.{_andThen_}
-use Rattle.meaning.specs.Numbers.{rangesHold, accepted, excess, empty}
+use Rattle.meaning.specs.Plain.{if_then_else_, _=?_, _andThen_}
+use Rattle.meaning.specs.Numbers.{rangesHold, nothing, accepted, excess, empty}
 use Rattle.meaning.specs.State.{stateOf}
 use Rattle.meaning.specs.Work.{Work, workOf, answerOf, bareAnswer}
 use Rattle.meaning.specs.Slot.{step1, step2, step3, step4, finish}
@@ -80,7 +81,7 @@ pub record Stores (raw : Bool) (f : Policer) : Type 0 where
   pub vci : ℕ
   pub stored : 0 < length (cellsOf vci (callsBy f (freshRun N z raw) before .events))
 
--- ── two such policers ──
+-- ── three such policers ──
 abbrev given : Work → Given
 given w =
     record {
@@ -93,6 +94,9 @@ given w =
 
 abbrev pub keeper : Policer
 keeper s cell = given (finish s (step1 (workOf s (bareAnswer 0)) andThen step2 andThen step3 cell andThen step4))
+
+abbrev pub swallower : Policer
+swallower s cell = given (workOf s (answerOf 0 (if length cell =? 0 then nothing else accepted) 1 0 empty 0))
 
 abbrev pub discarder : Policer
 discarder s cell = given (workOf s (answerOf 0 excess 0 0 empty 0))
