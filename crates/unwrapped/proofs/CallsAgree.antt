@@ -128,7 +128,7 @@ kept-write u vci vc low kept b =
     }
 
 pub open-keeps : (u : State) (vci m F C : ℕ) → Kept u → Kept (withWords u (unwrappedOpen (u .ctl) (u .words) vci m F C .words))
-unfolding unwrappedOpen openedVc withWords
+unfolding openCall unwrappedOpen openedVc withWords
 open-keeps u vci m F C kept =
     let r = u .ctl in
     let k = sharedRefusal r (u .words) vci in

@@ -1,3 +1,4 @@
+pub mod Instances
 pub mod Wrap
 pub mod WordsStored
 pub mod Outs

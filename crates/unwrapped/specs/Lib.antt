@@ -1,4 +1,5 @@
 pub mod Stored
+pub mod Clocked
 pub mod Unwrapped
 pub mod Kept
 pub mod UnwrappedRun
