@@ -12,18 +12,6 @@ use borrow.Author.Needs.{needs}
 use Rattle.accept.proofs.accept.Statement.{statement}
 use Rattle.accept.proofs.accept.Tie as tie
 
-seat-for-requires : tie.Need-seat-for-requires
-seat-for-requires c κs = search needs
-
-refuse-requires : tie.Need-refuse-requires
-refuse-requires c κs = search needs
-
-same-length : tie.Need-same-length
-same-length c = search needs
-
-same-length-2 : tie.Need-same-length-2
-same-length-2 c = search needs
-
 returns : tie.Need-returns
 returns c =
     let test = c .before in
@@ -35,15 +23,6 @@ returns c =
     (seating-none (a .k) (a .j) (now (a .cell)) (now (a .cells)) (now (a .links)) (now (a .calendar))
     (rotated (a .k) (a .b) (now (a .words))) (pre .0 .n-high) (pre .0 .turn-low) (pre .1 .near) (seat .seat-for .result)
     (seat .seat-for .ensures) (not-true _ (test .if1 .taken)))
-
-refuse-requires-2 : tie.Need-refuse-requires-2
-refuse-requires-2 c κs = search needs
-
-same-length-3 : tie.Need-same-length-3
-same-length-3 c = search needs
-
-same-length-4 : tie.Need-same-length-4
-same-length-4 c = search needs
 
 returns-2 : tie.Need-returns-2
 returns-2 c =
@@ -59,15 +38,6 @@ returns-2 c =
     (not-false _ (test .if1 .left))
     (tail-left _ _ _ (pre .0 .n-high) (output .if2 .taken) (tail .if3 .taken))
 
-refuse-requires-3 : tie.Need-refuse-requires-3
-refuse-requires-3 c κs = search needs
-
-same-length-5 : tie.Need-same-length-5
-same-length-5 c = search needs
-
-same-length-6 : tie.Need-same-length-6
-same-length-6 c = search needs
-
 returns-3 : tie.Need-returns-3
 returns-3 c =
     let head = c .before in
@@ -81,15 +51,6 @@ returns-3 c =
     (now (a .calendar)) (now (a .words)) _ (c .refuse3 .ensures) (pre .0) (pre .1) (seat .seat-for .ensures)
     (not-false _ (test .if1 .left))
     (head-high _ _ _ (output .if2 .left) (head .if4 .taken))
-
-refuse-requires-4 : tie.Need-refuse-requires-4
-refuse-requires-4 c κs = search needs
-
-same-length-7 : tie.Need-same-length-7
-same-length-7 c = search needs
-
-same-length-8 : tie.Need-same-length-8
-same-length-8 c = search needs
 
 returns-4 : tie.Need-returns-4
 returns-4 c =
@@ -129,18 +90,6 @@ accept-seated-requires c κs =
       ),
     )
 
-same-length-9 : tie.Need-same-length-9
-same-length-9 c = search needs
-
-same-length-10 : tie.Need-same-length-10
-same-length-10 c = search needs
-
-same-length-11 : tie.Need-same-length-11
-same-length-11 c = search needs
-
-same-length-12 : tie.Need-same-length-12
-same-length-12 c = search needs
-
 returns-5 : tie.Need-returns-5
 returns-5 c =
     let case = c .before .before .before .before .before .before .before .before in
@@ -159,26 +108,26 @@ pub accept-spec : {M : Type 1} → statement M
 accept-spec =
     tie.close
     (tie.spec
-    seat-for-requires
-    refuse-requires
-    same-length
-    same-length-2
+    (λ c κs. search needs)
+    (λ c κs. search needs)
+    (λ c. search needs)
+    (λ c. search needs)
     returns
-    refuse-requires-2
-    same-length-3
-    same-length-4
+    (λ c κs. search needs)
+    (λ c. search needs)
+    (λ c. search needs)
     returns-2
-    refuse-requires-3
-    same-length-5
-    same-length-6
+    (λ c κs. search needs)
+    (λ c. search needs)
+    (λ c. search needs)
     returns-3
-    refuse-requires-4
-    same-length-7
-    same-length-8
+    (λ c κs. search needs)
+    (λ c. search needs)
+    (λ c. search needs)
     returns-4
     accept-seated-requires
-    same-length-9
-    same-length-10
-    same-length-11
-    same-length-12
+    (λ c. search needs)
+    (λ c. search needs)
+    (λ c. search needs)
+    (λ c. search needs)
     returns-5)

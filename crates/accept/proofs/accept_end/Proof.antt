@@ -12,9 +12,6 @@ use borrow.Author.Needs.{needs}
 use Rattle.accept.proofs.accept_end.Statement.{statement}
 use Rattle.accept.proofs.accept_end.Tie as tie
 
-store-requires : tie.Need-store-requires
-store-requires c κs = search needs
-
 put-less-requires : tie.Need-put-less-requires
 put-less-requires c κs =
     let at-store = c .before .before .before .before .before .before .before .before .before in
@@ -24,12 +21,6 @@ put-less-requires c κs =
       read-same _ _ _ (at-store .store .ensures .1 .1 .1)
           (pre .1 .1 .1 .1 .1),
     )
-
-clear-entry-requires : tie.Need-clear-entry-requires
-clear-entry-requires c κs = search needs
-
-seated-requires : tie.Need-seated-requires
-seated-requires c κs = search needs
 
 links-leave-requires : tie.Need-links-leave-requires
 links-leave-requires c κs =
@@ -45,9 +36,6 @@ links-leave-requires c κs =
       λ e. let h = pre .1 .1 .1 .0 e in omega (arith, h, f .0, long, kept),
       λ e. let h = seated-tail (a .k) (a .a) _ taken (pre .1 .1 .0) e in omega (arith, h, long, kept),
     )
-
-left-requires : tie.Need-left-requires
-left-requires c κs = search needs
 
 same-length : tie.Need-same-length
 same-length c =
@@ -94,12 +82,12 @@ pub accept-end-spec : {M : Type 1} → statement M
 accept-end-spec =
     tie.close
     (tie.spec
-    store-requires
+    (λ c κs. search needs)
     put-less-requires
-    clear-entry-requires
-    seated-requires
+    (λ c κs. search needs)
+    (λ c κs. search needs)
     links-leave-requires
-    left-requires
+    (λ c κs. search needs)
     same-length
     same-length-2
     same-length-3

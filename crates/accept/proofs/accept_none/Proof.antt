@@ -7,24 +7,6 @@ use borrow.Author.Needs.{needs}
 use Rattle.accept.proofs.accept_none.Statement.{statement}
 use Rattle.accept.proofs.accept_none.Tie as tie
 
-store-requires : tie.Need-store-requires
-store-requires c κs = search needs
-
-seated-requires : tie.Need-seated-requires
-seated-requires c κs = search needs
-
-same-length : tie.Need-same-length
-same-length c = search needs
-
-same-length-2 : tie.Need-same-length-2
-same-length-2 c = search needs
-
-same-length-3 : tie.Need-same-length-3
-same-length-3 c = search needs
-
-same-length-4 : tie.Need-same-length-4
-same-length-4 c = search needs
-
 returns : tie.Need-returns
 returns c =
     let at-store = c .before .before .before .before .before .before .before .before .before in
@@ -38,10 +20,10 @@ pub accept-none-spec : {M : Type 1} → statement M
 accept-none-spec =
     tie.close
     (tie.spec
-    store-requires
-    seated-requires
-    same-length
-    same-length-2
-    same-length-3
-    same-length-4
+    (λ c κs. search needs)
+    (λ c κs. search needs)
+    (λ c. search needs)
+    (λ c. search needs)
+    (λ c. search needs)
+    (λ c. search needs)
     returns)

@@ -9,18 +9,6 @@ use borrow.Author.Needs.{needs}
 use Rattle.accept.proofs.accept_seated.Statement.{statement}
 use Rattle.accept.proofs.accept_seated.Tie as tie
 
-head-joined-requires : tie.Need-head-joined-requires
-head-joined-requires c κs = search needs
-
-tail-joined-requires : tie.Need-tail-joined-requires
-tail-joined-requires c κs = search needs
-
-refuse-requires : tie.Need-refuse-requires
-refuse-requires c κs = search needs
-
-same-length : tie.Need-same-length
-same-length c = search needs
-
 returns : tie.Need-returns
 returns c =
     let tail = c .before in
@@ -55,27 +43,6 @@ accept-unmarked-requires c κs =
       ),
     )
 
-same-length-2 : tie.Need-same-length-2
-same-length-2 c = search needs
-
-same-length-3 : tie.Need-same-length-3
-same-length-3 c = search needs
-
-same-length-4 : tie.Need-same-length-4
-same-length-4 c = search needs
-
-same-length-5 : tie.Need-same-length-5
-same-length-5 c = search needs
-
-returns-2 : tie.Need-returns-2
-returns-2 c = search needs
-
-refuse-requires-2 : tie.Need-refuse-requires-2
-refuse-requires-2 c κs = search needs
-
-same-length-6 : tie.Need-same-length-6
-same-length-6 c = search needs
-
 returns-3 : tie.Need-returns-3
 returns-3 c =
     let head = c .before in
@@ -88,12 +55,6 @@ returns-3 c =
     (now (a .words)) _ (c .refuse2 .ensures) (first .head-joined .result) (last .tail-joined .result)
     (first .head-joined .ensures) (last .tail-joined .ensures)
     (head-high _ _ _ (marked .if1 .left) (head .if3 .taken))
-
-refuse-requires-3 : tie.Need-refuse-requires-3
-refuse-requires-3 c κs = search needs
-
-same-length-7 : tie.Need-same-length-7
-same-length-7 c = search needs
 
 returns-4 : tie.Need-returns-4
 returns-4 c =
@@ -116,18 +77,6 @@ accept-marked-requires c κs =
     let pre = start .pre in
     (pre .0, (pre .1 .0, (pre .1 .1 .0, (head .if3 .left, pre .1 .1 .1))))
 
-same-length-8 : tie.Need-same-length-8
-same-length-8 c = search needs
-
-same-length-9 : tie.Need-same-length-9
-same-length-9 c = search needs
-
-same-length-10 : tie.Need-same-length-10
-same-length-10 c = search needs
-
-same-length-11 : tie.Need-same-length-11
-same-length-11 c = search needs
-
 returns-5 : tie.Need-returns-5
 returns-5 c =
     let case = c .before .before .before .before .before .before .before .before in
@@ -148,26 +97,26 @@ pub accept-seated-spec : {M : Type 1} → statement M
 accept-seated-spec =
     tie.close
     (tie.spec
-    head-joined-requires
-    tail-joined-requires
-    refuse-requires
-    same-length
+    (λ c κs. search needs)
+    (λ c κs. search needs)
+    (λ c κs. search needs)
+    (λ c. search needs)
     returns
     accept-unmarked-requires
-    same-length-2
-    same-length-3
-    same-length-4
-    same-length-5
-    returns-2
-    refuse-requires-2
-    same-length-6
+    (λ c. search needs)
+    (λ c. search needs)
+    (λ c. search needs)
+    (λ c. search needs)
+    (λ c. search needs)
+    (λ c κs. search needs)
+    (λ c. search needs)
     returns-3
-    refuse-requires-3
-    same-length-7
+    (λ c κs. search needs)
+    (λ c. search needs)
     returns-4
     accept-marked-requires
-    same-length-8
-    same-length-9
-    same-length-10
-    same-length-11
+    (λ c. search needs)
+    (λ c. search needs)
+    (λ c. search needs)
+    (λ c. search needs)
     returns-5)

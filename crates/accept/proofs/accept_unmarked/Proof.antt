@@ -18,18 +18,6 @@ accept-output-requires c κs =
     let pre = start .pre in
     (pre .0, (pre .1 .0, (pre .1 .1 .0, fit-head _ _ (pre .1 .1 .1 .0) (out .if1 .taken))))
 
-same-length : tie.Need-same-length
-same-length c = search needs
-
-same-length-2 : tie.Need-same-length-2
-same-length-2 c = search needs
-
-same-length-3 : tie.Need-same-length-3
-same-length-3 c = search needs
-
-same-length-4 : tie.Need-same-length-4
-same-length-4 c = search needs
-
 returns : tie.Need-returns
 returns c =
     let case = c .before .before .before .before .before .before .before .before in
@@ -49,18 +37,6 @@ accept-none-requires c κs =
     let pre = start .pre in
     (pre .0, (pre .1 .0, pre .1 .1 .0))
 
-same-length-5 : tie.Need-same-length-5
-same-length-5 c = search needs
-
-same-length-6 : tie.Need-same-length-6
-same-length-6 c = search needs
-
-same-length-7 : tie.Need-same-length-7
-same-length-7 c = search needs
-
-same-length-8 : tie.Need-same-length-8
-same-length-8 c = search needs
-
 returns-2 : tie.Need-returns-2
 returns-2 c =
     let case = c .before .before .before .before .before .before .before .before in
@@ -79,14 +55,14 @@ accept-unmarked-spec =
     tie.close
     (tie.spec
     accept-output-requires
-    same-length
-    same-length-2
-    same-length-3
-    same-length-4
+    (λ c. search needs)
+    (λ c. search needs)
+    (λ c. search needs)
+    (λ c. search needs)
     returns
     accept-none-requires
-    same-length-5
-    same-length-6
-    same-length-7
-    same-length-8
+    (λ c. search needs)
+    (λ c. search needs)
+    (λ c. search needs)
+    (λ c. search needs)
     returns-2)

@@ -11,15 +11,6 @@ returns c =
     let start = c .before .before in
     own-head (now (start .args .calendar)) (start .args .a) (start .args .turn) (c .if1 .taken) (start .pre)
 
-mul-result : tie.Need-mul-result
-mul-result c = search needs
-
-mul-result-2 : tie.Need-mul-result-2
-mul-result-2 c = search needs
-
-shared-slice-read-result : tie.Need-shared-slice-read-result
-shared-slice-read-result c = search needs
-
 returns-2 : tie.Need-returns-2
 returns-2 c =
     let start = c .before .before .before in
@@ -27,4 +18,4 @@ returns-2 c =
 
 pub head-joined-spec : {M : Type 1} → statement M
 head-joined-spec =
-    tie.close (tie.spec returns mul-result mul-result-2 shared-slice-read-result returns-2)
+    tie.close (tie.spec returns (λ c. search needs) (λ c. search needs) (λ c. search needs) returns-2)

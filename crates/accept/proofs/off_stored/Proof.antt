@@ -11,9 +11,6 @@ use borrow.Author.Needs.{needs}
 use Rattle.accept.proofs.off_stored.Statement.{statement}
 use Rattle.accept.proofs.off_stored.Tie as tie
 
-first-of-requires : tie.Need-first-of-requires
-first-of-requires c κs = search needs
-
 off-after-requires : tie.Need-off-after-requires
 unfolding joinedHead
 off-after-requires c κs =
@@ -35,4 +32,4 @@ returns c =
     (omega (arith, p .1)) (p .2) (p .3) stored counted)
 
 pub off-stored-spec : {M : Type 1} → statement M
-off-stored-spec = tie.close (tie.spec first-of-requires off-after-requires returns)
+off-stored-spec = tie.close (tie.spec (λ c κs. search needs) off-after-requires returns)

@@ -12,26 +12,11 @@ use borrow.Author.Needs.{needs}
 use Rattle.audit.proofs.audit.Statement.{statement}
 use Rattle.audit.proofs.audit.Tie as tie
 
-shaped-requires : tie.Need-shaped-requires
-shaped-requires c κs = search needs
-
-cast-if2 : tie.Need-cast-if2
-cast-if2 c = search needs
-
-mul-if2 : tie.Need-mul-if2
-mul-if2 c = search needs
-
-mul-if2-2 : tie.Need-mul-if2-2
-mul-if2-2 c = search needs
-
 shared-slice-read-if2 : tie.Need-shared-slice-read-if2
 shared-slice-read-if2 c =
     let k = c .before .before in
     let h = shape-of _ _ _ _ _ _ (k .before .shaped .ensures) (k .if1 .taken) in
     omega (arith, h .calendar-long, h .turn-low)
-
-slice-aggregate-fill-waits : tie.Need-slice-aggregate-fill-waits
-slice-aggregate-fill-waits c = search needs
 
 fill-waits-requires : tie.Need-fill-waits-requires
 fill-waits-requires c κs =
@@ -39,20 +24,11 @@ fill-waits-requires c κs =
     let h = shape-of _ _ _ _ _ _ (k .before .shaped .ensures) (k .if1 .taken) in
     (omega (arith, h .v-least), omega (arith, h .v-most), omega (arith, h .words-long), gone-zeros 1024)
 
-slice-aggregate-fill-spaces : tie.Need-slice-aggregate-fill-spaces
-slice-aggregate-fill-spaces c = search needs
-
 fill-spaces-requires : tie.Need-fill-spaces-requires
 fill-spaces-requires c κs =
     let k = c .before .before .before .before .before .before .before .before in
     let h = shape-of _ _ _ _ _ _ (k .before .shaped .ensures) (k .if1 .taken) in
     (omega (arith, h .n-most), gone-zeros 1024)
-
-slice-aggregate-stored : tie.Need-slice-aggregate-stored
-slice-aggregate-stored c = search needs
-
-slice-aggregate-stored-2 : tie.Need-slice-aggregate-stored-2
-slice-aggregate-stored-2 c = search needs
 
 stored-requires : tie.Need-stored-requires
 stored-requires c κs =
@@ -102,17 +78,17 @@ pub audit-spec : {M : Type 1} → statement M
 audit-spec =
     tie.close
     (tie.spec
-    shaped-requires
-    cast-if2
-    mul-if2
-    mul-if2-2
+    (λ c κs. search needs)
+    (λ c. search needs)
+    (λ c. search needs)
+    (λ c. search needs)
     shared-slice-read-if2
-    slice-aggregate-fill-waits
+    (λ c. search needs)
     fill-waits-requires
-    slice-aggregate-fill-spaces
+    (λ c. search needs)
     fill-spaces-requires
-    slice-aggregate-stored
-    slice-aggregate-stored-2
+    (λ c. search needs)
+    (λ c. search needs)
     stored-requires
     returns
     returns-2

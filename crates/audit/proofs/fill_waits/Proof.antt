@@ -33,27 +33,6 @@ loop-holds c = (
   λ k. c .before .before .pre .3 k ∙ sym (waits-one _ k),
 )
 
-vc-fits-requires : tie.Need-vc-fits-requires Inv-loop μ-loop
-vc-fits-requires c κs = search needs
-
-waits-of-requires : tie.Need-waits-of-requires Inv-loop μ-loop
-waits-of-requires c κs = search needs
-
-cast-waits : tie.Need-cast-waits Inv-loop μ-loop
-cast-waits c = search needs
-
-mul-waits : tie.Need-mul-waits Inv-loop μ-loop
-mul-waits c = search needs
-
-slice-write-waits : tie.Need-slice-write-waits Inv-loop μ-loop
-slice-write-waits c = search needs
-
-add-vci : tie.Need-add-vci Inv-loop μ-loop
-add-vci c = search needs
-
-loop-less : tie.Need-loop-less Inv-loop μ-loop
-loop-less c = search needs
-
 loop-again : tie.Need-loop-again Inv-loop μ-loop
 loop-again c =
     let i = c .before in
@@ -70,18 +49,12 @@ loop-again c =
       waits-turn _ (a .waits) _ _ (a .inv .0) low (c .waits-of .ensures) (a .inv .5),
     )
 
-same-length : tie.Need-same-length Inv-loop μ-loop
-same-length c = search needs
-
 returns : tie.Need-returns Inv-loop μ-loop
 returns c =
     let t = c .before .before in
     let a = t .before .loop in
     let broken = sym (c .if1 .left) ∙ c .before .vc-fits .ensures in
     ((λ h. false-true h), λ all. broken ∙ all (a .vci) (a .inv .0) (t .loop-test .taken))
-
-same-length-2 : tie.Need-same-length-2 Inv-loop μ-loop
-same-length-2 c = search needs
 
 returns-2 : tie.Need-returns-2 Inv-loop μ-loop
 returns-2 c =
@@ -98,15 +71,15 @@ fill-waits-spec =
     Inv-loop
     μ-loop
     loop-holds
-    vc-fits-requires
-    waits-of-requires
-    cast-waits
-    mul-waits
-    slice-write-waits
-    add-vci
-    loop-less
+    (λ c κs. search needs)
+    (λ c κs. search needs)
+    (λ c. search needs)
+    (λ c. search needs)
+    (λ c. search needs)
+    (λ c. search needs)
+    (λ c. search needs)
     loop-again
-    same-length
+    (λ c. search needs)
     returns
-    same-length-2
+    (λ c. search needs)
     returns-2)

@@ -6,23 +6,14 @@ use borrow.Author.Needs.{needs}
 use Rattle.audit.proofs.shaped.Statement.{statement}
 use Rattle.audit.proofs.shaped.Tie as tie
 
-ranges-hold-requires : tie.Need-ranges-hold-requires
-ranges-hold-requires c κs = search needs
-
 returns : tie.Need-returns
 returns c = shape-no-ranges _ _ _ _ _ _ (c .before .ranges-hold .ensures) (c .if1 .taken)
-
-lengths-hold-requires : tie.Need-lengths-hold-requires
-lengths-hold-requires c κs = search needs
 
 returns-2 : tie.Need-returns-2
 returns-2 c =
     let k = c .before .before .before in
     shape-no-lengths _ _ _ _ _ _ (k .ranges-hold .ensures) _ (c .before .lengths-hold .ensures)
     (c .before .before .if1 .left) (c .if2 .taken)
-
-record-fits-requires : tie.Need-record-fits-requires
-record-fits-requires c κs = search needs
 
 returns-3 : tie.Need-returns-3
 returns-3 c =
@@ -35,9 +26,9 @@ pub shaped-spec : {M : Type 1} → statement M
 shaped-spec =
     tie.close
     (tie.spec
-    ranges-hold-requires
+    (λ c κs. search needs)
     returns
-    lengths-hold-requires
+    (λ c κs. search needs)
     returns-2
-    record-fits-requires
+    (λ c κs. search needs)
     returns-3)

@@ -6,24 +6,6 @@ use borrow.Author.Needs.{needs}
 use Rattle.audit.proofs.waits_of.Statement.{statement}
 use Rattle.audit.proofs.waits_of.Tie as tie
 
-mul-base : tie.Need-mul-base
-mul-base c = search needs
-
-mul-if1 : tie.Need-mul-if1
-mul-if1 c = search needs
-
-shared-slice-read-if1 : tie.Need-shared-slice-read-if1
-shared-slice-read-if1 c = search needs
-
-add-result : tie.Need-add-result
-add-result c = search needs
-
-mul-result : tie.Need-mul-result
-mul-result c = search needs
-
-shared-slice-read-result : tie.Need-shared-slice-read-result
-shared-slice-read-result c = search needs
-
 returns : tie.Need-returns
 returns c = let s = c .before .before .before .args in waits-read (now (s .words)) (s .vci) (c .before .if1 .taken)
 
@@ -34,11 +16,11 @@ pub waits-of-spec : {M : Type 1} → statement M
 waits-of-spec =
     tie.close
     (tie.spec
-    mul-base
-    mul-if1
-    shared-slice-read-if1
-    add-result
-    mul-result
-    shared-slice-read-result
+    (λ c. search needs)
+    (λ c. search needs)
+    (λ c. search needs)
+    (λ c. search needs)
+    (λ c. search needs)
+    (λ c. search needs)
     returns
     returns-2)

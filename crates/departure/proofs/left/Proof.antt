@@ -6,15 +6,9 @@ use borrow.Author.Needs.{needs}
 use Rattle.departure.proofs.left.Statement.{statement}
 use Rattle.departure.proofs.left.Tie as tie
 
-first-of-requires : tie.Need-first-of-requires
-first-of-requires c κs = search needs
-
-record-with-requires : tie.Need-record-with-requires
-record-with-requires c κs = search needs
-
 returns : tie.Need-returns
 unfolding withEnds freed
 returns c = (c .record-with .ensures ∙ rw (c .before .first-of .ensures), refl)
 
 pub left-spec : {M : Type 1} → statement M
-left-spec = tie.close (tie.spec first-of-requires record-with-requires returns)
+left-spec = tie.close (tie.spec (λ c κs. search needs) (λ c κs. search needs) returns)

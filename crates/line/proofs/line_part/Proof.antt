@@ -8,48 +8,30 @@ use borrow.Author.Needs.{needs}
 use Rattle.line.proofs.line_part.Statement.{statement}
 use Rattle.line.proofs.line_part.Tie as tie
 
-nowhere-requires : tie.Need-nowhere-requires
-nowhere-requires c κs = search needs
-
 returns : tie.Need-returns
 returns c =
     let a = c .before .before .args in
     c .nowhere .ensures ∙ ap placeOf (sym (by-rest (a .cells) (a .idle) (a .number) (c .before .if1 .taken)))
-
-nowhere-requires-2 : tie.Need-nowhere-requires-2
-nowhere-requires-2 c κs = search needs
 
 returns-2 : tie.Need-returns-2
 returns-2 c =
     let a = c .before .before .before .args in
     c .nowhere2 .ensures ∙ ap placeOf (sym (by-few (a .cells) (a .idle) (a .number) (omega arith) (omega arith)))
 
-nowhere-requires-3 : tie.Need-nowhere-requires-3
-nowhere-requires-3 c κs = search needs
-
 returns-3 : tie.Need-returns-3
 returns-3 c =
     let a = c .before .before .before .before .args in
     c .nowhere3 .ensures ∙ ap placeOf (sym (by-many (a .cells) (a .idle) (a .number) (omega arith) (omega arith) (omega arith)))
-
-nowhere-requires-4 : tie.Need-nowhere-requires-4
-nowhere-requires-4 c κs = search needs
 
 returns-4 : tie.Need-returns-4
 returns-4 c =
     let a = c .before .before .before .before .before .args in
     c .nowhere4 .ensures ∙ ap placeOf (sym (by-idle (a .cells) (a .idle) (a .number) (omega arith) (omega arith) (omega arith) (c .before .if4 .taken)))
 
-mul-t8 : tie.Need-mul-t8
-mul-t8 c = search needs
-
 returns-5 : tie.Need-returns-5
 returns-5 c =
     let a = c .before .before .before .before .before .args in
     ap placeOf (sym (by-space (a .cells) (a .idle) (a .number) (omega arith) (omega arith) (omega arith) (omega arith) (omega arith)))
-
-nowhere-requires-5 : tie.Need-nowhere-requires-5
-nowhere-requires-5 c κs = search needs
 
 returns-6 : tie.Need-returns-6
 returns-6 c =
@@ -66,16 +48,16 @@ pub line-part-spec : {M : Type 1} → statement M
 line-part-spec =
     tie.close
     (tie.spec
-    nowhere-requires
+    (λ c κs. search needs)
     returns
-    nowhere-requires-2
+    (λ c κs. search needs)
     returns-2
-    nowhere-requires-3
+    (λ c κs. search needs)
     returns-3
-    nowhere-requires-4
+    (λ c κs. search needs)
     returns-4
-    mul-t8
+    (λ c. search needs)
     returns-5
-    nowhere-requires-5
+    (λ c κs. search needs)
     returns-6
     returns-7)

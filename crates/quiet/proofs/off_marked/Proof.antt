@@ -8,9 +8,6 @@ use borrow.Author.Needs.{needs}
 use Rattle.quiet.proofs.off_marked.Statement.{statement}
 use Rattle.quiet.proofs.off_marked.Tie as tie
 
-off-head-requires : tie.Need-off-head-requires
-off-head-requires c κs = search needs
-
 returns : tie.Need-returns
 unfolding joinedLinks joinedHead linked
 returns c =
@@ -31,4 +28,4 @@ returns-2 c =
     rw (ne-eqb (start .args .k .outhead) 65535 (at-if1 .if1 .left)) (c .off-joined .ensures)
 
 pub off-marked-spec : {M : Type 1} → statement M
-off-marked-spec = tie.close (tie.spec off-head-requires returns off-joined-requires returns-2)
+off-marked-spec = tie.close (tie.spec (λ c κs. search needs) returns off-joined-requires returns-2)

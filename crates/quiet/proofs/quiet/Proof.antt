@@ -14,30 +14,6 @@ use borrow.Author.Needs.{needs}
 use Rattle.quiet.proofs.quiet.Statement.{statement}
 use Rattle.quiet.proofs.quiet.Tie as tie
 
-cast-at : tie.Need-cast-at
-cast-at c = search needs
-
-mul-at : tie.Need-mul-at
-mul-at c = search needs
-
-mul-head : tie.Need-mul-head
-mul-head c = search needs
-
-slice-read-head : tie.Need-slice-read-head
-slice-read-head c = search needs
-
-add-tail : tie.Need-add-tail
-add-tail c = search needs
-
-mul-tail : tie.Need-mul-tail
-mul-tail c = search needs
-
-slice-read-tail : tie.Need-slice-read-tail
-slice-read-tail c = search needs
-
-refuse-requires : tie.Need-refuse-requires
-refuse-requires c κs = search needs
-
 returns : tie.Need-returns
 unfolding quietWork
 returns c =
@@ -50,15 +26,6 @@ returns c =
     (quiet-entry (a .k) (a .b) (a .j) (now (a .cells)) (now (a .links)) (now (a .calendar)) (now (a .words)))
     (tail-left _ _ _ (start .pre .0 .n-high) (at-if1 .if1 .taken) (at-if2 .if2 .taken)))
 
-quiet-unmarked-requires : tie.Need-quiet-unmarked-requires
-quiet-unmarked-requires c κs = search needs
-
-same-length : tie.Need-same-length
-same-length c = search needs
-
-same-length-2 : tie.Need-same-length-2
-same-length-2 c = search needs
-
 returns-2 : tie.Need-returns-2
 unfolding entryAt
 returns-2 c =
@@ -68,9 +35,6 @@ returns-2 c =
     let start = at-if1 .before .before .before .before .before .before .before .before in
     at-quiet-unmarked .quiet-unmarked .ensures (now (start .args .calendar))
     (λ i. record { head = at-if1 .if1 .taken i; tail = at-if2 .if2 .left i })
-
-refuse-requires-2 : tie.Need-refuse-requires-2
-refuse-requires-2 c κs = search needs
 
 returns-3 : tie.Need-returns-3
 unfolding quietWork
@@ -84,9 +48,6 @@ returns-3 c =
     (quiet-entry (a .k) (a .b) (a .j) (now (a .cells)) (now (a .links)) (now (a .calendar)) (now (a .words)))
     (head-high _ _ _ (at-if1 .if1 .left) (at-if3 .if3 .taken)))
 
-refuse-requires-3 : tie.Need-refuse-requires-3
-refuse-requires-3 c κs = search needs
-
 returns-4 : tie.Need-returns-4
 unfolding quietWork
 returns-4 c =
@@ -98,12 +59,6 @@ returns-4 c =
     (unfit-entry (quiet-work (a .k) (a .b) (a .j) (now (a .cells)) (now (a .links)) (now (a .calendar)) (now (a .words))) _
     (quiet-entry (a .k) (a .b) (a .j) (now (a .cells)) (now (a .links)) (now (a .calendar)) (now (a .words)))
     (tail-high _ _ _ (start .pre .0 .n-high) (at-if3 .if3 .left) (at-if4 .if4 .taken)))
-
-pair-requires : tie.Need-pair-requires
-pair-requires c κs = search needs
-
-refuse-requires-4 : tie.Need-refuse-requires-4
-refuse-requires-4 c κs = search needs
 
 returns-5 : tie.Need-returns-5
 unfolding quietWork
@@ -127,15 +82,6 @@ quiet-marked-requires c κs =
     let pre = start .pre in
     (pre .0, (pre .1, (at-if3 .if3 .left, shown _ _ (at-pair .pair .ensures) (at-if5 .if5 .left))))
 
-same-length-3 : tie.Need-same-length-3
-same-length-3 c = search needs
-
-same-length-4 : tie.Need-same-length-4
-same-length-4 c = search needs
-
-same-length-5 : tie.Need-same-length-5
-same-length-5 c = search needs
-
 returns-6 : tie.Need-returns-6
 unfolding quietWork
 returns-6 c =
@@ -158,28 +104,28 @@ pub quiet-spec : {M : Type 1} → statement M
 quiet-spec =
     tie.close
     (tie.spec
-    cast-at
-    mul-at
-    mul-head
-    slice-read-head
-    add-tail
-    mul-tail
-    slice-read-tail
-    refuse-requires
+    (λ c. search needs)
+    (λ c. search needs)
+    (λ c. search needs)
+    (λ c. search needs)
+    (λ c. search needs)
+    (λ c. search needs)
+    (λ c. search needs)
+    (λ c κs. search needs)
     returns
-    quiet-unmarked-requires
-    same-length
-    same-length-2
+    (λ c κs. search needs)
+    (λ c. search needs)
+    (λ c. search needs)
     returns-2
-    refuse-requires-2
+    (λ c κs. search needs)
     returns-3
-    refuse-requires-3
+    (λ c κs. search needs)
     returns-4
-    pair-requires
-    refuse-requires-4
+    (λ c κs. search needs)
+    (λ c κs. search needs)
     returns-5
     quiet-marked-requires
-    same-length-3
-    same-length-4
-    same-length-5
+    (λ c. search needs)
+    (λ c. search needs)
+    (λ c. search needs)
     returns-6)

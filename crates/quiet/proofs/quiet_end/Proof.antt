@@ -36,15 +36,6 @@ links-leave-requires c κs =
           (eqb-false _ _ (not-true _ e)) in omega (arith, h),
     )
 
-left-requires : tie.Need-left-requires
-left-requires c κs = search needs
-
-same-length : tie.Need-same-length
-same-length c = search needs
-
-same-length-2 : tie.Need-same-length-2
-same-length-2 c = search needs
-
 returns : tie.Need-returns
 returns c =
     let at-links-leave = c .before .before .before in
@@ -64,7 +55,7 @@ quiet-end-spec =
     words-fall-requires
     put-less-requires
     links-leave-requires
-    left-requires
-    same-length
-    same-length-2
+    (λ c κs. search needs)
+    (λ c. search needs)
+    (λ c. search needs)
     returns)

@@ -13,18 +13,6 @@ use borrow.Author.Needs.{needs}
 use Rattle.quiet.proofs.quiet_marked.Statement.{statement}
 use Rattle.quiet.proofs.quiet_marked.Tie as tie
 
-off-marked-requires : tie.Need-off-marked-requires
-off-marked-requires c κs = search needs
-
-refuse-requires : tie.Need-refuse-requires
-refuse-requires c κs = search needs
-
-same-length : tie.Need-same-length
-same-length c = search needs
-
-same-length-2 : tie.Need-same-length-2
-same-length-2 c = search needs
-
 returns : tie.Need-returns
 returns c =
     let at-if1 = c .before in
@@ -34,18 +22,6 @@ returns c =
     as-came (a .r) (now (a .cells)) (now (a .links)) (now (a .calendar)) (now (a .words)) _ _ (c .refuse .ensures)
     (marked-none (a .k) (a .b) (a .j) (now (a .cells)) (now (a .links)) (now (a .calendar)) (now (a .words)) (a .head)
     (a .tail) _ (at-off-marked .off-marked .ensures) (not-true _ (at-if1 .if1 .taken)))
-
-pair-requires : tie.Need-pair-requires
-pair-requires c κs = search needs
-
-refuse-requires-2 : tie.Need-refuse-requires-2
-refuse-requires-2 c κs = search needs
-
-same-length-3 : tie.Need-same-length-3
-same-length-3 c = search needs
-
-same-length-4 : tie.Need-same-length-4
-same-length-4 c = search needs
 
 returns-2 : tie.Need-returns-2
 returns-2 c =
@@ -57,9 +33,6 @@ returns-2 c =
     as-came (a .r) (now (a .cells)) (now (a .links)) (now (a .calendar)) (now (a .words)) _ _ (c .refuse2 .ensures)
     (marked-unfit (a .k) (a .b) (a .j) (now (a .cells)) (now (a .links)) (now (a .calendar)) (now (a .words)) (a .head)
     (a .tail) _ (at-off-marked .off-marked .ensures) (not-shown _ _ (at-pair .pair .ensures) (at-if2 .if2 .taken)))
-
-clear-entry-requires : tie.Need-clear-entry-requires
-clear-entry-requires c κs = search needs
 
 quiet-end-requires : tie.Need-quiet-end-requires
 quiet-end-requires c κs =
@@ -83,15 +56,6 @@ quiet-end-requires c κs =
       ),
     )
 
-same-length-5 : tie.Need-same-length-5
-same-length-5 c = search needs
-
-same-length-6 : tie.Need-same-length-6
-same-length-6 c = search needs
-
-same-length-7 : tie.Need-same-length-7
-same-length-7 c = search needs
-
 returns-3 : tie.Need-returns-3
 returns-3 c =
     let at-quiet-end = c .before .before .before .before in
@@ -113,19 +77,19 @@ pub quiet-marked-spec : {M : Type 1} → statement M
 quiet-marked-spec =
     tie.close
     (tie.spec
-    off-marked-requires
-    refuse-requires
-    same-length
-    same-length-2
+    (λ c κs. search needs)
+    (λ c κs. search needs)
+    (λ c. search needs)
+    (λ c. search needs)
     returns
-    pair-requires
-    refuse-requires-2
-    same-length-3
-    same-length-4
+    (λ c κs. search needs)
+    (λ c κs. search needs)
+    (λ c. search needs)
+    (λ c. search needs)
     returns-2
-    clear-entry-requires
+    (λ c κs. search needs)
     quiet-end-requires
-    same-length-5
-    same-length-6
-    same-length-7
+    (λ c. search needs)
+    (λ c. search needs)
+    (λ c. search needs)
     returns-3)

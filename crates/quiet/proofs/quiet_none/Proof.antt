@@ -13,9 +13,6 @@ words-fall-requires c κs =
     let start = c .before .before in
     let pre = start .pre in (λ e. omega arith, λ e. let h = pre .1 e in omega (arith, h))
 
-same-length : tie.Need-same-length
-same-length c = search needs
-
 returns : tie.Need-returns
 returns c =
     let at-words-fall = c .before .before in
@@ -25,4 +22,4 @@ returns c =
     quiet-served (a .k) (a .b) (a .j) cells links calendar (now (a .words)) _ _ refl refl (at-words-fall .words-fall .ensures)
 
 pub quiet-none-spec : {M : Type 1} → statement M
-quiet-none-spec = tie.close (tie.spec words-fall-requires same-length returns)
+quiet-none-spec = tie.close (tie.spec words-fall-requires (λ c. search needs) returns)

@@ -13,18 +13,6 @@ use borrow.Author.Needs.{needs}
 use Rattle.quiet.proofs.quiet_output.Statement.{statement}
 use Rattle.quiet.proofs.quiet_output.Tie as tie
 
-off-head-requires : tie.Need-off-head-requires
-off-head-requires c κs = search needs
-
-refuse-requires : tie.Need-refuse-requires
-refuse-requires c κs = search needs
-
-same-length : tie.Need-same-length
-same-length c = search needs
-
-same-length-2 : tie.Need-same-length-2
-same-length-2 c = search needs
-
 returns : tie.Need-returns
 returns c =
     let at-if1 = c .before in
@@ -35,18 +23,6 @@ returns c =
     as-came (a .r) (now (a .cells)) (now (a .links)) calendar (now (a .words)) _ _ (c .refuse .ensures)
     (output-none (a .k) (a .b) (a .j) (now (a .cells)) (now (a .links)) calendar (now (a .words)) _
     (at-off-head .off-head .ensures) (not-true _ (at-if1 .if1 .taken)))
-
-pair-requires : tie.Need-pair-requires
-pair-requires c κs = search needs
-
-refuse-requires-2 : tie.Need-refuse-requires-2
-refuse-requires-2 c κs = search needs
-
-same-length-3 : tie.Need-same-length-3
-same-length-3 c = search needs
-
-same-length-4 : tie.Need-same-length-4
-same-length-4 c = search needs
 
 returns-2 : tie.Need-returns-2
 returns-2 c =
@@ -75,12 +51,6 @@ quiet-end-requires c κs =
       (pre .1 .1, (λ e. no e, shown _ _ (at-pair .pair .ensures) (at-if2 .if2 .left))),
     )
 
-same-length-5 : tie.Need-same-length-5
-same-length-5 c = search needs
-
-same-length-6 : tie.Need-same-length-6
-same-length-6 c = search needs
-
 returns-3 : tie.Need-returns-3
 returns-3 c =
     let at-quiet-end = c .before .before .before .before in
@@ -101,17 +71,17 @@ pub quiet-output-spec : {M : Type 1} → statement M
 quiet-output-spec =
     tie.close
     (tie.spec
-    off-head-requires
-    refuse-requires
-    same-length
-    same-length-2
+    (λ c κs. search needs)
+    (λ c κs. search needs)
+    (λ c. search needs)
+    (λ c. search needs)
     returns
-    pair-requires
-    refuse-requires-2
-    same-length-3
-    same-length-4
+    (λ c κs. search needs)
+    (λ c κs. search needs)
+    (λ c. search needs)
+    (λ c. search needs)
     returns-2
     quiet-end-requires
-    same-length-5
-    same-length-6
+    (λ c. search needs)
+    (λ c. search needs)
     returns-3)

@@ -15,9 +15,6 @@ use borrow.Author.Needs.{needs}
 use Rattle.quiet.proofs.quiet_unmarked.Statement.{statement}
 use Rattle.quiet.proofs.quiet_unmarked.Tie as tie
 
-refuse-requires : tie.Need-refuse-requires
-refuse-requires c κs = search needs
-
 returns : tie.Need-returns
 unfolding quietWork
 returns c =
@@ -29,12 +26,6 @@ returns c =
     as-came (a .r) (now (a .cells)) (now (a .links)) calendar (now (a .words)) _ _ (c .refuse .ensures)
     (unfit-output (quiet-work (a .k) (a .b) (a .j) (now (a .cells)) (now (a .links)) calendar (now (a .words))) emptyList clear
     (tail-left _ _ _ (start .pre .0 .0) (at-if1 .if1 .taken) (at-if2 .if2 .taken)))
-
-quiet-none-requires : tie.Need-quiet-none-requires
-quiet-none-requires c κs = search needs
-
-same-length : tie.Need-same-length
-same-length c = search needs
 
 returns-2 : tie.Need-returns-2
 unfolding quietWork
@@ -51,9 +42,6 @@ returns-2 c =
     (at-if1 .if1 .taken))
     (at-quiet-none .quiet-none .ensures (now (a .cells)) (now (a .links)) calendar)
 
-refuse-requires-2 : tie.Need-refuse-requires-2
-refuse-requires-2 c κs = search needs
-
 returns-3 : tie.Need-returns-3
 unfolding quietWork
 returns-3 c =
@@ -66,9 +54,6 @@ returns-3 c =
     (unfit-output (quiet-work (a .k) (a .b) (a .j) (now (a .cells)) (now (a .links)) calendar (now (a .words))) emptyList clear
     (head-high _ _ (a .k .outtail) (at-if1 .if1 .left) (at-if3 .if3 .taken)))
 
-refuse-requires-3 : tie.Need-refuse-requires-3
-refuse-requires-3 c κs = search needs
-
 returns-4 : tie.Need-returns-4
 unfolding quietWork
 returns-4 c =
@@ -80,15 +65,6 @@ returns-4 c =
     as-came (a .r) (now (a .cells)) (now (a .links)) calendar (now (a .words)) _ _ (c .refuse3 .ensures)
     (unfit-output (quiet-work (a .k) (a .b) (a .j) (now (a .cells)) (now (a .links)) calendar (now (a .words))) emptyList clear
     (tail-high _ _ _ (start .pre .0 .0) (at-if3 .if3 .left) (at-if4 .if4 .taken)))
-
-quiet-output-requires : tie.Need-quiet-output-requires
-quiet-output-requires c κs = search needs
-
-same-length-2 : tie.Need-same-length-2
-same-length-2 c = search needs
-
-same-length-3 : tie.Need-same-length-3
-same-length-3 c = search needs
 
 returns-5 : tie.Need-returns-5
 unfolding quietWork
@@ -109,16 +85,16 @@ pub quiet-unmarked-spec : {M : Type 1} → statement M
 quiet-unmarked-spec =
     tie.close
     (tie.spec
-    refuse-requires
+    (λ c κs. search needs)
     returns
-    quiet-none-requires
-    same-length
+    (λ c κs. search needs)
+    (λ c. search needs)
     returns-2
-    refuse-requires-2
+    (λ c κs. search needs)
     returns-3
-    refuse-requires-3
+    (λ c κs. search needs)
     returns-4
-    quiet-output-requires
-    same-length-2
-    same-length-3
+    (λ c κs. search needs)
+    (λ c. search needs)
+    (λ c. search needs)
     returns-5)

@@ -6,16 +6,10 @@ use borrow.Author.Needs.{needs}
 use Rattle.quiet.proofs.words_fall.Statement.{statement}
 use Rattle.quiet.proofs.words_fall.Tie as tie
 
-put-fall-requires : tie.Need-put-fall-requires
-put-fall-requires c κs = search needs
-
 put-fall-requires-2 : tie.Need-put-fall-requires-2
 put-fall-requires-2 c κs =
     let start = c .before .before .before .before .before .before .before in
     λ e. let h = start .pre .1 e in omega (arith, h)
-
-same-length : tie.Need-same-length
-same-length c = search needs
 
 returns : tie.Need-returns
 unfolding rotated
@@ -25,4 +19,4 @@ returns c =
     rw (at-put-fall2 .put-fall2 .ensures, at-put-fall .put-fall .ensures)
 
 pub words-fall-spec : {M : Type 1} → statement M
-words-fall-spec = tie.close (tie.spec put-fall-requires put-fall-requires-2 same-length returns)
+words-fall-spec = tie.close (tie.spec (λ c κs. search needs) put-fall-requires-2 (λ c. search needs) returns)

@@ -20,29 +20,14 @@ sub-last c = omega arith
 loop-holds : tie.Need-loop-holds Inv-loop μ-loop
 loop-holds c = chained-none _ (c .pre .0)
 
-add-links : tie.Need-add-links Inv-loop μ-loop
-add-links c = search needs
-
-cast-links : tie.Need-cast-links Inv-loop μ-loop
-cast-links c = search needs
-
-mul-links : tie.Need-mul-links Inv-loop μ-loop
-mul-links c = search needs
-
 slice-write-links : tie.Need-slice-write-links Inv-loop μ-loop
 slice-write-links c = omega arith
-
-add-space : tie.Need-add-space Inv-loop μ-loop
-add-space c = search needs
 
 loop-less : tie.Need-loop-less Inv-loop μ-loop
 loop-less c = omega arith
 
 loop-again : tie.Need-loop-again Inv-loop μ-loop
 loop-again c = chained-more _ (c .before .before .pre .0) _ _ (c .before .loop .inv) (c .loop-test .taken)
-
-mul-links-2 : tie.Need-mul-links-2 Inv-loop μ-loop
-mul-links-2 c = search needs
 
 slice-write-links-2 : tie.Need-slice-write-links-2 Inv-loop μ-loop
 slice-write-links-2 c = omega arith
@@ -61,14 +46,14 @@ chain-links-spec =
     μ-loop
     sub-last
     loop-holds
-    add-links
-    cast-links
-    mul-links
+    (λ c. search needs)
+    (λ c. search needs)
+    (λ c. search needs)
     slice-write-links
-    add-space
+    (λ c. search needs)
     loop-less
     loop-again
-    mul-links-2
+    (λ c. search needs)
     slice-write-links-2
     same-length
     returns)

@@ -24,12 +24,6 @@ lent c =
     let a = c .before .before .before .before .before .before .args in
     setup-lent (a .n) (a .v) (a .cells .now) (a .links .now) (a .calendar .now) (a .words .now) (none-given c)
 
-setup-refusal-requires : tie.Need-setup-refusal-requires
-setup-refusal-requires c κs = search needs
-
-no-record-requires : tie.Need-no-record-requires
-no-record-requires c κs = search needs
-
 returns : tie.Need-returns
 returns c =
     let a = c .before .before .before .before .before .before .before .args in
@@ -40,36 +34,15 @@ returns c =
     ∙ (ap (λ (k : ℕ). setUpOf k (stateOf zeros (a .cells .now) (a .links .now) (a .calendar .now) (a .words .now))) e
     ∙ setup-refused (a .n) (a .v) (a .cells .now) (a .links .now) (a .calendar .now) (a .words .now) (a .raw) (λ z. c .before .if1 .taken (e ∙ z)))
 
-clear-cells-requires : tie.Need-clear-cells-requires
-clear-cells-requires c κs = search needs
-
 chain-links-requires : tie.Need-chain-links-requires
 chain-links-requires c κs =
     let l = lent (c .before .before .before .before .before) in
     omega (arith, l .links-long, l .ranges .N-least, l .ranges .N-most)
 
-empty-calendar-requires : tie.Need-empty-calendar-requires
-empty-calendar-requires c κs = search needs
-
-clear-words-requires : tie.Need-clear-words-requires
-clear-words-requires c κs = search needs
-
 fresh-record-requires : tie.Need-fresh-record-requires
 fresh-record-requires c κs =
     let l = lent (c .before .before .before .before .before .before .before .before .before .before .before .before .before .before .before .before) in
     omega (arith, l .ranges .N-least, l .ranges .V-least)
-
-same-length : tie.Need-same-length
-same-length c = search needs
-
-same-length-2 : tie.Need-same-length-2
-same-length-2 c = search needs
-
-same-length-3 : tie.Need-same-length-3
-same-length-3 c = search needs
-
-same-length-4 : tie.Need-same-length-4
-same-length-4 c = search needs
 
 returns-2 : tie.Need-returns-2
 returns-2 c =
@@ -99,16 +72,16 @@ pub setup-spec : {M : Type 1} → statement M
 setup-spec =
     tie.close
     (tie.spec
-    setup-refusal-requires
-    no-record-requires
+    (λ c κs. search needs)
+    (λ c κs. search needs)
     returns
-    clear-cells-requires
+    (λ c κs. search needs)
     chain-links-requires
-    empty-calendar-requires
-    clear-words-requires
+    (λ c κs. search needs)
+    (λ c κs. search needs)
     fresh-record-requires
-    same-length
-    same-length-2
-    same-length-3
-    same-length-4
+    (λ c. search needs)
+    (λ c. search needs)
+    (λ c. search needs)
+    (λ c. search needs)
     returns-2)

@@ -4,21 +4,6 @@ use borrow.Author.Needs.{needs}
 use Rattle.setup.proofs.setup_refusal.Statement.{statement}
 use Rattle.setup.proofs.setup_refusal.Tie as tie
 
-ranges-hold-requires : tie.Need-ranges-hold-requires
-ranges-hold-requires c κs = search needs
-
-refuse-requires : tie.Need-refuse-requires
-refuse-requires c κs = search needs
-
-lengths-hold-requires : tie.Need-lengths-hold-requires
-lengths-hold-requires c κs = search needs
-
-refuse-requires-2 : tie.Need-refuse-requires-2
-refuse-requires-2 c κs = search needs
-
-first-requires : tie.Need-first-requires
-first-requires c κs = search needs
-
 returns : tie.Need-returns
 returns c = simp (
   c .first .ensures,
@@ -32,9 +17,9 @@ pub setup-refusal-spec : {M : Type 1} → statement M
 setup-refusal-spec =
     tie.close
     (tie.spec
-    ranges-hold-requires
-    refuse-requires
-    lengths-hold-requires
-    refuse-requires-2
-    first-requires
+    (λ c κs. search needs)
+    (λ c κs. search needs)
+    (λ c κs. search needs)
+    (λ c κs. search needs)
+    (λ c κs. search needs)
     returns)

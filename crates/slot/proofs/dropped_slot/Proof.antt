@@ -8,36 +8,6 @@ use borrow.Author.Needs.{needs}
 use Rattle.slot.proofs.dropped_slot.Statement.{statement}
 use Rattle.slot.proofs.dropped_slot.Tie as tie
 
-record-in-mode-requires : tie.Need-record-in-mode-requires
-record-in-mode-requires c κs = search needs
-
-sub-slot : tie.Need-sub-slot
-sub-slot c = search needs
-
-part-slot-start : tie.Need-part-slot-start
-part-slot-start c = search needs
-
-part-slot-end : tie.Need-part-slot-end
-part-slot-end c = search needs
-
-slot-requires : tie.Need-slot-requires
-slot-requires c κs = search needs
-
-back-to-requires : tie.Need-back-to-requires
-back-to-requires c κs = search needs
-
-same-length : tie.Need-same-length
-same-length c = search needs
-
-same-length-2 : tie.Need-same-length-2
-same-length-2 c = search needs
-
-same-length-3 : tie.Need-same-length-3
-same-length-3 c = search needs
-
-same-length-4 : tie.Need-same-length-4
-same-length-4 c = search needs
-
 returns : tie.Need-returns
 returns c =
     let s = c .before .before .before .before .before .before .before .before .before .slot in
@@ -48,14 +18,14 @@ pub dropped-slot-spec : {M : Type 1} → statement M
 dropped-slot-spec =
     tie.close
     (tie.spec
-    record-in-mode-requires
-    sub-slot
-    part-slot-start
-    part-slot-end
-    slot-requires
-    back-to-requires
-    same-length
-    same-length-2
-    same-length-3
-    same-length-4
+    (λ c κs. search needs)
+    (λ c. search needs)
+    (λ c. search needs)
+    (λ c. search needs)
+    (λ c κs. search needs)
+    (λ c κs. search needs)
+    (λ c. search needs)
+    (λ c. search needs)
+    (λ c. search needs)
+    (λ c. search needs)
     returns)

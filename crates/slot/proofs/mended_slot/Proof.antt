@@ -14,42 +14,6 @@ use borrow.Author.Needs.{needs}
 use Rattle.slot.proofs.mended_slot.Statement.{statement}
 use Rattle.slot.proofs.mended_slot.Tie as tie
 
-slice-aggregate-copy-cell : tie.Need-slice-aggregate-copy-cell
-slice-aggregate-copy-cell c = search needs
-
-copy-cell-requires : tie.Need-copy-cell-requires
-copy-cell-requires c κs = search needs
-
-slice-aggregate-put-header : tie.Need-slice-aggregate-put-header
-slice-aggregate-put-header c = search needs
-
-put-header-requires : tie.Need-put-header-requires
-put-header-requires c κs = search needs
-
-record-in-mode-requires : tie.Need-record-in-mode-requires
-record-in-mode-requires c κs = search needs
-
-slice-aggregate-slot : tie.Need-slice-aggregate-slot
-slice-aggregate-slot c = search needs
-
-slot-requires : tie.Need-slot-requires
-slot-requires c κs = search needs
-
-back-to-requires : tie.Need-back-to-requires
-back-to-requires c κs = search needs
-
-same-length : tie.Need-same-length
-same-length c = search needs
-
-same-length-2 : tie.Need-same-length-2
-same-length-2 c = search needs
-
-same-length-3 : tie.Need-same-length-3
-same-length-3 c = search needs
-
-same-length-4 : tie.Need-same-length-4
-same-length-4 c = search needs
-
 returns : tie.Need-returns
 returns c =
     let s = c .before .before .before .before .before .before .before .before .before .slot in
@@ -64,16 +28,16 @@ pub mended-slot-spec : {M : Type 1} → statement M
 mended-slot-spec =
     tie.close
     (tie.spec
-    slice-aggregate-copy-cell
-    copy-cell-requires
-    slice-aggregate-put-header
-    put-header-requires
-    record-in-mode-requires
-    slice-aggregate-slot
-    slot-requires
-    back-to-requires
-    same-length
-    same-length-2
-    same-length-3
-    same-length-4
+    (λ c. search needs)
+    (λ c κs. search needs)
+    (λ c. search needs)
+    (λ c κs. search needs)
+    (λ c κs. search needs)
+    (λ c. search needs)
+    (λ c κs. search needs)
+    (λ c κs. search needs)
+    (λ c. search needs)
+    (λ c. search needs)
+    (λ c. search needs)
+    (λ c. search needs)
     returns)

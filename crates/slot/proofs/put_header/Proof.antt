@@ -21,15 +21,6 @@ header-set (a ∷ b ∷ c ∷ []) head fifth h = absurd (omega arith)
 header-set (a ∷ b ∷ c ∷ d ∷ []) head fifth h = absurd (omega arith)
 header-set (a ∷ b ∷ c ∷ d ∷ e ∷ l) head fifth h = refl
 
-put-head-requires : tie.Need-put-head-requires
-put-head-requires c κs = search needs
-
-slice-write-part : tie.Need-slice-write-part
-slice-write-part c = search needs
-
-same-length : tie.Need-same-length
-same-length c = search needs
-
 returns : tie.Need-returns
 returns c =
     let a = c .before .before .before .before .before in
@@ -37,4 +28,4 @@ returns c =
     ∙ header-set (a .args .part .now) (a .args .head) (a .args .fifth) (omega (arith, a .pre))
 
 pub put-header-spec : {M : Type 1} → statement M
-put-header-spec = tie.close (tie.spec put-head-requires slice-write-part same-length returns)
+put-header-spec = tie.close (tie.spec (λ c κs. search needs) (λ c. search needs) (λ c. search needs) returns)

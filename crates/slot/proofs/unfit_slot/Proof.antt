@@ -62,20 +62,11 @@ module _ (r : Record) (cells links calendar words cell : List ℕ) (l : length c
       (λ i. record { ctl = h .0 i; answer = h .1 i })
       ∙ ap (λ (n : ℕ). servedOf r (bareAnswer n)) (none p q (sym shape-is ∙ sym e ∙ z))
 
-shape-requires : tie.Need-shape-requires
-shape-requires c κs = search needs
-
-refuse-requires : tie.Need-refuse-requires
-refuse-requires c κs = search needs
-
 returns : tie.Need-returns
 returns c =
     let a = c .before .before .before .before .before .before .before .before in
     early (a .args .r) (a .args .cells .now) (a .args .links .now) (a .args .calendar .now) (a .args .words .now)
     (a .args .cell .now) (a .pre) _ _ (c .before .before .shape .ensures) (c .before .if1 .taken) (c .refuse .ensures)
-
-refuse-requires-2 : tie.Need-refuse-requires-2
-refuse-requires-2 c κs = search needs
 
 returns-2 : tie.Need-returns-2
 returns-2 c =
@@ -85,4 +76,4 @@ returns-2 c =
 
 pub unfit-slot-spec : {M : Type 1} → statement M
 unfit-slot-spec =
-    tie.close (tie.spec shape-requires refuse-requires returns refuse-requires-2 returns-2)
+    tie.close (tie.spec (λ c κs. search needs) (λ c κs. search needs) returns (λ c κs. search needs) returns-2)

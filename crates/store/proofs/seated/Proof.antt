@@ -5,12 +5,9 @@ use borrow.Author.Needs.{needs}
 use Rattle.store.proofs.seated.Statement.{statement}
 use Rattle.store.proofs.seated.Tie as tie
 
-record-with-requires : tie.Need-record-with-requires
-record-with-requires c κs = search needs
-
 returns : tie.Need-returns
 unfolding withEnds
 returns c = c .record-with .ensures
 
 pub seated-spec : {M : Type 1} → statement M
-seated-spec = tie.close (tie.spec record-with-requires returns)
+seated-spec = tie.close (tie.spec (λ c κs. search needs) returns)

@@ -10,33 +10,6 @@ use borrow.Author.Needs.{needs}
 use Rattle.store.proofs.store.Statement.{statement}
 use Rattle.store.proofs.store.Tie as tie
 
-words-fill-requires : tie.Need-words-fill-requires
-words-fill-requires c κs = search needs
-
-put-cell-requires : tie.Need-put-cell-requires
-put-cell-requires c κs = search needs
-
-put-link-requires : tie.Need-put-link-requires
-put-link-requires c κs = search needs
-
-tail-of-requires : tie.Need-tail-of-requires
-tail-of-requires c κs = search needs
-
-put-entry-requires : tie.Need-put-entry-requires
-put-entry-requires c κs = search needs
-
-same-length : tie.Need-same-length
-same-length c = search needs
-
-same-length-2 : tie.Need-same-length-2
-same-length-2 c = search needs
-
-same-length-3 : tie.Need-same-length-3
-same-length-3 c = search needs
-
-same-length-4 : tie.Need-same-length-4
-same-length-4 c = search needs
-
 returns : tie.Need-returns
 unfolding seatEnds
 returns c =
@@ -62,13 +35,13 @@ pub store-spec : {M : Type 1} → statement M
 store-spec =
     tie.close
     (tie.spec
-    words-fill-requires
-    put-cell-requires
-    put-link-requires
-    tail-of-requires
-    put-entry-requires
-    same-length
-    same-length-2
-    same-length-3
-    same-length-4
+    (λ c κs. search needs)
+    (λ c κs. search needs)
+    (λ c κs. search needs)
+    (λ c κs. search needs)
+    (λ c κs. search needs)
+    (λ c. search needs)
+    (λ c. search needs)
+    (λ c. search needs)
+    (λ c. search needs)
     returns)

@@ -7,18 +7,6 @@ use borrow.Author.Needs.{needs}
 use Rattle.unchecked.proofs.clock.Statement.{statement}
 use Rattle.unchecked.proofs.clock.Tie as tie
 
-wrapping-add-u32-requires : tie.Need-wrapping-add-u32-requires
-wrapping-add-u32-requires c κs = search needs
-
-after-requires : tie.Need-after-requires
-after-requires c κs = search needs
-
-after-requires-2 : tie.Need-after-requires-2
-after-requires-2 c κs = search needs
-
-record-with-requires : tie.Need-record-with-requires
-record-with-requires c κs = search needs
-
 returns : tie.Need-returns
 unfolding clocked slotNumbers
 returns c =
@@ -31,8 +19,8 @@ pub clock-spec : {M : Type 1} → statement M
 clock-spec =
     tie.close
     (tie.spec
-    wrapping-add-u32-requires
-    after-requires
-    after-requires-2
-    record-with-requires
+    (λ c κs. search needs)
+    (λ c κs. search needs)
+    (λ c κs. search needs)
+    (λ c κs. search needs)
     returns)

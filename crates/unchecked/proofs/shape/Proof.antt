@@ -8,15 +8,9 @@ use borrow.Author.Needs.{needs}
 use Rattle.unchecked.proofs.shape.Statement.{statement}
 use Rattle.unchecked.proofs.shape.Tie as tie
 
-ranges-hold-requires : tie.Need-ranges-hold-requires
-ranges-hold-requires c κs = search needs
-
 returns : tie.Need-returns
 unfolding shapeOf
 returns c = simp (sym (c .before .ranges-hold .ensures), c .if1 .taken)
-
-lengths-hold-requires : tie.Need-lengths-hold-requires
-lengths-hold-requires c κs = search needs
 
 returns-2 : tie.Need-returns-2
 unfolding shapeOf lengthsHold wordsLong
@@ -84,9 +78,9 @@ pub shape-spec : {M : Type 1} → statement M
 shape-spec =
     tie.close
     (tie.spec
-    ranges-hold-requires
+    (λ c κs. search needs)
     returns
-    lengths-hold-requires
+    (λ c κs. search needs)
     returns-2
     returns-3
     returns-4

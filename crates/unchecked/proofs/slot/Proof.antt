@@ -10,24 +10,6 @@ use borrow.Author.Needs.{needs}
 use Rattle.unchecked.proofs.slot.Statement.{statement}
 use Rattle.unchecked.proofs.slot.Tie as tie
 
-shape-requires : tie.Need-shape-requires
-shape-requires c κs = search needs
-
-refuse-requires : tie.Need-refuse-requires
-refuse-requires c κs = search needs
-
-same-length : tie.Need-same-length
-same-length c = search needs
-
-same-length-2 : tie.Need-same-length-2
-same-length-2 c = search needs
-
-same-length-3 : tie.Need-same-length-3
-same-length-3 c = search needs
-
-same-length-4 : tie.Need-same-length-4
-same-length-4 c = search needs
-
 returns : tie.Need-returns
 returns c =
     let at-if1 = c .before in
@@ -36,21 +18,6 @@ returns c =
     let a = start .args in
     slot-refused (a .r) (now (a .cell)) (now (a .cells)) (now (a .links)) (now (a .calendar)) (now (a .words)) _ _
     (at-shape .shape .ensures) (at-if1 .if1 .taken) (c .refuse .ensures)
-
-refuse-requires-2 : tie.Need-refuse-requires-2
-refuse-requires-2 c κs = search needs
-
-same-length-5 : tie.Need-same-length-5
-same-length-5 c = search needs
-
-same-length-6 : tie.Need-same-length-6
-same-length-6 c = search needs
-
-same-length-7 : tie.Need-same-length-7
-same-length-7 c = search needs
-
-same-length-8 : tie.Need-same-length-8
-same-length-8 c = search needs
 
 returns-2 : tie.Need-returns-2
 returns-2 c =
@@ -63,21 +30,6 @@ returns-2 c =
     (clock-turn (a .r) (now (a .cell)) (now (a .cells)) (now (a .links)) (now (a .calendar)) (now (a .words))
     (at-if2 .if2 .taken)) ∙ sym (slot-goes (a .r) (now (a .cell)) (now (a .cells)) (now (a .links)) (now (a .calendar))
     (now (a .words)) _ (at-shape .shape .ensures) (at-if1 .if1 .left))
-
-refuse-requires-3 : tie.Need-refuse-requires-3
-refuse-requires-3 c κs = search needs
-
-same-length-9 : tie.Need-same-length-9
-same-length-9 c = search needs
-
-same-length-10 : tie.Need-same-length-10
-same-length-10 c = search needs
-
-same-length-11 : tie.Need-same-length-11
-same-length-11 c = search needs
-
-same-length-12 : tie.Need-same-length-12
-same-length-12 c = search needs
 
 returns-3 : tie.Need-returns-3
 returns-3 c =
@@ -92,9 +44,6 @@ returns-3 c =
     (at-if2 .if2 .left) (at-if3 .if3 .taken)) ∙ sym (slot-goes (a .r) (now (a .cell)) (now (a .cells)) (now (a .links))
     (now (a .calendar)) (now (a .words)) _ (at-shape .shape .ensures) (at-if1 .if1 .left))
 
-clock-requires : tie.Need-clock-requires
-clock-requires c κs = search needs
-
 steps-requires : tie.Need-steps-requires
 steps-requires c κs =
     let at-clock = c .before .before .before .before in
@@ -107,18 +56,6 @@ steps-requires c κs =
           (at-clock .clock .ensures) h,
       h .cell-long,
     )
-
-same-length-13 : tie.Need-same-length-13
-same-length-13 c = search needs
-
-same-length-14 : tie.Need-same-length-14
-same-length-14 c = search needs
-
-same-length-15 : tie.Need-same-length-15
-same-length-15 c = search needs
-
-same-length-16 : tie.Need-same-length-16
-same-length-16 c = search needs
 
 returns-4 : tie.Need-returns-4
 returns-4 c =
@@ -141,29 +78,29 @@ pub slot-spec : {M : Type 1} → statement M
 slot-spec =
     tie.close
     (tie.spec
-    shape-requires
-    refuse-requires
-    same-length
-    same-length-2
-    same-length-3
-    same-length-4
+    (λ c κs. search needs)
+    (λ c κs. search needs)
+    (λ c. search needs)
+    (λ c. search needs)
+    (λ c. search needs)
+    (λ c. search needs)
     returns
-    refuse-requires-2
-    same-length-5
-    same-length-6
-    same-length-7
-    same-length-8
+    (λ c κs. search needs)
+    (λ c. search needs)
+    (λ c. search needs)
+    (λ c. search needs)
+    (λ c. search needs)
     returns-2
-    refuse-requires-3
-    same-length-9
-    same-length-10
-    same-length-11
-    same-length-12
+    (λ c κs. search needs)
+    (λ c. search needs)
+    (λ c. search needs)
+    (λ c. search needs)
+    (λ c. search needs)
     returns-3
-    clock-requires
+    (λ c κs. search needs)
     steps-requires
-    same-length-13
-    same-length-14
-    same-length-15
-    same-length-16
+    (λ c. search needs)
+    (λ c. search needs)
+    (λ c. search needs)
+    (λ c. search needs)
     returns-4)

@@ -35,12 +35,6 @@ is-open c e =
     let a = c .before .before .before .before .before .before .args in
     c .if2 .left (sym (opened-at (a .words .now) (a .vci)) ∙ e)
 
-shared-refusal-requires : tie.Need-shared-refusal-requires
-shared-refusal-requires c κs = search needs
-
-same-length : tie.Need-same-length
-same-length c = search needs
-
 returns : tie.Need-returns
 returns c =
     let a = c .before .before .before .before .args in
@@ -48,17 +42,8 @@ returns c =
     ap (λ (k : ℕ). calledOf k (a .words .now)) e
     ∙ close-shared (a .ctl) (a .words .now) (a .vci) (λ z. c .if1 .taken (e ∙ z))
 
-mul-opened : tie.Need-mul-opened
-mul-opened c = search needs
-
-mul-opened-2 : tie.Need-mul-opened-2
-mul-opened-2 c = search needs
-
 slice-read-opened : tie.Need-slice-read-opened
 slice-read-opened c = omega (arith, none-lent (c .before))
-
-same-length-2 : tie.Need-same-length-2
-same-length-2 c = search needs
 
 returns-2 : tie.Need-returns-2
 returns-2 c =
@@ -73,9 +58,6 @@ not-yet-requires c κs =
       shared-m (a .ctl) (a .words .now) (a .vci) (none-shared (c .before .before .before)) (is-open (c .before)),
     )
 
-same-length-3 : tie.Need-same-length-3
-same-length-3 c = search needs
-
 returns-3 : tie.Need-returns-3
 returns-3 c =
     let a = c .before .before .before .before .before .before .before .before .before .args in
@@ -86,9 +68,6 @@ returns-3 c =
 
 write-vc-requires : tie.Need-write-vc-requires
 write-vc-requires c κs = none-lent (c .before .before .before .before .before .before)
-
-same-length-4 : tie.Need-same-length-4
-same-length-4 c = search needs
 
 returns-4 : tie.Need-returns-4
 unfolding closedVc
@@ -102,17 +81,17 @@ pub close-spec : {M : Type 1} → statement M
 close-spec =
     tie.close
     (tie.spec
-    shared-refusal-requires
-    same-length
+    (λ c κs. search needs)
+    (λ c. search needs)
     returns
-    mul-opened
-    mul-opened-2
+    (λ c. search needs)
+    (λ c. search needs)
     slice-read-opened
-    same-length-2
+    (λ c. search needs)
     returns-2
     not-yet-requires
-    same-length-3
+    (λ c. search needs)
     returns-3
     write-vc-requires
-    same-length-4
+    (λ c. search needs)
     returns-4)

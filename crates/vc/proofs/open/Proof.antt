@@ -41,12 +41,6 @@ own-first c =
       c .before .before .before .refuse .ensures,
     )
 
-shared-refusal-requires : tie.Need-shared-refusal-requires
-shared-refusal-requires c κs = search needs
-
-same-length : tie.Need-same-length
-same-length c = search needs
-
 returns : tie.Need-returns
 returns c =
     let a = c .before .before .before .before .args in
@@ -54,29 +48,8 @@ returns c =
     ap (λ (k : ℕ). calledOf k (a .words .now)) e
     ∙ open-shared (a .ctl) (a .words .now) (a .vci) (a .m) (a .f) (a .c) (λ z. c .if1 .taken (e ∙ z))
 
-mul-opened : tie.Need-mul-opened
-mul-opened c = search needs
-
-mul-opened-2 : tie.Need-mul-opened-2
-mul-opened-2 c = search needs
-
 slice-read-opened : tie.Need-slice-read-opened
 slice-read-opened c = omega (arith, none-lent (c .before))
-
-refuse-requires : tie.Need-refuse-requires
-refuse-requires c κs = search needs
-
-obeys-rules-requires : tie.Need-obeys-rules-requires
-obeys-rules-requires c κs = search needs
-
-refuse-requires-2 : tie.Need-refuse-requires-2
-refuse-requires-2 c κs = search needs
-
-first-requires : tie.Need-first-requires
-first-requires c κs = search needs
-
-same-length-2 : tie.Need-same-length-2
-same-length-2 c = search needs
 
 returns-2 : tie.Need-returns-2
 returns-2 c =
@@ -89,9 +62,6 @@ returns-2 c =
 
 write-vc-requires : tie.Need-write-vc-requires
 write-vc-requires c κs = none-lent (c .before .before .before .before .before .before .before)
-
-same-length-3 : tie.Need-same-length-3
-same-length-3 c = search needs
 
 returns-3 : tie.Need-returns-3
 unfolding openedVc
@@ -107,18 +77,18 @@ pub open-spec : {M : Type 1} → statement M
 open-spec =
     tie.close
     (tie.spec
-    shared-refusal-requires
-    same-length
+    (λ c κs. search needs)
+    (λ c. search needs)
     returns
-    mul-opened
-    mul-opened-2
+    (λ c. search needs)
+    (λ c. search needs)
     slice-read-opened
-    refuse-requires
-    obeys-rules-requires
-    refuse-requires-2
-    first-requires
-    same-length-2
+    (λ c κs. search needs)
+    (λ c κs. search needs)
+    (λ c κs. search needs)
+    (λ c κs. search needs)
+    (λ c. search needs)
     returns-2
     write-vc-requires
-    same-length-3
+    (λ c. search needs)
     returns-3)

@@ -23,33 +23,6 @@ first-early c =
       c .before .before .before .before .before .before .before .ranges-hold .ensures,
     )
 
-ranges-hold-requires : tie.Need-ranges-hold-requires
-ranges-hold-requires c κs = search needs
-
-refuse-requires : tie.Need-refuse-requires
-refuse-requires c κs = search needs
-
-cast-refuse : tie.Need-cast-refuse
-cast-refuse c = search needs
-
-mul-refuse : tie.Need-mul-refuse
-mul-refuse c = search needs
-
-refuse-requires-2 : tie.Need-refuse-requires-2
-refuse-requires-2 c κs = search needs
-
-names-vc-requires : tie.Need-names-vc-requires
-names-vc-requires c κs = search needs
-
-refuse-requires-3 : tie.Need-refuse-requires-3
-refuse-requires-3 c κs = search needs
-
-first-requires : tie.Need-first-requires
-first-requires c κs = search needs
-
-first-requires-2 : tie.Need-first-requires-2
-first-requires-2 c κs = search needs
-
 returns : tie.Need-returns
 returns c =
     let e = first-early (c .before) in
@@ -59,9 +32,6 @@ vc-fits-requires : tie.Need-vc-fits-requires
 vc-fits-requires c κs =
     let a = c .before .before .before .before .before .before .before .before .before .before .args in
     early-lent (a .ctl) (a .words .now) (a .vci) (sym (first-early (c .before)) ∙ c .if1 .left)
-
-refuse-requires-4 : tie.Need-refuse-requires-4
-refuse-requires-4 c κs = search needs
 
 returns-2 : tie.Need-returns-2
 returns-2 c =
@@ -73,16 +43,16 @@ pub shared-refusal-spec : {M : Type 1} → statement M
 shared-refusal-spec =
     tie.close
     (tie.spec
-    ranges-hold-requires
-    refuse-requires
-    cast-refuse
-    mul-refuse
-    refuse-requires-2
-    names-vc-requires
-    refuse-requires-3
-    first-requires
-    first-requires-2
+    (λ c κs. search needs)
+    (λ c κs. search needs)
+    (λ c. search needs)
+    (λ c. search needs)
+    (λ c κs. search needs)
+    (λ c κs. search needs)
+    (λ c κs. search needs)
+    (λ c κs. search needs)
+    (λ c κs. search needs)
     returns
     vc-fits-requires
-    refuse-requires-4
+    (λ c κs. search needs)
     returns-2)

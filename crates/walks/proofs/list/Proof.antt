@@ -9,19 +9,10 @@ use Rattle.walks.proofs.list.Tie as tie
 returns : tie.Need-returns
 returns c = list-empty _ _ _ _ _ _ _ (c .if1 .taken)
 
-walk-requires : tie.Need-walk-requires
-walk-requires c κs = search needs
-
-same-length : tie.Need-same-length
-same-length c = search needs
-
-same-length-2 : tie.Need-same-length-2
-same-length-2 c = search needs
-
 returns-2 : tie.Need-returns-2
 returns-2 c =
     let k = c .before .before .before .before in
     k .walk .ensures ∙ list-some _ _ _ _ _ _ _ (k .before .before .before .if1 .left)
 
 pub list-spec : {M : Type 1} → statement M
-list-spec = tie.close (tie.spec returns walk-requires same-length same-length-2 returns-2)
+list-spec = tie.close (tie.spec returns (λ c κs. search needs) (λ c. search needs) (λ c. search needs) returns-2)

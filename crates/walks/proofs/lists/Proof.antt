@@ -7,21 +7,6 @@ use borrow.Author.Needs.{needs}
 use Rattle.walks.proofs.lists.Statement.{statement}
 use Rattle.walks.proofs.lists.Tie as tie
 
-list-requires : tie.Need-list-requires
-list-requires c κs = search needs
-
-list-requires-2 : tie.Need-list-requires-2
-list-requires-2 c κs = search needs
-
-entries-requires : tie.Need-entries-requires
-entries-requires c κs = search needs
-
-same-length : tie.Need-same-length
-same-length c = search needs
-
-same-length-2 : tie.Need-same-length-2
-same-length-2 c = search needs
-
 returns : tie.Need-returns
 returns c =
     let e = c .before .before .before .before in
@@ -33,12 +18,6 @@ returns c =
     ∙ lists-on _ _ _ _ _ _ _ _ r₀ (a .list .ensures) r₁ (d .list2 .ensures)
     (d .before .before .before .if1 .taken) (e .before .before .before .if2 .taken)
 
-same-length-3 : tie.Need-same-length-3
-same-length-3 c = search needs
-
-same-length-4 : tie.Need-same-length-4
-same-length-4 c = search needs
-
 returns-2 : tie.Need-returns-2
 returns-2 c =
     let d = c .before .before .before .before .before in
@@ -47,12 +26,6 @@ returns-2 c =
     let r₁ = walked (d .list2 .result) (d .list2 .last .1 .1 .0) (d .list2 .last .1 .1 .1 .0) in
     lists-output _ _ _ _ _ _ _ _ r₀ (a .list .ensures) r₁ (d .list2 .ensures)
     (d .before .before .before .if1 .taken) (c .if2 .left)
-
-same-length-5 : tie.Need-same-length-5
-same-length-5 c = search needs
-
-same-length-6 : tie.Need-same-length-6
-same-length-6 c = search needs
 
 returns-3 : tie.Need-returns-3
 returns-3 c =
@@ -64,15 +37,15 @@ pub lists-spec : {M : Type 1} → statement M
 lists-spec =
     tie.close
     (tie.spec
-    list-requires
-    list-requires-2
-    entries-requires
-    same-length
-    same-length-2
+    (λ c κs. search needs)
+    (λ c κs. search needs)
+    (λ c κs. search needs)
+    (λ c. search needs)
+    (λ c. search needs)
     returns
-    same-length-3
-    same-length-4
+    (λ c. search needs)
+    (λ c. search needs)
     returns-2
-    same-length-5
-    same-length-6
+    (λ c. search needs)
+    (λ c. search needs)
     returns-3)

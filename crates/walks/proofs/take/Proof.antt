@@ -6,24 +6,6 @@ use borrow.Author.Needs.{needs}
 use Rattle.walks.proofs.take.Statement.{statement}
 use Rattle.walks.proofs.take.Tie as tie
 
-mul-left : tie.Need-mul-left
-mul-left c = search needs
-
-slice-read-left : tie.Need-slice-read-left
-slice-read-left c = search needs
-
-sub-b : tie.Need-sub-b
-sub-b c = search needs
-
-mul-b : tie.Need-mul-b
-mul-b c = search needs
-
-slice-write-b : tie.Need-slice-write-b
-slice-write-b c = search needs
-
-same-length : tie.Need-same-length
-same-length c = search needs
-
 returns : tie.Need-returns
 returns c = let s = c .before .before .before .args in take-yes (now (s .b)) (s .x) (c .if2 .taken)
 
@@ -37,12 +19,12 @@ pub take-spec : {M : Type 1} → statement M
 take-spec =
     tie.close
     (tie.spec
-    mul-left
-    slice-read-left
-    sub-b
-    mul-b
-    slice-write-b
-    same-length
+    (λ c. search needs)
+    (λ c. search needs)
+    (λ c. search needs)
+    (λ c. search needs)
+    (λ c. search needs)
+    (λ c. search needs)
     returns
     returns-2
     returns-3)

@@ -6,18 +6,6 @@ use borrow.Author.Needs.{needs}
 use Rattle.walks.proofs.visit.Statement.{statement}
 use Rattle.walks.proofs.visit.Tie as tie
 
-name-at-requires : tie.Need-name-at-requires
-name-at-requires c κs = search needs
-
-cast-take : tie.Need-cast-take
-cast-take c = search needs
-
-take-requires : tie.Need-take-requires
-take-requires c κs = search needs
-
-same-length : tie.Need-same-length
-same-length c = search needs
-
 returns : tie.Need-returns
 unfolding mayWait lessWait
 returns c =
@@ -31,4 +19,4 @@ returns-2 c = rw (c .if1 .left) (refl, refl)
 
 pub visit-spec : {M : Type 1} → statement M
 visit-spec =
-    tie.close (tie.spec name-at-requires cast-take take-requires same-length returns returns-2)
+    tie.close (tie.spec (λ c κs. search needs) (λ c. search needs) (λ c κs. search needs) (λ c. search needs) returns returns-2)
