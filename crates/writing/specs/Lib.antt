@@ -1,0 +1,4 @@
+pub mod Shapes
+pub mod Events
+pub mod Grammar
+pub mod Writing
