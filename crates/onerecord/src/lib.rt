@@ -83,46 +83,73 @@ pub fn write_setup(out: &mut [u8], at: usize, n: u16, v: u16, raw: bool) -> Writ
     ensures { λ r. ⌜ WritePromise (now (out .entry)) at (Record·GM n v raw) r (now (out .exit)) ⌝ }
 {
     if at != 0 {
-        return Written { number: 10, place: at };
+        return Written {
+            number: 10,
+            place: at,
+        };
     }
     if room(at, out.len()) < 6 {
-        return Written { number: 14, place: at };
+        return Written {
+            number: 14,
+            place: at,
+        };
     }
     let a = two(out, at, setup_mark(raw));
     let b = two(out, a, n);
     let next = two(out, b, v);
-    Written { number: 0, place: next }
+    Written {
+        number: 0,
+        place: next,
+    }
 }
 
 pub fn write_open(out: &mut [u8], at: usize, vci: u16, m: u8, f: u32, c: u32) -> Written
     ensures { λ r. ⌜ WritePromise (now (out .entry)) at (Record·VO vci m f c) r (now (out .exit)) ⌝ }
 {
     if at == 0 {
-        return Written { number: 10, place: at };
+        return Written {
+            number: 10,
+            place: at,
+        };
     }
     if room(at, out.len()) < 13 {
-        return Written { number: 14, place: at };
+        return Written {
+            number: 14,
+            place: at,
+        };
     }
     let a = two(out, at, VO);
     let b = two(out, a, vci);
     let d = one(out, b, m);
     let e = four(out, d, f);
     let next = four(out, e, c);
-    Written { number: 0, place: next }
+    Written {
+        number: 0,
+        place: next,
+    }
 }
 
 pub fn write_close(out: &mut [u8], at: usize, vci: u16) -> Written
     ensures { λ r. ⌜ WritePromise (now (out .entry)) at (Record·VX vci) r (now (out .exit)) ⌝ }
 {
     if at == 0 {
-        return Written { number: 10, place: at };
+        return Written {
+            number: 10,
+            place: at,
+        };
     }
     if room(at, out.len()) < 4 {
-        return Written { number: 14, place: at };
+        return Written {
+            number: 14,
+            place: at,
+        };
     }
     let a = two(out, at, VX);
     let next = two(out, a, vci);
-    Written { number: 0, place: next }
+    Written {
+        number: 0,
+        place: next,
+    }
 }
 
 // A cell of another length than 53 is no record: nothing that the reader reads would be it.
@@ -130,17 +157,29 @@ pub fn write_cell(out: &mut [u8], at: usize, cell: &[u8]) -> Written
     ensures { λ r. ⌜ WritePromise (now (out .entry)) at (Record·CA (now (cell .entry))) r (now (out .exit)) ⌝ }
 {
     if at == 0 {
-        return Written { number: 10, place: at };
+        return Written {
+            number: 10,
+            place: at,
+        };
     }
     if cell.len() != 53 {
-        return Written { number: 10, place: at };
+        return Written {
+            number: 10,
+            place: at,
+        };
     }
     if room(at, out.len()) < 55 {
-        return Written { number: 14, place: at };
+        return Written {
+            number: 14,
+            place: at,
+        };
     }
     let a = two(out, at, CA);
     let next = fifty_three(out, a, cell);
-    Written { number: 0, place: next }
+    Written {
+        number: 0,
+        place: next,
+    }
 }
 
 // A pause of one record: at least one slot.
@@ -148,15 +187,27 @@ pub fn write_pause(out: &mut [u8], at: usize, slots: u16) -> Written
     ensures { λ r. ⌜ WritePromise (now (out .entry)) at (Record·SL slots) r (now (out .exit)) ⌝ }
 {
     if at == 0 {
-        return Written { number: 10, place: at };
+        return Written {
+            number: 10,
+            place: at,
+        };
     }
     if slots == 0 {
-        return Written { number: 10, place: at };
+        return Written {
+            number: 10,
+            place: at,
+        };
     }
     if room(at, out.len()) < 4 {
-        return Written { number: 14, place: at };
+        return Written {
+            number: 14,
+            place: at,
+        };
     }
     let a = two(out, at, SL);
     let next = two(out, a, slots);
-    Written { number: 0, place: next }
+    Written {
+        number: 0,
+        place: next,
+    }
 }
