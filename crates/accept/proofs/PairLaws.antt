@@ -1,5 +1,5 @@
 -- The two pairs that an accepted cell's slot tests, the Output List's and entry T's as the cell leaves it: where one does
--- not fit the slot is refused. Assumes nothing.
+-- not fit the slot is refused.
 use Prim.Native.Nat.{ℕ}
 use mathlib.Core.Path.{_≡_, sym, _∙_}
 use mathlib.Core.Bool.{true, false}

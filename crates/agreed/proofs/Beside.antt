@@ -1,5 +1,5 @@
 -- The engine says of the starred cases what document 01 gives the policer: by computation, so that a row that held no cell
--- would be seen (`ten`). Assumes nothing.
+-- would be seen (`ten`).
 use mathlib.Core.Path.{_≡_, refl}
 use lib.ListN.{length}
 use Rattle.meaning.specs.Numbers.{slotNumbers}

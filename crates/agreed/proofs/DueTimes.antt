@@ -1,5 +1,5 @@
 -- The engine's due times are document 01's and its verdicts the leak rule's, from not started on: TAT is always the last
--- conforming cell's due time plus F. By induction over the calls. Assumes nothing.
+-- conforming cell's due time plus F. By induction over the calls.
 use Prim.Native.Nat.{ℕ, suc, _+_}
 use mathlib.Core.Path.{_≡_, refl, sym, ap, _∙_, subst}
 use mathlib.Core.Logic.{_↔_}

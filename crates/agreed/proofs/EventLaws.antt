@@ -1,5 +1,5 @@
 -- One event more: what it adds to the slots served, to the VC's opening and to the engine's state, and that an event which
--- moves neither of the two keeps them tied. Assumes nothing.
+-- moves neither of the two keeps them tied.
 use Prim.Native.Nat.{ℕ, suc}
 use mathlib.Core.Path.{_≡_, sym, _∙_, subst}
 use mathlib.Core.Logic.{_≢_}

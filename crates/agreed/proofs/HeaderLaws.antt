@@ -1,5 +1,5 @@
 -- What the policer's judgement is of a cell whose header names the VC, and that of no other cell verdict 1 with its VCI is
--- given. Assumes nothing.
+-- given.
 use Prim.Native.Nat.{ℕ, _-_, _≤_}
 use mathlib.Core.Path.{_≡_, refl}
 use mathlib.Core.Logic.{_≢_}

@@ -1,5 +1,5 @@
 -- One slot: what the policer answers of a cell of the VC is what the engine does, and the engine's TAT stays tied to the last
--- due time; any other slot moves neither. Assumes nothing.
+-- due time; any other slot moves neither.
 use Prim.Native.Nat.{ℕ, suc, _-_, _/_, _^_, _≤_, _<_}
 use mathlib.Core.Path.{_≡_, refl, sym, ap, _∙_, subst}
 use mathlib.Core.Logic.{_≢_}

@@ -1,5 +1,5 @@
 -- One cell, engine against leak rule: where the engine's TAT is the last due time plus F, it decides as the leak rule does,
--- its due time is the leak rule's, and its TAT is again the last due time plus F. No policer here. Assumes nothing.
+-- its due time is the leak rule's, and its TAT is again the last due time plus F. No policer here.
 use Prim.Native.Nat.{ℕ, suc, _+_, _-_, _*_, _/_, _^_, _≤_, _<_, max}
 use mathlib.Core.Path.{_≡_, refl, ap, _∙_}
 use mathlib.Core.Bool.{Bool, true, false}

@@ -1,4 +1,4 @@
--- The engine equals the policer on every run: by induction over the calls, from the invariant of runs. Assumes nothing.
+-- The engine equals the policer on every run: by induction over the calls, from the invariant of runs.
 use Prim.Native.Nat.{ℕ, _≤_}
 use mathlib.Core.Path.{_≡_, refl, sym, ap, _∙_, subst}
 use mathlib.Core.Logic.{_≢_}

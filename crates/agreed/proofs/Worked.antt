@@ -1,5 +1,4 @@
 -- Document 01's eight slots: the engine was asked for the five cells of VC 40, the last accepted one due at 30 parts in slot 4.
--- Assumes nothing.
 use mathlib.Core.Path.{_≡_, refl}
 use mathlib.Core.Bool.{true}
 use Rattle.runs.specs.Computed.{byComputation}

@@ -1,5 +1,4 @@
 -- Step 2 by cases, as its tests come one after the other; and the bucket of an open VC at this slot, from its words.
--- Assumes nothing.
 use Prim.Native.Nat.{ℕ, _-_, _*_, _^_}
 use mathlib.Core.Path.{_≡_, refl, sym, _∙_, ap}
 use mathlib.Core.Logic.{_≢_}

@@ -1,5 +1,4 @@
 -- Step 3 by cases, as its tests come one after the other: of a VC by its open word, of a cell by its length and name.
--- Assumes nothing.
 use Prim.Native.Nat.{ℕ, _*_, _/_, _%_, _^_, _≤_, _<_}
 use mathlib.Core.Path.{_≡_, refl, sym, _∙_, ap}
 use mathlib.Core.Logic.{_≢_}

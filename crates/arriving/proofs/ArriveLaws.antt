@@ -1,4 +1,4 @@
--- Step 3 as the likely way has it: an open VC that accepts a cell, and the VC that a cell names. Assumes nothing.
+-- Step 3 as the likely way has it: an open VC that accepts a cell, and the VC that a cell names.
 use Prim.Native.Nat.{ℕ, _+_, _*_, _/_, _%_, _^_, _≤_, _<_}
 use mathlib.Core.Path.{_≡_, sym, _∙_, ap}
 use mathlib.Core.Logic.{_≢_}

@@ -1,5 +1,5 @@
 -- The seat of an accepted cell as the likely way has it: the Free List has two spaces or more, so both of its ends are below
--- N. Assumes nothing.
+-- N.
 use Prim.Native.Nat.{ℕ, _+_, _-_, _*_, _≤_, _<_}
 use mathlib.Core.Path.{_≡_, refl, sym, _∙_}
 use mathlib.Core.Logic.{_≢_}

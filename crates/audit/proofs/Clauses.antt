@@ -1,5 +1,5 @@
 -- From what the walks establish to the clauses of document 01, and back (to-clauses, clauses-kept): the budgets are 1 for
--- each space and waiting for each open VC, so what uses them up is what the clauses count. Assumes nothing.
+-- each space and waiting for each open VC, so what uses them up is what the clauses count.
 use Prim.Native.Nat.{ℕ, zero, suc, _+_, _*_, _≤_, _<_}
 use mathlib.Core.Path.{_≡_, refl, sym, ap, _∙_}
 use mathlib.Core.Bool.{true}

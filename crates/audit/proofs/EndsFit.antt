@@ -1,5 +1,5 @@
 -- "lengths and ranges hold throughout": where the clauses hold, heads, tails and the links that are read are in range,
--- since each of them is a space of some list. Assumes nothing.
+-- since each of them is a space of some list.
 use Prim.Native.Nat.{ℕ, _+_, _≤_, _<_}
 use mathlib.Core.Path.{_≡_, sym, ap, _∙_}
 use mathlib.Core.Bool.{true}

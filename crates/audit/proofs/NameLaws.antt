@@ -1,5 +1,5 @@
 -- Queued headers and waiting, clause and budget: the cells of xs use the cells' budget up exactly when each header names
--- an open VC and each open VC's waiting is the number of its cells. Assumes nothing.
+-- an open VC and each open VC's waiting is the number of its cells.
 use Prim.Native.Nat.{ℕ, _≤_, _<_}
 use mathlib.Core.Path.{_≡_, refl, sym, ap, _∙_}
 use mathlib.Core.Bool.{true, _&&_}

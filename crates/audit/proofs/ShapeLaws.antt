@@ -1,5 +1,5 @@
 -- The tests of ranges and lengths as plain facts: what the code finds gives the test's answer, and the answer gives the
--- facts back. Assumes nothing.
+-- facts back.
 use Prim.Native.Nat.{ℕ, _*_, _≤_, _<_}
 use mathlib.Core.Path.{_≡_, sym, _∙_}
 use mathlib.Core.Bool.{Bool, true, false, not, _&&_}

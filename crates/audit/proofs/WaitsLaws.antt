@@ -1,5 +1,5 @@
 -- The two budgets that a state gives, filled one number at a time: 1 for each space, its waiting for each open VC, by the
--- cases of their definitions. Assumes nothing.
+-- cases of their definitions.
 use Prim.Native.Nat.{ℕ, _+_, _*_, _≤_, _<_}
 use mathlib.Core.Path.{_≡_, refl, sym, ap, _∙_}
 use mathlib.Core.Bool.{Bool, true, false, _&&_}

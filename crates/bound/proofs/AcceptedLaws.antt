@@ -1,5 +1,5 @@
 -- A cell is accepted only where its VC is open, of every run: the verdict is the leak rule's over openings, and a slot
--- that is refused accepts none. Assumes nothing.
+-- that is refused accepts none.
 use Prim.Native.Nat.{ℕ, _-_}
 use mathlib.Core.Path.{_≡_, refl, sym, ap, subst}
 use mathlib.Core.Bool.{Bool, true, false, not, _||_}

@@ -1,5 +1,5 @@
 -- The burst of one opening, from demand 3 and from the spacing of its cells: two of them that leave in a window of w slots
--- are due at most w + N-2 slots apart, so few stand between them. Assumes nothing.
+-- are due at most w + N-2 slots apart, so few stand between them.
 use Prim.Native.Nat.{ℕ, zero, suc, _+_, _-_, _*_, _/_, _^_, _≤_, _<_}
 use mathlib.Core.Path.{_≡_, refl, sym, ap, _∙_, subst}
 use mathlib.Core.Bool.{true}

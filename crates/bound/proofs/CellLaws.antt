@@ -1,5 +1,5 @@
 -- What an event adds to the accepted cells of a VC: a slot that accepted one of it that cell, any other event none. So
--- later events leave the cells that were there as they are. Assumes nothing.
+-- later events leave the cells that were there as they are.
 use Prim.Native.Nat.{ℕ}
 use mathlib.Core.Path.{_≡_, refl, sym, ap, _∙_}
 use mathlib.Core.Logic.{_≢_}

@@ -1,5 +1,4 @@
 -- Each accepted cell is one of an opening: when it came its VC was open, and an open VC was opened, and not closed since.
--- Assumes nothing.
 use Prim.Native.Nat.{ℕ, _<_}
 use mathlib.Core.Path.{_≡_, refl, sym, ap, _∙_, subst}
 use mathlib.Core.Bool.{Bool, true, false, _&&_}

@@ -1,5 +1,5 @@
 -- On the whole line at most one cell leaves in a slot: departures are noted in the order of their slots, no two in the same
--- one, by the invariant. So w slots hold at most w. Assumes nothing.
+-- one, by the invariant. So w slots hold at most w.
 use Prim.Native.Nat.{ℕ, zero, suc, _+_, _≤_, _<_}
 use mathlib.Core.Path.{_≡_, sym, ap, subst}
 use mathlib.Core.List.{List, [], _∷_, map}

@@ -1,5 +1,5 @@
 -- Along one opening of a VC its m, F and C stay, and each accepted cell is due at least F after the one before: document
--- 01's due time, event by event. Assumes nothing.
+-- 01's due time, event by event.
 use Prim.Native.Nat.{ℕ, _+_, _/_, _^_}
 use mathlib.Core.Path.{_≡_, refl, sym, ap, _∙_, subst}
 use mathlib.Core.Bool.{Bool, true, false, _&&_}

@@ -1,5 +1,5 @@
 -- Cells in a list that are due at least F apart, in parts of 1/L slot: from one to the n-th after it it is n × F at least,
--- since each new one is due at least F after the last. Assumes nothing.
+-- since each new one is due at least F after the last.
 use Prim.Native.Nat.{ℕ, suc, _+_, _-_, _*_, _/_, _≤_, _<_}
 use mathlib.Core.Path.{_≡_, ap, _∙_}
 use mathlib.Core.List.{List, [], _∷_, _++_}

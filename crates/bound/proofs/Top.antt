@@ -1,5 +1,5 @@
 -- REQUEST (xiii), of every run from a fresh state: demand 3 holds of it, each open that answered 0 kept to the rules, each
--- accepted cell's VC was open, and at most one cell leaves in a slot. Assumes nothing.
+-- accepted cell's VC was open, and at most one cell leaves in a slot.
 use Prim.Native.Nat.{ℕ, _^_, _≤_}
 use mathlib.Core.Path.{_≡_, refl, sym, subst}
 use mathlib.Core.Bool.{Bool, true, false, not}

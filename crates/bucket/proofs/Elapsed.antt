@@ -1,5 +1,5 @@
 -- The elapsed slots on a clock that wraps are the true count while that is below 2^32, and falling twice to one slot is
--- falling once. Assumes nothing.
+-- falling once.
 use Prim.Native.Nat.{ℕ, _-_, _*_, _%_, _^_, _≤_, _<_}
 use mathlib.Core.Path.{_≡_, ap}
 use native.Mathlib.Nat.{zero-mul, sub-zero}

@@ -1,5 +1,5 @@
 -- S/L rounded up is S/L plus one where a rest is left, and it is how many slots empty the bucket: after as many S is used
--- up, after fewer something is left of it. Assumes nothing.
+-- up, after fewer something is left of it.
 use Prim.Native.Nat.{ℕ, suc, _+_, _-_, _*_, _/_, _≤_, _<_}
 use mathlib.Core.Path.{_≡_, sym}
 use native.Mathlib.Nat.{div-eq-of-lt-le, lt-div-mul-add, div-mul-le-self, le-div-iff-mul-le, mul-le-mul-left, mul-le-mul-right, mul-one, suc-mul}

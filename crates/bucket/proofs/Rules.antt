@@ -1,5 +1,4 @@
 -- Rule 6 as plain facts about m, F and C, both ways, and that it says nothing of S.
--- Assumes nothing.
 use Prim.Native.Nat.{ℕ, _-_, _/_, _^_, _≤_, _<_}
 use mathlib.Core.Path.{_≡_, refl}
 use mathlib.Core.Bool.{Bool, true, false, _&&_}

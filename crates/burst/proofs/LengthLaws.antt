@@ -1,5 +1,5 @@
 -- A slot keeps the lengths of the four memories: each step is followed. So a slot of a burst is never refused with 1, 2 or
--- 9: it is served, or refused with 3. Assumes nothing.
+-- 9: it is served, or refused with 3.
 use Prim.Native.Nat.{ℕ, _+_, _*_, _%_, _≤_, _<_}
 use mathlib.Core.Path.{_≡_, refl, _∙_}
 use mathlib.Core.Bool.{Bool, true, false, not, _&&_, _||_}

@@ -1,5 +1,5 @@
 -- A slot that a likely way served is a slot of the burst: the five steps from the record before it, of a policer that is not
--- raw. Assumes nothing.
+-- raw.
 use Prim.Native.Nat.{ℕ, _+_, _-_, _*_, _%_, _≤_, _<_}
 use mathlib.Core.Path.{_≡_, refl, sym, _∙_, ap}
 use mathlib.Core.Logic.{_≢_, _⊎_, inl, inr}

@@ -1,4 +1,4 @@
--- The burst's loop: what is left of the sizes gives the rest of what all of them give. Assumes nothing.
+-- The burst's loop: what is left of the sizes gives the rest of what all of them give.
 use Prim.Native.Nat.{ℕ, _+_, _≤_, _<_}
 use mathlib.Core.Path.{_≡_, refl, sym, _∙_, ap}
 use mathlib.Core.List.{List, []}

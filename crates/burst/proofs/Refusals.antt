@@ -1,5 +1,4 @@
 -- The refusals of a burst: a length that is so many times another, tested by division; and what refusal 0 shows.
--- Assumes nothing.
 use Prim.Native.Nat.{ℕ, _+_, _*_, _/_, _%_, _<_}
 use mathlib.Core.Path.{_≡_, refl, sym, _∙_, ap}
 use mathlib.Core.Logic.{_≢_}

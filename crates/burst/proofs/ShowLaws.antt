@@ -1,5 +1,4 @@
 -- What a served slot leaves to be shown, and how many octets of a cell are lent to it.
--- Assumes nothing.
 use Prim.Native.Nat.{ℕ, _+_, _*_, _≤_, _<_}
 use mathlib.Core.Path.{_≡_, refl, sym, _∙_, ap}
 use mathlib.Core.Logic.{_≢_}

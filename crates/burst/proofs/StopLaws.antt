@@ -1,5 +1,5 @@
 -- "the only later stops with a number are 9 (a size neither 0 nor 53) and 3": once the ranges and lengths hold, each slot
--- of a burst is served, or stops it with one of these. Assumes nothing.
+-- of a burst is served, or stops it with one of these.
 use Prim.Native.Nat.{ℕ, _+_, _*_, _≤_}
 use mathlib.Core.Path.{_≡_, refl, sym, _∙_, subst}
 use mathlib.Core.Logic.{_≢_, _⊎_, inl, inr, ⊎-elim}

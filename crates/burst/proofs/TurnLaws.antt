@@ -1,4 +1,4 @@
--- One slot of a burst, by how it ends; and the slots that follow it. Assumes nothing.
+-- One slot of a burst, by how it ends; and the slots that follow it.
 use Prim.Native.Nat.{ℕ, suc, _+_, _*_, _<_}
 use mathlib.Core.Path.{_≡_, refl, sym, _∙_, ap, subst}
 use mathlib.Core.Logic.{_≢_}

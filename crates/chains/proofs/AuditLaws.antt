@@ -1,4 +1,4 @@
--- A list of spaces in the links is a chain as the audit has it, and counts agree. Assumes nothing.
+-- A list of spaces in the links is a chain as the audit has it, and counts agree.
 use Prim.Native.Nat.{ℕ, _+_, _≤_}
 use mathlib.Core.Path.{_≡_, refl, sym, ap, _∙_}
 use mathlib.Core.List.{List, [], _∷_, _++_, map}

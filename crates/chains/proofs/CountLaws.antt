@@ -1,4 +1,4 @@
--- How often a number stands in a list: the tests of `is` and `inside` as facts. Assumes nothing.
+-- How often a number stands in a list: the tests of `is` and `inside` as facts.
 use Prim.Native.Nat.{ℕ, _≤_, _<_}
 use mathlib.Core.Path.{_≡_, refl}
 use mathlib.Core.Logic.{_≢_}

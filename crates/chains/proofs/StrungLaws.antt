@@ -1,5 +1,5 @@
 -- A list of spaces in the links: what its head and tail are, that its tests of refusal 3 pass, that a link written
--- elsewhere keeps it, and that its head can be taken. Assumes nothing.
+-- elsewhere keeps it, and that its head can be taken.
 use Prim.Native.Nat.{ℕ, _≤_, _<_}
 use mathlib.Core.Path.{_≡_, refl, sym, ap, _∙_}
 use mathlib.Core.Logic.{_≢_}

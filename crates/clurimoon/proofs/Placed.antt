@@ -1,5 +1,4 @@
 -- The line's part, as `line` lends it, lies exactly where `clurimoon_line` says, and no other place is allowed.
--- Assumes nothing.
 use Prim.Native.Nat.{ℕ, _+_}
 use mathlib.Core.Path.{_≡_, refl, sym, _∙_, ap}
 use mathlib.Core.List.{List}

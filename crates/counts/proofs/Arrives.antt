@@ -1,5 +1,4 @@
 -- Steps 1 to 3 of a slot: an accepted cell is one more that waits, and no other waiting word changes.
--- Assumes nothing.
 use Prim.Native.Nat.{ℕ, _+_, _-_, _%_, _≤_, _<_}
 use mathlib.Core.Path.{_≡_, refl, sym, ap, subst, _∙_}
 use mathlib.Core.Bool.{Bool, true, false, not, _&&_, _||_}

@@ -1,5 +1,4 @@
 -- THE END LINE: in every listing its waiting is the sum of the waiting words, modulo 2^32, and accepted less sent.
--- Assumes nothing.
 use Prim.Native.Nat.{ℕ, zero, suc, _+_, _-_, _*_, _%_, _≤_, _<_}
 use mathlib.Core.Path.{_≡_, refl, sym, ap, subst, _∙_}
 use mathlib.Core.Bool.{Bool, true, false, not, _&&_, _||_}

@@ -1,5 +1,4 @@
 -- A slot keeps the balance: an accepted cell waits, a sent one no longer does, and a dropped one never did.
--- Assumes nothing.
 use Prim.Native.Nat.{ℕ, _+_, _-_, _*_, _≤_, _<_}
 use mathlib.Core.Path.{_≡_, refl, sym, ap, subst, _∙_}
 use mathlib.Core.Bool.{Bool, true, false, not, _&&_, _||_}

@@ -1,5 +1,5 @@
 -- A slot in which nothing arrives says so: no step but the third touches the verdict. So a dropped cell was none of the
--- accepted before it is told. Assumes nothing.
+-- accepted before it is told.
 use Prim.Native.Nat.{ℕ, _+_, _-_, _≤_}
 use mathlib.Core.Path.{_≡_, refl, ap, _∙_}
 use mathlib.Core.Bool.{Bool, true, false, _&&_}

@@ -1,5 +1,5 @@
 -- Document 02's own sentence: damage within one record after the GM costs that record and no other. The trace without the
--- record is readable too, so the damage theorem applies. And S1 in octets. Assumes nothing.
+-- record is readable too, so the damage theorem applies. And S1 in octets.
 use Prim.Native.Nat.{ℕ, zero, suc, _+_, _-_, _≤_, _<_}
 use mathlib.Core.Path.{_≡_, refl, sym, ap, subst, _∙_}
 use mathlib.Core.List.{List, [], _∷_, _++_, map}

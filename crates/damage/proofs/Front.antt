@@ -1,5 +1,5 @@
 -- What begins with GM or GR is not refused, and nothing else is; every piece ends within the front, or is a stretch to the
--- end of the input. Assumes nothing.
+-- end of the input.
 use Prim.Native.Nat.{ℕ, zero, suc, _+_, _-_, _≤_, _<_}
 use mathlib.Core.Path.{_≡_, refl, sym, ap, subst, _∙_}
 use mathlib.Core.Bool.{Bool, true, false, _&&_, _||_}

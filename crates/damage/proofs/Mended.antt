@@ -1,5 +1,5 @@
 -- What is written: of records, their octets; the mended trace is readable throughout, its records are the kept ones, and
--- salvaging it again changes nothing. Assumes nothing.
+-- salvaging it again changes nothing.
 use Prim.Native.Nat.{ℕ, zero, suc, _+_, _-_, _≤_, _<_}
 use mathlib.Core.Path.{_≡_, refl, sym, ap, subst, _∙_}
 use mathlib.Core.Bool.{Bool, true, false}

@@ -1,4 +1,4 @@
--- The same records at another place of another trace, one directly after the other. Assumes nothing.
+-- The same records at another place of another trace, one directly after the other.
 use Prim.Native.Nat.{ℕ, _+_, _-_, _≤_, _<_}
 use mathlib.Core.Path.{_≡_, refl, sym, ap, subst, _∙_}
 use mathlib.Core.List.{List, [], _∷_}

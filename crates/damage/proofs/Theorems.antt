@@ -1,5 +1,5 @@
 -- S1, S3 and S4: the pieces cut the input; a readable trace is kept whole; damage between two records costs one stretch and
--- no record. Assumes nothing.
+-- no record.
 use Prim.Native.Nat.{ℕ, zero, suc, _+_, _-_, _≤_, _<_}
 use mathlib.Core.Path.{_≡_, refl, sym, ap, subst, _∙_}
 use mathlib.Core.Bool.{Bool, true, false, _||_}

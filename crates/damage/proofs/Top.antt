@@ -1,4 +1,4 @@
--- The theorems of specs/Salvaged.antt, each in a line or two. Assumes nothing.
+-- The theorems of specs/Salvaged.antt, each in a line or two.
 use Prim.Native.Nat.{ℕ, zero, suc, _+_, _-_, _≤_, _<_}
 use mathlib.Core.Path.{_≡_, refl, sym, ap, subst, _∙_}
 use mathlib.Core.Bool.{Bool, true, false, _&&_, _||_}

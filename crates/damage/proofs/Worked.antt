@@ -1,5 +1,4 @@
 -- Document 02 (xii): damaged traces with what is written and listed of them, as one table that is computed.
--- Assumes nothing.
 use Prim.Native.Nat.{ℕ, _+_, _<_}
 use mathlib.Core.Bool.{false}
 use native.Mathlib.Omega.{arith}

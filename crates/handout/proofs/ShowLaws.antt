@@ -1,5 +1,4 @@
 -- A slot's line cell, shown into its own octets: a departing cell is copied there, and where nothing departs they stay.
--- Assumes nothing.
 use Prim.Native.Nat.{ℕ, _+_, _*_, _/_, _%_, _≤_, _<_}
 use mathlib.Core.Path.{_≡_, refl, sym, _∙_, ap}
 use mathlib.Core.Bool.{Bool, true, false, _&&_}

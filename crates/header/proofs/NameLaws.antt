@@ -1,5 +1,5 @@
 -- VPI and VCI as one number: of four octets it is their 24 bits after GFC and before PTI; it is 0 exactly where it is no
--- user cell, and from 1 to V-1 exactly where the header names a VC, which is then this number. Assumes nothing.
+-- user cell, and from 1 to V-1 exactly where the header names a VC, which is then this number.
 use Prim.Native.Nat.{ℕ, _+_, _*_, _/_, _%_, _≤_, _<_}
 use mathlib.Core.Path.{_≡_, refl}
 use mathlib.Core.Logic.{_≢_}

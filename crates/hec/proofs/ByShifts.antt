@@ -1,5 +1,4 @@
 -- The shifts of `hec::check_of` give the remainder: both are linear, and they agree at each of the 32 powers of 2.
--- Assumes nothing.
 use mathlib.Core.Path.{_≡_}
 use Prim.Native.Nat.{ℕ, _*_, _/_, _%_, _^_, _<_}
 use lib.Bits.{bitXor}

@@ -1,5 +1,4 @@
 -- The check over numbers is the check of a lent cell: the code's answer says what is let through, octet for octet.
--- Assumes nothing.
 use mathlib.Core.Path.{_≡_, refl, sym, ap, _∙_}
 use mathlib.Core.Bool.{Bool, true, false, cond, _&&_}
 use mathlib.Core.List.{List, [], _∷_, _++_}

@@ -1,5 +1,5 @@
 -- How many errors in three and in four bits deceive the check, counted over all of them. By `triple` and
--- `quadruple` of `Errors.antt` the counts are the same for every header. Assumes nothing.
+-- `quadruple` of `Errors.antt` the counts are the same for every header.
 use mathlib.Core.Path.{_≡_, refl}
 use mathlib.Core.Bool.{cond}
 use Prim.Native.Nat.{ℕ, zero, suc, _+_, _-_}

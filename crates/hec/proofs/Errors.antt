@@ -1,5 +1,5 @@
 -- What is promised of errors in a header: read this file first. One wrong bit of forty is named and mended, two are seen
--- as more than one, for every header; of three and four it is counted how many are taken for one or none. Assumes nothing.
+-- as more than one, for every header; of three and four it is counted how many are taken for one or none.
 use mathlib.Core.Path.{_≡_, sym, ap, _∙_}
 use mathlib.Core.List.{List}
 use Prim.Native.Nat.{ℕ, _*_, _^_, _≤_, _<_}

@@ -1,5 +1,5 @@
 -- A bit of the header changed is x^(39-i) added to the header's number; the payload, the length and the other octets
--- stay, and changed twice it is as before. Assumes nothing.
+-- stay, and changed twice it is as before.
 use mathlib.Core.Path.{_≡_, sym, ap, ap₂, _∙_}
 use mathlib.Core.Bool.{Bool, true, false, cond}
 use mathlib.Core.List.{List}

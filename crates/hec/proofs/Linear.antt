@@ -1,5 +1,5 @@
 -- A function of numbers is linear where it takes a sum, bit by bit, to the sum: shifts, masks and sums of such are. Two
--- linear functions that agree at the powers of 2 below 2^n agree below 2^n. Assumes nothing.
+-- linear functions that agree at the powers of 2 below 2^n agree below 2^n.
 use mathlib.Core.Path.{_≡_, refl, sym, ap, ap₂, _∙_}
 use mathlib.Core.Bool.{Bool, true}
 use Prim.Native.Nat.{ℕ, zero, suc, _+_, _*_, _/_, _%_, _^_, _<_}

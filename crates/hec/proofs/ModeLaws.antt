@@ -1,5 +1,5 @@
 -- What is promised of the two modes, for every lent cell and for a policer that is raw or not: read this after
--- `Errors.antt`. Assumes nothing.
+-- `Errors.antt`.
 use mathlib.Core.Path.{_≡_, refl, sym, ap, _∙_}
 use mathlib.Core.Bool.{Bool, true, false, cond, _&&_, _||_}
 use mathlib.Core.List.{List, []}

@@ -1,5 +1,5 @@
 -- The long division of `specs/Check.antt` leaves the remainder, which is linear: so an error changes a syndrome by its own
--- remainder, whatever the header holds. Assumes nothing.
+-- remainder, whatever the header holds.
 use mathlib.Core.Path.{_≡_, refl, sym, ap, ap₂, _∙_, subst}
 use Prim.Native.Nat.{ℕ, zero, suc, _+_, _-_, _*_, _/_, _%_, _^_, _<_}
 use native.Mathlib.Omega.{arith}

@@ -1,5 +1,5 @@
 -- The table's rule, by one computed test over its 256 entries; each of the forty bits is named by its own syndrome, and no
--- sum of two of these names a bit or is 0. Assumes nothing.
+-- sum of two of these names a bit or is 0.
 use mathlib.Core.Path.{_≡_, refl, subst}
 use mathlib.Core.Bool.{Bool, true, false, cond, _||_}
 use Prim.Native.Nat.{ℕ, zero, suc, _+_, _≤_, _<_}

@@ -1,5 +1,5 @@
 -- Headers whose octet 5 was computed by a program that shares no line with these definitions, bit by bit
--- (`check/second/hec.cpp` prints them). The first two are the unassigned and the idle cell's. Assumes nothing.
+-- (`check/second/hec.cpp` prints them). The first two are the unassigned and the idle cell's.
 use mathlib.Core.Path.{_≡_, refl}
 use mathlib.Core.Bool.{Bool, true, _&&_}
 use mathlib.Core.List.{List, [], _∷_}

@@ -1,5 +1,4 @@
 -- The cases of the check over numbers, as the code comes to them: a bit below 32 or not, each end of an error, clean or not.
--- Assumes nothing.
 use mathlib.Core.Path.{_≡_, refl, sym, ap, _∙_}
 use mathlib.Core.Bool.{Bool, true, false, cond, _&&_}
 use Prim.Native.Nat.{ℕ, _-_, _*_, _%_, _^_, _≤_, _<_}

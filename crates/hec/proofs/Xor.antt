@@ -1,5 +1,4 @@
 -- `bitXor` is associative, cancels, and regroups: addition of polynomials over bits. By binary digits.
--- Assumes nothing.
 use mathlib.Core.Path.{_≡_, refl, sym, ap, ap₂, _∙_}
 use Prim.Native.Nat.{ℕ, zero, suc, _+_, _*_, _/_, _%_, _<_}
 use native.Mathlib.Nat.{mod-lt}

@@ -1,5 +1,5 @@
 -- Step 3 where the leak rule accepts: a space is free, no test of refusal 3 fails, and the cell joins the entry of its
--- due slot. Assumes nothing.
+-- due slot.
 use Prim.Native.Nat.{ℕ, suc, _+_, _-_, _%_, _≤_, _<_}
 use mathlib.Core.Path.{_≡_, refl, sym, ap, _∙_, subst}
 use mathlib.Core.Bool.{true}

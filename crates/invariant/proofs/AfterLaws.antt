@@ -1,5 +1,5 @@
 -- What an accepted cell changes for the cells already queued: their VC's opening has moved on, and they keep their place
--- under it. Assumes nothing.
+-- under it.
 use Prim.Native.Nat.{ℕ, _+_, _≤_}
 use mathlib.Core.Path.{_≡_}
 use mathlib.Core.Logic.{_≢_}

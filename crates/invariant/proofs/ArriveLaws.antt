@@ -1,5 +1,5 @@
 -- Step 3 of a slot, from the invariant: nothing, unknown, excess or accepted, as the header and the exact leak rule say,
--- and never refused. Assumes nothing.
+-- and never refused.
 use Prim.Native.Nat.{ℕ, suc, _-_, _≤_, _<_}
 use mathlib.Core.Path.{_≡_, refl, sym, ap, _∙_, subst₂, fun-ext}
 use mathlib.Core.Logic.{_≢_}

@@ -1,5 +1,5 @@
 -- The invariant implies the audit's clauses: the calendar's queues, from the next slot on, turned back to entry after
--- entry. Assumes nothing.
+-- entry.
 use Prim.Native.Nat.{ℕ, _+_, _-_, _%_, _≤_, _<_}
 use mathlib.Core.Path.{_≡_, refl, sym, ap, _∙_, subst}
 use mathlib.Core.Bool.{true}

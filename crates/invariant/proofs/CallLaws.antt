@@ -1,5 +1,5 @@
 -- A call that serves no slot: refused it changes nothing; else one VC, of which no cell is queued, gets another opening or
--- none. Refusals 1, 2 and 3 are not given. Assumes nothing.
+-- none. Refusals 1, 2 and 3 are not given.
 use Prim.Native.Nat.{ℕ, _≤_, _<_}
 use mathlib.Core.Path.{_≡_, refl, sym, ap, _∙_, subst}
 use mathlib.Core.Logic.{_≢_}

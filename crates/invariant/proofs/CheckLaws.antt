@@ -1,5 +1,5 @@
 -- A slot with the header check in front: document 01's slot, in the mode that the check leads to, over what it lets
--- through. So it keeps the invariant too; a dropped cell is told, and adds no cell. Assumes nothing.
+-- through. So it keeps the invariant too; a dropped cell is told, and adds no cell.
 use Prim.Native.Nat.{ℕ, _≤_}
 use mathlib.Core.Path.{_≡_, refl, sym, ap, _∙_, subst}
 use mathlib.Core.Bool.{Bool, true, false, _||_}

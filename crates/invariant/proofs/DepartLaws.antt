@@ -1,5 +1,5 @@
 -- Step 5 of a slot, from the invariant: the head of the Output List names an open VC with a cell waiting, so that no test
--- of refusal 3 fails; it departs with the octets that were accepted. Assumes nothing.
+-- of refusal 3 fails; it departs with the octets that were accepted.
 use Prim.Native.Nat.{ℕ, suc, _+_, _-_, _≤_, _<_}
 use mathlib.Core.Path.{_≡_, refl, sym, ap, _∙_, subst, subst₂}
 use mathlib.Core.Bool.{true}

@@ -1,5 +1,4 @@
 -- The end of a slot: what its answer and line cell add to the events, of openings, of the slots served and of departures.
--- Assumes nothing.
 use Prim.Native.Nat.{ℕ, suc, _≤_}
 use mathlib.Core.Path.{_≡_, refl, sym, ap, _∙_, fun-ext}
 use mathlib.Core.Logic.{_≢_}

@@ -1,4 +1,4 @@
--- A fresh state is in order: nothing is queued, every space is in the Free List, every VC is closed. Assumes nothing.
+-- A fresh state is in order: nothing is queued, every space is in the Free List, every VC is closed.
 use Prim.Native.Nat.{ℕ, zero, suc, _+_, _-_, _*_, _%_, _≤_, _<_}
 use mathlib.Core.Path.{_≡_, refl, sym, ap, _∙_}
 use mathlib.Core.Bool.{Bool, true, false, not, _&&_}

@@ -1,5 +1,5 @@
 -- The order of one VC's cells through a slot: those that left, then the Output List, then the calendar, always in order
--- of arrival; and what the events of a slot add to the accepted cells and departures. Assumes nothing.
+-- of arrival; and what the events of a slot add to the accepted cells and departures.
 use Prim.Native.Nat.{ℕ, suc}
 use mathlib.Core.Path.{_≡_, refl, sym, ap, _∙_}
 use mathlib.Core.Logic.{_≢_}

@@ -1,4 +1,4 @@
--- The tests of refusals 1 and 2 pass where the ranges and lengths hold. Assumes nothing.
+-- The tests of refusals 1 and 2 pass where the ranges and lengths hold.
 use Prim.Native.Nat.{ℕ, _*_}
 use mathlib.Core.Path.{_≡_}
 use mathlib.Core.Bool.{true}

@@ -1,5 +1,5 @@
 -- Open and close keep the invariant, refused or not, and are never refused with 3. At an opening no cell of the VC is
--- queued, since each queued cell's VC is open; at a close none is, since waiting is 0. Assumes nothing.
+-- queued, since each queued cell's VC is open; at a close none is, since waiting is 0.
 use Prim.Native.Nat.{ℕ, _≤_, _<_}
 use mathlib.Core.Path.{_≡_, refl, sym, ap, _∙_, subst}
 use mathlib.Core.Logic.{_≢_}

@@ -1,4 +1,4 @@
--- Every run from a fresh state keeps the invariant, and no call of it is refused with 3. Assumes nothing.
+-- Every run from a fresh state keeps the invariant, and no call of it is refused with 3.
 use Prim.Native.Nat.{ℕ}
 use mathlib.Core.Path.{_≡_, refl, sym, ap, subst}
 use mathlib.Core.Logic.{_≢_}

@@ -1,5 +1,5 @@
 -- Step 4 of a slot, from the invariant: entry T, if marked, joins the end of the Output List, and no test of refusal 3
--- fails. Assumes nothing.
+-- fails.
 use Prim.Native.Nat.{ℕ, suc, _+_, _≤_}
 use mathlib.Core.Path.{_≡_, refl, subst, subst₂}
 use mathlib.Core.List.{List, [], _∷_, _++_, tail, append-nil}

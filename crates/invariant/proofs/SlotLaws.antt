@@ -1,5 +1,5 @@
 -- Document 01's slot keeps the invariant, is never refused with 3, and says of the arrival what the exact leak rule says.
--- Steps 1 to 5 one after the other. Assumes nothing.
+-- Steps 1 to 5 one after the other.
 use Prim.Native.Nat.{ℕ, suc, _+_, _-_}
 use mathlib.Core.Path.{_≡_, refl, sym, ap, _∙_, subst, subst₂}
 use mathlib.Core.Bool.{true, false, _||_}

@@ -1,5 +1,5 @@
 -- What departs on a likely way: what is left of its list and the VC that was found give what the slot's definition says, in
--- memory as it is and once a cell has been accepted. Assumes nothing.
+-- memory as it is and once a cell has been accepted.
 use Prim.Native.Nat.{ℕ, _≤_, _<_}
 use mathlib.Core.Path.{_≡_, refl, sym, _∙_, ap, subst}
 use mathlib.Core.Logic.{_≢_}

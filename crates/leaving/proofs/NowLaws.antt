@@ -1,5 +1,5 @@
 -- What departs where the accepted cell joined entry T: the cell itself, where the Output List is empty, or that list's head;
--- and entry T once a cell has joined its own entry. Assumes nothing.
+-- and entry T once a cell has joined its own entry.
 use Prim.Native.Nat.{ℕ, _+_, _-_, _*_, _≤_, _<_}
 use mathlib.Core.Path.{_≡_, refl, sym, _∙_, ap}
 use mathlib.Core.Logic.{_≢_, _⊎_, inl, inr}

@@ -1,5 +1,5 @@
 -- The tests that find what departs: the VC that a header names, a link once another is written, and the Output List once entry
--- T has joined it. Assumes nothing.
+-- T has joined it.
 use Prim.Native.Nat.{ℕ, _≤_, _<_}
 use mathlib.Core.Path.{_≡_, refl, sym, subst}
 use mathlib.Core.Logic.{_≢_}

@@ -1,5 +1,4 @@
 -- An accepted cell on a likely way: what was found and what is written are steps 2 to 5, whether or not a cell departs.
--- Assumes nothing.
 use Prim.Native.Nat.{ℕ, _+_, _*_, _/_, _≤_, _<_}
 use mathlib.Core.Path.{_≡_, refl, sym, _∙_, ap}
 use mathlib.Core.Bool.{Bool, true, false, not}

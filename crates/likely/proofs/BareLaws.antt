@@ -1,5 +1,5 @@
 -- A slot in which no cell arrives, over plain lists: from what was found of step 2 and of what departs, and from what was
--- written, to what the five steps leave. Assumes nothing.
+-- written, to what the five steps leave.
 use Prim.Native.Nat.{ℕ, _*_, _/_, _≤_, _<_}
 use mathlib.Core.Path.{_≡_, refl, sym, _∙_, ap}
 use mathlib.Core.Logic.{_≢_}

@@ -1,5 +1,5 @@
 -- What a function of a likely way gives back: everything as it came, or a slot served; and laws that the cases of a
--- served slot share. Assumes nothing.
+-- served slot share.
 use Prim.Native.Nat.{ℕ, _*_, _/_, _%_, _≤_}
 use mathlib.Core.Path.{_≡_, refl, sym, _∙_, ap}
 use mathlib.Core.Bool.{Bool, true, false}

@@ -1,5 +1,5 @@
 -- An accepted cell over plain lists: the words of its VC as they stand once step 2 has written, and what its judgement says
--- of them. Assumes nothing.
+-- of them.
 use Prim.Native.Nat.{ℕ, _+_, _-_, _*_, _/_, _^_, _≤_, _<_}
 use mathlib.Core.Path.{_≡_, refl, sym, _∙_, ap}
 use mathlib.Core.Logic.{_≢_}

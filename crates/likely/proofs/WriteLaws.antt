@@ -1,5 +1,4 @@
 -- The likely ways' writes over plain lists: a word read after its neighbours were written, and an entry whose tail stays.
--- Assumes nothing.
 use Prim.Native.Nat.{ℕ, _+_, _*_}
 use mathlib.Core.Path.{_≡_, sym, _∙_, ap}
 use mathlib.Core.Logic.{_≢_}

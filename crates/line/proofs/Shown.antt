@@ -1,5 +1,4 @@
 -- What a place of numbers says of a part, and that the octets at such a place are the line cell.
--- Assumes nothing.
 use Prim.Native.Nat.{ℕ, _+_, _-_, _≤_}
 use mathlib.Core.Path.{_≡_, refl, sym, _∙_, ap}
 use mathlib.Core.List.{List}

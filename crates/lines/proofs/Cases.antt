@@ -1,5 +1,4 @@
 -- Lines of document 01's example and the edges of its rules, by computation.
--- Assumes nothing.
 use mathlib.Core.Path.{_≡_, refl}
 use mathlib.Core.List.{List, [], _∷_}
 use Prim.Native.Nat.{ℕ}

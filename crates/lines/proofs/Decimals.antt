@@ -1,5 +1,4 @@
 -- Digits in groups of four are the decimal digits: the digits of n are those of n / 10,000, and four more.
--- Assumes nothing.
 use mathlib.Core.Path.{_≡_, refl, sym, ap, _∙_}
 use mathlib.Core.Bool.{Bool, true, false}
 use mathlib.Core.Logic.{_⊎_, inl, inr, ⊎-elim}

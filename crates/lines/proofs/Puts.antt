@@ -1,5 +1,4 @@
 -- Text after text in a buffer is one text, and a promise `Put` fixes the buffer and the place behind.
--- Assumes nothing.
 use mathlib.Core.Path.{_≡_, refl, sym, ap, _∙_}
 use mathlib.Core.List.{List, [], _∷_, _++_, append-assoc}
 use Prim.Native.Nat.{ℕ, suc, _+_, _≤_}

@@ -1,5 +1,4 @@
 -- "no end count includes it": an answer that tells of a dropped cell adds to none of accepted, excess and unknown.
--- Assumes nothing.
 use Prim.Native.Nat.{ℕ, _+_}
 use mathlib.Core.Path.{_≡_, refl, ap, _∙_}
 use mathlib.Core.Bool.{Bool, false}

@@ -1,5 +1,4 @@
 -- Document 01's worked example: the listing of the eight slots, whole, by computation.
--- Assumes nothing.
 use Prim.Native.Nat.{ℕ, _+_}
 use mathlib.Core.Path.{_≡_, refl}
 use mathlib.Core.List.{List, [], _∷_, _++_}

@@ -1,5 +1,5 @@
 -- A raw trace, whole, by computation: a wrong bit is mended, the next error is dropped, an idle cell leads back, two wrong
--- bits are dropped, and a wrong bit of octet 5 is mended; the end line counts no dropped cell. Assumes nothing.
+-- bits are dropped, and a wrong bit of octet 5 is mended; the end line counts no dropped cell.
 use Prim.Native.Nat.{ℕ}
 use mathlib.Core.Path.{_≡_, refl}
 use mathlib.Core.List.{List, [], _∷_, _++_}

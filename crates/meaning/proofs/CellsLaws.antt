@@ -1,5 +1,5 @@
 -- "The cell is written into its own 53 octets of the cell memory, and every other octet keeps its value": what is read
--- of the cell memory after a write. Assumes nothing.
+-- of the cell memory after a write.
 use Prim.Native.Nat.{ℕ, _+_, _*_, _-_, _≤_, _<_}
 use mathlib.Core.Path.{_≡_, refl, sym, _∙_, ap}
 use mathlib.Core.Logic.{_≢_}

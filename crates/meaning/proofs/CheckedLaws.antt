@@ -1,5 +1,5 @@
 -- The header check in front of a slot: what it lets through is nothing or a cell, so the slot is document 01's over that,
--- with the mode moved and the verdict told. A policer that is not raw serves as before. Assumes nothing.
+-- with the mode moved and the verdict told. A policer that is not raw serves as before.
 use Prim.Native.Nat.{ℕ, _-_, _/_, _%_, _^_, _≤_}
 use mathlib.Core.Path.{_≡_, refl, sym, ap, _∙_}
 use mathlib.Core.Logic.{_≢_}

@@ -1,4 +1,4 @@
--- Heads and tails: what their test says of them; an entry of the calendar, read and written. Assumes nothing.
+-- Heads and tails: what their test says of them; an entry of the calendar, read and written.
 use Prim.Native.Nat.{ℕ, _+_, _*_, _≤_, _<_}
 use mathlib.Core.Path.{_≡_, refl, sym, _∙_, ap}
 use mathlib.Core.Logic.{_≢_}

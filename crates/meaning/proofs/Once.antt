@@ -1,5 +1,5 @@
 -- "Each public function's promise determines the answer, and every lent octet and word afterwards, for every input and
--- refusal": two results that a promise allows coincide. Assumes nothing.
+-- refusal": two results that a promise allows coincide.
 use Prim.Native.Nat.{ℕ}
 use mathlib.Core.Path.{_≡_, refl, sym, _∙_}
 use mathlib.Core.Bool.{Bool, true, false}

@@ -1,5 +1,4 @@
 -- What holds of the outcome of a chain of steps: each test and each step passes it on. Refused steps have no outcome.
--- Assumes nothing.
 use mathlib.Core.Path.{_≡_, refl}
 use mathlib.Core.Bool.{Bool, true, false}
 use Rattle.meaning.specs.Plain.{if_then_else_, Out, refused, next, needs, _andThen_}

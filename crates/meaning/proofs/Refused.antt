@@ -1,5 +1,5 @@
 -- "Each leaves everything as it came": a refused open and a refused close leave every word as it was, `last` among them,
--- though close works out S as of t. Assumes nothing.
+-- though close works out S as of t.
 use Prim.Native.Nat.{ℕ}
 use mathlib.Core.Path.{_≡_, refl}
 use mathlib.Core.Logic.{_≢_}

@@ -1,5 +1,5 @@
 -- The words of a VC, read and written: what is written is read again, words of other VCs stay, a second write wins,
--- storing what is stored changes nothing; and a write of two or three words as a write of seven. Assumes nothing.
+-- storing what is stored changes nothing; and a write of two or three words as a write of seven.
 use Prim.Native.Nat.{ℕ, _+_, _*_, _≤_, _<_}
 use mathlib.Core.Path.{_≡_, refl, sym, _∙_, ap}
 use mathlib.Core.Logic.{_≢_}

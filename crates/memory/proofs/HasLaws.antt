@@ -1,5 +1,5 @@
 -- The memory through an arrival: the tests of refusal 3 pass, a space is free, its cell joins the calendar, and all else
--- stays. Assumes nothing.
+-- stays.
 use Prim.Native.Nat.{ℕ, _+_, _*_, _%_, _≤_, _<_}
 use mathlib.Core.Path.{_≡_, refl, sym, ap, _∙_, subst}
 use mathlib.Core.Bool.{true, false}

@@ -1,4 +1,4 @@
--- Queued cells keep their octets when another space is written. Assumes nothing.
+-- Queued cells keep their octets when another space is written.
 use Prim.Native.Nat.{ℕ, _+_, _*_, _≤_}
 use mathlib.Core.Path.{_≡_, sym, _∙_}
 use mathlib.Core.List.{List, [], _∷_}

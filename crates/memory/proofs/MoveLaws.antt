@@ -1,5 +1,5 @@
 -- The memory through a transfer and a departure: entry T joins the Output List, whose head goes to the tail of the Free
--- List. Assumes nothing.
+-- List.
 use Prim.Native.Nat.{ℕ, suc, _+_, _%_, _≤_, _<_}
 use mathlib.Core.Path.{_≡_, refl, sym, ap, _∙_}
 use mathlib.Core.Logic.{_≢_}

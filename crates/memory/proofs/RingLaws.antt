@@ -1,4 +1,4 @@
--- The calendar as a ring: entries (b + i) and (b + j) modulo N differ. Assumes nothing.
+-- The calendar as a ring: entries (b + i) and (b + j) modulo N differ.
 use Prim.Native.Nat.{ℕ, _+_, _-_, _%_, _<_}
 use mathlib.Core.Path.{sym, ap, _∙_}
 use mathlib.Core.Logic.{_≢_}

@@ -1,4 +1,4 @@
--- What is shown of a space: the line cell is its 53 octets, and the header read there is theirs. Assumes nothing.
+-- What is shown of a space: the line cell is its 53 octets, and the header read there is theirs.
 use Prim.Native.Nat.{ℕ, _+_, _*_, _/_, _%_, _≤_, _<_}
 use mathlib.Core.Path.{_≡_, refl, sym, ap, _∙_}
 use mathlib.Core.Bool.{true}

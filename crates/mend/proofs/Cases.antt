@@ -1,5 +1,5 @@
 -- The cases of the definitions, each from plain facts of the numbers and of the reader's answer, as the code's tests show
--- them. Assumes nothing.
+-- them.
 use Prim.Native.Nat.{ℕ, zero, suc, _+_, _-_, _≤_, _<_}
 use mathlib.Core.Path.{_≡_, refl, sym, ap, _∙_}
 use mathlib.Core.Bool.{Bool, true, false, _&&_, _||_}

@@ -1,4 +1,4 @@
--- What pieces write, one after the other; what a step below the end brings. Assumes nothing.
+-- What pieces write, one after the other; what a step below the end brings.
 use Prim.Native.Nat.{ℕ, _+_, _-_, _≤_, _<_}
 use mathlib.Core.Path.{_≡_, refl, sym, ap, subst, _∙_}
 use mathlib.Core.Bool.{Bool, true, false}

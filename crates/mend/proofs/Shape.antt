@@ -1,5 +1,5 @@
 -- What the reader reads depends on the record's own octets, and on whether its place is 0: the shape of a record that is
--- read, and back. Assumes nothing.
+-- read, and back.
 use Prim.Native.Nat.{ℕ, _+_, _*_, _≤_, _<_}
 use mathlib.Core.Path.{_≡_, refl, sym, ap, subst, _∙_}
 use mathlib.Core.Bool.{Bool, true, false, _&&_, _||_}

@@ -1,5 +1,4 @@
 -- The walk: each step leads on within the input, so the pieces reach its end; what satisfies the steps is the walk.
--- Assumes nothing.
 use Prim.Native.Nat.{ℕ, zero, suc, _+_, _-_, _≤_, _<_}
 use mathlib.Core.Path.{_≡_, refl, sym, ap, subst, _∙_}
 use mathlib.Core.Bool.{Bool, true, false}

@@ -1,5 +1,4 @@
 -- A fill, piece by piece: when it takes none, when it takes one and goes on, and what stands in the buffers after some.
--- Assumes nothing.
 use Prim.Native.Nat.{ℕ, zero, suc, _+_, _-_, _≤_, _<_}
 use mathlib.Core.Path.{_≡_, refl, sym, ap, subst, _∙_}
 use mathlib.Core.Bool.{Bool, true, false, _&&_}

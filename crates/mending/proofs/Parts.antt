@@ -1,4 +1,4 @@
--- A part of a list, an octet longer; the digits of a number, from the last to the first. Assumes nothing.
+-- A part of a list, an octet longer; the digits of a number, from the last to the first.
 use Prim.Native.Nat.{ℕ, zero, suc, _+_, _-_, _/_, _%_, _^_, _≤_, _<_}
 use mathlib.Core.Path.{_≡_, refl, sym, ap, _∙_}
 use mathlib.Core.List.{List, [], _∷_, _++_, append-assoc}

@@ -1,5 +1,4 @@
 -- What one piece writes and lists, by whether its record is kept; a line of two numbers; when a fill is refused.
--- Assumes nothing.
 use Prim.Native.Nat.{ℕ, _+_, _-_, _≤_, _<_}
 use mathlib.Core.Path.{_≡_, refl, sym, ap, subst, _∙_}
 use mathlib.Core.Bool.{Bool, true, false, not, _&&_}

@@ -1,5 +1,5 @@
 -- The promise of a writer by its three ways out: what the reader would refuse, an output too short, the record in its place.
--- Each test of the code is a test of the definition. Assumes nothing.
+-- Each test of the code is a test of the definition.
 use Prim.Native.Nat.{ℕ, _+_, _≤_, _<_}
 use mathlib.Core.Path.{_≡_, refl, sym, ap, _∙_}
 use mathlib.Core.Bool.{Bool, true, false, _&&_}

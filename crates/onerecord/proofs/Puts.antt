@@ -1,5 +1,5 @@
 -- Where a text was put into a list, octet by octet: before it and behind it stands what stood there, in it the text.
--- By induction on the text. Assumes nothing.
+-- By induction on the text.
 use Prim.Native.Nat.{ℕ, zero, suc, _+_, _≤_, _<_}
 use mathlib.Core.Path.{_≡_, refl, ap, _∙_}
 use mathlib.Core.List.{List, [], _∷_}

@@ -1,5 +1,5 @@
 -- W4, the promise of a record's writer and the reader of the trace: what was written is read back, and no other octet changed;
--- 10 exactly where no octets would be read so; 14 exactly where otherwise the record doesn't fit. Assumes nothing.
+-- 10 exactly where no octets would be read so; 14 exactly where otherwise the record doesn't fit.
 use Prim.Native.Nat.{ℕ, _+_, _≤_, _<_}
 use mathlib.Core.Path.{_≡_, refl, sym, ap, subst, _∙_}
 use mathlib.Core.Bool.{Bool, true, false, _&&_}

@@ -1,5 +1,4 @@
 -- What one call promises is what its step does: the calls' own promises, turned into steps.
--- Assumes nothing.
 use Prim.Native.Nat.{ℕ, _+_, _≤_}
 use mathlib.Core.Path.{_≡_, refl, sym, ap, _∙_}
 use mathlib.Core.Bool.{Bool, true, false, not}

@@ -1,5 +1,5 @@
 -- The cases in which a cell is accepted, from what was read, the cell and its VC's words being written in thought, to
--- what the five steps leave. Assumes nothing.
+-- what the five steps leave.
 use Prim.Native.Nat.{ℕ, _≤_, _<_}
 use mathlib.Core.Path.{_≡_, sym, _∙_, ap}
 use mathlib.Core.Logic.{_≢_}

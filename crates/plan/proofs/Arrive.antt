@@ -1,5 +1,4 @@
 -- Step 3, as it was found in numbers: refused, no cell accepted, or a space sought for the accepted cell.
--- Assumes nothing.
 use Prim.Native.Nat.{ℕ, _+_, _<_}
 use mathlib.Core.Path.{_≡_, refl, ap}
 use mathlib.Core.Logic.{_⊎_, inl, inr}

@@ -1,5 +1,5 @@
 -- The cases of a slot's code, each over plain lists: steps 4 and 5 of a work after step 3, by what was read of entry T,
--- the Output List, what departs and the Free List. Assumes nothing.
+-- the Output List, what departs and the Free List.
 use Prim.Native.Nat.{ℕ, _+_, _*_, _≤_, _<_}
 use mathlib.Core.Path.{_≡_, refl, sym, _∙_, ap}
 use mathlib.Core.Logic.{_≢_}

@@ -1,5 +1,5 @@
 -- What the last function of a case gives back is the work after step 5: its record, its answer and each memory, put
--- together. Assumes nothing.
+-- together.
 use Prim.Native.Nat.{ℕ, _≤_, _<_}
 use mathlib.Core.Path.{_≡_, sym, _∙_, ap}
 use mathlib.Core.Bool.{Bool, true, false, not}

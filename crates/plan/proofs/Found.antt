@@ -1,5 +1,4 @@
 -- What the tests of a slot have shown, once they passed: of the judged cell, of its seat, and of what departs.
--- Assumes nothing.
 use Prim.Native.Nat.{ℕ, _+_, _-_, _*_, _/_, _^_, _≤_, _<_}
 use mathlib.Core.Path.{_≡_, refl, sym}
 use mathlib.Core.Logic.{_⊎_, inl, inr}

@@ -1,5 +1,4 @@
 -- Steps 4 and 5 of any work, by cases: entry T marked or not, the Output List empty or not.
--- Assumes nothing.
 use Prim.Native.Nat.{ℕ, _-_}
 use mathlib.Core.Path.{_≡_, refl, _∙_, ap}
 use mathlib.Core.Bool.{Bool, true, false, not, _&&_}

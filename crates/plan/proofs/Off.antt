@@ -1,5 +1,4 @@
 -- What departs: what its tests have shown; and that it depends on the words only by open words and waiting.
--- Assumes nothing.
 use Prim.Native.Nat.{ℕ, _≤_, _<_}
 use mathlib.Core.Path.{_≡_, refl}
 use mathlib.Core.Bool.{Bool, true, false, _&&_}

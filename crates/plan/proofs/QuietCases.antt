@@ -1,5 +1,4 @@
 -- The cases in which no cell is accepted, from what was read and what was written to what the five steps leave.
--- Assumes nothing.
 use Prim.Native.Nat.{ℕ, _+_, _*_}
 use mathlib.Core.Path.{_≡_, refl, sym, _∙_, ap}
 use mathlib.Core.Bool.{true, false, not}

@@ -1,5 +1,5 @@
 -- Step 2 as it was found in numbers; and what step 3 then finds is what it would have found before step 2, since a VC
--- brought up to date at t is not moved by a second update at t. Assumes nothing.
+-- brought up to date at t is not moved by a second update at t.
 use Prim.Native.Nat.{ℕ, _+_, _*_, _%_, _≤_, _<_}
 use mathlib.Core.Path.{_≡_, refl, sym, _∙_, ap}
 use mathlib.Core.Logic.{_≢_, _⊎_, inl, inr}

@@ -1,5 +1,4 @@
 -- The rest of step 3 for an accepted cell: a space is taken, the cell written there, and it joins entry (T+D) modulo N.
--- Assumes nothing.
 use Prim.Native.Nat.{ℕ, _+_, _-_, _%_, _≤_, _<_}
 use mathlib.Core.Path.{_≡_, refl, _∙_}
 use mathlib.Core.Bool.{Bool, true, false, not, _&&_, _||_}

@@ -1,6 +1,5 @@
 -- Steps 2 and 3 as the code finds them, and what they leave to steps 4 and 5: the words' owner is brought up to date, the
 -- cell is judged, and an accepted one has its seat.
--- Assumes nothing.
 use Prim.Native.Nat.{ℕ, _+_, _*_, _≤_, _<_}
 use mathlib.Core.Path.{_≡_, refl, sym, _∙_, ap}
 use mathlib.Core.Logic.{_≢_}

@@ -1,5 +1,5 @@
 -- A burst after a run from a fresh state, whole: ranges and the four memories' lengths hold, so it is refused with 2 alone;
--- else it is its slots, and what it wrote reads back as their events. Assumes nothing.
+-- else it is its slots, and what it wrote reads back as their events.
 use Prim.Native.Nat.{ℕ, suc, _*_, _≤_}
 use mathlib.Core.Path.{_≡_, refl, ap, _∙_}
 use mathlib.Core.Bool.{Bool, true, false, not, _&&_}

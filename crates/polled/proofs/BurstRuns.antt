@@ -1,5 +1,5 @@
 -- A burst after a run from a fresh state, slot for slot: each slot that is lent no cell or 53 octets is served, since the
--- invariant holds, so the burst goes on to its first other size. Assumes nothing.
+-- invariant holds, so the burst goes on to its first other size.
 use Prim.Native.Nat.{ℕ, suc, _+_, _*_, _≤_}
 use mathlib.Core.Path.{_≡_, refl, sym, ap, _∙_}
 use mathlib.Core.Bool.{Bool, true, false, _&&_}

@@ -1,5 +1,5 @@
 -- What a burst has written, read back: the answers are those of its slots, the octets the line cells that their events
--- note, and the header check goes on from slot to slot in the mode that the slot leaves. Assumes nothing.
+-- note, and the header check goes on from slot to slot in the mode that the slot leaves.
 use Prim.Native.Nat.{ℕ, _+_, _*_, _≤_}
 use mathlib.Core.Path.{_≡_, refl, sym, ap, _∙_}
 use mathlib.Core.Bool.{Bool, true, false}

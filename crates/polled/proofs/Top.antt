@@ -1,5 +1,5 @@
 -- The theorems that readers are sent to: a run with bursts in it is the run of the calls that they stand for, from the
--- invariant of runs. Assumes nothing.
+-- invariant of runs.
 use Prim.Native.Nat.{ℕ}
 use mathlib.Core.Path.{_≡_, refl, sym, ap, _∙_, subst}
 use mathlib.Core.Bool.{Bool}

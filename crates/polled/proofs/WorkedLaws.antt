@@ -1,5 +1,5 @@
 -- The promises on bursts speak of some: one of eight slots stands for document 01's eight calls, and one with a size of 7
--- ends with 9 after the slot before it. By computation. Assumes nothing.
+-- ends with 9 after the slot before it. By computation.
 use mathlib.Core.Path.{_≡_, refl}
 use mathlib.Core.List.{[], _∷_}
 use lib.ListN.{replicate}

@@ -1,5 +1,5 @@
 -- What a served slot of a burst writes, where what stands before its own octets and numbers is set apart: its 53 octets of
--- departures are its line cell, or stay where nothing departs, and its six numbers are its answer. Assumes nothing.
+-- departures are its line cell, or stay where nothing departs, and its six numbers are its answer.
 use Prim.Native.Nat.{ℕ, _+_, _*_, _/_, _≤_, _<_}
 use mathlib.Core.Path.{_≡_, refl, sym, ap, _∙_}
 use mathlib.Core.Logic.{_≢_}

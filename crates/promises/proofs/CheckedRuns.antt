@@ -1,5 +1,5 @@
 -- Request (i) over runs: what the invariant and document 01's slot behind the header check say of the next call; and a run
--- that is not raw, call for call beside one with no check. Assumes nothing.
+-- that is not raw, call for call beside one with no check.
 use Prim.Native.Nat.{ℕ, _≤_}
 use mathlib.Core.Path.{_≡_, refl, ap, _∙_}
 use mathlib.Core.Logic.{_≢_, _⊎_, inl, inr}

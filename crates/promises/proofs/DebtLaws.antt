@@ -1,5 +1,5 @@
 -- Request (ii) over runs: the words say what the exact leak rule owes, so close answers 0 exactly when all has left and
--- last due + F is at most t × L; at every close that was so, and time only goes on. Assumes nothing.
+-- last due + F is at most t × L; at every close that was so, and time only goes on.
 use Prim.Native.Nat.{ℕ, zero, suc, _+_, _-_, _*_, _/_, _≤_, _<_}
 use mathlib.Core.Path.{_≡_, refl, sym, ap, _∙_, subst}
 use mathlib.Core.Logic.{_≢_, _↔_}

@@ -1,5 +1,5 @@
 -- Demand 3, clause by clause, from the invariant: of each VC the accepted cells are those that left and then those that
--- wait, so the k-th that left is the k-th accepted; one that waits can still be in time. Assumes nothing.
+-- wait, so the k-th that left is the k-th accepted; one that waits can still be in time.
 use Prim.Native.Nat.{ℕ, zero, suc, _+_, _-_, _≤_, _<_}
 use mathlib.Core.Path.{_≡_, refl, sym, ap, _∙_}
 use mathlib.Core.Bool.{false}

@@ -1,5 +1,4 @@
 -- What may be quoted, from demand 3: the due slot is D after the arrival, D is at most N-1, and N-1 more may pass.
--- Assumes nothing.
 use Prim.Native.Nat.{ℕ}
 use native.Mathlib.Omega.{arith}
 use mathlib.Core.List.{List}

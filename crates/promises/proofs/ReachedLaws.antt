@@ -1,5 +1,5 @@
 -- The bound N-1 is reached, at N 2 and N 5, so that no smaller one holds; and on the merged output one VC's departures
--- come closer than F/L, as the eight slots of document 01 show: 6 and 7 of VC 40. By computation. Assumes nothing.
+-- come closer than F/L, as the eight slots of document 01 show: 6 and 7 of VC 40. By computation.
 use Prim.Native.Nat.{ℕ, _-_, _*_, _≤_}
 use mathlib.Core.Path.{_≡_, refl}
 use mathlib.Core.Bool.{Bool, true, false}

@@ -1,4 +1,4 @@
--- The theorems that readers are sent to: each from the invariant of runs, in one line. Assumes nothing.
+-- The theorems that readers are sent to: each from the invariant of runs, in one line.
 use Prim.Native.Nat.{ℕ}
 use mathlib.Core.Path.{_≡_, sym, ap, _∙_, subst}
 use mathlib.Core.Logic.{_≢_}

@@ -1,5 +1,5 @@
 -- Demand 3's clauses on the verdict: of what the header check lets through it is the leak rule's, since the invariant ties
--- the words to it; a header that names a VC is no dropped cell's. Assumes nothing.
+-- the words to it; a header that names a VC is no dropped cell's.
 use Prim.Native.Nat.{ℕ, _-_, _≤_}
 use mathlib.Core.Path.{_≡_, refl, sym, ap, _∙_}
 use mathlib.Core.Logic.{_≢_, _↔_}

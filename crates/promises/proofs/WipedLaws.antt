@@ -1,5 +1,5 @@
 -- With the close that document 01 had, a VC closed and reopened at once sends twice its peak, and the claim across a
--- reopening is false; with the close of request (ii) the same calls keep to the peak. By computation. Assumes nothing.
+-- reopening is false; with the close of request (ii) the same calls keep to the peak. By computation.
 use Prim.Native.Nat.{_≤_}
 use mathlib.Core.Path.{_≡_, refl}
 use mathlib.Core.Bool.{false}

@@ -1,5 +1,5 @@
 -- What holds of the line after every slot: a tick leaves each rest of the calendar one cell short of its queues, so that
--- one cell may arrive; what is due is transferred, and the head departs, at most w slots late. Assumes nothing.
+-- one cell may arrive; what is due is transferred, and the head departs, at most w slots late.
 use Prim.Native.Nat.{ℕ, zero, suc, _+_, _≤_, _<_}
 use mathlib.Core.Path.{_≡_, ap, _∙_}
 use mathlib.Core.List.{List, [], _∷_, _++_, tail}

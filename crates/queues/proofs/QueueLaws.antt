@@ -1,4 +1,4 @@
--- Queues of cells: sums, lengths and predicates through a turn, a put and an append, each by induction. Assumes nothing.
+-- Queues of cells: sums, lengths and predicates through a turn, a put and an append, each by induction.
 use Prim.Native.Nat.{ℕ, zero, suc, _+_, _≤_, _<_}
 use mathlib.Core.Path.{_≡_, refl, ap}
 use mathlib.Core.Logic.{_≢_}

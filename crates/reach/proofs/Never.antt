@@ -1,5 +1,5 @@
 -- NO TRACE REACHES A REFUSED SLOT: what the calls of a trace leave is what a run from a fresh state leaves, and there
--- a slot that is lent none or 53 octets is served, raw or not. Assumes nothing.
+-- a slot that is lent none or 53 octets is served, raw or not.
 use Prim.Native.Nat.{ℕ, zero, suc, _+_, _≤_, _<_}
 use mathlib.Core.Path.{_≡_, refl, sym, ap, _∙_}
 use mathlib.Core.Bool.{Bool, true, false, not, _||_}

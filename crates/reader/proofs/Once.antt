@@ -1,5 +1,5 @@
 -- The promise of each function over the reader determines its result: two results that it allows coincide. No function over
--- it changes a lent octet, since the trace is lent to be read. Assumes nothing.
+-- it changes a lent octet, since the trace is lent to be read.
 use Prim.Native.Nat.{ℕ}
 use mathlib.Core.Path.{_≡_, sym, _∙_}
 use mathlib.Core.List.{List}

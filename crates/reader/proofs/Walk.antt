@@ -1,5 +1,5 @@
 -- What the walks over a `Reader` share: its type at a lifetime, and what it owns, which is what its trace owns beside the
--- facts of a number. It is had twice, opened to the trace, and made of a trace and a number. Assumes nothing.
+-- facts of a number. It is had twice, opened to the trace, and made of a trace and a number.
 use mathlib.Core.Path.{_≡_, refl}
 use Prim.Native.Nat.{ℕ, _<_, _^_}
 use mathlib.Core.List.{List, [], _∷_}

@@ -1,5 +1,4 @@
 -- The ranges of N and V as plain facts, where refusal 1 is not given.
--- Assumes nothing.
 use Prim.Native.Nat.{ℕ, _≤_}
 use mathlib.Core.Path.{_≡_, refl}
 use mathlib.Core.Bool.{Bool, true, false, _&&_}

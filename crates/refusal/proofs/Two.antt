@@ -1,5 +1,4 @@
 -- Two refusals worked out, the first of them given: what the call answers is what its order says.
--- Assumes nothing.
 use Prim.Native.Nat.{ℕ}
 use mathlib.Core.Path.{_≡_, refl}
 use mathlib.Core.Bool.{Bool, true, false}

@@ -1,5 +1,5 @@
 -- Fill after fill is the walk: what a fill takes is what the walk has from there, and the walk goes on where the fill ends;
--- with room for a record and a line each fill leads on. Assumes nothing.
+-- with room for a record and a line each fill leads on.
 use Prim.Native.Nat.{ℕ, zero, suc, _+_, _-_, _≤_, _<_}
 use mathlib.Core.Path.{_≡_, refl, sym, ap, subst, _∙_}
 use mathlib.Core.Bool.{Bool, true, false, not, _&&_}

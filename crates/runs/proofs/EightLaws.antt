@@ -1,5 +1,5 @@
 -- What the definitions of a run say of the eight slots of document 01: due times over the accepted cells alone, and
--- departures. By computation. Assumes nothing.
+-- departures. By computation.
 use Prim.Native.Nat.{ℕ}
 use mathlib.Core.Path.{_≡_, refl}
 use mathlib.Core.List.{List, [], _∷_, map}

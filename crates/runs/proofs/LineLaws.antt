@@ -1,5 +1,5 @@
 -- The octets that a run notes of a departure are those of the line cell, whatever idle cell of 53 octets the caller lends:
--- a part of the cell memory does not depend on it. Assumes nothing.
+-- a part of the cell memory does not depend on it.
 use Prim.Native.Nat.{ℕ, _/_}
 use mathlib.Core.Path.{_≡_, refl}
 use mathlib.Core.Logic.{_≢_}

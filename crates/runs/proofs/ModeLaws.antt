@@ -1,5 +1,5 @@
 -- Whatever the state: the five steps touch neither raw nor mode, so a slot leaves raw as it was, a served one leaves the
--- mode that the header check says, and a refused one leaves all as it was. Assumes nothing.
+-- mode that the header check says, and a refused one leaves all as it was.
 use Prim.Native.Nat.{ℕ, _+_, _%_, _≤_}
 use mathlib.Core.Path.{_≡_, refl}
 use mathlib.Core.Logic.{_≢_}

@@ -1,5 +1,5 @@
 -- The six slots of a raw policer: verdicts, VCIs and modes, and the octets of each accepted cell and departure, which are
--- the mended ones. By computation. Assumes nothing.
+-- the mended ones. By computation.
 use Prim.Native.Nat.{ℕ}
 use mathlib.Core.Path.{_≡_, refl}
 use mathlib.Core.List.{List, [], _∷_, map}

@@ -1,5 +1,4 @@
 -- Consecutive numbers: what stands where, how often each stands there, and that links which count up lead through them.
--- Assumes nothing.
 use Prim.Native.Nat.{ℕ, zero, suc, _+_, _-_, _≤_, _<_}
 use mathlib.Core.Path.{_≡_, refl, _∙_}
 use mathlib.Core.List.{List, []}

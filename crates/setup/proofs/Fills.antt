@@ -1,5 +1,4 @@
 -- A list that is filled with v from its front: how far a loop has come, and that in the end v stands everywhere.
--- Assumes nothing.
 use Prim.Native.Nat.{ℕ, _+_, _≤_, _<_}
 use mathlib.Core.Path.{_≡_, refl, _∙_, ap}
 use mathlib.Core.List.{List, _++_, append-nil}

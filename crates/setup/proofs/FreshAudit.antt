@@ -1,5 +1,4 @@
 -- From a setup that answered 0 the audit's clauses hold: all spaces stand in the Free List, in order, and no VC is open.
--- Assumes nothing.
 use Prim.Native.Nat.{ℕ, zero, suc, _+_, _-_, _*_, _≤_, _<_}
 use mathlib.Core.Path.{_≡_, refl, sym, _∙_, ap, subst}
 use mathlib.Core.Bool.{Bool, true, false, not}

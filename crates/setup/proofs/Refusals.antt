@@ -1,5 +1,4 @@
 -- Setup's two refusals in their order, what holds where neither is given, and the fresh state that is then left.
--- Assumes nothing.
 use Prim.Native.Nat.{ℕ, _-_, _*_}
 use mathlib.Core.Path.{_≡_, refl}
 use mathlib.Core.Bool.{Bool, not, _&&_}

@@ -1,5 +1,5 @@
 -- What a slot answers and keeps, for every state, with the header check in front: as the slot without it does, since what
--- the check changes is the mode and the verdict. Assumes nothing.
+-- the check changes is the mode and the verdict.
 use Prim.Native.Nat.{ℕ, _<_}
 use mathlib.Core.Path.{_≡_, refl, sym, ap, _∙_, subst}
 use mathlib.Core.Logic.{_≢_}

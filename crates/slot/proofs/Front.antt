@@ -1,5 +1,5 @@
 -- The slot with the header check in front, by the slot without it: over what the check lets through, in the mode that it
--- leads to, and back. Where raw or mode is unfit: 1, 2 or 3. Assumes nothing.
+-- leads to, and back. Where raw or mode is unfit: 1, 2 or 3.
 use Prim.Native.Nat.{ℕ, _≤_, _<_}
 use mathlib.Core.Path.{_≡_, refl, sym, ap, _∙_}
 use mathlib.Core.Logic.{_≢_}

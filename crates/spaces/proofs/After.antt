@@ -1,5 +1,5 @@
 -- Memory once a cell has been accepted: its header stands in its space, and its VC is open and counts it; every other header,
--- open word and waiting stays. Assumes nothing.
+-- open word and waiting stays.
 use Prim.Native.Nat.{ℕ, _+_, _*_, _≤_}
 use mathlib.Core.Path.{_≡_, refl, _∙_, ap}
 use mathlib.Core.Logic.{_≢_}

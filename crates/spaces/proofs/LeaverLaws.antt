@@ -1,5 +1,5 @@
 -- Who departs: the VC that the header names as one number, in memory as it is and once a cell has been accepted; and what
--- departs, by whether its list holds more. Assumes nothing.
+-- departs, by whether its list holds more.
 use Prim.Native.Nat.{ℕ, _*_, _≤_, _<_}
 use mathlib.Core.Path.{_≡_, refl, sym, _∙_, ap}
 use mathlib.Core.Logic.{_≢_}

@@ -1,5 +1,4 @@
 -- A link read once another has been written, or not: the overlay's reading is the reading of the links as they will be.
--- Assumes nothing.
 use Prim.Native.Nat.{ℕ, _<_}
 use mathlib.Core.Path.{_≡_, refl}
 use mathlib.Core.Logic.{_≢_}

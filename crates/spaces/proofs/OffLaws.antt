@@ -1,4 +1,4 @@
--- What departs: the definition with the header's VC in it, and with a VC's number, 0 for none. Assumes nothing.
+-- What departs: the definition with the header's VC in it, and with a VC's number, 0 for none.
 use Prim.Native.Nat.{ℕ, _≤_, _<_}
 use mathlib.Core.Path.{_≡_, refl, sym, _∙_, ap}
 use mathlib.Core.Logic.{_≢_}

@@ -1,4 +1,4 @@
--- A head and a tail, tested by the head first: below N, 65,535, or neither. Assumes nothing.
+-- A head and a tail, tested by the head first: below N, 65,535, or neither.
 use Prim.Native.Nat.{ℕ, _≤_, _<_}
 use mathlib.Core.Path.{_≡_, refl, sym, _∙_}
 use mathlib.Core.Logic.{_≢_}

@@ -1,4 +1,4 @@
--- Entry (T+D) modulo N by one comparison, and the seat of a cell where the Free List is not empty. Assumes nothing.
+-- Entry (T+D) modulo N by one comparison, and the seat of a cell where the Free List is not empty.
 use Prim.Native.Nat.{ℕ, _+_, _-_, _≤_, _<_}
 use mathlib.Core.Path.{_≡_, ap}
 use mathlib.Core.List.{List}

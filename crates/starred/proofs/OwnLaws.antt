@@ -1,5 +1,5 @@
 -- A policer that accepts a cell, goes on serving and never sends breaks demand 3's clause `leaves`, whatever else it does:
--- after enough slots the cell should have left. One that discards everything meets the clauses on events. Assumes nothing.
+-- after enough slots the cell should have left. One that discards everything meets the clauses on events.
 use Prim.Native.Nat.{ℕ, zero, suc, _+_, _-_, _≤_, _<_}
 use mathlib.Core.Path.{_≡_, refl, sym, ap, _∙_, subst}
 use mathlib.Core.Logic.{_≢_}

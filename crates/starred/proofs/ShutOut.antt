@@ -1,5 +1,5 @@
 -- No policer that meets the promise of slot is one of those that document 01 shuts out: in a short run the five steps
--- answer otherwise. The promise can be met, by the five steps. Assumes nothing.
+-- answer otherwise. The promise can be met, by the five steps.
 use Prim.Native.Nat.{ℕ, _-_}
 use mathlib.Core.Path.{_≡_, refl, sym, _∙_, ap}
 use mathlib.Core.Logic.{_≢_}

@@ -1,5 +1,5 @@
 -- Every row of the table of starred cases holds: what the calls say, by the definitions that their contracts cite, is what
--- document 01 gives. By computation. Assumes nothing.
+-- document 01 gives. By computation.
 use mathlib.Core.Path.{_≡_, refl}
 use mathlib.Core.List.{map}
 use Rattle.starred.specs.Row.{says, expects}

@@ -1,5 +1,4 @@
 -- The program's limit: a fill of the input's first 65,536 octets is the fill that is promised.
--- Assumes nothing.
 use Prim.Native.Nat.{ℕ, zero, suc, _+_, _≤_, _<_, min}
 use mathlib.Core.Path.{_≡_, refl, sym, ap, subst, _∙_}
 use mathlib.Core.Logic.{⊎-elim}

@@ -1,5 +1,4 @@
 -- The counts that a run keeps are the recount over its answers, modulo 2^32, after every call.
--- Assumes nothing.
 use Prim.Native.Nat.{ℕ, _+_, _%_}
 use mathlib.Core.Path.{_≡_, refl, sym, ap, _∙_}
 use mathlib.Core.Bool.{Bool, true, false}

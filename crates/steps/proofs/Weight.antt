@@ -1,5 +1,4 @@
 -- A run ends: every step leads on in the trace, or takes a slot off a pause, or ends it, so a weight falls.
--- Assumes nothing.
 use Prim.Native.Nat.{ℕ, zero, suc, _+_, _-_, _*_, _≤_, _<_}
 use mathlib.Core.Path.{_≡_, refl, sym, ap, subst, _∙_}
 use mathlib.Core.Bool.{Bool, true, false}

@@ -1,5 +1,4 @@
 -- The wrapped clock: elapsed as the words have it is the true count below 2^32, and rotation keeps it below V.
--- Assumes nothing.
 use Prim.Native.Nat.{ℕ, zero, suc, _+_, _-_, _*_, _/_, _%_, _≤_, _<_}
 use mathlib.Core.Path.{_≡_, sym, ap, _∙_}
 use native.Mathlib.Nat.{mod-lt, mod-eq-of-lt, mod-add-mod, add-mod-right, add-mul-mod-self-right, div-add-mod', suc-mod, suc-mul, suc-add, zero-mul}

@@ -1,5 +1,4 @@
 -- The exact leak rule by the earliest due time of the next cell: due time, verdict, D, and that due slots grow.
--- Assumes nothing.
 use Prim.Native.Nat.{ℕ, _+_, _-_, _*_, _/_, _≤_, _<_, max}
 use mathlib.Core.Path.{_≡_, refl, sym, ap, _∙_}
 use mathlib.Core.Bool.{Bool, true, false, _&&_}

@@ -1,5 +1,5 @@
 -- A VC's words through a run: a slot that passes it by, being brought up to date, a cell accepted or excess, a cell that
--- leaves, an opening. S at the last update is what the exact leak rule leaves, so verdict and D are its own. Assumes nothing.
+-- leaves, an opening. S at the last update is what the exact leak rule leaves, so verdict and D are its own.
 use Prim.Native.Nat.{ℕ, zero, suc, _+_, _-_, _*_, _%_, _^_, _≤_, _<_}
 use mathlib.Core.Path.{_≡_, refl, sym, ap, _∙_}
 use mathlib.Core.Bool.{true, not}

@@ -1,4 +1,4 @@
--- The cases of the engine's definition, over plain numbers. Assumes nothing.
+-- The cases of the engine's definition, over plain numbers.
 use Prim.Native.Nat.{ℕ, zero, suc, _+_, _-_, _*_, _^_, _≤_, _<_, max}
 use mathlib.Core.Path.{_≡_, refl, ap, ap₂, _∙_}
 use mathlib.Core.Bool.{Bool, true, false, cond, not, _&&_, _||_}

@@ -1,4 +1,4 @@
--- The laws E1, E2 and E3 of the engine. Assumes nothing.
+-- The laws E1, E2 and E3 of the engine.
 use Prim.Native.Nat.{ℕ, _+_, _-_, _*_, _/_, _^_, _≤_, _<_, max}
 use mathlib.Core.Path.{_≡_, refl, sym, ap, _∙_, subst}
 use mathlib.Core.Bool.{Bool, true, false, not, _&&_}

@@ -1,5 +1,5 @@
 -- The engine gives source 003's Tables I and II, ten verdicts each, and every earliness that they print; and three edges:
--- by computation. Assumes nothing.
+-- by computation.
 use mathlib.Core.Path.{_≡_, refl}
 use mathlib.Core.Bool.{true}
 use lib.IntN.{pos, negsuc}

@@ -1,5 +1,5 @@
 -- What an open, a clean cell of an open VC and an empty slot do in a run, by demand 3's own clauses: an open that keeps to
--- the rules answers 0, a cell that the leak rule takes is accepted, an empty slot is served. Assumes nothing.
+-- the rules answers 0, a cell that the leak rule takes is accepted, an empty slot is served.
 use Prim.Native.Nat.{ℕ, suc, _≤_, _<_}
 use mathlib.Core.Path.{_≡_, refl, ap, _∙_}
 use mathlib.Core.Logic.{_≢_}

@@ -1,6 +1,6 @@
 -- N-1 slots late at every N: in the run of `lateCalls` 2 × (N-1) cells are due in the N-1 slots from N × 1,024 on, and by
 -- demand 3 they leave, one a slot, from then on: so the last of them leaves N-1 slots after its due slot at least. By demand
--- 3 that is also the most. Assumes nothing.
+-- 3 that is also the most.
 use Prim.Native.Nat.{ℕ, _+_, _-_, _*_, _/_, _≤_, _<_}
 use mathlib.Core.Path.{_≡_, ap}
 use mathlib.Core.Bool.{Bool, true}

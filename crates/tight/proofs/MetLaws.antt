@@ -1,4 +1,4 @@
--- The bound is met at N 2 and N 5, so that no smaller one holds there. By computation. Assumes nothing.
+-- The bound is met at N 2 and N 5, so that no smaller one holds there. By computation.
 use Prim.Native.Nat.{ℕ, _≤_}
 use mathlib.Core.Path.{_≡_, refl}
 use mathlib.Core.Bool.{Bool, true, false}

@@ -1,4 +1,4 @@
--- Counting departures: at most one a slot, so w slots hold at most w; those of two VCs are no more than all. Assumes nothing.
+-- Counting departures: at most one a slot, so w slots hold at most w; those of two VCs are no more than all.
 use Prim.Native.Nat.{ℕ, zero, suc, _+_, _≤_, _<_}
 use mathlib.Core.Path.{_≡_, ap, _∙_}
 use mathlib.Core.Logic.{_≢_}

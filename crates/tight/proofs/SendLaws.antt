@@ -1,5 +1,5 @@
 -- The run of `lateCalls`, call by call: VC 2's k-th cell, in slot k, is due at k × 1,025 parts of 1/1,024 slot; then VC 1's
--- cells are due at once. Each is taken by the leak rule, so nothing of the policer's memory enters. Assumes nothing.
+-- cells are due at once. Each is taken by the leak rule, so nothing of the policer's memory enters.
 use Prim.Native.Nat.{ℕ, zero, suc, _+_, _-_, _*_, _/_, _≤_, _<_}
 use mathlib.Core.Path.{_≡_, refl, sym, ap, _∙_, subst}
 use mathlib.Core.Bool.{Bool, true}

@@ -1,5 +1,5 @@
 -- The whole run of `lateCalls`: both VCs are opened, VC 2 sends, then VC 1, then nothing more arrives; which cells were
--- accepted, and when they are due. Assumes nothing.
+-- accepted, and when they are due.
 use Prim.Native.Nat.{ℕ, _+_, _-_, _*_, _/_, _≤_}
 use mathlib.Core.Path.{_≡_, refl, sym, ap, _∙_, subst}
 use mathlib.Core.Bool.{Bool, true}

@@ -1,5 +1,5 @@
 -- The cases of `standsAt`, each from plain facts of the numbers: what a test of the code shows is what the definition
--- asks. Assumes nothing.
+-- asks.
 use mathlib.Core.Path.{_≡_, refl, sym, _∙_}
 use mathlib.Core.Bool.{Bool, true, false, _&&_}
 use mathlib.Core.List.{List}

@@ -1,5 +1,5 @@
 -- The reader's promise determines its answer, for every trace and every number: two answers that it allows coincide,
--- since no two answers mean the same in document 01's numbers and values. Assumes nothing.
+-- since no two answers mean the same in document 01's numbers and values.
 use Prim.Native.Nat.{ℕ}
 use mathlib.Core.Path.{_≡_, refl, sym, ap, _∙_}
 use mathlib.Core.List.{List}

@@ -1,5 +1,5 @@
 -- Document 01's worked trace, and both sides of each edge of the reader, as one table: what stands at each place is
--- computed. Assumes nothing.
+-- computed.
 use Prim.Native.Nat.{ℕ}
 use mathlib.Core.Path.{_≡_, refl}
 use mathlib.Core.Bool.{true, false}

@@ -1,5 +1,4 @@
 -- Step 2 as the likely way has it: S and last are written whether rotation's VC is open or not, a closed one's as they were.
--- Assumes nothing.
 use Prim.Native.Nat.{ℕ, _*_}
 use mathlib.Core.Path.{_≡_, sym, ap}
 use mathlib.Core.Logic.{_≢_}

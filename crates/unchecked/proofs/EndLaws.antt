@@ -1,5 +1,5 @@
 -- What a slot without the header check answers and keeps, for every state: a number of 0 or, with everything as it came,
--- another; N, V and raw; and a departing space that is below N or 65,535. Each step is followed. Assumes nothing.
+-- another; N, V and raw; and a departing space that is below N or 65,535. Each step is followed.
 use Prim.Native.Nat.{ℕ, _+_, _-_, _%_, _≤_, _<_}
 use mathlib.Core.Path.{_≡_, refl, sym, _∙_, ap}
 use mathlib.Core.Logic.{_≢_}

@@ -1,5 +1,4 @@
 -- A slot put together: its refusals 1, 2 and 9, what they leave known, and the clock, up to steps 2 to 5.
--- Assumes nothing.
 use Prim.Native.Nat.{ℕ, _+_, _*_, _≤_, _<_}
 use mathlib.Core.Path.{_≡_, refl, sym, _∙_, subst}
 use mathlib.Core.Logic.{_≢_}

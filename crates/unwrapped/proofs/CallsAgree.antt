@@ -1,4 +1,4 @@
--- Open and close: over the stored words they give the stored outcome, and what rotation keeps is kept. Assumes nothing.
+-- Open and close: over the stored words they give the stored outcome, and what rotation keeps is kept.
 use Prim.Native.Nat.{ℕ, _+_, _-_, _*_, _%_, _≤_, _<_}
 use mathlib.Core.Path.{_≡_, refl, sym, _∙_, ap}
 use mathlib.Core.Bool.{true, not, _&&_}

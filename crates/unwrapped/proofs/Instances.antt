@@ -1,5 +1,4 @@
 -- Document 01's close and slot are those over any clock, at the clock that counts modulo 2^32: each step is, as it stands.
--- Assumes nothing.
 use Prim.Native.Nat.{ℕ, _+_, _%_}
 use mathlib.Core.Path.{_≡_, refl}
 use mathlib.Core.List.{List}

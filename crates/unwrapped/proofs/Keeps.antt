@@ -1,5 +1,5 @@
 -- Each step of an unwrapped slot keeps every open VC as near as rotation promises, and step 2 restores what the tick
--- takes from the VC that rotation names. Assumes nothing.
+-- takes from the VC that rotation names.
 use Prim.Native.Nat.{ℕ, _+_, _-_, _%_, _≤_, _<_}
 use mathlib.Core.Path.{_≡_, sym, _∙_, ap}
 use mathlib.Core.Logic.{_≢_}

@@ -1,5 +1,5 @@
 -- From setup on, the 32-bit slot number decides as a clock that never wraps, over runs of any length: each call agrees
--- (SlotAgrees, CallsAgree), and the fresh states agree. Assumes nothing.
+-- (SlotAgrees, CallsAgree), and the fresh states agree.
 use Prim.Native.Nat.{ℕ, zero, suc, _+_, _-_, _*_, _≤_}
 use mathlib.Core.Path.{_≡_, refl, sym, _∙_, ap}
 use mathlib.Core.Bool.{Bool, true, not}

@@ -1,4 +1,4 @@
--- How a test and a chain of steps pass on that one side is the stored other side. Assumes nothing.
+-- How a test and a chain of steps pass on that one side is the stored other side.
 use Prim.Native.Nat.{ℕ}
 use native.Mathlib.Omega.{arith}
 use mathlib.Core.Path.{_≡_, refl, _∙_, ap}

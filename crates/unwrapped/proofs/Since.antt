@@ -1,4 +1,4 @@
--- How far behind rotation lets a VC fall: one slot more with each slot, and none when rotation names it. Assumes nothing.
+-- How far behind rotation lets a VC fall: one slot more with each slot, and none when rotation names it.
 use Prim.Native.Nat.{ℕ, _+_, _-_, _*_, _%_, _≤_, _<_}
 use mathlib.Core.Path.{_≡_, _∙_, ap}
 use mathlib.Core.Logic.{_≢_}

@@ -1,5 +1,4 @@
 -- One slot: over the stored state it gives the stored outcome of the unwrapped slot, and what rotation keeps is kept.
--- Assumes nothing.
 use Prim.Native.Nat.{ℕ, _+_, _-_, _*_, _%_, _≤_, _<_}
 use mathlib.Core.Path.{_≡_, refl, sym, _∙_, ap}
 use mathlib.Core.Bool.{Bool, true, false, not, _&&_, _||_}

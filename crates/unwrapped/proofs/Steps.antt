@@ -1,5 +1,5 @@
 -- Each step of a slot over the stored state gives the stored outcome of the unwrapped step, while no open VC is 2^32
--- slots behind. Assumes nothing.
+-- slots behind.
 use Prim.Native.Nat.{ℕ, _+_, _-_, _*_, _%_, _≤_, _<_}
 use mathlib.Core.Path.{_≡_, refl, sym, _∙_, ap}
 use mathlib.Core.Bool.{Bool, true, false, not, _&&_, _||_}

@@ -1,5 +1,5 @@
 -- The stored words of the VCs: each VC is read as its stored self, and a VC written is stored. Two lists of words in which
--- every VC reads alike are the same. Assumes nothing.
+-- every VC reads alike are the same.
 use Prim.Native.Nat.{ℕ, zero, suc, _+_, _*_, _/_, _%_, _≤_, _<_}
 use mathlib.Core.Path.{_≡_, refl, sym, _∙_, ap}
 use mathlib.Core.List.{List, [], _∷_}

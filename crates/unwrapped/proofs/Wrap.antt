@@ -1,5 +1,5 @@
 -- Arithmetic of 32 bits: the next slot number, and an elapsed count far below 2^32 is the true one. No other file opens
--- 2^32. Assumes nothing.
+-- 2^32.
 use Prim.Native.Nat.{ℕ, _+_, _-_, _%_, _≤_, _<_}
 use mathlib.Core.Path.{_≡_, refl}
 use native.Mathlib.Omega.{arith}

@@ -1,5 +1,5 @@
 -- The first of the refusals worked out is the one that document 01's order gives; and once none of those that open and
--- close share is given, the VC's seven words are lent. Assumes nothing.
+-- close share is given, the VC's seven words are lent.
 use Prim.Native.Nat.{ℕ, _+_, _*_, _≤_, _<_}
 use mathlib.Core.Path.{_≡_, refl}
 use mathlib.Core.Bool.{Bool, true, false, not, _&&_}

@@ -1,5 +1,4 @@
 -- The two refusals that are open's or close's own come after the shared ones, and in their order; then the words change.
--- Assumes nothing.
 use Prim.Native.Nat.{ℕ}
 use mathlib.Core.Path.{_≡_, refl}
 use mathlib.Core.Bool.{Bool, true, false, not, _&&_}

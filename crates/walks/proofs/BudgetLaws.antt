@@ -1,5 +1,5 @@
 -- A list can be taken off a budget whole, with nothing left, exactly when each number stands in it as often as the budget
--- says (paid, afford): each taking lowers the count and the budget alike. Assumes nothing.
+-- says (paid, afford): each taking lowers the count and the budget alike.
 use Prim.Native.Nat.{ℕ, zero, suc, _+_, _-_, _≤_, _<_}
 use mathlib.Core.Path.{_≡_, refl, sym, ap, _∙_}
 use mathlib.Core.Bool.{true, false}

@@ -1,5 +1,4 @@
 -- Laws of a choice by a test, which the walks and clauses share: by cases, since a test is true or false.
--- Assumes nothing.
 use Prim.Native.Nat.{ℕ}
 use mathlib.Core.Path.{_≡_, refl}
 use mathlib.Core.Bool.{Bool, true, false, _&&_}

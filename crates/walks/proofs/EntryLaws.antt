@@ -1,5 +1,5 @@
 -- The calendar entries walked one after the other: a yes is a queue for each, and what they take together
--- (entries-sound, entries-complete). Assumes nothing.
+-- (entries-sound, entries-complete).
 use Prim.Native.Nat.{ℕ, zero, suc, _+_, _-_, _*_, _≤_, _<_}
 use mathlib.Core.Path.{_≡_, refl, sym, ap, _∙_}
 use mathlib.Core.Bool.{Bool, true, false}

@@ -1,5 +1,5 @@
 -- A list by its head and tail, walked: a yes is its chain and what that takes off both budgets, and a chain that both
--- budgets cover gets a yes (list-sound, list-complete). Assumes nothing.
+-- budgets cover gets a yes (list-sound, list-complete).
 use Prim.Native.Nat.{ℕ, _+_, _*_}
 use mathlib.Core.Path.{_≡_, refl, sym, ap, _∙_}
 use mathlib.Core.Bool.{Bool, true}

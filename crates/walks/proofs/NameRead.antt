@@ -1,5 +1,4 @@
 -- The name of a space's cell from the four octets that the code reads: they are those of `headerAt`.
--- Assumes nothing.
 use Prim.Native.Nat.{ℕ, _+_, _*_, _/_, _%_}
 use mathlib.Core.Path.{_≡_}
 use mathlib.Core.List.{List}

@@ -1,5 +1,5 @@
 -- "Each public function's promise determines the answer": two answers that the promise of `walks::stored` allows coincide;
--- what it leaves of the budgets is promised by an equation. Assumes nothing.
+-- what it leaves of the budgets is promised by an equation.
 use mathlib.Core.Path.{_≡_, refl, sym}
 use mathlib.Core.Bool.{Bool, true, false}
 use Rattle.meaning.specs.declared.Record.{Record}

@@ -1,5 +1,5 @@
 -- The Free List, the Output List and the queues of all entries walked one after the other: they use both budgets up
--- exactly when they are stored as `Stored` says, by paid and afford. Assumes nothing.
+-- exactly when they are stored as `Stored` says, by paid and afford.
 use Prim.Native.Nat.{ℕ, _+_}
 use mathlib.Core.Path.{_≡_, refl, sym, ap, _∙_}
 use mathlib.Core.Bool.{Bool, true, false}

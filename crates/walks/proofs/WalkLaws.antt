@@ -1,5 +1,5 @@
 -- One chain walked: the walk says yes exactly when the links lead from the head to the tail over spaces that both budgets
--- cover (walk-sound, walk-complete), since each turn takes the same as the list does. Assumes nothing.
+-- cover (walk-sound, walk-complete), since each turn takes the same as the list does.
 use Prim.Native.Nat.{ℕ, zero, suc, _+_, _<_}
 use mathlib.Core.Path.{_≡_, refl, sym, ap, _∙_}
 use mathlib.Core.Bool.{Bool, true, false}

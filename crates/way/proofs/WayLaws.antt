@@ -1,5 +1,5 @@
 -- The clock of a policer on its way: the record before the slot to come has that slot's record as its clocked one, a slot
--- that is over becomes the record before the next, and stepping round changes neither. Assumes nothing.
+-- that is over becomes the record before the next, and stepping round changes neither.
 use Prim.Native.Nat.{ℕ, _+_, _-_, _%_, _≤_, _<_}
 use mathlib.Core.Path.{_≡_, refl, sym, _∙_, ap}
 use mathlib.Core.Bool.{Bool, true, false}

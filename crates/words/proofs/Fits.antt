@@ -1,5 +1,4 @@
 -- The ranges of a VC's words for refusal 3, as they are tested one after the other, and as plain facts once they fit.
--- Assumes nothing.
 use Prim.Native.Nat.{ℕ, _*_, _≤_, _<_}
 use mathlib.Core.Path.{_≡_, sym, _∙_}
 use mathlib.Core.Bool.{true, false}

@@ -1,5 +1,5 @@
 -- Texts whose writing is known, as one table: what `writeText` answers and leaves is computed. The 9s stand in the output
--- before. Assumes nothing.
+-- before.
 use Prim.Native.Nat.{ℕ}
 use mathlib.Core.Path.{_≡_, refl}
 use mathlib.Core.List.{List, [], _∷_, map}

@@ -1,5 +1,4 @@
 -- `accept::accept` meets its contract: a seat is found as step 3 finds it, and the Output List is judged before anything is written.
--- Assumes nothing.
 use mathlib.Core.Logic.{⊎-elim}
 use denote.Ref.{now}
 use borrow.Author.Tests.{not-true, not-false}

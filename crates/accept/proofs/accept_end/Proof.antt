@@ -1,5 +1,4 @@
 -- `accept::accept_end` meets its contract: step 3 is written, then the departure, over the record without the space taken.
--- Assumes nothing.
 use mathlib.Core.Path.{_∙_, ap}
 use native.Mathlib.Omega.{arith}
 use denote.Ref.{now}

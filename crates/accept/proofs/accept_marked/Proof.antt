@@ -1,5 +1,4 @@
 -- `accept::accept_marked` meets its contract: what departs is read before anything is written, and is what the stored cell leaves to depart.
--- Assumes nothing.
 use native.Mathlib.Omega.{arith}
 use denote.Ref.{now}
 use borrow.Author.Tests.{eqb-false, not-true, not-false}

@@ -1,5 +1,4 @@
 -- `accept::accept_none` meets its contract: step 3 is written, and nothing departs.
--- Assumes nothing.
 use mathlib.Core.Path.{refl}
 use denote.Ref.{now}
 use Rattle.plan.proofs.Ends.{accept-served}

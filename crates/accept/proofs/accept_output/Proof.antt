@@ -1,5 +1,4 @@
 -- `accept::accept_output` meets its contract: as where entry T is marked, but that nothing joins the Output List.
--- Assumes nothing.
 use native.Mathlib.Omega.{arith}
 use mathlib.Core.Bool.{false}
 use denote.Ref.{now}

@@ -1,5 +1,4 @@
 -- `accept::accept_seated` meets its contract: entry T as the cell leaves it says which case of steps 4 and 5 it is.
--- Assumes nothing.
 use denote.Ref.{now}
 use Rattle.spaces.proofs.PairLaws.{head-high, tail-high, both-low, tail-left}
 use Rattle.plan.proofs.Ends.{goes-on}

@@ -1,5 +1,4 @@
 -- `accept::accept_unmarked` meets its contract: entry T is empty, so that the Output List's head says which case of steps 4 and 5 it is.
--- Assumes nothing.
 use mathlib.Core.Path.{refl, sym, ap}
 use denote.Ref.{now}
 use Rattle.meaning.specs.Numbers.{empty}

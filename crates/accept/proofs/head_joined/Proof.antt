@@ -1,5 +1,4 @@
 -- `accept::head_joined` meets its contract: the cell is the head where it joined entry T; any other entry keeps its head.
--- Assumes nothing.
 use denote.Ref.{now}
 use Rattle.plan.proofs.Cases.{own-head, far-head}
 use borrow.Author.Needs.{needs}

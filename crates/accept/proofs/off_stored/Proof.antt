@@ -1,5 +1,4 @@
 -- `accept::off_stored` meets its contract: it hands on what departs, the head of the joined list being worked out first.
--- Assumes nothing.
 use mathlib.Core.Path.{_∙_}
 use native.Mathlib.Omega.{arith}
 use denote.Ref.{now}

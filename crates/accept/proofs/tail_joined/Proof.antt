@@ -1,5 +1,4 @@
 -- `accept::tail_joined` meets its contract: entry T has the tail that the seat gives it where the cell joined it; any other keeps its tail.
--- Assumes nothing.
 use denote.Ref.{now}
 use Rattle.plan.proofs.Cases.{own-tail, far-tail}
 use borrow.Author.Needs.{needs}

@@ -1,4 +1,4 @@
--- `arrival::judge_bucket` meets its contract: the tests are those of the definition, and D is below N. Assumes nothing.
+-- `arrival::judge_bucket` meets its contract: the tests are those of the definition, and D is below N.
 use Rattle.arrival.proofs.JudgedLaws.{delay-below}
 use Rattle.arrival.specs.Arrival.{judgedBucket}
 use Rattle.meaning.specs.Bucket.{isExcess, delay, fill}
@@ -9,33 +9,18 @@ use borrow.Author.Needs.{needs}
 use Rattle.arrival.proofs.judge_bucket.Statement.{statement}
 use Rattle.arrival.proofs.judge_bucket.Tie as tie
 
-sub-if1 : tie.Need-sub-if1
-sub-if1 c = search needs
-
 returns : tie.Need-returns
 unfolding judgedBucket isExcess
 returns c = simp (lt-ltb _ _ (c .if1 .taken))
-
-add-full : tie.Need-add-full
-add-full c = search needs
-
-delay-of-requires : tie.Need-delay-of-requires
-delay-of-requires c κs = search needs
 
 cast-d : tie.Need-cast-d
 cast-d c =
     let from = c .before .before .before in
     omega (arith, delay-below _ _ _ _ (c .before .before .if1 .left) (from .pre .2), c .delay-of .ensures)
 
-add-t12 : tie.Need-add-t12
-add-t12 c = search needs
-
 returns-2 : tie.Need-returns-2
 unfolding judgedBucket isExcess delay fill
 returns-2 c = simp (le-ltb _ _ (c .before .before .if1 .left), lt-ltb _ _ (c .before .if2 .taken), sym (c .delay-of .ensures))
-
-out-of-range-requires : tie.Need-out-of-range-requires
-out-of-range-requires c κs = search needs
 
 returns-3 : tie.Need-returns-3
 unfolding judgedBucket isExcess
@@ -45,12 +30,12 @@ pub judge-bucket-spec : {M : Type 1} → statement M
 judge-bucket-spec =
     tie.close
     (tie.spec
-    sub-if1
+    (λ c. search needs)
     returns
-    add-full
-    delay-of-requires
+    (λ c. search needs)
+    (λ c κs. search needs)
     cast-d
-    add-t12
+    (λ c. search needs)
     returns-2
-    out-of-range-requires
+    (λ c κs. search needs)
     returns-3)

@@ -1,4 +1,4 @@
--- `arrival::name_of` meets its contract: a cell of 53 octets has a header. Assumes nothing.
+-- `arrival::name_of` meets its contract: a cell of 53 octets has a header.
 use mathlib.Core.Path.{_∙_}
 use native.Mathlib.Omega.{arith}
 use borrow.Author.Tests.{eq-eqb, ne-eqb}

@@ -1,4 +1,4 @@
--- `arrival::put_fill` meets its contract: three stores. Assumes nothing.
+-- `arrival::put_fill` meets its contract: three stores.
 use Rattle.arrival.specs.Arrival.{filled}
 use lib.ListN.{length-set}
 use native.Mathlib.Omega.{arith}
@@ -7,38 +7,11 @@ use borrow.Author.Needs.{needs}
 use Rattle.arrival.proofs.put_fill.Statement.{statement}
 use Rattle.arrival.proofs.put_fill.Tie as tie
 
-mul-b : tie.Need-mul-b
-mul-b c = search needs
-
-add-words : tie.Need-add-words
-add-words c = search needs
-
-mul-words : tie.Need-mul-words
-mul-words c = search needs
-
-slice-write-words : tie.Need-slice-write-words
-slice-write-words c = search needs
-
-add-words-2 : tie.Need-add-words-2
-add-words-2 c = search needs
-
-mul-words-2 : tie.Need-mul-words-2
-mul-words-2 c = search needs
-
 slice-write-words-2 : tie.Need-slice-write-words-2
 slice-write-words-2 c = simp length-set (omega arith)
 
-add-words-3 : tie.Need-add-words-3
-add-words-3 c = search needs
-
-mul-words-3 : tie.Need-mul-words-3
-mul-words-3 c = search needs
-
 slice-write-words-3 : tie.Need-slice-write-words-3
 slice-write-words-3 c = simp length-set (omega arith)
-
-same-length : tie.Need-same-length
-same-length c = search needs
 
 returns : tie.Need-returns
 unfolding filled
@@ -48,15 +21,15 @@ pub put-fill-spec : {M : Type 1} → statement M
 put-fill-spec =
     tie.close
     (tie.spec
-    mul-b
-    add-words
-    mul-words
-    slice-write-words
-    add-words-2
-    mul-words-2
+    (λ c. search needs)
+    (λ c. search needs)
+    (λ c. search needs)
+    (λ c. search needs)
+    (λ c. search needs)
+    (λ c. search needs)
     slice-write-words-2
-    add-words-3
-    mul-words-3
+    (λ c. search needs)
+    (λ c. search needs)
     slice-write-words-3
-    same-length
+    (λ c. search needs)
     returns)

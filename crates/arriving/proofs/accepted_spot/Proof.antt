@@ -1,5 +1,4 @@
 -- `arriving::accepted_spot` meets its contract: the cell is accepted, and has a seat.
--- Assumes nothing.
 use mathlib.Core.Path.{sym, _∙_}
 use borrow.Author.Tests.{not-false}
 use Rattle.plan.proofs.Found.{no}
@@ -8,12 +7,6 @@ use Rattle.arriving.proofs.SpotLaws.{spotted-is}
 use borrow.Author.Needs.{needs}
 use Rattle.arriving.proofs.accepted_spot.Statement.{statement}
 use Rattle.arriving.proofs.accepted_spot.Tie as tie
-
-arrived-requires : tie.Need-arrived-requires
-arrived-requires c κs = search needs
-
-no-spot-requires : tie.Need-no-spot-requires
-no-spot-requires c κs = search needs
 
 returns : tie.Need-returns
 returns c = λ e. no (sym (c .no-spot .ensures) ∙ e)
@@ -39,4 +32,4 @@ returns-2 c =
 
 pub accepted-spot-spec : {M : Type 1} → statement M
 accepted-spot-spec =
-    tie.close (tie.spec arrived-requires no-spot-requires returns seat-of-requires returns-2)
+    tie.close (tie.spec (λ c κs. search needs) (λ c κs. search needs) returns seat-of-requires returns-2)

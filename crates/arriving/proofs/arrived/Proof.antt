@@ -1,5 +1,4 @@
 -- `arriving::arrived` meets its contract: the cell names an open VC, which accepts it.
--- Assumes nothing.
 use mathlib.Core.Path.{sym, _∙_}
 use Rattle.plan.proofs.Found.{no}
 use Rattle.way.specs.Way.{slotRecord}
@@ -8,44 +7,14 @@ use borrow.Author.Needs.{needs}
 use Rattle.arriving.proofs.arrived.Statement.{statement}
 use Rattle.arriving.proofs.arrived.Tie as tie
 
-mul-name-at : tie.Need-mul-name-at
-mul-name-at c = search needs
-
-name-at-requires : tie.Need-name-at-requires
-name-at-requires c κs = search needs
-
-cast-u : tie.Need-cast-u
-cast-u c = search needs
-
-not-likely-requires : tie.Need-not-likely-requires
-not-likely-requires c κs = search needs
-
 returns : tie.Need-returns
 returns c = λ e. no (sym (c .not-likely .ensures) ∙ e)
-
-not-likely-requires-2 : tie.Need-not-likely-requires-2
-not-likely-requires-2 c κs = search needs
 
 returns-2 : tie.Need-returns-2
 returns-2 c = λ e. no (sym (c .not-likely2 .ensures) ∙ e)
 
-mul-if3 : tie.Need-mul-if3
-mul-if3 c = search needs
-
-mul-if3-2 : tie.Need-mul-if3-2
-mul-if3-2 c = search needs
-
-shared-slice-read-if3 : tie.Need-shared-slice-read-if3
-shared-slice-read-if3 c = search needs
-
-not-likely-requires-3 : tie.Need-not-likely-requires-3
-not-likely-requires-3 c κs = search needs
-
 returns-3 : tie.Need-returns-3
 returns-3 c = λ e. no (sym (c .not-likely3 .ensures) ∙ e)
-
-judge-open-requires : tie.Need-judge-open-requires
-judge-open-requires c κs = search needs
 
 returns-4 : tie.Need-returns-4
 returns-4 c =
@@ -63,17 +32,17 @@ pub arrived-spec : {M : Type 1} → statement M
 arrived-spec =
     tie.close
     (tie.spec
-    mul-name-at
-    name-at-requires
-    cast-u
-    not-likely-requires
+    (λ c. search needs)
+    (λ c κs. search needs)
+    (λ c. search needs)
+    (λ c κs. search needs)
     returns
-    not-likely-requires-2
+    (λ c κs. search needs)
     returns-2
-    mul-if3
-    mul-if3-2
-    shared-slice-read-if3
-    not-likely-requires-3
+    (λ c. search needs)
+    (λ c. search needs)
+    (λ c. search needs)
+    (λ c κs. search needs)
     returns-3
-    judge-open-requires
+    (λ c κs. search needs)
     returns-4)

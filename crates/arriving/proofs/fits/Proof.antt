@@ -1,5 +1,4 @@
 -- `arriving::fits` meets its contract: the head is tested against 65,535 first, then both against N.
--- Assumes nothing.
 use Rattle.spaces.proofs.PairLaws.{pair-below, pair-empty, pair-neither}
 use native.Mathlib.Omega.{arith}
 use Rattle.arriving.proofs.fits.Statement.{statement}

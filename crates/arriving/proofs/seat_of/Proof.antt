@@ -1,5 +1,4 @@
 -- `arriving::seat_of` meets its contract: both ends of the Free List are below N, and one comparison gives the entry.
--- Assumes nothing.
 use mathlib.Core.Path.{_≡_, refl, sym, _∙_}
 use mathlib.Core.Logic.{⊎-elim}
 use Prim.Native.Nat.{_+_, _*_, _<_}
@@ -39,9 +38,6 @@ entry-low c =
     let a = start .args in
     entry-below (a .w .n) (a .w .turn) (a .a .d) (c .if3 .e) (start .pre .3) (start .pre .4) (entry-is c)
 
-no-spot-requires : tie.Need-no-spot-requires
-no-spot-requires c κs = search needs
-
 returns : tie.Need-returns
 returns c = λ e. no (sym (c .no-spot .ensures) ∙ e)
 
@@ -54,14 +50,8 @@ shared-slice-read-link c = omega (arith, head-low (c .before), c .before .before
 cast-link : tie.Need-cast-link
 cast-link c = search (needs, c .shared-slice-known3 .given (c .before .before .before .before .before .args .w .freehead))
 
-no-spot-requires-2 : tie.Need-no-spot-requires-2
-no-spot-requires-2 c κs = search needs
-
 returns-2 : tie.Need-returns-2
 returns-2 c = λ e. no (sym (c .no-spot2 .ensures) ∙ e)
-
-add-far : tie.Need-add-far
-add-far c = search needs
 
 mul-head : tie.Need-mul-head
 mul-head c = omega (arith, entry-low (c .before), start-of (c .before) .pre .0)
@@ -90,12 +80,6 @@ shared-slice-read-tail c = omega (arith, entry-low (c .before .before .before), 
 cast-tail : tie.Need-cast-tail
 cast-tail c = search (needs, c .shared-slice-known5 .given (2 * c .before .before .before .if3 .e + 1))
 
-fits-requires : tie.Need-fits-requires
-fits-requires c κs = search needs
-
-no-spot-requires-3 : tie.Need-no-spot-requires-3
-no-spot-requires-3 c κs = search needs
-
 returns-3 : tie.Need-returns-3
 returns-3 c = λ e. no (sym (c .no-spot3 .ensures) ∙ e)
 
@@ -117,14 +101,14 @@ pub seat-of-spec : {M : Type 1} → statement M
 seat-of-spec =
     tie.close
     (tie.spec
-    no-spot-requires
+    (λ c κs. search needs)
     returns
     mul-link
     shared-slice-read-link
     cast-link
-    no-spot-requires-2
+    (λ c κs. search needs)
     returns-2
-    add-far
+    (λ c. search needs)
     mul-head
     mul-head-2
     shared-slice-read-head
@@ -134,7 +118,7 @@ seat-of-spec =
     mul-tail-2
     shared-slice-read-tail
     cast-tail
-    fits-requires
-    no-spot-requires-3
+    (λ c κs. search needs)
+    (λ c κs. search needs)
     returns-3
     returns-4)

@@ -1,5 +1,4 @@
 -- `audit::audit` says yes exactly when the clauses hold: a no by a clause that fails, a yes by what the walks establish.
--- Assumes nothing.
 use mathlib.Core.Path.{sym, _∙_}
 use native.Mathlib.Omega.{arith}
 use Rattle.meaning.specs.Numbers.{empty}

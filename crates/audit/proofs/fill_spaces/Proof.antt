@@ -1,5 +1,4 @@
 -- `audit::fill_spaces` gives each of the n spaces 1: those below x have it, at each turn.
--- Assumes nothing.
 use mathlib.Core.Path.{_≡_, sym, _∙_}
 use Prim.Native.Nat.{ℕ, _≤_, _<_, _-_}
 use native.Mathlib.Omega.{arith}

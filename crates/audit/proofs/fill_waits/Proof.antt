@@ -1,5 +1,4 @@
 -- `audit::fill_waits` judges VC 1 to V-1 and fills the cells' budget: those below vci are done, at each turn.
--- Assumes nothing.
 use mathlib.Core.Path.{_≡_, refl, sym, _∙_}
 use mathlib.Core.Bool.{true}
 use Prim.Native.Nat.{ℕ, _≤_, _<_, _-_}

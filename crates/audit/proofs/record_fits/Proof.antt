@@ -1,5 +1,4 @@
 -- `audit::record_fits` meets its contract: each return answers one of the four bounds, those before it being met.
--- Assumes nothing.
 use native.Mathlib.Omega.{arith}
 use Rattle.audit.proofs.ShapeLaws.{fits-no-turn, fits-no-rotation, fits-no-raw, fits-rest}
 use Rattle.audit.proofs.record_fits.Statement.{statement}

@@ -1,5 +1,4 @@
 -- `audit::shaped` tests ranges, lengths, then the record's other numbers, in the order of `shapeHolds`.
--- Assumes nothing.
 use mathlib.Core.Path.{_∙_}
 use Rattle.audit.proofs.ShapeLaws.{shape-no-ranges, shape-no-lengths, shape-rest}
 use borrow.Author.Needs.{needs}

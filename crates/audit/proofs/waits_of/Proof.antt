@@ -1,5 +1,4 @@
 -- `audit::waits_of` reads the cells that may wait at a VC: its waiting where it is open.
--- Assumes nothing.
 use denote.Ref.{now}
 use Rattle.audit.proofs.WaitsLaws.{waits-read, waits-read-shut}
 use borrow.Author.Needs.{needs}

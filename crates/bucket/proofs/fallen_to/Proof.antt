@@ -1,5 +1,5 @@
 -- `bucket::fallen_to` meets its contract: the wrapping difference is what has elapsed; as many slots as empty the bucket
--- use S up, and the product of fewer stays below S, so that the shift loses no bit of 32. Assumes nothing.
+-- use S up, and the product of fewer stays below S, so that the shift loses no bit of 32.
 use Prim.Native.Nat.{_*_, _%_, _^_, _<_}
 use mathlib.Core.Path.{_≡_}
 use native.Mathlib.Nat.{mod-eq-of-lt}
@@ -32,15 +32,6 @@ exact : (c : tie.Else1)
     ≡ c .before .before .elapsed-slots .result * 2 ^ c .before .before .before .args .m
 exact c = mod-eq-of-lt (omega (arith, product-below c))
 
-elapsed-slots-requires : tie.Need-elapsed-slots-requires
-elapsed-slots-requires c κs = search needs
-
-slots-to-empty-requires : tie.Need-slots-to-empty-requires
-slots-to-empty-requires c κs = search needs
-
-shl-fall : tie.Need-shl-fall
-shl-fall c = search needs
-
 sub-result : tie.Need-sub-result
 sub-result c = search (needs, exact c, product-below c)
 
@@ -55,4 +46,4 @@ returns-2 c = rw (← slots-elapsed (c .before .before)) (omega (arith, exact c,
 
 pub fallen-to-spec : {M : Type 1} → statement M
 fallen-to-spec =
-    tie.close (tie.spec elapsed-slots-requires slots-to-empty-requires shl-fall sub-result returns returns-2)
+    tie.close (tie.spec (λ c κs. search needs) (λ c κs. search needs) (λ c. search needs) sub-result returns returns-2)

@@ -1,5 +1,4 @@
 -- `bucket::obeys_rules` meets its contract: each return answers one of the five tests of rule 6, those before it being met.
--- Assumes nothing.
 use Prim.Native.Nat.{_^_}
 use native.Mathlib.Omega.{arith}
 use borrow.Author.Needs.{needs}
@@ -11,9 +10,6 @@ use Rattle.bucket.proofs.obeys_rules.Tie as tie
 returns : tie.Need-returns
 unfolding obeysRules
 returns c = simp (lt-leb _ _ (c .if1 .taken))
-
-rate-requires : tie.Need-rate-requires
-rate-requires c κs = search needs
 
 returns-2 : tie.Need-returns-2
 unfolding obeysRules
@@ -38,9 +34,6 @@ returns-4 c =
       lt-leb (a .f) (a .c) (omega arith),
     )
 
-shr-result : tie.Need-shr-result
-shr-result c = search needs
-
 returns-5 : tie.Need-returns-5
 unfolding obeysRules
 returns-5 c =
@@ -54,4 +47,4 @@ returns-5 c =
 
 pub obeys-rules-spec : {M : Type 1} → statement M
 obeys-rules-spec =
-    tie.close (tie.spec returns rate-requires returns-2 returns-3 returns-4 shr-result returns-5)
+    tie.close (tie.spec returns (λ c κs. search needs) returns-2 returns-3 returns-4 (λ c. search needs) returns-5)

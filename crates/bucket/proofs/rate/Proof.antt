@@ -1,5 +1,4 @@
 -- `bucket::rate` meets its contract: with m at most 15 the shift loses no bit of 32, so it is the power.
--- Assumes nothing.
 use Prim.Native.Nat.{_^_}
 use mathlib.Core.Path.{_∙_}
 use native.Mathlib.Nat.{one-mul}
@@ -9,11 +8,8 @@ use lib.Pow.{shl-exact}
 use Rattle.bucket.proofs.rate.Statement.{statement}
 use Rattle.bucket.proofs.rate.Tie as tie
 
-shl-result : tie.Need-shl-result
-shl-result c = search needs
-
 returns : tie.Need-returns
 returns c = shl-exact {a = 1} 1 (c .args .m) 32 (omega arith) (omega arith) ∙ one-mul (2 ^ c .args .m)
 
 pub rate-spec : {M : Type 1} → statement M
-rate-spec = tie.close (tie.spec shl-result returns)
+rate-spec = tie.close (tie.spec (λ c. search needs) returns)

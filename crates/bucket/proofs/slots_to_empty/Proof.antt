@@ -1,5 +1,4 @@
 -- `bucket::slots_to_empty` meets its contract: the shift back loses no bit, so it is S exactly where no rest is left.
--- Assumes nothing.
 use Prim.Native.Nat.{_*_, _/_, _%_, _^_}
 use mathlib.Core.Path.{_≡_}
 use native.Mathlib.Nat.{mod-eq-of-lt, div-mul-le-self}
@@ -13,12 +12,6 @@ use Rattle.bucket.proofs.slots_to_empty.Tie as tie
 -- S/L shifted back is at most S, so it fits 32 bits
 exact : (c : tie.Start) → (c .args .s / 2 ^ c .args .m * 2 ^ c .args .m) % 2 ^ 32 ≡ c .args .s / 2 ^ c .args .m * 2 ^ c .args .m
 exact c = mod-eq-of-lt (omega (arith, div-mul-le-self (c .args .s) (2 ^ c .args .m)))
-
-shr-whole : tie.Need-shr-whole
-shr-whole c = search needs
-
-shl-if1 : tie.Need-shl-if1
-shl-if1 c = search needs
 
 add-result : tie.Need-add-result
 add-result c =
@@ -36,4 +29,4 @@ returns-2 c =
     without-rest (a .s) (2 ^ a .m) (pow-pos (a .m)) (omega (arith, exact (c .before)))
 
 pub slots-to-empty-spec : {M : Type 1} → statement M
-slots-to-empty-spec = tie.close (tie.spec shr-whole shl-if1 add-result returns returns-2)
+slots-to-empty-spec = tie.close (tie.spec (λ c. search needs) (λ c. search needs) add-result returns returns-2)

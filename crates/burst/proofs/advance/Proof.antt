@@ -1,5 +1,5 @@
 -- `burst::advance` meets its contract. The invariant: the sizes that are left give, from here, what they give from where it began.
--- The measure is what is left of the sizes, and one more while runs come to their ends. Assumes nothing.
+-- The measure is what is left of the sizes, and one more while runs come to their ends.
 use Prim.Native.Nat.{_+_, _-_}
 use mathlib.Core.Path.{refl, sym, _∙_}
 use native.Mathlib.Omega.{arith}

@@ -1,5 +1,4 @@
 -- `burst::copied_back` meets its contract: a record, and an answer, are their fields.
--- Assumes nothing.
 use mathlib.Core.Path.{sym}
 use Rattle.burst.proofs.copied_back.Statement.{statement}
 use Rattle.burst.proofs.copied_back.Tie as tie

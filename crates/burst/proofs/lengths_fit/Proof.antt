@@ -1,5 +1,4 @@
 -- `burst::lengths_fit` meets its contract: the four tests, one after the other.
--- Assumes nothing.
 use borrow.Author.Tests.{not-true, not-false}
 use mathlib.Core.Path.{sym, _∙_}
 use Rattle.burst.specs.Burst.{lengthsFit}
@@ -7,29 +6,17 @@ use borrow.Author.Needs.{needs}
 use Rattle.burst.proofs.lengths_fit.Statement.{statement}
 use Rattle.burst.proofs.lengths_fit.Tie as tie
 
-lengths-hold-requires : tie.Need-lengths-hold-requires
-lengths-hold-requires c κs = search needs
-
 returns : tie.Need-returns
 unfolding lengthsFit
 returns c = simp (sym (c .before .lengths-hold .ensures) ∙ not-true _ (c .if1 .taken))
-
-is-times-requires : tie.Need-is-times-requires
-is-times-requires c κs = search needs
 
 returns-2 : tie.Need-returns-2
 unfolding lengthsFit
 returns-2 c = simp (sym (c .before .before .before .lengths-hold .ensures) ∙ not-false _ (c .before .before .if1 .left), sym (c .before .is-times .ensures) ∙ not-true _ (c .if2 .taken))
 
-is-times-requires-2 : tie.Need-is-times-requires-2
-is-times-requires-2 c κs = search needs
-
 returns-3 : tie.Need-returns-3
 unfolding lengthsFit
 returns-3 c = simp (sym (c .before .before .before .before .before .lengths-hold .ensures) ∙ not-false _ (c .before .before .before .before .if1 .left), sym (c .before .before .before .is-times .ensures) ∙ not-false _ (c .before .before .if2 .left), sym (c .before .is-times2 .ensures) ∙ not-true _ (c .if3 .taken))
-
-is-times-requires-3 : tie.Need-is-times-requires-3
-is-times-requires-3 c κs = search needs
 
 returns-4 : tie.Need-returns-4
 unfolding lengthsFit
@@ -39,11 +26,11 @@ pub lengths-fit-spec : {M : Type 1} → statement M
 lengths-fit-spec =
     tie.close
     (tie.spec
-    lengths-hold-requires
+    (λ c κs. search needs)
     returns
-    is-times-requires
+    (λ c κs. search needs)
     returns-2
-    is-times-requires-2
+    (λ c κs. search needs)
     returns-3
-    is-times-requires-3
+    (λ c κs. search needs)
     returns-4)

@@ -1,5 +1,4 @@
 -- `burst::may_try` meets its contract: where all five tests pass, each fact is one of them.
--- Assumes nothing.
 use mathlib.Core.Path.{sym, _∙_}
 use borrow.Author.Tests.{not-false}
 use borrow.Author.Needs.{needs}
@@ -16,14 +15,8 @@ returns-2 c = λ e. no e
 returns-3 : tie.Need-returns-3
 returns-3 c = λ e. no e
 
-pair-requires : tie.Need-pair-requires
-pair-requires c κs = search needs
-
 returns-4 : tie.Need-returns-4
 returns-4 c = λ e. no e
-
-pair-requires-2 : tie.Need-pair-requires-2
-pair-requires-2 c κs = search needs
 
 returns-5 : tie.Need-returns-5
 returns-5 c =
@@ -38,4 +31,4 @@ returns-5 c =
 pub may-try-spec : {M : Type 1} → statement M
 may-try-spec =
     tie.close
-    (tie.spec returns returns-2 returns-3 pair-requires returns-4 pair-requires-2 returns-5)
+    (tie.spec returns returns-2 returns-3 (λ c κs. search needs) returns-4 (λ c κs. search needs) returns-5)

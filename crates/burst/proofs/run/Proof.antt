@@ -1,5 +1,5 @@
 -- `burst::run` meets its contract. The invariant: the sizes that are left give, from here, what all sizes give from the start.
--- The measure is what is left of the sizes. Assumes nothing.
+-- The measure is what is left of the sizes.
 use Prim.Native.Nat.{ℕ, _-_, _<_}
 use native.Mathlib.Omega.{arith}
 use mathlib.Core.Path.{refl, sym, _∙_, ap}

@@ -1,5 +1,4 @@
 -- `burst::serve_checked` meets its promise: copies of the record and of what came back are what they are copies of.
--- Assumes nothing.
 use Prim.Native.Nat.{ℕ}
 use mathlib.Core.Path.{_≡_, sym, _∙_, ap, subst}
 use mathlib.Core.List.{List}
@@ -23,12 +22,6 @@ given r cells links calendar words cell k e w g =
     (sym (g ∙ ap (λ (q : Record). slot (stateOf q cells links calendar words) cell) e))
     (slot-answered (stateOf r cells links calendar words) cell)
 
-copied-requires : tie.Need-copied-requires
-copied-requires c κs = search needs
-
-as-called-requires : tie.Need-as-called-requires
-as-called-requires c κs = search needs
-
 copied-back-requires : tie.Need-copied-back-requires
 copied-back-requires c κs =
     let at-call = c .before .before .before .before .before .before .before .before in
@@ -36,18 +29,6 @@ copied-back-requires c κs =
     let a = at-copied .before .before .before .before .before .before .args in
     let h = given (a .ctl) (now (a .cells)) (now (a .links)) (now (a .calendar)) (now (a .words)) (now (a .cell)) _ (at-copied .copied .ensures) _ (at-call .as-called .ensures) in
     (h .n-is, h .v-is, h .raw-is)
-
-same-length : tie.Need-same-length
-same-length c = search needs
-
-same-length-2 : tie.Need-same-length-2
-same-length-2 c = search needs
-
-same-length-3 : tie.Need-same-length-3
-same-length-3 c = search needs
-
-same-length-4 : tie.Need-same-length-4
-same-length-4 c = search needs
 
 returns : tie.Need-returns
 returns c =
@@ -63,11 +44,11 @@ pub serve-checked-spec : {M : Type 1} → statement M
 serve-checked-spec =
     tie.close
     (tie.spec
-    copied-requires
-    as-called-requires
+    (λ c κs. search needs)
+    (λ c κs. search needs)
     copied-back-requires
-    same-length
-    same-length-2
-    same-length-3
-    same-length-4
+    (λ c. search needs)
+    (λ c. search needs)
+    (λ c. search needs)
+    (λ c. search needs)
     returns)

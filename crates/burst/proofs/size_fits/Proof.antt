@@ -1,5 +1,4 @@
 -- `burst::size_fits` meets its contract: the two tests, one after the other.
--- Assumes nothing.
 use borrow.Author.Tests.{eq-eqb, ne-eqb}
 use Rattle.burst.specs.Burst.{sizeFits}
 use Rattle.burst.proofs.size_fits.Statement.{statement}

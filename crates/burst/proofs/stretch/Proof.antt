@@ -1,5 +1,5 @@
 -- `burst::stretch` meets its contract. The invariant: the sizes that are left give, from here, what they give from where the run
--- began. The measure is what is left of the run. Assumes nothing.
+-- began. The measure is what is left of the run.
 use Prim.Native.Nat.{_-_}
 use mathlib.Core.Path.{refl, sym, _∙_}
 use native.Mathlib.Omega.{arith}

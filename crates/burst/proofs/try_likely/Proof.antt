@@ -1,5 +1,4 @@
 -- `burst::try_likely` meets its contract: a record that may not be tried stays; from one that may, the runs lead on, and back to a record.
--- Assumes nothing.
 use mathlib.Core.Path.{refl, sym, _∙_, ap}
 use native.Mathlib.Omega.{arith}
 use borrow.Author.Tests.{not-false}
@@ -13,19 +12,10 @@ use Rattle.burst.proofs.try_likely.Statement.{statement}
 use Rattle.burst.proofs.try_likely.Tie as tie
 use lib.ListN.{drop}
 
-may-try-requires : tie.Need-may-try-requires
-may-try-requires c κs = search needs
-
-ended-requires : tie.Need-ended-requires
-ended-requires c κs = search needs
-
 returns : tie.Need-returns
 returns c =
     let start = c .before .before .before .before .before .before .before .before .before .before .before in
     rw (c .ended .ensures) ((omega arith, start .pre .1 .1, refl), (start .pre .1 .0, refl))
-
-cast-way-of : tie.Need-cast-way-of
-cast-way-of c = search needs
 
 way-of-requires : tie.Need-way-of-requires
 way-of-requires c κs =
@@ -52,27 +42,6 @@ advance-requires c κs =
 record-of-requires : tie.Need-record-of-requires
 record-of-requires c κs = held-fits _ _ _ _ _ (c .before .before .before .before .before .before .before .before .before .before .before .before .advance .ensures .0)
 
-ended-requires-2 : tie.Need-ended-requires-2
-ended-requires-2 c κs = search needs
-
-same-length : tie.Need-same-length
-same-length c = search needs
-
-same-length-2 : tie.Need-same-length-2
-same-length-2 c = search needs
-
-same-length-3 : tie.Need-same-length-3
-same-length-3 c = search needs
-
-same-length-4 : tie.Need-same-length-4
-same-length-4 c = search needs
-
-same-length-5 : tie.Need-same-length-5
-same-length-5 c = search needs
-
-same-length-6 : tie.Need-same-length-6
-same-length-6 c = search needs
-
 returns-2 : tie.Need-returns-2
 returns-2 c =
     let at-advance = c .before .before .before .before .before .before .before .before .before .before .before .before .before .before in
@@ -95,18 +64,18 @@ pub try-likely-spec : {M : Type 1} → statement M
 try-likely-spec =
     tie.close
     (tie.spec
-    may-try-requires
-    ended-requires
+    (λ c κs. search needs)
+    (λ c κs. search needs)
     returns
-    cast-way-of
+    (λ c. search needs)
     way-of-requires
     advance-requires
     record-of-requires
-    ended-requires-2
-    same-length
-    same-length-2
-    same-length-3
-    same-length-4
-    same-length-5
-    same-length-6
+    (λ c κs. search needs)
+    (λ c. search needs)
+    (λ c. search needs)
+    (λ c. search needs)
+    (λ c. search needs)
+    (λ c. search needs)
+    (λ c. search needs)
     returns-2)

@@ -1,5 +1,4 @@
 -- `burst::turn` meets its contract: an unfit size and a refused slot stop the burst as it stands; a served slot is shown and its answer written.
--- Assumes nothing.
 use native.Mathlib.Omega.{arith}
 use borrow.Author.Tests.{not-true, not-false}
 use mathlib.Core.Path.{sym, _∙_, ap}
@@ -13,53 +12,14 @@ use borrow.Author.Needs.{needs}
 use Rattle.burst.proofs.turn.Statement.{statement}
 use Rattle.burst.proofs.turn.Tie as tie
 
-size-fits-requires : tie.Need-size-fits-requires
-size-fits-requires c κs = search needs
-
-ended-requires : tie.Need-ended-requires
-ended-requires c κs = search needs
-
 returns : tie.Need-returns
 returns c =
     let a = c .before .before .before .before .before .before .before .before .before .before .args in
     let s = stateOf (a .ctl) (now (a .cells)) (now (a .links)) (now (a .calendar)) (now (a .words)) in
     rw (c .ended .ensures) (turn-unfit (now (a .arrivals)) (a .size) s (now (a .departures)) (now (a .answers)) (a .i) (sym (c .before .before .size-fits .ensures) ∙ not-true _ (c .before .if1 .taken)))
 
-mul-a : tie.Need-mul-a
-mul-a c = search needs
-
-add-e : tie.Need-add-e
-add-e c = search needs
-
-add-done : tie.Need-add-done
-add-done c = search needs
-
-sub-serve-checked : tie.Need-sub-serve-checked
-sub-serve-checked c = search needs
-
-part-serve-checked-start : tie.Need-part-serve-checked-start
-part-serve-checked-start c = search needs
-
 part-serve-checked-end : tie.Need-part-serve-checked-end
 part-serve-checked-end c = omega (arith, c .before .before .before .before .before .before .before .before .before .before .before .before .before .pre .arrival, size-most (c .before .before .before .before .before .before .before .before .before .before .before .before .before .args .size) (sym (c .before .before .before .before .before .size-fits .ensures) ∙ not-false _ (c .before .before .before .before .if1 .left)))
-
-serve-checked-requires : tie.Need-serve-checked-requires
-serve-checked-requires c κs = search needs
-
-ended-requires-2 : tie.Need-ended-requires-2
-ended-requires-2 c κs = search needs
-
-same-length : tie.Need-same-length
-same-length c = search needs
-
-same-length-2 : tie.Need-same-length-2
-same-length-2 c = search needs
-
-same-length-3 : tie.Need-same-length-3
-same-length-3 c = search needs
-
-same-length-4 : tie.Need-same-length-4
-same-length-4 c = search needs
 
 returns-2 : tie.Need-returns-2
 returns-2 c =
@@ -80,27 +40,6 @@ show-requires c κs =
 put-answer-requires : tie.Need-put-answer-requires
 put-answer-requires c κs = omega (arith, c .before .before .before .before .before .before .before .before .before .before .before .before .before .before .before .before .before .before .before .before .before .before .before .before .before .before .before .before .before .before .before .before .before .pre .answer)
 
-ended-requires-3 : tie.Need-ended-requires-3
-ended-requires-3 c κs = search needs
-
-same-length-5 : tie.Need-same-length-5
-same-length-5 c = search needs
-
-same-length-6 : tie.Need-same-length-6
-same-length-6 c = search needs
-
-same-length-7 : tie.Need-same-length-7
-same-length-7 c = search needs
-
-same-length-8 : tie.Need-same-length-8
-same-length-8 c = search needs
-
-same-length-9 : tie.Need-same-length-9
-same-length-9 c = search needs
-
-same-length-10 : tie.Need-same-length-10
-same-length-10 c = search needs
-
 returns-3 : tie.Need-returns-3
 returns-3 c =
     let a = c .before .before .before .before .before .before .before .before .before .before .before .before .before .before .before .before .before .before .before .before .before .before .before .before .before .before .before .before .before .before .before .before .before .before .before .before .before .args in
@@ -113,29 +52,29 @@ pub turn-spec : {M : Type 1} → statement M
 turn-spec =
     tie.close
     (tie.spec
-    size-fits-requires
-    ended-requires
+    (λ c κs. search needs)
+    (λ c κs. search needs)
     returns
-    mul-a
-    add-e
-    add-done
-    sub-serve-checked
-    part-serve-checked-start
+    (λ c. search needs)
+    (λ c. search needs)
+    (λ c. search needs)
+    (λ c. search needs)
+    (λ c. search needs)
     part-serve-checked-end
-    serve-checked-requires
-    ended-requires-2
-    same-length
-    same-length-2
-    same-length-3
-    same-length-4
+    (λ c κs. search needs)
+    (λ c κs. search needs)
+    (λ c. search needs)
+    (λ c. search needs)
+    (λ c. search needs)
+    (λ c. search needs)
     returns-2
     show-requires
     put-answer-requires
-    ended-requires-3
-    same-length-5
-    same-length-6
-    same-length-7
-    same-length-8
-    same-length-9
-    same-length-10
+    (λ c κs. search needs)
+    (λ c. search needs)
+    (λ c. search needs)
+    (λ c. search needs)
+    (λ c. search needs)
+    (λ c. search needs)
+    (λ c. search needs)
     returns-3)

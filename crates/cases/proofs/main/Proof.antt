@@ -1,5 +1,4 @@
 -- `cases::main` ends: k grows with each case that there is, and jumps to 100 at the first that there isn't.
--- Assumes nothing.
 use Prim.Native.Nat.{_-_, _≤_}
 use mathlib.Core.Path.{_≡_}
 use lib.ListN.{length}

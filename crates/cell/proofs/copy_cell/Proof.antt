@@ -1,5 +1,5 @@
 -- `cell::copy_cell` meets its contract: each loop's invariant says that the octets passed so far are those of its source.
--- The measure is what is left of the 53. Assumes nothing.
+-- The measure is what is left of the 53.
 use Prim.Native.Nat.{ℕ, _≤_, _<_, _-_}
 use mathlib.Core.Path.{_≡_, _∙_}
 use borrow.Author.Needs.{needs, read-below}

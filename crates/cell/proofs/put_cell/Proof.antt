@@ -1,32 +1,10 @@
 -- `cell::put_cell` meets its contract: the part lent on has 53 octets, and what lies before and after it stays.
--- Assumes nothing.
 use Rattle.meaning.specs.State.{writeCell}
 use lib.Seq.{drop-drop}
 use native.Mathlib.Nat.{add-sub-cancel-left}
 use borrow.Author.Needs.{needs}
 use Rattle.cell.proofs.put_cell.Statement.{statement}
 use Rattle.cell.proofs.put_cell.Tie as tie
-
-start-requires : tie.Need-start-requires
-start-requires c κs = search needs
-
-add-e : tie.Need-add-e
-add-e c = search needs
-
-sub-copy-cell : tie.Need-sub-copy-cell
-sub-copy-cell c = search needs
-
-part-copy-cell-start : tie.Need-part-copy-cell-start
-part-copy-cell-start c = search needs
-
-part-copy-cell-end : tie.Need-part-copy-cell-end
-part-copy-cell-end c = search needs
-
-copy-cell-requires : tie.Need-copy-cell-requires
-copy-cell-requires c κs = search needs
-
-same-length : tie.Need-same-length
-same-length c = search needs
 
 returns : tie.Need-returns
 unfolding writeCell
@@ -36,11 +14,11 @@ pub put-cell-spec : {M : Type 1} → statement M
 put-cell-spec =
     tie.close
     (tie.spec
-    start-requires
-    add-e
-    sub-copy-cell
-    part-copy-cell-start
-    part-copy-cell-end
-    copy-cell-requires
-    same-length
+    (λ c κs. search needs)
+    (λ c. search needs)
+    (λ c. search needs)
+    (λ c. search needs)
+    (λ c. search needs)
+    (λ c κs. search needs)
+    (λ c. search needs)
     returns)

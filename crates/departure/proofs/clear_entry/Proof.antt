@@ -1,5 +1,4 @@
 -- `departure::clear_entry` meets its contract: one entry is written, where on.
--- Assumes nothing.
 use borrow.Author.Needs.{needs}
 use Rattle.departure.proofs.clear_entry.Statement.{statement}
 use Rattle.departure.proofs.clear_entry.Tie as tie

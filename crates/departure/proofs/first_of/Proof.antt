@@ -1,5 +1,4 @@
 -- `departure::first_of` meets its contract: the head stays, or, of an empty list, x is the head.
--- Assumes nothing.
 use borrow.Author.Tests.{eq-eqb, ne-eqb}
 use Rattle.departure.proofs.first_of.Statement.{statement}
 use Rattle.departure.proofs.first_of.Tie as tie

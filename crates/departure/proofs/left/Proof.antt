@@ -1,5 +1,4 @@
 -- `departure::left` meets its contract: the record keeps its clock, and the answer is written out field by field.
--- Assumes nothing.
 use mathlib.Core.Path.{refl, _∙_}
 use Rattle.plan.specs.Plan.{withEnds, freed}
 use borrow.Author.Needs.{needs}

@@ -1,5 +1,4 @@
 -- `departure::links_leave` meets its contract: two conditional writes, the second over the first.
--- Assumes nothing.
 use native.Mathlib.Omega.{arith}
 use borrow.Author.Needs.{needs}
 use Rattle.departure.proofs.links_leave.Statement.{statement}

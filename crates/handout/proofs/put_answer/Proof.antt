@@ -1,5 +1,4 @@
 -- `handout::put_answer` meets its contract: the six stores are the six of the definition, each within the slot's own numbers.
--- Assumes nothing.
 use native.Mathlib.Omega.{arith}
 use lib.ListN.{length-set}
 use Rattle.handout.specs.Handout.{writeAnswer}
@@ -7,62 +6,20 @@ use borrow.Author.Needs.{needs}
 use Rattle.handout.proofs.put_answer.Statement.{statement}
 use Rattle.handout.proofs.put_answer.Tie as tie
 
-mul-at : tie.Need-mul-at
-mul-at c = search needs
-
-mul-answers : tie.Need-mul-answers
-mul-answers c = search needs
-
-slice-write-answers : tie.Need-slice-write-answers
-slice-write-answers c = search needs
-
-add-answers : tie.Need-add-answers
-add-answers c = search needs
-
-mul-answers-2 : tie.Need-mul-answers-2
-mul-answers-2 c = search needs
-
 slice-write-answers-2 : tie.Need-slice-write-answers-2
 slice-write-answers-2 c = simp length-set (omega arith)
-
-add-answers-2 : tie.Need-add-answers-2
-add-answers-2 c = search needs
-
-mul-answers-3 : tie.Need-mul-answers-3
-mul-answers-3 c = search needs
 
 slice-write-answers-3 : tie.Need-slice-write-answers-3
 slice-write-answers-3 c = simp length-set (omega arith)
 
-add-answers-3 : tie.Need-add-answers-3
-add-answers-3 c = search needs
-
-mul-answers-4 : tie.Need-mul-answers-4
-mul-answers-4 c = search needs
-
 slice-write-answers-4 : tie.Need-slice-write-answers-4
 slice-write-answers-4 c = simp length-set (omega arith)
-
-add-answers-4 : tie.Need-add-answers-4
-add-answers-4 c = search needs
-
-mul-answers-5 : tie.Need-mul-answers-5
-mul-answers-5 c = search needs
 
 slice-write-answers-5 : tie.Need-slice-write-answers-5
 slice-write-answers-5 c = simp length-set (omega arith)
 
-add-answers-5 : tie.Need-add-answers-5
-add-answers-5 c = search needs
-
-mul-answers-6 : tie.Need-mul-answers-6
-mul-answers-6 c = search needs
-
 slice-write-answers-6 : tie.Need-slice-write-answers-6
 slice-write-answers-6 c = simp length-set (omega arith)
-
-same-length : tie.Need-same-length
-same-length c = search needs
 
 returns : tie.Need-returns
 unfolding writeAnswer
@@ -72,23 +29,23 @@ pub put-answer-spec : {M : Type 1} → statement M
 put-answer-spec =
     tie.close
     (tie.spec
-    mul-at
-    mul-answers
-    slice-write-answers
-    add-answers
-    mul-answers-2
+    (λ c. search needs)
+    (λ c. search needs)
+    (λ c. search needs)
+    (λ c. search needs)
+    (λ c. search needs)
     slice-write-answers-2
-    add-answers-2
-    mul-answers-3
+    (λ c. search needs)
+    (λ c. search needs)
     slice-write-answers-3
-    add-answers-3
-    mul-answers-4
+    (λ c. search needs)
+    (λ c. search needs)
     slice-write-answers-4
-    add-answers-4
-    mul-answers-5
+    (λ c. search needs)
+    (λ c. search needs)
     slice-write-answers-5
-    add-answers-5
-    mul-answers-6
+    (λ c. search needs)
+    (λ c. search needs)
     slice-write-answers-6
-    same-length
+    (λ c. search needs)
     returns)

@@ -15,35 +15,11 @@ use Rattle.handover.proofs.lend.Tie as tie
 abbrev whole : tie.Start → World
 whole s = worldOf startRun (s .args .cells .now) (s .args .links .now) (s .args .calendar .now) (s .args .words .now)
 
-sizes-of-requires : tie.Need-sizes-of-requires
-sizes-of-requires c κs = search needs
-
-cast-n : tie.Need-cast-n
-cast-n c = search needs
-
-cast-v : tie.Need-cast-v
-cast-v c = search needs
-
-mul-octets : tie.Need-mul-octets
-mul-octets c = search needs
-
-mul-ends : tie.Need-mul-ends
-mul-ends c = search needs
-
-mul-sevens : tie.Need-mul-sevens
-mul-sevens c = search needs
-
-slice-relend-prefix-hand-over : tie.Need-slice-relend-prefix-hand-over
-slice-relend-prefix-hand-over c = search needs
-
 slice-aggregate-hand-over : tie.Need-slice-aggregate-hand-over
 slice-aggregate-hand-over c =
     let z = c .before .before .before .sizes-of in
     let s = c .before .before .before .before .before .before .before .before .before .before in
     sym (front-long (z .result) (whole s) (z .ensures .1) (s .pre .0) .cells-long)
-
-slice-relend-prefix-hand-over-2 : tie.Need-slice-relend-prefix-hand-over-2
-slice-relend-prefix-hand-over-2 c = search needs
 
 slice-aggregate-hand-over-2 : tie.Need-slice-aggregate-hand-over-2
 slice-aggregate-hand-over-2 c =
@@ -51,17 +27,11 @@ slice-aggregate-hand-over-2 c =
     let s = c .before .before .before .before .before .before .before .before .before .before .before in
     sym (front-long (z .result) (whole s) (z .ensures .1) (s .pre .0) .links-long)
 
-slice-relend-prefix-hand-over-3 : tie.Need-slice-relend-prefix-hand-over-3
-slice-relend-prefix-hand-over-3 c = search needs
-
 slice-aggregate-hand-over-3 : tie.Need-slice-aggregate-hand-over-3
 slice-aggregate-hand-over-3 c =
     let z = c .before .before .before .before .before .sizes-of in
     let s = c .before .before .before .before .before .before .before .before .before .before .before .before in
     sym (front-long (z .result) (whole s) (z .ensures .1) (s .pre .0) .calendar-long)
-
-slice-relend-prefix-hand-over-4 : tie.Need-slice-relend-prefix-hand-over-4
-slice-relend-prefix-hand-over-4 c = search needs
 
 slice-aggregate-hand-over-4 : tie.Need-slice-aggregate-hand-over-4
 slice-aggregate-hand-over-4 c =
@@ -74,21 +44,6 @@ hand-over-requires c κs =
     let z = c .before .before .before .before .before .before .before .sizes-of in
     let s = c .before .before .before .before .before .before .before .before .before .before .before .before .before .before in
     (subst (λ (x : Sizes). LentFor x (frontOf (z .result) (whole s))) (z .ensures .0) (front-long (z .result) (whole s) (z .ensures .1) (s .pre .0)), s .pre .1)
-
-same-length : tie.Need-same-length
-same-length c = search needs
-
-same-length-2 : tie.Need-same-length-2
-same-length-2 c = search needs
-
-same-length-3 : tie.Need-same-length-3
-same-length-3 c = search needs
-
-same-length-4 : tie.Need-same-length-4
-same-length-4 c = search needs
-
-same-length-5 : tie.Need-same-length-5
-same-length-5 c = search needs
 
 returns : tie.Need-returns
 returns c =
@@ -112,24 +67,24 @@ pub lend-spec : {M : Type 1} → statement M
 lend-spec =
     tie.close
     (tie.spec
-    sizes-of-requires
-    cast-n
-    cast-v
-    mul-octets
-    mul-ends
-    mul-sevens
-    slice-relend-prefix-hand-over
+    (λ c κs. search needs)
+    (λ c. search needs)
+    (λ c. search needs)
+    (λ c. search needs)
+    (λ c. search needs)
+    (λ c. search needs)
+    (λ c. search needs)
     slice-aggregate-hand-over
-    slice-relend-prefix-hand-over-2
+    (λ c. search needs)
     slice-aggregate-hand-over-2
-    slice-relend-prefix-hand-over-3
+    (λ c. search needs)
     slice-aggregate-hand-over-3
-    slice-relend-prefix-hand-over-4
+    (λ c. search needs)
     slice-aggregate-hand-over-4
     hand-over-requires
-    same-length
-    same-length-2
-    same-length-3
-    same-length-4
-    same-length-5
+    (λ c. search needs)
+    (λ c. search needs)
+    (λ c. search needs)
+    (λ c. search needs)
+    (λ c. search needs)
     returns)

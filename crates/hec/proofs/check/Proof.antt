@@ -1,25 +1,15 @@
 -- `hec::check` meets its contract: a header whose fifth octet is as checked is clean, and any other is in error.
--- Assumes nothing.
 use mathlib.Core.Path.{_∙_}
 use borrow.Author.Needs.{needs}
 use Rattle.hec.proofs.WordLaws.{checked-clean, checked-erred}
 use Rattle.hec.proofs.check.Statement.{statement}
 use Rattle.hec.proofs.check.Tie as tie
 
-check-of-requires : tie.Need-check-of-requires
-check-of-requires c κs = search needs
-
 returns : tie.Need-returns
 returns c =
     let k = c .before .«check-of» in
     let a = c .before .before .args in
     checked-clean (a .mode) (a .head) (a .fifth) (k .result) (k .ensures) (c .if1 .taken)
-
-wrong-bit-requires : tie.Need-wrong-bit-requires
-wrong-bit-requires c κs = search needs
-
-erred-requires : tie.Need-erred-requires
-erred-requires c κs = search needs
 
 returns-2 : tie.Need-returns-2
 returns-2 c =
@@ -31,4 +21,4 @@ returns-2 c =
 
 pub check-spec : {M : Type 1} → statement M
 check-spec =
-    tie.close (tie.spec check-of-requires returns wrong-bit-requires erred-requires returns-2)
+    tie.close (tie.spec (λ c κs. search needs) returns (λ c κs. search needs) (λ c κs. search needs) returns-2)

@@ -1,18 +1,9 @@
--- `hec::check_cell` meets its contract: what `check` answers of the header's numbers holds of the octets. Assumes nothing.
+-- `hec::check_cell` meets its contract: what `check` answers of the header's numbers holds of the octets.
 use native.Mathlib.Omega.{arith}
 use borrow.Author.Needs.{needs}
 use Rattle.hec.proofs.CellLaws.{answered}
 use Rattle.hec.proofs.check_cell.Statement.{statement}
 use Rattle.hec.proofs.check_cell.Tie as tie
-
-head-of-requires : tie.Need-head-of-requires
-head-of-requires c κs = search needs
-
-shared-slice-read-check : tie.Need-shared-slice-read-check
-shared-slice-read-check c = search needs
-
-check-requires : tie.Need-check-requires
-check-requires c κs = search needs
 
 returns : tie.Need-returns
 returns c =
@@ -24,4 +15,4 @@ returns c =
 
 pub check-cell-spec : {M : Type 1} → statement M
 check-cell-spec =
-    tie.close (tie.spec head-of-requires shared-slice-read-check check-requires returns)
+    tie.close (tie.spec (λ c κs. search needs) (λ c. search needs) (λ c κs. search needs) returns)

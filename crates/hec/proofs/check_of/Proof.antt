@@ -1,4 +1,4 @@
--- `hec::check_of` meets its contract: its shifts give the remainder, and the coset is added. Assumes nothing.
+-- `hec::check_of` meets its contract: its shifts give the remainder, and the coset is added.
 use mathlib.Core.Path.{ap}
 use Prim.Native.Nat.{ℕ}
 use lib.Bits.{bitXor}
@@ -8,12 +8,9 @@ use Rattle.hec.proofs.ByShifts.{by-shifts}
 use Rattle.hec.proofs.check_of.Statement.{statement}
 use Rattle.hec.proofs.check_of.Tie as tie
 
-cast-result : tie.Need-cast-result
-cast-result c = search needs
-
 returns : tie.Need-returns
 unfolding checkOf
 returns c = ap (λ (x : ℕ). bitXor x coset) (by-shifts (c .args .head) (search needs))
 
 pub check-of-spec : {M : Type 1} → statement M
-check-of-spec = tie.close (tie.spec cast-result returns)
+check-of-spec = tie.close (tie.spec (λ c. search needs) returns)

@@ -1,12 +1,9 @@
--- `hec::erred` meets its contract: each of its three ends is a case of the definition. Assumes nothing.
+-- `hec::erred` meets its contract: each of its three ends is a case of the definition.
 use mathlib.Core.Path.{_∙_}
 use borrow.Author.Needs.{needs}
 use Rattle.hec.proofs.WordLaws.{erred-mended, erred-several, erred-detection}
 use Rattle.hec.proofs.erred.Statement.{statement}
 use Rattle.hec.proofs.erred.Tie as tie
-
-mended-requires : tie.Need-mended-requires
-mended-requires c κs = search needs
 
 returns : tie.Need-returns
 returns c =
@@ -25,4 +22,4 @@ returns-3 c =
     erred-detection (a .mode) (a .head) (a .fifth) (a .bit) (c .if1 .left)
 
 pub erred-spec : {M : Type 1} → statement M
-erred-spec = tie.close (tie.spec mended-requires returns returns-2 returns-3)
+erred-spec = tie.close (tie.spec (λ c κs. search needs) returns returns-2 returns-3)

@@ -1,5 +1,4 @@
 -- `leaving::off_accept` meets its contract: with D 0 the cell joined entry T, and else another.
--- Assumes nothing.
 use Rattle.leaving.proofs.NowLaws.{written-now, written-later}
 use Rattle.arriving.specs.Arriving.{seatAt}
 use Rattle.leaving.specs.Leaving.{Leaves, OffThen}
@@ -10,9 +9,6 @@ use mathlib.Core.Path.{sym, subst}
 use borrow.Author.Needs.{needs}
 use Rattle.leaving.proofs.off_accept.Statement.{statement}
 use Rattle.leaving.proofs.off_accept.Tie as tie
-
-off-now-requires : tie.Need-off-now-requires
-off-now-requires c κs = search needs
 
 returns : tie.Need-returns
 returns c =
@@ -26,9 +22,6 @@ returns c =
     (λ (f : Ends). Leaves k f (c .off-now .result) (OffThen k (a .p) (a .cells .now) (a .links .now) (a .words .now)))
     (sym (written-now (a .w .n) (a .w .turn) (a .p .d) (sized .turn-low) (a .calendar .now) (a .p .e) (seatEnds (seatAt k (a .p))) (seats .e-is) (c .before .if1 .taken) (sized .calendar-long)))
     (c .off-now .ensures ok)
-
-off-later-requires : tie.Need-off-later-requires
-off-later-requires c κs = search needs
 
 returns-2 : tie.Need-returns-2
 returns-2 c =
@@ -44,4 +37,4 @@ returns-2 c =
     (c .off-later .ensures ok)
 
 pub off-accept-spec : {M : Type 1} → statement M
-off-accept-spec = tie.close (tie.spec off-now-requires returns off-later-requires returns-2)
+off-accept-spec = tie.close (tie.spec (λ c κs. search needs) returns (λ c κs. search needs) returns-2)

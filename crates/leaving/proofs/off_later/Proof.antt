@@ -1,5 +1,4 @@
 -- `leaving::off_later` meets its contract: as off_quiet, and the cell that was accepted is in another space.
--- Assumes nothing.
 use Rattle.leaving.proofs.LeaveLaws.{plan-none, plan-low, later-leaves}
 use Rattle.leaving.proofs.PlanLaws.{low-in}
 use Rattle.leaving.specs.Leaving.{OffThen}
@@ -12,12 +11,6 @@ use mathlib.Core.Path.{sym, _∙_}
 use borrow.Author.Needs.{needs}
 use Rattle.leaving.proofs.off_later.Statement.{statement}
 use Rattle.leaving.proofs.off_later.Tie as tie
-
-plan-requires : tie.Need-plan-requires
-plan-requires c κs = search needs
-
-stuck-requires : tie.Need-stuck-requires
-stuck-requires c κs = search needs
 
 returns : tie.Need-returns
 returns c =
@@ -33,9 +26,6 @@ returns-2 c =
     λ ok.
     plan-none k (a .links .now) entry o (OffThen k (a .p) (a .cells .now) (a .links .now) (a .words .now)) (c .before .before .before .plan .ensures ok) (c .if2 .taken)
 
-stuck-requires-2 : tie.Need-stuck-requires-2
-stuck-requires-2 c κs = search needs
-
 returns-3 : tie.Need-returns-3
 returns-3 c =
     λ ok. no (sym (c .stuck2 .ensures) ∙ ok)
@@ -49,9 +39,6 @@ seen-requires c κs =
     let o = c .before .before .before .before .before .before .plan .result in
     let low = plan-low k (a .links .now) entry o (c .before .before .before .before .before .before .plan .ensures (not-false _ (c .before .before .before .before .if1 .left))) (c .before .before .before .if2 .left) in
     (from .pre .0 .n-high, from .pre .0 .v-high, omega (arith, low, from .pre .0 .cells-long), from .pre .0 .words-long)
-
-with-vci-requires : tie.Need-with-vci-requires
-with-vci-requires c κs = search needs
 
 returns-4 : tie.Need-returns-4
 returns-4 c =
@@ -79,12 +66,12 @@ pub off-later-spec : {M : Type 1} → statement M
 off-later-spec =
     tie.close
     (tie.spec
-    plan-requires
-    stuck-requires
+    (λ c κs. search needs)
+    (λ c κs. search needs)
     returns
     returns-2
-    stuck-requires-2
+    (λ c κs. search needs)
     returns-3
     seen-requires
-    with-vci-requires
+    (λ c κs. search needs)
     returns-4)

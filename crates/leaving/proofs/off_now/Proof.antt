@@ -1,5 +1,4 @@
 -- `leaving::off_now` meets its contract: the cell itself departs, or the Output List's head, entry T having joined its end.
--- Assumes nothing.
 use Rattle.leaving.proofs.NowLaws.{tail-is, alone-leaves, behind-leaves}
 use Rattle.leaving.proofs.PlanLaws.{low-in, left-count}
 use Rattle.way.specs.Way.{slotRecord}
@@ -22,9 +21,6 @@ returns c =
     let k = slotRecord (a .w) in
     λ ok. alone-leaves k (a .p) (a .cells .now) (a .links .now) (a .words .now) (from .pre .0 .0) (from .pre .0 .1) (from .pre .0 .3) (from .pre .1 .1) (from .pre .1 .2) (from .pre .1 .3) (from .pre .1 .4) (c .before .if1 .taken) ok
 
-stuck-requires : tie.Need-stuck-requires
-stuck-requires c κs = search needs
-
 returns-2 : tie.Need-returns-2
 returns-2 c =
     λ ok. no (sym (c .stuck .ensures) ∙ ok)
@@ -38,9 +34,6 @@ rest-joined-requires c κs =
       low-in _ (w .n) _ (fit-head (w .n) (endsOf (w .outhead) (w .outtail)) (from .pre .1 .0) (c .before .before .before .before .before .if1 .left)) (from .pre .0 .3),
       low-in _ (w .n) _ (from .pre .1 .2) (from .pre .0 .3),
     )
-
-stuck-requires-2 : tie.Need-stuck-requires-2
-stuck-requires-2 c κs = search needs
 
 returns-3 : tie.Need-returns-3
 returns-3 c =
@@ -82,10 +75,10 @@ off-now-spec =
     tie.close
     (tie.spec
     returns
-    stuck-requires
+    (λ c κs. search needs)
     returns-2
     rest-joined-requires
-    stuck-requires-2
+    (λ c κs. search needs)
     returns-3
     seen-requires
     returns-4)

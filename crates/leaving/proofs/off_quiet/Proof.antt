@@ -1,5 +1,4 @@
 -- `leaving::off_quiet` meets its contract: the plan, and the VC that the header of its space names.
--- Assumes nothing.
 use Rattle.leaving.proofs.LeaveLaws.{plan-none, plan-low, quiet-leaves}
 use Rattle.leaving.specs.Leaving.{OffHere}
 use Rattle.way.specs.Way.{slotRecord}
@@ -11,12 +10,6 @@ use mathlib.Core.Path.{sym, _∙_}
 use borrow.Author.Needs.{needs}
 use Rattle.leaving.proofs.off_quiet.Statement.{statement}
 use Rattle.leaving.proofs.off_quiet.Tie as tie
-
-plan-requires : tie.Need-plan-requires
-plan-requires c κs = search needs
-
-stuck-requires : tie.Need-stuck-requires
-stuck-requires c κs = search needs
 
 returns : tie.Need-returns
 returns c =
@@ -42,9 +35,6 @@ seen-requires c κs =
     let low = plan-low k (a .links .now) entry o (c .before .before .before .plan .ensures (not-false _ (c .before .if1 .left))) (c .if2 .left) in
     (from .pre .0 .n-high, from .pre .0 .v-high, omega (arith, low, from .pre .0 .cells-long), from .pre .0 .words-long)
 
-with-vci-requires : tie.Need-with-vci-requires
-with-vci-requires c κs = search needs
-
 returns-3 : tie.Need-returns-3
 returns-3 c =
     let from = c .before .before .before .before .before .before .before .before .before .before in
@@ -64,10 +54,10 @@ pub off-quiet-spec : {M : Type 1} → statement M
 off-quiet-spec =
     tie.close
     (tie.spec
-    plan-requires
-    stuck-requires
+    (λ c κs. search needs)
+    (λ c κs. search needs)
     returns
     returns-2
     seen-requires
-    with-vci-requires
+    (λ c κs. search needs)
     returns-3)

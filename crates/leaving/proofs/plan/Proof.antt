@@ -1,5 +1,4 @@
 -- `leaving::plan` meets its contract: entry T's ends are judged one after the other, and by the head it is marked or not.
--- Assumes nothing.
 use Rattle.spaces.proofs.PairLaws.{both-low, both-empty}
 use Rattle.meaning.specs.Lists.{entryAt}
 use Rattle.plan.proofs.Found.{no}
@@ -11,44 +10,17 @@ use borrow.Author.Needs.{needs}
 use Rattle.leaving.proofs.plan.Statement.{statement}
 use Rattle.leaving.proofs.plan.Tie as tie
 
-mul-head : tie.Need-mul-head
-mul-head c = search needs
-
-mul-head-2 : tie.Need-mul-head-2
-mul-head-2 c = search needs
-
-shared-slice-read-head : tie.Need-shared-slice-read-head
-shared-slice-read-head c = search needs
-
 cast-head : tie.Need-cast-head
 cast-head c =
     omega (arith, c .shared-slice-known3 .given (2 * c .before .before .before .before .args .w .turn))
-
-mul-tail : tie.Need-mul-tail
-mul-tail c = search needs
-
-add-tail : tie.Need-add-tail
-add-tail c = search needs
-
-mul-tail-2 : tie.Need-mul-tail-2
-mul-tail-2 c = search needs
-
-shared-slice-read-tail : tie.Need-shared-slice-read-tail
-shared-slice-read-tail c = search needs
 
 cast-tail : tie.Need-cast-tail
 cast-tail c =
     omega (arith, c .shared-slice-known4 .given (2 * c .before .before .before .before .before .before .args .w .turn + 1))
 
-stuck-requires : tie.Need-stuck-requires
-stuck-requires c κs = search needs
-
 returns : tie.Need-returns
 returns c =
     λ ok. no (sym (c .stuck .ensures) ∙ ok)
-
-plan-unmarked-requires : tie.Need-plan-unmarked-requires
-plan-unmarked-requires c κs = search needs
 
 returns-2 : tie.Need-returns-2
 unfolding entryAt
@@ -65,22 +37,13 @@ returns-2 c =
       marked = λ ne. absurd (ne (c .before .before .if1 .taken));
     }
 
-stuck-requires-2 : tie.Need-stuck-requires-2
-stuck-requires-2 c κs = search needs
-
 returns-3 : tie.Need-returns-3
 returns-3 c =
     λ ok. no (sym (c .stuck2 .ensures) ∙ ok)
 
-stuck-requires-3 : tie.Need-stuck-requires-3
-stuck-requires-3 c κs = search needs
-
 returns-4 : tie.Need-returns-4
 returns-4 c =
     λ ok. no (sym (c .stuck3 .ensures) ∙ ok)
-
-plan-marked-requires : tie.Need-plan-marked-requires
-plan-marked-requires c κs = search needs
 
 returns-5 : tie.Need-returns-5
 unfolding entryAt
@@ -101,22 +64,22 @@ pub plan-spec : {M : Type 1} → statement M
 plan-spec =
     tie.close
     (tie.spec
-    mul-head
-    mul-head-2
-    shared-slice-read-head
+    (λ c. search needs)
+    (λ c. search needs)
+    (λ c. search needs)
     cast-head
-    mul-tail
-    add-tail
-    mul-tail-2
-    shared-slice-read-tail
+    (λ c. search needs)
+    (λ c. search needs)
+    (λ c. search needs)
+    (λ c. search needs)
     cast-tail
-    stuck-requires
+    (λ c κs. search needs)
     returns
-    plan-unmarked-requires
+    (λ c κs. search needs)
     returns-2
-    stuck-requires-2
+    (λ c κs. search needs)
     returns-3
-    stuck-requires-3
+    (λ c κs. search needs)
     returns-4
-    plan-marked-requires
+    (λ c κs. search needs)
     returns-5)

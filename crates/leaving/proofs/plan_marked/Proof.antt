@@ -1,5 +1,4 @@
 -- `leaving::plan_marked` meets its contract: entry T is the Output List, or has joined its end.
--- Assumes nothing.
 use Rattle.leaving.proofs.LeaveLaws.{left-fit}
 use Rattle.leaving.proofs.PlanLaws.{low-in, left-count, joined-alone, joined-some, rest-alone, rest-joins}
 use Rattle.way.specs.Way.{slotRecord}
@@ -13,9 +12,6 @@ use mathlib.Core.Path.{refl, sym, ap}
 use borrow.Author.Needs.{needs}
 use Rattle.leaving.proofs.plan_marked.Statement.{statement}
 use Rattle.leaving.proofs.plan_marked.Tie as tie
-
-rest-of-requires : tie.Need-rest-of-requires
-rest-of-requires c κs = search needs
 
 returns : tie.Need-returns
 returns c =
@@ -70,4 +66,4 @@ returns-2 c =
     }
 
 pub plan-marked-spec : {M : Type 1} → statement M
-plan-marked-spec = tie.close (tie.spec rest-of-requires returns rest-joined-requires returns-2)
+plan-marked-spec = tie.close (tie.spec (λ c κs. search needs) returns rest-joined-requires returns-2)

@@ -1,5 +1,4 @@
 -- `leaving::plan_unmarked` meets its contract: the Output List's head departs, where there is one.
--- Assumes nothing.
 use Rattle.leaving.proofs.LeaveLaws.{left-fit}
 use Rattle.leaving.proofs.PlanLaws.{low-in, left-count}
 use Rattle.spaces.specs.Spaces.{endsOf}

@@ -1,5 +1,4 @@
 -- `leaving::rest_joined` meets its contract: the link read is the one that the join leaves.
--- Assumes nothing.
 use Rattle.leaving.proofs.PlanLaws.{link-own}
 use Rattle.plan.proofs.Found.{no}
 use lib.Seq.{getD-set-other}
@@ -14,12 +13,6 @@ use Rattle.leaving.proofs.rest_joined.Tie as tie
 returns : tie.Need-returns
 returns c =
     λ ok. no ok
-
-mul-next : tie.Need-mul-next
-mul-next c = search needs
-
-shared-slice-read-next : tie.Need-shared-slice-read-next
-shared-slice-read-next c = search needs
 
 cast-next : tie.Need-cast-next
 cast-next c =
@@ -42,4 +35,4 @@ returns-2 c =
     }
 
 pub rest-joined-spec : {M : Type 1} → statement M
-rest-joined-spec = tie.close (tie.spec returns mul-next shared-slice-read-next cast-next returns-2)
+rest-joined-spec = tie.close (tie.spec returns (λ c. search needs) (λ c. search needs) cast-next returns-2)

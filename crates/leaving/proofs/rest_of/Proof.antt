@@ -1,20 +1,10 @@
 -- `leaving::rest_of` meets its contract: nothing is left after the tail, and before it the link names the rest.
--- Assumes nothing.
 use borrow.Author.Tests.{ltb-true}
 use native.Mathlib.Omega.{arith}
 use mathlib.Core.Path.{refl}
 use borrow.Author.Needs.{needs}
 use Rattle.leaving.proofs.rest_of.Statement.{statement}
 use Rattle.leaving.proofs.rest_of.Tie as tie
-
-returns : tie.Need-returns
-returns c = search needs
-
-mul-next : tie.Need-mul-next
-mul-next c = search needs
-
-shared-slice-read-next : tie.Need-shared-slice-read-next
-shared-slice-read-next c = search needs
 
 cast-next : tie.Need-cast-next
 cast-next c =
@@ -25,4 +15,4 @@ returns-2 c =
     λ ok. record { one = λ e. absurd (c .before .if1 .left e); more = λ far. (refl, ltb-true _ _ ok, refl) }
 
 pub rest-of-spec : {M : Type 1} → statement M
-rest-of-spec = tie.close (tie.spec returns mul-next shared-slice-read-next cast-next returns-2)
+rest-of-spec = tie.close (tie.spec (λ c. search needs) (λ c. search needs) (λ c. search needs) cast-next returns-2)

@@ -1,5 +1,4 @@
 -- `leaving::seen` meets its contract: the tests are those of the definition, of the header's number and the VC's words.
--- Assumes nothing.
 use Rattle.spaces.proofs.LeaverLaws.{leaver-named, go-counts, go-none, go-closed}
 use Rattle.spaces.specs.Leaver.{namedVc}
 use Rattle.leaving.proofs.PlanLaws.{named-zero, named-past, named-stays, named-goes}
@@ -9,15 +8,6 @@ use mathlib.Core.Path.{sym, _∙_, ap}
 use borrow.Author.Needs.{needs}
 use Rattle.leaving.proofs.seen.Statement.{statement}
 use Rattle.leaving.proofs.seen.Tie as tie
-
-mul-name-at : tie.Need-mul-name-at
-mul-name-at c = search needs
-
-name-at-requires : tie.Need-name-at-requires
-name-at-requires c κs = search needs
-
-cast-u : tie.Need-cast-u
-cast-u c = search needs
 
 returns : tie.Need-returns
 returns c =
@@ -35,15 +25,6 @@ returns-2 c =
     ∙ ap (namedVc (a .n) (a .v) (a .words .now)) name)
     ∙ leaver-named (a .n) (a .v) (a .cells .now) (a .words .now) (a .x) (omega (arith, c .before .before .before .before .before .pre))
 
-mul-b : tie.Need-mul-b
-mul-b c = search needs
-
-mul-if3 : tie.Need-mul-if3
-mul-if3 c = search needs
-
-shared-slice-read-if3 : tie.Need-shared-slice-read-if3
-shared-slice-read-if3 c = search needs
-
 returns-3 : tie.Need-returns-3
 returns-3 c =
     let a = c .before .before .before .before .before .before .before .args in
@@ -53,15 +34,6 @@ returns-3 c =
     ∙ ap (namedVc (a .n) (a .v) (a .words .now)) name)
     ∙ leaver-named (a .n) (a .v) (a .cells .now) (a .words .now) (a .x) (omega (arith, c .before .before .before .before .before .before .before .pre))
 
-add-waiting : tie.Need-add-waiting
-add-waiting c = search needs
-
-mul-waiting : tie.Need-mul-waiting
-mul-waiting c = search needs
-
-shared-slice-read-waiting : tie.Need-shared-slice-read-waiting
-shared-slice-read-waiting c = search needs
-
 returns-4 : tie.Need-returns-4
 returns-4 c =
     let a = c .before .before .before .before .before .before .before .before .before .args in
@@ -70,9 +42,6 @@ returns-4 c =
     (sym (go-none (a .n) (a .words .now) (c .before .before .before .before .before .before .name-at .result) (c .before .before .if3 .left) (c .if4 .taken)))
     ∙ ap (namedVc (a .n) (a .v) (a .words .now)) name)
     ∙ leaver-named (a .n) (a .v) (a .cells .now) (a .words .now) (a .x) (omega (arith, c .before .before .before .before .before .before .before .before .before .pre))
-
-cast-if5 : tie.Need-cast-if5
-cast-if5 c = search needs
 
 returns-5 : tie.Need-returns-5
 returns-5 c =
@@ -96,19 +65,19 @@ pub seen-spec : {M : Type 1} → statement M
 seen-spec =
     tie.close
     (tie.spec
-    mul-name-at
-    name-at-requires
-    cast-u
+    (λ c. search needs)
+    (λ c κs. search needs)
+    (λ c. search needs)
     returns
     returns-2
-    mul-b
-    mul-if3
-    shared-slice-read-if3
+    (λ c. search needs)
+    (λ c. search needs)
+    (λ c. search needs)
     returns-3
-    add-waiting
-    mul-waiting
-    shared-slice-read-waiting
+    (λ c. search needs)
+    (λ c. search needs)
+    (λ c. search needs)
     returns-4
-    cast-if5
+    (λ c. search needs)
     returns-5
     returns-6)

@@ -1,5 +1,4 @@
 -- `likely::accept` meets its contract: where something was left the likely way nothing is written, else one of the two cases is.
--- Assumes nothing.
 use denote.Ref.{now}
 use borrow.Author.Tests.{not-false}
 use Rattle.likely.proofs.EitherLaws.{either-odd, either-gone}
@@ -13,21 +12,6 @@ off-accept-requires c κs =
     let pre = start .pre in
     let acc = pre .1 .1 .0 .is-accepted in
     (pre .0 .sized, (pre .0 .output-fits, (pre .1 .1 .0 .seats, (acc .near, acc .vci-low, acc .vci-high))))
-
-odd-requires : tie.Need-odd-requires
-odd-requires c κs = search needs
-
-same-length : tie.Need-same-length
-same-length c = search needs
-
-same-length-2 : tie.Need-same-length-2
-same-length-2 c = search needs
-
-same-length-3 : tie.Need-same-length-3
-same-length-3 c = search needs
-
-same-length-4 : tie.Need-same-length-4
-same-length-4 c = search needs
 
 returns : tie.Need-returns
 returns c =
@@ -48,24 +32,6 @@ accept-none-requires c κs =
         (pre .1 .1 .0, ((pre .1 .1 .1 .0, pre .1 .1 .1 .1 .answer), (leaves .entry-fits, found .0, found .1))),
       ),
     )
-
-gone-requires : tie.Need-gone-requires
-gone-requires c κs = search needs
-
-same-length-5 : tie.Need-same-length-5
-same-length-5 c = search needs
-
-same-length-6 : tie.Need-same-length-6
-same-length-6 c = search needs
-
-same-length-7 : tie.Need-same-length-7
-same-length-7 c = search needs
-
-same-length-8 : tie.Need-same-length-8
-same-length-8 c = search needs
-
-same-length-9 : tie.Need-same-length-9
-same-length-9 c = search needs
 
 returns-2 : tie.Need-returns-2
 returns-2 c =
@@ -89,27 +55,6 @@ accept-leave-requires c κs =
       ),
     )
 
-gone-requires-2 : tie.Need-gone-requires-2
-gone-requires-2 c κs = search needs
-
-same-length-10 : tie.Need-same-length-10
-same-length-10 c = search needs
-
-same-length-11 : tie.Need-same-length-11
-same-length-11 c = search needs
-
-same-length-12 : tie.Need-same-length-12
-same-length-12 c = search needs
-
-same-length-13 : tie.Need-same-length-13
-same-length-13 c = search needs
-
-same-length-14 : tie.Need-same-length-14
-same-length-14 c = search needs
-
-same-length-15 : tie.Need-same-length-15
-same-length-15 c = search needs
-
 returns-3 : tie.Need-returns-3
 returns-3 c =
     let case = c .before .before .before .before .before .before .before .before .before .before .before .before .before in
@@ -120,26 +65,26 @@ accept-spec =
     tie.close
     (tie.spec
     off-accept-requires
-    odd-requires
-    same-length
-    same-length-2
-    same-length-3
-    same-length-4
+    (λ c κs. search needs)
+    (λ c. search needs)
+    (λ c. search needs)
+    (λ c. search needs)
+    (λ c. search needs)
     returns
     accept-none-requires
-    gone-requires
-    same-length-5
-    same-length-6
-    same-length-7
-    same-length-8
-    same-length-9
+    (λ c κs. search needs)
+    (λ c. search needs)
+    (λ c. search needs)
+    (λ c. search needs)
+    (λ c. search needs)
+    (λ c. search needs)
     returns-2
     accept-leave-requires
-    gone-requires-2
-    same-length-10
-    same-length-11
-    same-length-12
-    same-length-13
-    same-length-14
-    same-length-15
+    (λ c κs. search needs)
+    (λ c. search needs)
+    (λ c. search needs)
+    (λ c. search needs)
+    (λ c. search needs)
+    (λ c. search needs)
+    (λ c. search needs)
     returns-3)

@@ -1,5 +1,4 @@
 -- `likely::accept_leave` meets its contract: what is stored is step 3, and what is written then is the departure that was found.
--- Assumes nothing.
 use Prim.Native.Nat.{_*_, _<_}
 use native.Mathlib.Omega.{arith}
 use denote.Ref.{now}
@@ -31,9 +30,6 @@ put-less-requires c κs =
       omega (arith, long, shows .0, at-store .store .kept),
       read-same _ _ _ (at-store .store .ensures .1 .1 .1) (shows .1),
     )
-
-clear-entry-requires : tie.Need-clear-entry-requires
-clear-entry-requires c κs = search needs
 
 links-leave-requires : tie.Need-links-leave-requires
 links-leave-requires c κs =
@@ -111,9 +107,6 @@ put-answer-requires c κs =
     let start = c .before .before .before .before .before .before .before .before .before .before .before .before .before .before .before .before .before .before .before .before .before .before .before .before .before .before .before .before .before .before .before .before .before .before .before .before .before .before .before .before .before .before in
     start .pre .1 .1 .1 .1 .1 .answer
 
-with-ends-requires : tie.Need-with-ends-requires
-with-ends-requires c κs = search needs
-
 same-length : tie.Need-same-length
 same-length c =
     let at-store = c .before .before .before .before .before .before .before .before .before .before .before .before .before .before .before .before .before .before .before .before .before .before .before .before .before .before .before .before .before .before .before .before .before .before in
@@ -136,12 +129,6 @@ same-length-4 c =
     let at-less = c .before .before .before .before .before .before .before .before .before .before .before .before .before .before .before .before .before .before .before .before .before .before .before .before in
     let at-store = at-less .before .before .before .before .before .before .before .before .before .before in
     omega (arith, at-store .store .kept, at-less .put-less .kept)
-
-same-length-5 : tie.Need-same-length-5
-same-length-5 c = search needs
-
-same-length-6 : tie.Need-same-length-6
-same-length-6 c = search needs
 
 returns : tie.Need-returns
 returns c =
@@ -168,7 +155,7 @@ accept-leave-spec =
     (tie.spec
     store-requires
     put-less-requires
-    clear-entry-requires
+    (λ c κs. search needs)
     links-leave-requires
     copy-departure-requires
     cast-t34
@@ -176,11 +163,11 @@ accept-leave-spec =
     cast-t36
     cast-t37
     put-answer-requires
-    with-ends-requires
+    (λ c κs. search needs)
     same-length
     same-length-2
     same-length-3
     same-length-4
-    same-length-5
-    same-length-6
+    (λ c. search needs)
+    (λ c. search needs)
     returns)

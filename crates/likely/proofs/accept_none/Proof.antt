@@ -1,5 +1,4 @@
 -- `likely::accept_none` meets its contract: what is stored is step 3, and steps 4 and 5 find nothing that departs.
--- Assumes nothing.
 use Prim.Native.Nat.{_*_, _<_}
 use native.Mathlib.Omega.{arith}
 use denote.Ref.{now}
@@ -38,24 +37,6 @@ put-answer-requires c κs =
     let start = c .before .before .before .before .before .before .before .before .before .before .before .before .before .before .before .before .before .before .before .before .before .before in
     start .pre .1 .1 .1 .0 .1
 
-with-ends-requires : tie.Need-with-ends-requires
-with-ends-requires c κs = search needs
-
-same-length : tie.Need-same-length
-same-length c = search needs
-
-same-length-2 : tie.Need-same-length-2
-same-length-2 c = search needs
-
-same-length-3 : tie.Need-same-length-3
-same-length-3 c = search needs
-
-same-length-4 : tie.Need-same-length-4
-same-length-4 c = search needs
-
-same-length-5 : tie.Need-same-length-5
-same-length-5 c = search needs
-
 returns : tie.Need-returns
 returns c =
     let at-answer = c .before .before .before in
@@ -78,10 +59,10 @@ accept-none-spec =
     cast-t22
     cast-t23
     put-answer-requires
-    with-ends-requires
-    same-length
-    same-length-2
-    same-length-3
-    same-length-4
-    same-length-5
+    (λ c κs. search needs)
+    (λ c. search needs)
+    (λ c. search needs)
+    (λ c. search needs)
+    (λ c. search needs)
+    (λ c. search needs)
     returns)

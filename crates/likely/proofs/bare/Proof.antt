@@ -1,5 +1,4 @@
 -- `likely::bare` meets its contract: nothing is written, or what the five steps leave where no cell arrives.
--- Assumes nothing.
 use mathlib.Core.Path.{refl, sym, _∙_}
 use borrow.Author.Tests.{not-false}
 use Rattle.plan.proofs.Found.{no}
@@ -8,42 +7,9 @@ use borrow.Author.Needs.{needs}
 use Rattle.likely.proofs.bare.Statement.{statement}
 use Rattle.likely.proofs.bare.Tie as tie
 
-off-quiet-requires : tie.Need-off-quiet-requires
-off-quiet-requires c κs = search needs
-
-odd-requires : tie.Need-odd-requires
-odd-requires c κs = search needs
-
-same-length : tie.Need-same-length
-same-length c = search needs
-
-same-length-2 : tie.Need-same-length-2
-same-length-2 c = search needs
-
-same-length-3 : tie.Need-same-length-3
-same-length-3 c = search needs
-
 returns : tie.Need-returns
 returns c =
     record { went = λ e. no (sym (c .odd .ensures .0) ∙ e); stayed = λ e. (refl, refl, refl, refl, refl, refl) }
-
-bare-none-requires : tie.Need-bare-none-requires
-bare-none-requires c κs = search needs
-
-gone-requires : tie.Need-gone-requires
-gone-requires c κs = search needs
-
-same-length-4 : tie.Need-same-length-4
-same-length-4 c = search needs
-
-same-length-5 : tie.Need-same-length-5
-same-length-5 c = search needs
-
-same-length-6 : tie.Need-same-length-6
-same-length-6 c = search needs
-
-same-length-7 : tie.Need-same-length-7
-same-length-7 c = search needs
 
 returns-2 : tie.Need-returns-2
 returns-2 c =
@@ -71,24 +37,6 @@ bare-leave-requires c κs =
     let leaves = at-off-quiet .off-quiet .ensures (not-false _ (at-if1 .if1 .left)) in
     (pre .0, (pre .1 .0, ((at-if2 .if2 .left, leaves), pre .1 .1)))
 
-gone-requires-2 : tie.Need-gone-requires-2
-gone-requires-2 c κs = search needs
-
-same-length-8 : tie.Need-same-length-8
-same-length-8 c = search needs
-
-same-length-9 : tie.Need-same-length-9
-same-length-9 c = search needs
-
-same-length-10 : tie.Need-same-length-10
-same-length-10 c = search needs
-
-same-length-11 : tie.Need-same-length-11
-same-length-11 c = search needs
-
-same-length-12 : tie.Need-same-length-12
-same-length-12 c = search needs
-
 returns-3 : tie.Need-returns-3
 returns-3 c =
     let at-bare-leave = c .before .before .before .before .before .before .before .before .before .before .before in
@@ -101,24 +49,24 @@ pub bare-spec : {M : Type 1} → statement M
 bare-spec =
     tie.close
     (tie.spec
-    off-quiet-requires
-    odd-requires
-    same-length
-    same-length-2
-    same-length-3
+    (λ c κs. search needs)
+    (λ c κs. search needs)
+    (λ c. search needs)
+    (λ c. search needs)
+    (λ c. search needs)
     returns
-    bare-none-requires
-    gone-requires
-    same-length-4
-    same-length-5
-    same-length-6
-    same-length-7
+    (λ c κs. search needs)
+    (λ c κs. search needs)
+    (λ c. search needs)
+    (λ c. search needs)
+    (λ c. search needs)
+    (λ c. search needs)
     returns-2
     bare-leave-requires
-    gone-requires-2
-    same-length-8
-    same-length-9
-    same-length-10
-    same-length-11
-    same-length-12
+    (λ c κs. search needs)
+    (λ c. search needs)
+    (λ c. search needs)
+    (λ c. search needs)
+    (λ c. search needs)
+    (λ c. search needs)
     returns-3)

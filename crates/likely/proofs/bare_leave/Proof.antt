@@ -1,5 +1,4 @@
 -- `likely::bare_leave` meets its contract: what is written is what the five steps leave, where no cell arrives and o departs.
--- Assumes nothing.
 use mathlib.Core.Path.{_∙_, ap}
 use mathlib.Core.Logic.{⊎-elim}
 use native.Mathlib.Omega.{arith}
@@ -10,9 +9,6 @@ use Rattle.likely.proofs.BareLaws.{head-empty, head-there, off-low, les
 use borrow.Author.Needs.{needs}
 use Rattle.likely.proofs.bare_leave.Statement.{statement}
 use Rattle.likely.proofs.bare_leave.Tie as tie
-
-put-turn-requires : tie.Need-put-turn-requires
-put-turn-requires c κs = search needs
 
 put-less-requires : tie.Need-put-less-requires
 put-less-requires c κs =
@@ -26,9 +22,6 @@ put-less-requires c κs =
       omega (arith, off-low (a .w) (a .r) (a .cells .now) (a .links .now) (a .calendar .now) (a .words .now) (a .departures .now) (a .answers .now) (a .i) (pre .0) (pre .1 .0) (pre .1 .1 .1) (a .o) (gone .1 .entry-fits) goes .0, sized .words-long, at-put-turn .put-turn .kept),
       read-same _ _ _ (at-put-turn .put-turn .ensures) (less-waits (a .w) (a .r) (a .cells .now) (a .links .now) (a .calendar .now) (a .words .now) (a .departures .now) (a .answers .now) (a .i) (pre .0) (pre .1 .0) (pre .1 .1 .1) (a .o) (gone .1 .entry-fits) goes),
     )
-
-clear-entry-requires : tie.Need-clear-entry-requires
-clear-entry-requires c κs = search needs
 
 links-leave-requires : tie.Need-links-leave-requires
 links-leave-requires c κs =
@@ -75,9 +68,6 @@ put-answer-requires c κs =
     let start = c .before .before .before .before .before .before .before .before .before .before .before .before .before .before .before .before .before .before .before .before .before .before .before .before .before .before .before .before .before .before in
     start .pre .1 .1 .1 .answer
 
-with-ends-requires : tie.Need-with-ends-requires
-with-ends-requires c κs = search needs
-
 same-length : tie.Need-same-length
 same-length c =
     let at-links-leave = c .before .before .before .before .before .before .before .before .before .before .before .before .before .before .before in
@@ -93,12 +83,6 @@ same-length-3 c =
     let at-put-less = c .before .before .before .before .before .before .before .before .before .before .before .before .before .before .before .before .before .before .before .before .before .before .before .before in
     let at-put-turn = at-put-less .before .before .before .before in
     omega (arith, at-put-less .put-less .kept, at-put-turn .put-turn .kept)
-
-same-length-4 : tie.Need-same-length-4
-same-length-4 c = search needs
-
-same-length-5 : tie.Need-same-length-5
-same-length-5 c = search needs
 
 returns : tie.Need-returns
 returns c =
@@ -124,18 +108,18 @@ pub bare-leave-spec : {M : Type 1} → statement M
 bare-leave-spec =
     tie.close
     (tie.spec
-    put-turn-requires
+    (λ c κs. search needs)
     put-less-requires
-    clear-entry-requires
+    (λ c κs. search needs)
     links-leave-requires
     copy-departure-requires
     cast-t26
     cast-t27
     put-answer-requires
-    with-ends-requires
+    (λ c κs. search needs)
     same-length
     same-length-2
     same-length-3
-    same-length-4
-    same-length-5
+    (λ c. search needs)
+    (λ c. search needs)
     returns)

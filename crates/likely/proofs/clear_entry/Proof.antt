@@ -1,5 +1,4 @@
 -- `likely::clear_entry` meets its contract: two stores, where on.
--- Assumes nothing.
 use lib.ListN.{length-set}
 use native.Mathlib.Omega.{arith}
 use Rattle.meaning.specs.Lists.{writeEntry}
@@ -7,29 +6,8 @@ use borrow.Author.Needs.{needs}
 use Rattle.likely.proofs.clear_entry.Statement.{statement}
 use Rattle.likely.proofs.clear_entry.Tie as tie
 
-mul-calendar : tie.Need-mul-calendar
-mul-calendar c = search needs
-
-mul-calendar-2 : tie.Need-mul-calendar-2
-mul-calendar-2 c = search needs
-
-slice-write-calendar : tie.Need-slice-write-calendar
-slice-write-calendar c = search needs
-
-mul-calendar-3 : tie.Need-mul-calendar-3
-mul-calendar-3 c = search needs
-
-add-calendar : tie.Need-add-calendar
-add-calendar c = search needs
-
-mul-calendar-4 : tie.Need-mul-calendar-4
-mul-calendar-4 c = search needs
-
 slice-write-calendar-2 : tie.Need-slice-write-calendar-2
 slice-write-calendar-2 c = simp length-set (omega arith)
-
-same-length : tie.Need-same-length
-same-length c = search needs
 
 returns : tie.Need-returns
 unfolding writeEntry
@@ -42,13 +20,13 @@ pub clear-entry-spec : {M : Type 1} → statement M
 clear-entry-spec =
     tie.close
     (tie.spec
-    mul-calendar
-    mul-calendar-2
-    slice-write-calendar
-    mul-calendar-3
-    add-calendar
-    mul-calendar-4
+    (λ c. search needs)
+    (λ c. search needs)
+    (λ c. search needs)
+    (λ c. search needs)
+    (λ c. search needs)
+    (λ c. search needs)
     slice-write-calendar-2
-    same-length
+    (λ c. search needs)
     returns
-    returns-2)
+    (λ c. search needs))

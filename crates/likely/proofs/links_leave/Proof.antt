@@ -1,20 +1,13 @@
 -- `likely::links_leave` meets its contract: two conditional writes, the second over the first.
--- Assumes nothing.
 use native.Mathlib.Omega.{arith}
 use borrow.Author.Needs.{needs}
 use Rattle.likely.proofs.links_leave.Statement.{statement}
 use Rattle.likely.proofs.links_leave.Tie as tie
 
-put-link-requires : tie.Need-put-link-requires
-put-link-requires c κs = search needs
-
 put-link-requires-2 : tie.Need-put-link-requires-2
 put-link-requires-2 c κs =
     let start = c .before .before .before .before .before .before in
     λ e. let h = start .pre .1 e in (omega (arith, h .0), h .1)
-
-same-length : tie.Need-same-length
-same-length c = search needs
 
 returns : tie.Need-returns
 returns c =
@@ -23,4 +16,4 @@ returns c =
     rw (at-put-link2 .put-link2 .ensures, at-put-link .put-link .ensures)
 
 pub links-leave-spec : {M : Type 1} → statement M
-links-leave-spec = tie.close (tie.spec put-link-requires put-link-requires-2 same-length returns)
+links-leave-spec = tie.close (tie.spec (λ c κs. search needs) put-link-requires-2 (λ c. search needs) returns)

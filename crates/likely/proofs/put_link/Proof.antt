@@ -1,5 +1,4 @@
 -- `likely::put_link` meets its contract: one store, where on.
--- Assumes nothing.
 use native.Mathlib.Omega.{arith}
 use Rattle.spaces.specs.Spaces.{linked}
 use borrow.Author.Needs.{needs}
@@ -15,9 +14,6 @@ mul-links c = let h = c .before .pre (c .if1 .taken) in omega (arith, h .0, h .1
 slice-write-links : tie.Need-slice-write-links
 slice-write-links c = let h = c .before .pre (c .if1 .taken) in omega (arith, h .0, h .1)
 
-same-length : tie.Need-same-length
-same-length c = search needs
-
 returns : tie.Need-returns
 unfolding linked
 returns c = rw (c .if1 .taken)
@@ -28,4 +24,4 @@ returns-2 c = rw (c .if1 .left)
 
 pub put-link-spec : {M : Type 1} → statement M
 put-link-spec =
-    tie.close (tie.spec cast-links mul-links slice-write-links same-length returns returns-2)
+    tie.close (tie.spec cast-links mul-links slice-write-links (λ c. search needs) returns returns-2)

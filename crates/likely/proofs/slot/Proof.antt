@@ -1,5 +1,4 @@
 -- `likely::slot` meets its contract: a slot without a cell, a cell of 53 octets, or the slot as it came.
--- Assumes nothing.
 use mathlib.Core.Path.{sym, _∙_}
 use mathlib.Core.Logic.{inl, inr}
 use borrow.Author.Tests.{not-false}
@@ -8,15 +7,6 @@ use Rattle.likely.proofs.EitherLaws.{either-odd, either-size}
 use borrow.Author.Needs.{needs}
 use Rattle.likely.proofs.slot.Statement.{statement}
 use Rattle.likely.proofs.slot.Tie as tie
-
-turned-requires : tie.Need-turned-requires
-turned-requires c κs = search needs
-
-odd-requires : tie.Need-odd-requires
-odd-requires c κs = search needs
-
-same-length : tie.Need-same-length
-same-length c = search needs
 
 returns : tie.Need-returns
 returns c =
@@ -30,35 +20,11 @@ bare-requires c κs =
     let pre = start .pre in
     (pre .0, (read .turned .ensures (not-false _ (test .if1 .left)), pre .1 .1))
 
-same-length-2 : tie.Need-same-length-2
-same-length-2 c = search needs
-
-same-length-3 : tie.Need-same-length-3
-same-length-3 c = search needs
-
-same-length-4 : tie.Need-same-length-4
-same-length-4 c = search needs
-
-same-length-5 : tie.Need-same-length-5
-same-length-5 c = search needs
-
-same-length-6 : tie.Need-same-length-6
-same-length-6 c = search needs
-
-same-length-7 : tie.Need-same-length-7
-same-length-7 c = search needs
-
 returns-2 : tie.Need-returns-2
 returns-2 c =
     let case = c .before .before .before .before .before .before .before .before .before .before in
     let empty = case .before .before .before .before .before .before .before in
     (λ e. inl (empty .if2 .taken), either-size _ _ 0 _ _ _ _ _ _ _ _ _ _ _ _ _ _ _ (empty .if2 .taken) (case .bare .ensures))
-
-odd-requires-2 : tie.Need-odd-requires-2
-odd-requires-2 c κs = search needs
-
-same-length-8 : tie.Need-same-length-8
-same-length-8 c = search needs
 
 returns-3 : tie.Need-returns-3
 returns-3 c =
@@ -72,24 +38,6 @@ arrive-requires c κs =
     let pre = start .pre in
     (pre .0, (read .turned .ensures (not-false _ (test .if1 .left)), pre .1))
 
-same-length-9 : tie.Need-same-length-9
-same-length-9 c = search needs
-
-same-length-10 : tie.Need-same-length-10
-same-length-10 c = search needs
-
-same-length-11 : tie.Need-same-length-11
-same-length-11 c = search needs
-
-same-length-12 : tie.Need-same-length-12
-same-length-12 c = search needs
-
-same-length-13 : tie.Need-same-length-13
-same-length-13 c = search needs
-
-same-length-14 : tie.Need-same-length-14
-same-length-14 c = search needs
-
 returns-4 : tie.Need-returns-4
 returns-4 c =
     let case = c .before .before .before .before .before .before .before .before .before .before .before .before in
@@ -100,26 +48,26 @@ pub slot-spec : {M : Type 1} → statement M
 slot-spec =
     tie.close
     (tie.spec
-    turned-requires
-    odd-requires
-    same-length
+    (λ c κs. search needs)
+    (λ c κs. search needs)
+    (λ c. search needs)
     returns
     bare-requires
-    same-length-2
-    same-length-3
-    same-length-4
-    same-length-5
-    same-length-6
-    same-length-7
+    (λ c. search needs)
+    (λ c. search needs)
+    (λ c. search needs)
+    (λ c. search needs)
+    (λ c. search needs)
+    (λ c. search needs)
     returns-2
-    odd-requires-2
-    same-length-8
+    (λ c κs. search needs)
+    (λ c. search needs)
     returns-3
     arrive-requires
-    same-length-9
-    same-length-10
-    same-length-11
-    same-length-12
-    same-length-13
-    same-length-14
+    (λ c. search needs)
+    (λ c. search needs)
+    (λ c. search needs)
+    (λ c. search needs)
+    (λ c. search needs)
+    (λ c. search needs)
     returns-4)

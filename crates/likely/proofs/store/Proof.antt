@@ -1,5 +1,4 @@
 -- `likely::store` meets its contract: five writes, a slice at a time, from what was found of the cell.
--- Assumes nothing.
 use native.Mathlib.Omega.{arith}
 use borrow.Author.Tests.{eqb-false, not-true}
 use Rattle.way.specs.Way.{slotRecord}
@@ -7,9 +6,6 @@ use Rattle.likely.proofs.StoreLaws.{fill-fits, fill-writes, head-read, 
 use borrow.Author.Needs.{needs}
 use Rattle.likely.proofs.store.Statement.{statement}
 use Rattle.likely.proofs.store.Tie as tie
-
-put-turn-requires : tie.Need-put-turn-requires
-put-turn-requires c κs = search needs
 
 put-fill-requires : tie.Need-put-fill-requires
 put-fill-requires c κs =
@@ -21,9 +17,6 @@ put-fill-requires c κs =
     let spotted = pre .1 .1 .0 in
     let fits = fill-fits (slotRecord (a .w)) (a .links .now) (a .calendar .now) (a .words .now) _ (sized .n-high) (a .r) (pre .1 .0) (a .p) spotted _ (at-put-turn .put-turn .ensures) in
     (omega (arith, spotted .is-accepted .vci-high, sized .words-long, at-put-turn .put-turn .kept), fits .0, fits .1)
-
-put-cell-requires : tie.Need-put-cell-requires
-put-cell-requires c κs = search needs
 
 put-link-requires : tie.Need-put-link-requires
 put-link-requires c κs =
@@ -42,18 +35,6 @@ put-entry-requires c κs =
     let sized = pre .0 .sized in
     let spotted = pre .1 .1 .0 in
     (omega (arith, entry-low (slotRecord (a .w)) (a .links .now) (a .calendar .now) (a .words .now) _ (sized .n-high) (a .r) (pre .1 .0) (a .p) spotted (sized .turn-low), sized .calendar-long), omega (arith, spotted .seats .x-low, sized .n-high), head-read (slotRecord (a .w)) (a .links .now) (a .calendar .now) (a .words .now) _ (sized .n-high) (a .r) (pre .1 .0) (a .p) spotted)
-
-same-length : tie.Need-same-length
-same-length c = search needs
-
-same-length-2 : tie.Need-same-length-2
-same-length-2 c = search needs
-
-same-length-3 : tie.Need-same-length-3
-same-length-3 c = search needs
-
-same-length-4 : tie.Need-same-length-4
-same-length-4 c = search needs
 
 returns : tie.Need-returns
 returns c =
@@ -81,13 +62,13 @@ pub store-spec : {M : Type 1} → statement M
 store-spec =
     tie.close
     (tie.spec
-    put-turn-requires
+    (λ c κs. search needs)
     put-fill-requires
-    put-cell-requires
+    (λ c κs. search needs)
     put-link-requires
     put-entry-requires
-    same-length
-    same-length-2
-    same-length-3
-    same-length-4
+    (λ c. search needs)
+    (λ c. search needs)
+    (λ c. search needs)
+    (λ c. search needs)
     returns)

@@ -1,5 +1,4 @@
 -- `line::line` meets its contract: it lends on what `line_part` places, which ends within its slice.
--- Assumes nothing.
 use native.Mathlib.Omega.{arith}
 use Rattle.line.proofs.Shown.{idle-end, cells-end, end-most, idle-line, cells-line}
 use borrow.Author.Needs.{needs}

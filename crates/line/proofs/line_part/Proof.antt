@@ -1,5 +1,4 @@
 -- `line::line_part` meets its contract: each return is a case of the part to show.
--- Assumes nothing.
 use mathlib.Core.Path.{sym, _∙_, ap}
 use native.Mathlib.Omega.{arith}
 use Rattle.line.specs.Placed.{placeOf}

@@ -1,5 +1,4 @@
 -- `lines::letter` answers the verdict's letter, case by case.
--- Assumes nothing.
 use borrow.Author.Tests.{eq-eqb, ne-eqb}
 use Rattle.lines.specs.Lines.{letter}
 use Rattle.lines.proofs.letter.Statement.{statement}

@@ -1,5 +1,4 @@
 -- `lines::served_line` puts a served slot's line: six parts, joined by `put-then`, are the line by `slot-words`.
--- Assumes nothing.
 use borrow.Author.Needs.{needs}
 use native.Mathlib.Omega.{arith}
 use mathlib.Core.Path.{ap, sym}
@@ -10,30 +9,6 @@ use Rattle.lines.proofs.Words.{shown-same, slot-words}
 use Rattle.lines.proofs.Puts.{put-is, put-then}
 use Rattle.lines.proofs.served_line.Statement.{statement}
 use Rattle.lines.proofs.served_line.Tie as tie
-
-letter-requires : tie.Need-letter-requires
-letter-requires c κs = search needs
-
-shows-vci-requires : tie.Need-shows-vci-requires
-shows-vci-requires c κs = search needs
-
-number-requires : tie.Need-number-requires
-number-requires c κs = search needs
-
-pair-requires : tie.Need-pair-requires
-pair-requires c κs = search needs
-
-word-requires : tie.Need-word-requires
-word-requires c κs = search needs
-
-word-requires-2 : tie.Need-word-requires-2
-word-requires-2 c κs = search needs
-
-word-requires-3 : tie.Need-word-requires-3
-word-requires-3 c κs = search needs
-
-same-length : tie.Need-same-length
-same-length c = search needs
 
 returns : tie.Need-returns
 unfolding servedLine
@@ -54,12 +29,12 @@ pub served-line-spec : {M : Type 1} → statement M
 served-line-spec =
     tie.close
     (tie.spec
-    letter-requires
-    shows-vci-requires
-    number-requires
-    pair-requires
-    word-requires
-    word-requires-2
-    word-requires-3
-    same-length
+    (λ c κs. search needs)
+    (λ c κs. search needs)
+    (λ c κs. search needs)
+    (λ c κs. search needs)
+    (λ c κs. search needs)
+    (λ c κs. search needs)
+    (λ c κs. search needs)
+    (λ c. search needs)
     returns)

@@ -1,29 +1,10 @@
 -- `lines::setup_line` puts the line of a setup: the word, then three numbers.
--- Assumes nothing.
 use borrow.Author.Needs.{needs}
 use native.Mathlib.Omega.{arith}
 use Rattle.lines.proofs.Words.{setup-words}
 use Rattle.lines.proofs.Puts.{put-is, put-then}
 use Rattle.lines.proofs.setup_line.Statement.{statement}
 use Rattle.lines.proofs.setup_line.Tie as tie
-
-slice-aggregate-text : tie.Need-slice-aggregate-text
-slice-aggregate-text c = search needs
-
-text-requires : tie.Need-text-requires
-text-requires c κs = search needs
-
-number-requires : tie.Need-number-requires
-number-requires c κs = search needs
-
-number-requires-2 : tie.Need-number-requires-2
-number-requires-2 c κs = search needs
-
-number-requires-3 : tie.Need-number-requires-3
-number-requires-3 c κs = search needs
-
-same-length : tie.Need-same-length
-same-length c = search needs
 
 returns : tie.Need-returns
 returns c =
@@ -39,10 +20,10 @@ pub setup-line-spec : {M : Type 1} → statement M
 setup-line-spec =
     tie.close
     (tie.spec
-    slice-aggregate-text
-    text-requires
-    number-requires
-    number-requires-2
-    number-requires-3
-    same-length
+    (λ c. search needs)
+    (λ c κs. search needs)
+    (λ c κs. search needs)
+    (λ c κs. search needs)
+    (λ c κs. search needs)
+    (λ c. search needs)
     returns)

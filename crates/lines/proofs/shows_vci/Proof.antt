@@ -1,5 +1,4 @@
 -- `lines::shows_vci` answers whether a VCI stands in the line: not after `.`, not after H.
--- Assumes nothing.
 use borrow.Author.Tests.{eq-eqb, ne-eqb}
 use Rattle.lines.specs.Lines.{showsVci}
 use Rattle.lines.proofs.shows_vci.Statement.{statement}

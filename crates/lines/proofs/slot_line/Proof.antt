@@ -1,26 +1,13 @@
 -- `lines::slot_line` puts a slot's line: served or refused, by the answer's number.
--- Assumes nothing.
 use borrow.Author.Needs.{needs}
 use Rattle.lines.proofs.Puts.{put-is}
 use Rattle.lines.proofs.Words.{slot-served, slot-refused}
 use Rattle.lines.proofs.slot_line.Statement.{statement}
 use Rattle.lines.proofs.slot_line.Tie as tie
 
-served-line-requires : tie.Need-served-line-requires
-served-line-requires c κs = search needs
-
-refused-line-requires : tie.Need-refused-line-requires
-refused-line-requires c κs = search needs
-
-same-length : tie.Need-same-length
-same-length c = search needs
-
 returns : tie.Need-returns
 returns c =
     (put-is (slot-served _ _ (c .before .before .before .before .if1 .taken)) (c .before .before .served-line .ensures .0), search needs)
-
-same-length-2 : tie.Need-same-length-2
-same-length-2 c = search needs
 
 returns-2 : tie.Need-returns-2
 returns-2 c =
@@ -30,9 +17,9 @@ pub slot-line-spec : {M : Type 1} → statement M
 slot-line-spec =
     tie.close
     (tie.spec
-    served-line-requires
-    refused-line-requires
-    same-length
+    (λ c κs. search needs)
+    (λ c κs. search needs)
+    (λ c. search needs)
     returns
-    same-length-2
+    (λ c. search needs)
     returns-2)

@@ -1,5 +1,4 @@
 -- `lines::text` puts a text octet by octet: after i turns its first i octets stand there.
--- Assumes nothing.
 use Prim.Native.Nat.{_+_, _-_, _≤_, _<_}
 use mathlib.Core.Path.{_≡_, refl, sym, _∙_}
 use native.Mathlib.Numerals.{add-one}

@@ -5,18 +5,6 @@ use Rattle.lines.proofs.Puts.{put-then}
 use Rattle.lines.proofs.vci_line.Statement.{statement}
 use Rattle.lines.proofs.vci_line.Tie as tie
 
-text-requires : tie.Need-text-requires
-text-requires c κs = search needs
-
-number-requires : tie.Need-number-requires
-number-requires c κs = search needs
-
-number-requires-2 : tie.Need-number-requires-2
-number-requires-2 c κs = search needs
-
-same-length : tie.Need-same-length
-same-length c = search needs
-
 returns : tie.Need-returns
 returns c =
     let n2 = c .before .before in
@@ -27,4 +15,4 @@ returns c =
     )
 
 pub vci-line-spec : {M : Type 1} → statement M
-vci-line-spec = tie.close (tie.spec text-requires number-requires number-requires-2 same-length returns)
+vci-line-spec = tie.close (tie.spec (λ c κs. search needs) (λ c κs. search needs) (λ c κs. search needs) (λ c. search needs) returns)

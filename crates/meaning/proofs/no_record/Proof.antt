@@ -1,5 +1,4 @@
 -- `meaning::no_record` meets its contract: its eleven numbers are 0.
--- Assumes nothing.
 use mathlib.Core.Path.{refl}
 use Rattle.meaning.specs.Calls.{zeros}
 use Rattle.meaning.proofs.no_record.Statement.{statement}

@@ -1,5 +1,4 @@
 -- `meaning::record_in_mode` meets its contract: one field is another.
--- Assumes nothing.
 use mathlib.Core.Path.{refl}
 use Rattle.meaning.specs.State.{recordInMode}
 use Rattle.meaning.proofs.record_in_mode.Statement.{statement}

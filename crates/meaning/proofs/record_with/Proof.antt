@@ -1,5 +1,4 @@
 -- `meaning::record_with` meets its contract: the record is written out field by field.
--- Assumes nothing.
 use mathlib.Core.Path.{refl}
 use Rattle.meaning.specs.State.{recordWith}
 use Rattle.meaning.proofs.record_with.Statement.{statement}

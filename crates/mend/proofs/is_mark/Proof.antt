@@ -1,5 +1,4 @@
 -- `is_mark`: one test a mark.
--- Assumes nothing.
 use borrow.Author.Tests.{eq-eqb, ne-eqb}
 use Rattle.mend.specs.Salvage.{isMark}
 use Rattle.mend.proofs.Cases.{mark-none}

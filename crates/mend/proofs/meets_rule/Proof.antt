@@ -1,15 +1,8 @@
 -- `meets_rule`: the reader's answer tells whether a record stands there and where it ends; the end of the input or a mark must follow.
--- Assumes nothing.
 use Rattle.mend.proofs.Cases.{answer-none, answer-read, rule-none, rule-end, rule-mark, read-within}
 use borrow.Author.Needs.{needs}
 use Rattle.mend.proofs.meets_rule.Statement.{statement}
 use Rattle.mend.proofs.meets_rule.Tie as tie
-
-event-at-requires : tie.Need-event-at-requires
-event-at-requires c κs = search needs
-
-enum-known-found : tie.Need-enum-known-found
-enum-known-found c = search needs
 
 returns : tie.Need-returns
 returns c = rule-none _ _ _ (answer-none _ _ (c .before .event-at .result) (c .before .event-at .ensures) (c .match .keys2))
@@ -32,4 +25,4 @@ returns-3 c =
 pub meets-rule-spec : {M : Type 1} → statement M
 meets-rule-spec =
     tie.close
-    (tie.spec event-at-requires enum-known-found returns returns-2 known-mark-requires returns-3)
+    (tie.spec (λ c κs. search needs) (λ c. search needs) returns returns-2 known-mark-requires returns-3)

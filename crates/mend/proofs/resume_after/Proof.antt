@@ -1,6 +1,5 @@
 -- `resume_after`: the places passed don't meet the rule, so the search from p goes on from q; what is left of the trace is
 -- the measure.
--- Assumes nothing.
 use Prim.Native.Nat.{_+_, _-_, _≤_, _<_}
 use mathlib.Core.Path.{_≡_, sym, _∙_}
 use lib.ListN.{length}

@@ -1,18 +1,8 @@
 -- `step`: the reader's answer tells whether a record is kept; otherwise the walk goes on where `resume_after` says.
--- Assumes nothing.
 use Rattle.mend.proofs.Cases.{answer-none, answer-read, step-none, step-read}
 use borrow.Author.Needs.{needs}
 use Rattle.mend.proofs.step.Statement.{statement}
 use Rattle.mend.proofs.step.Tie as tie
-
-event-at-requires : tie.Need-event-at-requires
-event-at-requires c κs = search needs
-
-enum-known-found : tie.Need-enum-known-found
-enum-known-found c = search needs
-
-resume-after-requires : tie.Need-resume-after-requires
-resume-after-requires c κs = search needs
 
 returns : tie.Need-returns
 returns c =
@@ -27,4 +17,4 @@ returns-2 c =
 
 pub step-spec : {M : Type 1} → statement M
 step-spec =
-    tie.close (tie.spec event-at-requires enum-known-found resume-after-requires returns returns-2)
+    tie.close (tie.spec (λ c κs. search needs) (λ c. search needs) (λ c κs. search needs) returns returns-2)

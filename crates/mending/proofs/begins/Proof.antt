@@ -12,12 +12,6 @@ use Rattle.mending.proofs.begins.Lts as lts
 use Rattle.trace.proofs.event_at.Reads as event-at-reads
 
 -- src/lib.rt:135:9
-event-at-requires : tie.Need-event-at-requires
-event-at-requires c κs = search needs
-
-enum-told : tie.Need-enum-told
-enum-told c = search needs
-
 -- src/lib.rt:137:9
 returns : tie.Need-returns
 returns c = sym (ap begun (answer-none _ _ (c .before .event-at .result) (c .before .event-at .ensures) (c .match .keys2)))
@@ -27,4 +21,4 @@ returns-2 : tie.Need-returns-2
 returns-2 c = read-begun _ _ (c .before .before .event-at .result) (c .before .before .event-at .ensures) (c .before .match .keys1)
 
 pub begins-spec : {M : Type 1} → statement M
-begins-spec = tie.close (tie.spec event-at-requires enum-told returns returns-2)
+begins-spec = tie.close (tie.spec (λ c κs. search needs) (λ c. search needs) returns returns-2)

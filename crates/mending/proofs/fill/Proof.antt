@@ -1,4 +1,4 @@
--- `mending::fill`: 17 and nothing else, or what `pieces` takes. Assumes nothing.
+-- `mending::fill`: 17 and nothing else, or what `pieces` takes.
 use mathlib.Core.Path.{sym, _∙_}
 use borrow.Author.Needs.{needs}
 use Rattle.mending.proofs.PieceLaws.{fill-refused, fill-taken}
@@ -10,25 +10,13 @@ use Rattle.mending.proofs.pieces.Reads as pieces-reads
 use Rattle.mending.proofs.refuses_at.Reads as refuses-at-reads
 
 -- src/lib.rt:172:8
-refuses-at-requires : tie.Need-refuses-at-requires
-refuses-at-requires c κs = search needs
-
 -- src/lib.rt:173:9
 returns : tie.Need-returns
 returns c = fill-refused _ _ _ _ _ (sym (c .before .refuses-at .ensures) ∙ c .if1 .taken)
 
 -- src/lib.rt:180:5
-pieces-requires : tie.Need-pieces-requires
-pieces-requires c κs = search needs
-
 -- src/lib.rt:169:1
-same-length : tie.Need-same-length
-same-length c = search needs
-
 -- src/lib.rt:169:1
-same-length-2 : tie.Need-same-length-2
-same-length-2 c = search needs
-
 -- src/lib.rt:169:1
 returns-2 : tie.Need-returns-2
 returns-2 c =
@@ -38,4 +26,4 @@ returns-2 c =
 pub fill-spec : {M : Type 1} → statement M
 fill-spec =
     tie.close
-    (tie.spec refuses-at-requires returns pieces-requires same-length same-length-2 returns-2)
+    (tie.spec (λ c κs. search needs) returns (λ c κs. search needs) (λ c. search needs) (λ c. search needs) returns-2)

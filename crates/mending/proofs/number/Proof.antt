@@ -1,5 +1,5 @@
 -- `mending::number` makes the digits from the last to the first: what is left of the number has its digits in front of those
--- that stand already. Assumes nothing.
+-- that stand already.
 use Prim.Native.Nat.{ℕ, suc, _+_, _-_, _/_, _%_, _^_, _≤_, _<_}
 use mathlib.Core.Path.{_≡_, refl, sym, ap, subst, _∙_}
 use mathlib.Core.List.{List, [], _∷_, _++_, append-nil}

@@ -1,5 +1,4 @@
 -- `mending::part` puts a part of a list octet by octet: before each turn the octets up to i stand there.
--- Assumes nothing.
 use Prim.Native.Nat.{_+_, _-_, _≤_, _<_}
 use mathlib.Core.Path.{_≡_, refl, sym, ap, _∙_}
 use native.Mathlib.Omega.{arith}

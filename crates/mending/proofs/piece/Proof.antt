@@ -24,9 +24,6 @@ part-requires c κs =
     (k .0, k .1, omega (arith, k .0, k .2, a .pre .1 .0))
 
 -- src/lib.rt:98:9
-same-length : tie.Need-same-length
-same-length c = search needs
-
 -- src/lib.rt:98:9
 returns : tie.Need-returns
 returns c =
@@ -46,13 +43,7 @@ sub-stretch-line c =
     omega (arith, leads-on (a .args .at) (a .args .s) (a .args .trace .now) (a .args .total) (a .pre .0 .0) (a .pre .0 .1))
 
 -- src/lib.rt:100:9
-stretch-line-requires : tie.Need-stretch-line-requires
-stretch-line-requires c κs = search needs
-
 -- src/lib.rt:80:1
-same-length-2 : tie.Need-same-length-2
-same-length-2 c = search needs
-
 -- src/lib.rt:80:1
 returns-2 : tie.Need-returns-2
 returns-2 c =
@@ -68,9 +59,9 @@ piece-spec =
     tie.close
     (tie.spec
     part-requires
-    same-length
+    (λ c. search needs)
     returns
     sub-stretch-line
-    stretch-line-requires
-    same-length-2
+    (λ c κs. search needs)
+    (λ c. search needs)
     returns-2)

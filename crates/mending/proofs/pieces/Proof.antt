@@ -1,5 +1,5 @@
 -- `mending::pieces` takes pieces while there are some and both buffers have room: the invariant is what was taken so far, and
--- each step leads on. Assumes nothing.
+-- each step leads on.
 use Prim.Native.Nat.{ℕ, _+_, _-_, _≤_, _<_}
 use mathlib.Core.Path.{_≡_, refl, sym, _∙_}
 use native.Mathlib.Omega.{arith}

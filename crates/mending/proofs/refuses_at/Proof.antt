@@ -1,4 +1,4 @@
--- `mending::refuses_at`: at the start `begins` tells, elsewhere nothing is refused. Assumes nothing.
+-- `mending::refuses_at`: at the start `begins` tells, elsewhere nothing is refused.
 use borrow.Author.Needs.{needs}
 use Rattle.mending.proofs.PieceLaws.{refuses-later, refuses-first}
 use Rattle.mending.proofs.refuses_at.Statement.{statement}
@@ -8,9 +8,6 @@ use Rattle.mending.proofs.refuses_at.Lts as lts
 use Rattle.mending.proofs.begins.Reads as begins-reads
 
 -- src/lib.rt:162:17
-begins-requires : tie.Need-begins-requires
-begins-requires c κs = search needs
-
 -- src/lib.rt:162:9
 returns : tie.Need-returns
 returns c = refuses-first _ _ (c .before .if1 .taken) (c .begins .ensures)
@@ -20,4 +17,4 @@ returns-2 : tie.Need-returns-2
 returns-2 c = refuses-later _ _ (c .if1 .left)
 
 pub refuses-at-spec : {M : Type 1} → statement M
-refuses-at-spec = tie.close (tie.spec begins-requires returns returns-2)
+refuses-at-spec = tie.close (tie.spec (λ c κs. search needs) returns returns-2)

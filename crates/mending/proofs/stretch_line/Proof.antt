@@ -11,17 +11,8 @@ use Rattle.mending.proofs.stretch_line.Lts as lts
 use Rattle.mending.proofs.number.Reads as number-reads
 
 -- src/lib.rt:75:9
-number-requires : tie.Need-number-requires
-number-requires c κs = search needs
-
 -- src/lib.rt:76:5
-number-requires-2 : tie.Need-number-requires-2
-number-requires-2 c κs = search needs
-
 -- src/lib.rt:70:1
-same-length : tie.Need-same-length
-same-length c = search needs
-
 -- src/lib.rt:70:1
 returns : tie.Need-returns
 returns c =
@@ -30,4 +21,4 @@ returns c =
     (put-is (line-of _ _) (put-then (h .ensures .0) (k .ensures .0)), omega (arith, h .ensures .1, k .ensures .1))
 
 pub stretch-line-spec : {M : Type 1} → statement M
-stretch-line-spec = tie.close (tie.spec number-requires number-requires-2 same-length returns)
+stretch-line-spec = tie.close (tie.spec (λ c κs. search needs) (λ c κs. search needs) (λ c. search needs) returns)

@@ -1,5 +1,4 @@
 -- `onerecord::fifty_three` lends the part of 53 octets on; what lies before and behind it stays.
--- Assumes nothing.
 use borrow.Author.Needs.{needs}
 use Prim.Native.Nat.{_+_}
 use native.Mathlib.Omega.{arith}
@@ -8,24 +7,6 @@ use native.Mathlib.Nat.{add-sub-cancel-left}
 use Rattle.onerecord.proofs.Cases.{puts-part}
 use Rattle.onerecord.proofs.fifty_three.Statement.{statement}
 use Rattle.onerecord.proofs.fifty_three.Tie as tie
-
-add-e : tie.Need-add-e
-add-e c = search needs
-
-sub-copy-cell : tie.Need-sub-copy-cell
-sub-copy-cell c = search needs
-
-part-copy-cell-start : tie.Need-part-copy-cell-start
-part-copy-cell-start c = search needs
-
-part-copy-cell-end : tie.Need-part-copy-cell-end
-part-copy-cell-end c = search needs
-
-copy-cell-requires : tie.Need-copy-cell-requires
-copy-cell-requires c κs = search needs
-
-same-length : tie.Need-same-length
-same-length c = search needs
 
 returns : tie.Need-returns
 returns c =
@@ -39,10 +20,10 @@ pub fifty-three-spec : {M : Type 1} → statement M
 fifty-three-spec =
     tie.close
     (tie.spec
-    add-e
-    sub-copy-cell
-    part-copy-cell-start
-    part-copy-cell-end
-    copy-cell-requires
-    same-length
+    (λ c. search needs)
+    (λ c. search needs)
+    (λ c. search needs)
+    (λ c. search needs)
+    (λ c κs. search needs)
+    (λ c. search needs)
     returns)

@@ -1,5 +1,4 @@
 -- `onerecord::write_cell`: a CA is written at a later place, where its cell has 53 octets and its 55 fit.
--- Assumes nothing.
 use borrow.Author.Needs.{needs}
 use native.Mathlib.Omega.{arith}
 use Rattle.onerecord.proofs.Cases.{cell-first, cell-other, cell-later, cell-long, cell-octets, refused, too-short, written}
@@ -13,20 +12,8 @@ returns c = refused _ _ _ (cell-first _ _ (search needs))
 returns-2 : tie.Need-returns-2
 returns-2 c = refused _ _ _ (cell-other _ _ (search needs))
 
-room-requires : tie.Need-room-requires
-room-requires c κs = search needs
-
 returns-3 : tie.Need-returns-3
 returns-3 c = too-short _ _ _ 55 (cell-long _ (search needs)) (cell-later _ _ (search needs) (search needs)) (search needs)
-
-two-requires : tie.Need-two-requires
-two-requires c κs = search needs
-
-fifty-three-requires : tie.Need-fifty-three-requires
-fifty-three-requires c κs = search needs
-
-same-length : tie.Need-same-length
-same-length c = search needs
 
 returns-4 : tie.Need-returns-4
 returns-4 c = written _ _ _ 55 (cell-long _ (search needs)) (cell-later _ _ (search needs) (search needs)) (search needs) (put-is (cell-octets _) (put-then (c .before .before .before .before .before .before .two .ensures) (c .before .before .fifty-three .ensures)))
@@ -37,9 +24,9 @@ write-cell-spec =
     (tie.spec
     returns
     returns-2
-    room-requires
+    (λ c κs. search needs)
     returns-3
-    two-requires
-    fifty-three-requires
-    same-length
+    (λ c κs. search needs)
+    (λ c κs. search needs)
+    (λ c. search needs)
     returns-4)

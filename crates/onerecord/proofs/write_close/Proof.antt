@@ -1,5 +1,4 @@
 -- `onerecord::write_close`: a VX is written at a later place, and where its 4 octets fit.
--- Assumes nothing.
 use borrow.Author.Needs.{needs}
 use native.Mathlib.Omega.{arith}
 use Rattle.onerecord.proofs.Cases.{close-first, close-later, close-long, close-octets, refused, too-short, written}
@@ -10,20 +9,8 @@ use Rattle.onerecord.proofs.write_close.Tie as tie
 returns : tie.Need-returns
 returns c = refused _ _ _ (close-first _ _ (search needs))
 
-room-requires : tie.Need-room-requires
-room-requires c κs = search needs
-
 returns-2 : tie.Need-returns-2
 returns-2 c = too-short _ _ _ 4 (close-long _) (close-later _ _ (search needs)) (search needs)
-
-two-requires : tie.Need-two-requires
-two-requires c κs = search needs
-
-two-requires-2 : tie.Need-two-requires-2
-two-requires-2 c κs = search needs
-
-same-length : tie.Need-same-length
-same-length c = search needs
 
 returns-3 : tie.Need-returns-3
 returns-3 c = written _ _ _ 4 (close-long _) (close-later _ _ (search needs)) (search needs) (put-is (close-octets _) (put-then (c .before .before .before .before .before .before .two .ensures) (c .before .before .two2 .ensures)))
@@ -33,9 +20,9 @@ write-close-spec =
     tie.close
     (tie.spec
     returns
-    room-requires
+    (λ c κs. search needs)
     returns-2
-    two-requires
-    two-requires-2
-    same-length
+    (λ c κs. search needs)
+    (λ c κs. search needs)
+    (λ c. search needs)
     returns-3)

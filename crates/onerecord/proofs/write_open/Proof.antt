@@ -1,5 +1,4 @@
 -- `onerecord::write_open`: a VO is written at a later place, and where its 13 octets fit.
--- Assumes nothing.
 use borrow.Author.Needs.{needs}
 use native.Mathlib.Omega.{arith}
 use Rattle.onerecord.proofs.Cases.{open-first, open-later, open-long, open-octets, refused, too-short, written}
@@ -10,29 +9,8 @@ use Rattle.onerecord.proofs.write_open.Tie as tie
 returns : tie.Need-returns
 returns c = refused _ _ _ (open-first _ _ _ _ _ (search needs))
 
-room-requires : tie.Need-room-requires
-room-requires c κs = search needs
-
 returns-2 : tie.Need-returns-2
 returns-2 c = too-short _ _ _ 13 (open-long _ _ _ _) (open-later _ _ _ _ _ (search needs)) (search needs)
-
-two-requires : tie.Need-two-requires
-two-requires c κs = search needs
-
-two-requires-2 : tie.Need-two-requires-2
-two-requires-2 c κs = search needs
-
-one-requires : tie.Need-one-requires
-one-requires c κs = search needs
-
-four-requires : tie.Need-four-requires
-four-requires c κs = search needs
-
-four-requires-2 : tie.Need-four-requires-2
-four-requires-2 c κs = search needs
-
-same-length : tie.Need-same-length
-same-length c = search needs
 
 returns-3 : tie.Need-returns-3
 returns-3 c = written _ _ _ 13 (open-long _ _ _ _) (open-later _ _ _ _ _ (search needs)) (search needs) (put-is (open-octets _ _ _ _) (put-then (c .before .before .before .before .before .before .before .before .before .before .before .before .before .before .before .before .before .before .two .ensures) (put-then (c .before .before .before .before .before .before .before .before .before .before .before .before .before .before .two2 .ensures) (put-then (c .before .before .before .before .before .before .before .before .before .before .one .ensures) (put-then (c .before .before .before .before .before .before .four .ensures) (c .before .before .four2 .ensures))))))
@@ -42,12 +20,12 @@ write-open-spec =
     tie.close
     (tie.spec
     returns
-    room-requires
+    (λ c κs. search needs)
     returns-2
-    two-requires
-    two-requires-2
-    one-requires
-    four-requires
-    four-requires-2
-    same-length
+    (λ c κs. search needs)
+    (λ c κs. search needs)
+    (λ c κs. search needs)
+    (λ c κs. search needs)
+    (λ c κs. search needs)
+    (λ c. search needs)
     returns-3)

@@ -1,5 +1,4 @@
 -- `onerecord::write_pause`: an SL is written at a later place, with at least one slot, and where its 4 octets fit.
--- Assumes nothing.
 use borrow.Author.Needs.{needs}
 use native.Mathlib.Omega.{arith}
 use Rattle.onerecord.proofs.Cases.{pause-first, pause-none, pause-later, pause-long, pause-octets, refused, too-short, written}
@@ -13,20 +12,8 @@ returns c = refused _ _ _ (pause-first _ _ (search needs))
 returns-2 : tie.Need-returns-2
 returns-2 c = refused _ _ _ (pause-none _ _ (search needs))
 
-room-requires : tie.Need-room-requires
-room-requires c κs = search needs
-
 returns-3 : tie.Need-returns-3
 returns-3 c = too-short _ _ _ 4 (pause-long _) (pause-later _ _ (search needs) (search needs)) (search needs)
-
-two-requires : tie.Need-two-requires
-two-requires c κs = search needs
-
-two-requires-2 : tie.Need-two-requires-2
-two-requires-2 c κs = search needs
-
-same-length : tie.Need-same-length
-same-length c = search needs
 
 returns-4 : tie.Need-returns-4
 returns-4 c = written _ _ _ 4 (pause-long _) (pause-later _ _ (search needs) (search needs)) (search needs) (put-is (pause-octets _) (put-then (c .before .before .before .before .before .before .two .ensures) (c .before .before .two2 .ensures)))
@@ -37,9 +24,9 @@ write-pause-spec =
     (tie.spec
     returns
     returns-2
-    room-requires
+    (λ c κs. search needs)
     returns-3
-    two-requires
-    two-requires-2
-    same-length
+    (λ c κs. search needs)
+    (λ c κs. search needs)
+    (λ c. search needs)
     returns-4)

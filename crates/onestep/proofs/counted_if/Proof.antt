@@ -1,14 +1,10 @@
 -- `onestep::counted_if` counts one more or none, modulo 2^32.
--- Assumes nothing.
 use native.Mathlib.Omega.{arith}
 use Rattle.meaning.specs.Numbers.{slotNumbers}
 use Rattle.steps.specs.Run.{countedIf}
 use borrow.Author.Needs.{needs}
 use Rattle.onestep.proofs.counted_if.Statement.{statement}
 use Rattle.onestep.proofs.counted_if.Tie as tie
-
-wrapping-add-u32-requires : tie.Need-wrapping-add-u32-requires
-wrapping-add-u32-requires c κs = search needs
 
 returns : tie.Need-returns
 unfolding countedIf slotNumbers
@@ -19,4 +15,4 @@ unfolding countedIf slotNumbers
 returns-2 c = simp (c .if1 .left) (omega arith)
 
 pub counted-if-spec : {M : Type 1} → statement M
-counted-if-spec = tie.close (tie.spec wrapping-add-u32-requires returns returns-2)
+counted-if-spec = tie.close (tie.spec (λ c κs. search needs) returns returns-2)

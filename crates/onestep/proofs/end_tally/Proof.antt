@@ -1,5 +1,4 @@
 -- `onestep::end_tally` puts the end line: waiting is accepted less sent on 32 bits, which is `lessModulo`.
--- Assumes nothing.
 use Prim.Native.Nat.{ℕ, _+_, _-_, _%_, _^_}
 use native.Mathlib.Omega.{arith}
 use mathlib.Core.Path.{_≡_, ap}
@@ -10,15 +9,6 @@ use Rattle.listing.specs.Listing.{endOf, lessModulo}
 use borrow.Author.Needs.{needs}
 use Rattle.onestep.proofs.end_tally.Statement.{statement}
 use Rattle.onestep.proofs.end_tally.Tie as tie
-
-wrapping-sub-u32-requires : tie.Need-wrapping-sub-u32-requires
-wrapping-sub-u32-requires c κs = search needs
-
-end-line-requires : tie.Need-end-line-requires
-end-line-requires c κs = search needs
-
-same-length : tie.Need-same-length
-same-length c = search needs
 
 returns : tie.Need-returns
 unfolding endOf lessModulo slotNumbers
@@ -32,4 +22,4 @@ returns c =
 
 pub end-tally-spec : {M : Type 1} → statement M
 end-tally-spec =
-    tie.close (tie.spec wrapping-sub-u32-requires end-line-requires same-length returns)
+    tie.close (tie.spec (λ c κs. search needs) (λ c κs. search needs) (λ c. search needs) returns)

@@ -8,18 +8,6 @@ use borrow.Author.Needs.{needs}
 use Rattle.onestep.proofs.stop_run.Statement.{statement}
 use Rattle.onestep.proofs.stop_run.Tie as tie
 
-stop-line-requires : tie.Need-stop-line-requires
-stop-line-requires c κs = search needs
-
-end-tally-requires : tie.Need-end-tally-requires
-end-tally-requires c κs = search needs
-
-over-requires : tie.Need-over-requires
-over-requires c κs = search needs
-
-same-length : tie.Need-same-length
-same-length c = search needs
-
 returns : tie.Need-returns
 unfolding ended
 returns c cells links calendar words =
@@ -32,4 +20,4 @@ returns c cells links calendar words =
     }
 
 pub stop-run-spec : {M : Type 1} → statement M
-stop-run-spec = tie.close (tie.spec stop-line-requires end-tally-requires over-requires same-length returns)
+stop-run-spec = tie.close (tie.spec (λ c κs. search needs) (λ c κs. search needs) (λ c κs. search needs) (λ c. search needs) returns)

@@ -1,5 +1,4 @@
 -- `quiet::off_marked` meets its contract: the Output List was empty, or entry T joins it at its end.
--- Assumes nothing.
 use borrow.Author.Tests.{eq-eqb, ne-eqb}
 use Rattle.plan.specs.Plan.{joinedLinks, joinedHead}
 use Rattle.spaces.specs.Spaces.{linked}

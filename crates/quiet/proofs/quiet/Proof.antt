@@ -1,5 +1,4 @@
 -- `quiet::quiet` meets its contract: entry T is out of range, empty or marked, and each is a case of steps 4 and 5.
--- Assumes nothing.
 use mathlib.Core.Path.{sym, _∙_, ap}
 use denote.Ref.{now}
 use Rattle.meaning.specs.State.{stateOf}

@@ -1,5 +1,4 @@
 -- `quiet::quiet_end` meets its contract: steps 2 and 3 keep what waits, so that the departing VC has a cell waiting.
--- Assumes nothing.
 use native.Mathlib.Omega.{arith}
 use borrow.Author.Tests.{eqb-false, not-true}
 use denote.Ref.{now}

@@ -1,5 +1,4 @@
 -- `quiet::quiet_marked` meets its contract: what departs and the Free List are judged before anything is written.
--- Assumes nothing.
 use mathlib.Core.Path.{sym, _∙_, ap}
 use native.Mathlib.Omega.{arith}
 use borrow.Author.Tests.{eqb-false, not-true, not-false}

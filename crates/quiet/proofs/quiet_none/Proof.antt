@@ -1,5 +1,4 @@
 -- `quiet::quiet_none` meets its contract: only steps 2 and 3 write, and the answer names no space.
--- Assumes nothing.
 use mathlib.Core.Path.{refl}
 use native.Mathlib.Omega.{arith}
 use denote.Ref.{now}

@@ -1,5 +1,4 @@
 -- `quiet::quiet_output` meets its contract: as where entry T is marked, but that nothing joins the Output List.
--- Assumes nothing.
 use borrow.Author.Tests.{not-true, not-false}
 use mathlib.Core.Path.{sym, _∙_, ap}
 use native.Mathlib.Omega.{arith}

@@ -1,5 +1,4 @@
 -- `quiet::quiet_unmarked` meets its contract: entry T is empty and fits, so the Output List's ends alone say which case it is.
--- Assumes nothing.
 use mathlib.Core.Path.{refl, sym, _∙_, ap}
 use denote.Ref.{now}
 use Rattle.meaning.specs.State.{stateOf}

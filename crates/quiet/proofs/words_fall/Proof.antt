@@ -1,5 +1,4 @@
 -- `quiet::words_fall` meets its contract: rotation's VC is written first, then the cell's, which may be the same.
--- Assumes nothing.
 use native.Mathlib.Omega.{arith}
 use Rattle.plan.specs.Plan.{rotated}
 use borrow.Author.Needs.{needs}

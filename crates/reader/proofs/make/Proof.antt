@@ -1,5 +1,5 @@
 -- `make`: a walk of its MIR, by hand. The struct is made of the slice and the number passed; the slice is Copy, so what it
--- owns is had twice, once for the parameter at exit and once inside the result. Assumes nothing.
+-- owns is had twice, once for the parameter at exit and once inside the result.
 use mathlib.Core.Path.{refl}
 use Prim.Native.Nat.{ℕ, _<_, _^_}
 use mathlib.Core.List.{List, [], _∷_}

@@ -1,5 +1,5 @@
 -- `move_on`: a walk of its MIR, by hand. `place_after` is called on the answer and the number, and the struct is made anew of
--- the trace and the place that it gives. The struct is Copy: one copy is kept for the exit. Assumes nothing.
+-- the trace and the place that it gives. The struct is Copy: one copy is kept for the exit.
 use mathlib.Core.Path.{refl, ap}
 use mathlib.Core.List.{[], _∷_}
 use Prim.Native.Nat.{ℕ, _<_, _^_}

@@ -1,5 +1,4 @@
 -- `place`: a walk of its MIR, by hand. A number is read from a field, and that it fits its width is in the struct's typing.
--- Assumes nothing.
 use mathlib.Core.Path.{refl}
 use mathlib.Core.List.{[], _∷_}
 use lib.Dec.{T as Holds}

@@ -1,5 +1,5 @@
 -- `read_at`: a walk of its MIR, by hand. The struct that `make` returns is held in a local and passed to `read_next`; all that
--- is known of the two is their contracts. In a local MIR erases the lifetime of the struct's type. Assumes nothing.
+-- is known of the two is their contracts. In a local MIR erases the lifetime of the struct's type.
 use mathlib.Core.Path.{refl}
 use mathlib.Core.List.{List, [], _∷_}
 use Prim.Native.Nat.{ℕ, _<_, _^_}

@@ -1,5 +1,5 @@
 -- `read_next`: a walk of its MIR, by hand. The struct is taken apart, and `event_at` is called on the trace and the number;
--- all that is known of it is its contract. The struct is Copy: one copy is kept for the exit. Assumes nothing.
+-- all that is known of it is its contract. The struct is Copy: one copy is kept for the exit.
 use mathlib.Core.Path.{refl}
 use mathlib.Core.List.{[], _∷_}
 use Prim.Native.Nat.{_<_, _^_}

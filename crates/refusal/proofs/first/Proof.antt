@@ -1,5 +1,4 @@
 -- `refusal::first` meets its contract: its test is the contract's own.
--- Assumes nothing.
 use borrow.Author.Tests.{eq-eqb, ne-eqb}
 use Rattle.refusal.proofs.first.Statement.{statement}
 use Rattle.refusal.proofs.first.Tie as tie

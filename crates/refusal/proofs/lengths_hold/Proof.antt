@@ -1,12 +1,8 @@
 -- `refusal::lengths_hold` meets its contract: its four tests are the contract's own.
--- Assumes nothing.
 use borrow.Author.Tests.{eq-eqb, ne-eqb}
 use borrow.Author.Needs.{needs}
 use Rattle.refusal.proofs.lengths_hold.Statement.{statement}
 use Rattle.refusal.proofs.lengths_hold.Tie as tie
-
-mul-if1 : tie.Need-mul-if1
-mul-if1 c = search needs
 
 returns : tie.Need-returns
 returns c = simp (ne-eqb _ _ (c .if1 .taken))
@@ -14,18 +10,12 @@ returns c = simp (ne-eqb _ _ (c .if1 .taken))
 returns-2 : tie.Need-returns-2
 returns-2 c = simp (eq-eqb _ _ (c .before .if1 .left), ne-eqb _ _ (c .if2 .taken))
 
-mul-if3 : tie.Need-mul-if3
-mul-if3 c = search needs
-
 returns-3 : tie.Need-returns-3
 returns-3 c = simp (
   eq-eqb _ _ (c .before .before .if1 .left),
   eq-eqb _ _ (c .before .if2 .left),
   ne-eqb _ _ (c .if3 .taken),
 )
-
-mul-result : tie.Need-mul-result
-mul-result c = search needs
 
 returns-4 : tie.Need-returns-4
 returns-4 c = simp (
@@ -36,4 +26,4 @@ returns-4 c = simp (
 
 pub lengths-hold-spec : {M : Type 1} → statement M
 lengths-hold-spec =
-    tie.close (tie.spec mul-if1 returns returns-2 mul-if3 returns-3 mul-result returns-4)
+    tie.close (tie.spec (λ c. search needs) returns returns-2 (λ c. search needs) returns-3 (λ c. search needs) returns-4)

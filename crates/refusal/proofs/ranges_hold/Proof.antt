@@ -1,5 +1,4 @@
 -- `refusal::ranges_hold` meets its contract: each return answers one of the four bounds, those before it being met.
--- Assumes nothing.
 use borrow.Author.Tests.{le-leb, lt-leb}
 use Rattle.meaning.specs.Numbers.{rangesHold}
 use Rattle.refusal.proofs.ranges_hold.Statement.{statement}

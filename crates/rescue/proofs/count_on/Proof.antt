@@ -1,4 +1,4 @@
--- `rescue::count_on` ends: each read that goes on adds an octet, and the number is bounded. Assumes nothing.
+-- `rescue::count_on` ends: each read that goes on adds an octet, and the number is bounded.
 use Prim.Native.Nat.{ℕ, _-_, _≤_, _<_}
 use mathlib.Core.Path.{_≡_, refl, sym}
 use native.Mathlib.Omega.{arith}

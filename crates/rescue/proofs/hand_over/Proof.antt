@@ -1,5 +1,4 @@
 -- `rescue::hand_over` fills and writes until the input's end is reached: the invariant is the fills so far, and each leads on.
--- Assumes nothing.
 use Prim.Native.Nat.{ℕ, _-_, _≤_, _<_}
 use mathlib.Core.Path.{_≡_, refl, sym}
 use native.Mathlib.Omega.{arith}

@@ -1,5 +1,5 @@
 -- `rescue::mend`: where the trace doesn't begin with a record, or a buffer is too short, both buffers stay as they are; else
--- `hand_over` does what it promises. Assumes nothing.
+-- `hand_over` does what it promises.
 use mathlib.Core.Path.{_≡_, refl, sym, _∙_}
 use mathlib.Core.Bool.{Bool, true, false, not}
 use native.Mathlib.Omega.{arith}
@@ -15,15 +15,6 @@ over false e = sym e
 off : (b : Bool) → not b ≡ true → b ≡ false
 off true e = sym e
 off false e = refl
-
-begins-requires : tie.Need-begins-requires
-begins-requires c κs = search needs
-
-slice-aggregate-write-all : tie.Need-slice-aggregate-write-all
-slice-aggregate-write-all c = search needs
-
-write-all-requires : tie.Need-write-all-requires
-write-all-requires c κs = search needs
 
 returns : tie.Need-returns
 returns c =
@@ -43,12 +34,6 @@ returns-3 c =
 hand-over-requires : tie.Need-hand-over-requires
 hand-over-requires c κs = (sym (c .before .before .before .before .before .begins .ensures) ∙ over _ (c .before .before .before .before .if1 .left), (c .before .before .before .if2 .left, c .before .before .if3 .left))
 
-same-length : tie.Need-same-length
-same-length c = search needs
-
-same-length-2 : tie.Need-same-length-2
-same-length-2 c = search needs
-
 returns-4 : tie.Need-returns-4
 returns-4 c =
     let a = c .before .before .before .before .before .before .before .before .before .before .before .before .before .before .args in
@@ -60,13 +45,13 @@ pub mend-spec : {M : Type 1} → statement M
 mend-spec =
     tie.close
     (tie.spec
-    begins-requires
-    slice-aggregate-write-all
-    write-all-requires
+    (λ c κs. search needs)
+    (λ c. search needs)
+    (λ c κs. search needs)
     returns
     returns-2
     returns-3
     hand-over-requires
-    same-length
-    same-length-2
+    (λ c. search needs)
+    (λ c. search needs)
     returns-4)

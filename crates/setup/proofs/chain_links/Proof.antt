@@ -1,5 +1,4 @@
 -- `setup::chain_links` meets its contract: its loop writes the links from the front, and the last one is cleared.
--- Assumes nothing.
 use Prim.Native.Nat.{_-_}
 use native.Mathlib.Omega.{arith}
 use borrow.Author.Needs.{needs}

@@ -1,5 +1,4 @@
 -- `setup::clear_cells` meets its contract: its loop fills the octets from the front.
--- Assumes nothing.
 use Prim.Native.Nat.{_-_}
 use native.Mathlib.Omega.{arith}
 use borrow.Author.Needs.{needs}

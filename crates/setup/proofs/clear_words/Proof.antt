@@ -1,5 +1,4 @@
 -- `setup::clear_words` meets its contract: its loop fills the words from the front.
--- Assumes nothing.
 use Prim.Native.Nat.{_-_}
 use native.Mathlib.Omega.{arith}
 use borrow.Author.Needs.{needs}

@@ -1,5 +1,4 @@
 -- `setup::empty_calendar` meets its contract: its loop fills the heads and tails from the front.
--- Assumes nothing.
 use Prim.Native.Nat.{_-_}
 use native.Mathlib.Omega.{arith}
 use borrow.Author.Needs.{needs}

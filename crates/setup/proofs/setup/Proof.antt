@@ -1,5 +1,4 @@
 -- `setup::setup` meets its contract: a refusal leaves all as it came, and otherwise the fills leave the fresh state.
--- Assumes nothing.
 use Prim.Native.Nat.{ℕ}
 use mathlib.Core.Path.{_≡_, sym, _∙_, ap}
 use native.Mathlib.Omega.{arith}

@@ -1,5 +1,4 @@
 -- `setup::setup_refusal` meets its contract, which is that of its last call with those of the others put in.
--- Assumes nothing.
 use borrow.Author.Needs.{needs}
 use Rattle.setup.proofs.setup_refusal.Statement.{statement}
 use Rattle.setup.proofs.setup_refusal.Tie as tie

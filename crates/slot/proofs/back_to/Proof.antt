@@ -1,5 +1,4 @@
 -- `slot::back_to` meets its contract: refused, served with a dropped cell, served.
--- Assumes nothing.
 use borrow.Author.Tests.{eq-eqb, ne-eqb}
 use Rattle.slot.specs.Back.{backServed}
 use Rattle.slot.proofs.back_to.Statement.{statement}

@@ -1,5 +1,4 @@
 -- `slot::checked` meets its promise: raw or mode unfit; raw.
--- Assumes nothing.
 use denote.Ref.{now}
 use Rattle.meaning.specs.State.{stateOf}
 use Rattle.slot.proofs.Front.{lent-53, unfit-is, unfit-raw, unfit-mode, checked-lent, raw-one}

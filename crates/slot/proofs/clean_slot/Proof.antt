@@ -1,5 +1,4 @@
 -- `slot::clean_slot` meets its contract: the slot without the check, in mode 0, and back.
--- Assumes nothing.
 use denote.Ref.{now}
 use mathlib.Core.Bool.{false}
 use Rattle.slot.proofs.Front.{backed}

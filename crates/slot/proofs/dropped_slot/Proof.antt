@@ -1,5 +1,4 @@
 -- `slot::dropped_slot` meets its contract: the slot without the check, lent nothing, and back.
--- Assumes nothing.
 use denote.Ref.{now}
 use mathlib.Core.Bool.{true}
 use mathlib.Core.List.{[]}

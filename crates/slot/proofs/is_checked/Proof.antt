@@ -1,5 +1,4 @@
 -- `slot::is_checked` meets its promise: without a cell the check has nothing to look at.
--- Assumes nothing.
 use Rattle.slot.proofs.Front.{no-cell, of-cell}
 use Rattle.slot.proofs.is_checked.Statement.{statement}
 use Rattle.slot.proofs.is_checked.Tie as tie

@@ -1,5 +1,4 @@
 -- `slot::mended_slot` meets its contract: the slot without the check over the cell with its new header, and back.
--- Assumes nothing.
 use mathlib.Core.Path.{ap, _∙_}
 use mathlib.Core.Bool.{false}
 use mathlib.Core.List.{List, _++_}

@@ -1,5 +1,4 @@
 -- `slot::put_head` meets its contract: four octets written.
--- Assumes nothing.
 use mathlib.Core.Path.{refl}
 use Rattle.slot.specs.Back.{headWritten}
 use borrow.Author.Needs.{needs}

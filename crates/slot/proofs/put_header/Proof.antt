@@ -1,5 +1,4 @@
 -- `slot::put_header` meets its contract: five octets written, the payload kept.
--- Assumes nothing.
 use mathlib.Core.Path.{_≡_, refl, ap, _∙_}
 use mathlib.Core.List.{List, [], _∷_, _++_}
 use Prim.Native.Nat.{ℕ, _≤_}

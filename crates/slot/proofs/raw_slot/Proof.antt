@@ -1,5 +1,4 @@
 -- `slot::raw_slot` meets its promise: clean, mended or dropped, by what the check answers.
--- Assumes nothing.
 use mathlib.Core.Path.{sym, ap, _∙_}
 use mathlib.Core.List.{_++_}
 use lib.ListN.{drop}

@@ -1,5 +1,4 @@
 -- `slot::slot` meets its promise: with the check in front, or as document 01 has it.
--- Assumes nothing.
 use mathlib.Core.Path.{sym, _∙_}
 use denote.Ref.{now}
 use Rattle.meaning.specs.State.{stateOf}

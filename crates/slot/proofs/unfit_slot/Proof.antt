@@ -1,5 +1,4 @@
 -- `slot::unfit_slot` meets its contract: 1 and 2 before 3, and 9 can't be, since a cell is lent.
--- Assumes nothing.
 use Prim.Native.Nat.{ℕ}
 use mathlib.Core.Path.{_≡_, refl, sym, _∙_, ap}
 use mathlib.Core.Bool.{Bool, true, false, not}

@@ -1,5 +1,4 @@
 -- `spaces::leaver_after` meets its contract: one test after the other.
--- Assumes nothing.
 use Rattle.spaces.specs.Leaver.{namedVc, leaverAfter}
 use mathlib.Core.Path.{sym, _∙_, ap}
 use borrow.Author.Tests.{eq-eqb, ne-eqb}
@@ -11,12 +10,6 @@ returns : tie.Need-returns
 unfolding leaverAfter
 returns c = simp (eq-eqb _ _ (c .if1 .taken))
 
-mul-name-at : tie.Need-mul-name-at
-mul-name-at c = search needs
-
-name-at-requires : tie.Need-name-at-requires
-name-at-requires c κs = search needs
-
 returns-2 : tie.Need-returns-2
 unfolding leaverAfter
 returns-2 c =
@@ -24,9 +17,6 @@ returns-2 c =
       ne-eqb _ _ (c .before .before .if1 .left),
       eq-eqb _ _ (sym (c .before .name-at .ensures .0) ∙ c .if2 .taken),
     )
-
-named-vc-requires : tie.Need-named-vc-requires
-named-vc-requires c κs = search needs
 
 returns-3 : tie.Need-returns-3
 unfolding leaverAfter
@@ -41,4 +31,4 @@ returns-3 c =
 
 pub leaver-after-spec : {M : Type 1} → statement M
 leaver-after-spec =
-    tie.close (tie.spec returns mul-name-at name-at-requires returns-2 named-vc-requires returns-3)
+    tie.close (tie.spec returns (λ c. search needs) (λ c κs. search needs) returns-2 (λ c κs. search needs) returns-3)

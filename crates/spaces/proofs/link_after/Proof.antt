@@ -1,4 +1,4 @@
--- `spaces::link_after` meets its contract: the link read is the one that the write, where on, leaves. Assumes nothing.
+-- `spaces::link_after` meets its contract: the link read is the one that the write, where on, leaves.
 use Rattle.spaces.proofs.LinkLaws.{linked-off, linked-own, linked-other}
 use mathlib.Core.Logic.{⊎-elim}
 use mathlib.Core.Path.{sym}
@@ -11,12 +11,6 @@ returns c =
     let a = c .before .before .args in
     sym (linked-own (a .on) (a .i) (a .y) (a .links .now) (a .x) (c .before .if1 .taken) (c .if2 .taken) (c .before .before .pre))
 
-mul-result : tie.Need-mul-result
-mul-result c = search needs
-
-shared-slice-read-result : tie.Need-shared-slice-read-result
-shared-slice-read-result c = search needs
-
 returns-2 : tie.Need-returns-2
 returns-2 c =
     let a = c .before .before .args in
@@ -26,4 +20,4 @@ returns-2 c =
     (c .before .if1 .came)
 
 pub link-after-spec : {M : Type 1} → statement M
-link-after-spec = tie.close (tie.spec returns mul-result shared-slice-read-result returns-2)
+link-after-spec = tie.close (tie.spec returns (λ c. search needs) (λ c. search needs) returns-2)

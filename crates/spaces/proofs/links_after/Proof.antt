@@ -1,4 +1,4 @@
--- `spaces::links_after` meets its contract: the later write is looked at first, then the earlier one. Assumes nothing.
+-- `spaces::links_after` meets its contract: the later write is looked at first, then the earlier one.
 use Rattle.spaces.proofs.LinkLaws.{linked-off, linked-own, linked-other, linked-length}
 use Rattle.spaces.specs.Spaces.{linked}
 use native.Mathlib.Omega.{arith}
@@ -16,9 +16,6 @@ returns c =
     (linked-own (a .joins) (a .old) (a .head) l (a .x) (c .before .if1 .taken) (c .if2 .taken)
     (omega (arith, linked-length (a .named) (a .s) (a .y) (a .links .now), c .before .before .before .pre)))
 
-link-after-requires : tie.Need-link-after-requires
-link-after-requires c κs = search needs
-
 returns-2 : tie.Need-returns-2
 returns-2 c =
     let a = c .before .before .before .args in
@@ -30,4 +27,4 @@ returns-2 c =
     (c .before .if1 .came)
 
 pub links-after-spec : {M : Type 1} → statement M
-links-after-spec = tie.close (tie.spec returns link-after-requires returns-2)
+links-after-spec = tie.close (tie.spec returns (λ c κs. search needs) returns-2)

@@ -1,26 +1,8 @@
--- `spaces::may_go` meets its contract: the tests are those of the definition, of the open word and of waiting. Assumes nothing.
+-- `spaces::may_go` meets its contract: the tests are those of the definition, of the open word and of waiting.
 use Rattle.spaces.proofs.LeaverLaws.{go-counts, go-none, go-closed}
 use borrow.Author.Needs.{needs}
 use Rattle.spaces.proofs.may_go.Statement.{statement}
 use Rattle.spaces.proofs.may_go.Tie as tie
-
-mul-b : tie.Need-mul-b
-mul-b c = search needs
-
-mul-if1 : tie.Need-mul-if1
-mul-if1 c = search needs
-
-shared-slice-read-if1 : tie.Need-shared-slice-read-if1
-shared-slice-read-if1 c = search needs
-
-add-waiting : tie.Need-add-waiting
-add-waiting c = search needs
-
-mul-waiting : tie.Need-mul-waiting
-mul-waiting c = search needs
-
-shared-slice-read-waiting : tie.Need-shared-slice-read-waiting
-shared-slice-read-waiting c = search needs
 
 returns : tie.Need-returns
 returns c =
@@ -41,12 +23,12 @@ pub may-go-spec : {M : Type 1} → statement M
 may-go-spec =
     tie.close
     (tie.spec
-    mul-b
-    mul-if1
-    shared-slice-read-if1
-    add-waiting
-    mul-waiting
-    shared-slice-read-waiting
+    (λ c. search needs)
+    (λ c. search needs)
+    (λ c. search needs)
+    (λ c. search needs)
+    (λ c. search needs)
+    (λ c. search needs)
     returns
     returns-2
     returns-3)

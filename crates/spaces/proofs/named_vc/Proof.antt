@@ -1,16 +1,10 @@
--- `spaces::named_vc` meets its contract: the tests are those of the definition. Assumes nothing.
+-- `spaces::named_vc` meets its contract: the tests are those of the definition.
 use Rattle.spaces.specs.Leaver.{namedVc}
 use borrow.Author.Tests.{lt-ltb, le-ltb, eq-eqb, ne-eqb}
 use mathlib.Core.Path.{sym}
 use borrow.Author.Needs.{needs}
 use Rattle.spaces.proofs.named_vc.Statement.{statement}
 use Rattle.spaces.proofs.named_vc.Tie as tie
-
-cast-u : tie.Need-cast-u
-cast-u c = search needs
-
-may-go-requires : tie.Need-may-go-requires
-may-go-requires c κs = search needs
 
 returns : tie.Need-returns
 unfolding namedVc
@@ -29,4 +23,4 @@ unfolding namedVc
 returns-4 c = simp (eq-eqb _ _ (c .if1 .left))
 
 pub named-vc-spec : {M : Type 1} → statement M
-named-vc-spec = tie.close (tie.spec cast-u may-go-requires returns returns-2 returns-3 returns-4)
+named-vc-spec = tie.close (tie.spec (λ c. search needs) (λ c κs. search needs) returns returns-2 returns-3 returns-4)

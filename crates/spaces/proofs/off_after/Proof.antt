@@ -1,5 +1,4 @@
 -- `spaces::off_after` meets its contract: as off_head, with VC and link as the accepted cell and the join will leave them.
--- Assumes nothing.
 use Rattle.spaces.proofs.OffLaws.{from-same}
 use Rattle.spaces.specs.Leaver.{offFrom, offAfter}
 use mathlib.Core.Logic.{⊎-elim}
@@ -8,15 +7,6 @@ use Prim.Native.Nat.{ℕ}
 use borrow.Author.Needs.{needs}
 use Rattle.spaces.proofs.off_after.Statement.{statement}
 use Rattle.spaces.proofs.off_after.Tie as tie
-
-leaver-after-requires : tie.Need-leaver-after-requires
-leaver-after-requires c κs = search needs
-
-links-after-requires : tie.Need-links-after-requires
-links-after-requires c κs = search needs
-
-off-from-requires : tie.Need-off-from-requires
-off-from-requires c κs = search needs
 
 returns : tie.Need-returns
 unfolding offAfter
@@ -30,4 +20,4 @@ returns c =
 
 pub off-after-spec : {M : Type 1} → statement M
 off-after-spec =
-    tie.close (tie.spec leaver-after-requires links-after-requires off-from-requires returns)
+    tie.close (tie.spec (λ c κs. search needs) (λ c κs. search needs) (λ c κs. search needs) returns)

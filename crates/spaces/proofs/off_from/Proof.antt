@@ -1,4 +1,4 @@
--- `spaces::off_from` meets its contract: the tests are those of the definition. Assumes nothing.
+-- `spaces::off_from` meets its contract: the tests are those of the definition.
 use Rattle.spaces.specs.Leaver.{offFrom}
 use borrow.Author.Tests.{lt-ltb, le-ltb, eq-eqb, ne-eqb}
 use Rattle.spaces.proofs.off_from.Statement.{statement}

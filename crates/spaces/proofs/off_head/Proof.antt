@@ -1,5 +1,4 @@
 -- `spaces::off_head` meets its contract: the VC that leaver finds departs, and the link is read where head and tail differ.
--- Assumes nothing.
 use Rattle.spaces.proofs.OffLaws.{off-is}
 use Rattle.spaces.specs.Leaver.{offFrom}
 use mathlib.Core.Logic.{⊎-elim}
@@ -8,18 +7,6 @@ use Prim.Native.Nat.{ℕ}
 use borrow.Author.Needs.{needs}
 use Rattle.spaces.proofs.off_head.Statement.{statement}
 use Rattle.spaces.proofs.off_head.Tie as tie
-
-leaver-requires : tie.Need-leaver-requires
-leaver-requires c κs = search needs
-
-mul-follower : tie.Need-mul-follower
-mul-follower c = search needs
-
-shared-slice-read-follower : tie.Need-shared-slice-read-follower
-shared-slice-read-follower c = search needs
-
-off-from-requires : tie.Need-off-from-requires
-off-from-requires c κs = search needs
 
 returns : tie.Need-returns
 returns c =
@@ -32,4 +19,4 @@ returns c =
 pub off-head-spec : {M : Type 1} → statement M
 off-head-spec =
     tie.close
-    (tie.spec leaver-requires mul-follower shared-slice-read-follower off-from-requires returns)
+    (tie.spec (λ c κs. search needs) (λ c. search needs) (λ c. search needs) (λ c κs. search needs) returns)

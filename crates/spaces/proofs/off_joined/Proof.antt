@@ -1,4 +1,4 @@
--- `spaces::off_joined` meets its contract: as off_head, with the link as the join will leave it. Assumes nothing.
+-- `spaces::off_joined` meets its contract: as off_head, with the link as the join will leave it.
 use Rattle.spaces.proofs.OffLaws.{off-is}
 use Rattle.spaces.specs.Leaver.{offFrom}
 use Rattle.spaces.specs.Spaces.{linked}
@@ -9,15 +9,6 @@ use Prim.Native.Nat.{ℕ}
 use borrow.Author.Needs.{needs}
 use Rattle.spaces.proofs.off_joined.Statement.{statement}
 use Rattle.spaces.proofs.off_joined.Tie as tie
-
-leaver-requires : tie.Need-leaver-requires
-leaver-requires c κs = search needs
-
-link-after-requires : tie.Need-link-after-requires
-link-after-requires c κs = search needs
-
-off-from-requires : tie.Need-off-from-requires
-off-from-requires c κs = search needs
 
 returns : tie.Need-returns
 unfolding linked
@@ -30,4 +21,4 @@ returns c =
 
 pub off-joined-spec : {M : Type 1} → statement M
 off-joined-spec =
-    tie.close (tie.spec leaver-requires link-after-requires off-from-requires returns)
+    tie.close (tie.spec (λ c κs. search needs) (λ c κs. search needs) (λ c κs. search needs) returns)

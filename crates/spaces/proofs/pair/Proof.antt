@@ -1,4 +1,4 @@
--- `spaces::pair` meets its contract: the tests are those of the definition. Assumes nothing.
+-- `spaces::pair` meets its contract: the tests are those of the definition.
 use Rattle.spaces.proofs.PairLaws.{pair-below, pair-empty, pair-neither}
 use Rattle.spaces.proofs.pair.Statement.{statement}
 use Rattle.spaces.proofs.pair.Tie as tie

@@ -1,18 +1,12 @@
--- `spaces::put_link` meets its contract: one store, where on. Assumes nothing.
+-- `spaces::put_link` meets its contract: one store, where on.
 use native.Mathlib.Omega.{arith}
 use Rattle.spaces.specs.Spaces.{linked}
 use borrow.Author.Needs.{needs}
 use Rattle.spaces.proofs.put_link.Statement.{statement}
 use Rattle.spaces.proofs.put_link.Tie as tie
 
-mul-links : tie.Need-mul-links
-mul-links c = search needs
-
 slice-write-links : tie.Need-slice-write-links
 slice-write-links c = let h = c .before .pre (c .if1 .taken) in omega arith
-
-same-length : tie.Need-same-length
-same-length c = search needs
 
 returns : tie.Need-returns
 unfolding linked
@@ -23,4 +17,4 @@ unfolding linked
 returns-2 c = rw (c .if1 .left)
 
 pub put-link-spec : {M : Type 1} → statement M
-put-link-spec = tie.close (tie.spec mul-links slice-write-links same-length returns returns-2)
+put-link-spec = tie.close (tie.spec (λ c. search needs) slice-write-links (λ c. search needs) returns returns-2)

@@ -1,4 +1,4 @@
--- `spaces::seat_for` meets its contract: one comparison gives the entry, and seat_at the seat. Assumes nothing.
+-- `spaces::seat_for` meets its contract: one comparison gives the entry, and seat_at the seat.
 use Rattle.spaces.proofs.SeatLaws.{entry-near, entry-far, seat-in}
 use Rattle.spaces.specs.Spaces.{seatOf, endsOf}
 use borrow.Author.Tests.{lt-ltb, le-ltb}
@@ -7,9 +7,6 @@ use mathlib.Core.Path.{_∙_}
 use borrow.Author.Needs.{needs}
 use Rattle.spaces.proofs.seat_for.Statement.{statement}
 use Rattle.spaces.proofs.seat_for.Tie as tie
-
-add-far : tie.Need-add-far
-add-far c = search needs
 
 seat-at-requires : tie.Need-seat-at-requires
 seat-at-requires c κs = ⊎-elim (λ w. search needs) (λ w. search needs) (c .if3 .came)
@@ -25,9 +22,6 @@ returns c =
     (λ w. w .1 ∙ entry-far (a .n) (a .turn) (a .d) (w .0 .left))
     (c .before .if3 .came))
 
-no-seat-requires : tie.Need-no-seat-requires
-no-seat-requires c κs = search needs
-
 returns-2 : tie.Need-returns-2
 unfolding seatOf
 returns-2 c =
@@ -38,4 +32,4 @@ returns-2 c =
     (c .before .if1 .came)
 
 pub seat-for-spec : {M : Type 1} → statement M
-seat-for-spec = tie.close (tie.spec add-far seat-at-requires returns no-seat-requires returns-2)
+seat-for-spec = tie.close (tie.spec (λ c. search needs) seat-at-requires returns (λ c κs. search needs) returns-2)

@@ -1,4 +1,4 @@
--- `spaces::seat_in` meets its contract: the tests are those of the definition. Assumes nothing.
+-- `spaces::seat_in` meets its contract: the tests are those of the definition.
 use Rattle.spaces.specs.Spaces.{seatIn}
 use borrow.Author.Tests.{lt-ltb, le-ltb, eq-eqb, ne-eqb}
 use mathlib.Core.Path.{_∙_}
@@ -10,18 +10,9 @@ returns : tie.Need-returns
 unfolding seatIn
 returns c = simp (eq-eqb _ _ (c .if1 .taken))
 
-mul-after : tie.Need-mul-after
-mul-after c = search needs
-
-shared-slice-read-after : tie.Need-shared-slice-read-after
-shared-slice-read-after c = search needs
-
 returns-2 : tie.Need-returns-2
 unfolding seatIn
 returns-2 c = simp (ne-eqb _ _ (c .before .before .if1 .left), lt-ltb _ _ (c .if2 .taken))
-
-no-seat-requires : tie.Need-no-seat-requires
-no-seat-requires c κs = search needs
 
 returns-3 : tie.Need-returns-3
 unfolding seatIn
@@ -31,4 +22,4 @@ returns-3 c =
 pub seat-in-spec : {M : Type 1} → statement M
 seat-in-spec =
     tie.close
-    (tie.spec returns mul-after shared-slice-read-after returns-2 no-seat-requires returns-3)
+    (tie.spec returns (λ c. search needs) (λ c. search needs) returns-2 (λ c κs. search needs) returns-3)

@@ -1,5 +1,4 @@
 -- `spool::fill` fills the buffer: the first 65,536 octets of the input are the trace.
--- Assumes nothing.
 use mathlib.Core.Path.{sym}
 use native.Mathlib.Omega.{arith}
 use lib.ListN.{length-take}
@@ -8,9 +7,6 @@ use Rattle.steps.proofs.Cut.{fill-cut}
 use borrow.Author.Needs.{needs}
 use Rattle.spool.proofs.fill.Statement.{statement}
 use Rattle.spool.proofs.fill.Tie as tie
-
-least-requires : tie.Need-least-requires
-least-requires c κs = search needs
 
 slice-aggregate-fill-trace : tie.Need-slice-aggregate-fill-trace
 slice-aggregate-fill-trace c =
@@ -22,21 +18,6 @@ fill-trace-requires c κs =
     let l = c .before .before .before .before .before .before .least in
     omega (arith, length-take (l .result) (c .before .before .before .before .before .before .before .before .before .before .before .before .before .args .input .now), l .ensures)
 
-same-length : tie.Need-same-length
-same-length c = search needs
-
-same-length-2 : tie.Need-same-length-2
-same-length-2 c = search needs
-
-same-length-3 : tie.Need-same-length-3
-same-length-3 c = search needs
-
-same-length-4 : tie.Need-same-length-4
-same-length-4 c = search needs
-
-same-length-5 : tie.Need-same-length-5
-same-length-5 c = search needs
-
 returns : tie.Need-returns
 returns c = fill-cut _ _ _ _ _ _ _ (c .before .before .before .before .before .before .before .before .before .before .before .before .before .before .before .before .before .least .ensures) (c .before .before .before .before .before .before .before .before .before .before .fill-trace .ensures)
 
@@ -44,12 +25,12 @@ pub fill-spec : {M : Type 1} → statement M
 fill-spec =
     tie.close
     (tie.spec
-    least-requires
+    (λ c κs. search needs)
     slice-aggregate-fill-trace
     fill-trace-requires
-    same-length
-    same-length-2
-    same-length-3
-    same-length-4
-    same-length-5
+    (λ c. search needs)
+    (λ c. search needs)
+    (λ c. search needs)
+    (λ c. search needs)
+    (λ c. search needs)
     returns)

@@ -1,5 +1,4 @@
 -- `spool::fill_trace` makes steps while there is room: the invariant is the steps so far, the measure the run's weight.
--- Assumes nothing.
 use Prim.Native.Nat.{ℕ, _+_, _≤_}
 use mathlib.Core.Path.{_≡_, refl, sym, ap, _∙_}
 use mathlib.Core.Logic.{inl, inr}

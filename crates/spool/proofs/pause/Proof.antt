@@ -1,5 +1,4 @@
 -- `spool::pause` makes count slots of a pause: after i turns, i steps. The measure is what is left of count.
--- Assumes nothing.
 use Prim.Native.Nat.{ℕ, _+_, _-_, _*_, _≤_, _<_}
 use mathlib.Core.Path.{_≡_, refl, sym, ap}
 use mathlib.Core.Bool.{Bool, false}

@@ -1,5 +1,4 @@
 -- `spool::sizes_at` answers N and V of a first record that sets up, where they are in their ranges.
--- Assumes nothing.
 use mathlib.Core.Path.{sym, ap, _∙_}
 use Rattle.trace.specs.declared.Event.{Event}
 use Rattle.trace.specs.declared.Found.{Found}
@@ -10,23 +9,14 @@ use borrow.Author.Needs.{needs}
 use Rattle.spool.proofs.sizes_at.Statement.{statement}
 use Rattle.spool.proofs.sizes_at.Tie as tie
 
-enum-known-found : tie.Need-enum-known-found
-enum-known-found c = search needs
-
 returns : tie.Need-returns
 returns c = no-record (c .before .args .found) (c .match .keys2)
-
-enum-known-event : tie.Need-enum-known-event
-enum-known-event c = search needs
 
 returns-2 : tie.Need-returns-2
 returns-2 c =
     let g = c .before .before .found .given in
     let e = g .1 in
     no-setup (g .0 .0) (g .0 .1 .0) (later-tag _ (c .match2 .keys2)) ∙ ap (λ (f : Found). sizesAt (saidOf f)) (sym e)
-
-ranges-hold-requires : tie.Need-ranges-hold-requires
-ranges-hold-requires c κs = search needs
 
 returns-3 : tie.Need-returns-3
 returns-3 c =
@@ -48,10 +38,10 @@ pub sizes-at-spec : {M : Type 1} → statement M
 sizes-at-spec =
     tie.close
     (tie.spec
-    enum-known-found
+    (λ c. search needs)
     returns
-    enum-known-event
+    (λ c. search needs)
     returns-2
-    ranges-hold-requires
+    (λ c κs. search needs)
     returns-3
     returns-4)

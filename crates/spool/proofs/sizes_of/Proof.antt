@@ -1,5 +1,4 @@
 -- `spool::sizes_of` answers the sizes for an input: the first record of its first 65,536 octets.
--- Assumes nothing.
 use Prim.Native.Nat.{ℕ, _≤_}
 use mathlib.Core.Path.{sym, ap, subst, _∙_}
 use mathlib.Core.List.{List}
@@ -15,19 +14,10 @@ use borrow.Author.Needs.{needs}
 use Rattle.spool.proofs.sizes_of.Statement.{statement}
 use Rattle.spool.proofs.sizes_of.Tie as tie
 
-least-requires : tie.Need-least-requires
-least-requires c κs = search needs
-
 slice-aggregate-event-at : tie.Need-slice-aggregate-event-at
 slice-aggregate-event-at c =
     let l = c .before .least in
     sym (length-take-le (l .result) (c .before .before .before .args .input .now) (omega (arith, l .ensures)))
-
-event-at-requires : tie.Need-event-at-requires
-event-at-requires c κs = search needs
-
-sizes-at-requires : tie.Need-sizes-at-requires
-sizes-at-requires c κs = search needs
 
 returns : tie.Need-returns
 unfolding sizesOf
@@ -40,4 +30,4 @@ returns c =
 pub sizes-of-spec : {M : Type 1} → statement M
 sizes-of-spec =
     tie.close
-    (tie.spec least-requires slice-aggregate-event-at event-at-requires sizes-at-requires returns)
+    (tie.spec (λ c κs. search needs) slice-aggregate-event-at (λ c κs. search needs) (λ c κs. search needs) returns)

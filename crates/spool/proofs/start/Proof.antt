@@ -1,5 +1,4 @@
 -- `spool::start` answers the run at its beginning.
--- Assumes nothing.
 use mathlib.Core.Path.{refl}
 use Rattle.meaning.specs.Calls.{zeros}
 use Rattle.steps.specs.Fill.{startRun}

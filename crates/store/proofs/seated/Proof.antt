@@ -1,5 +1,4 @@
 -- `store::seated` meets its contract: the record keeps its clock and its Output List.
--- Assumes nothing.
 use Rattle.plan.specs.Plan.{withEnds}
 use borrow.Author.Needs.{needs}
 use Rattle.store.proofs.seated.Statement.{statement}

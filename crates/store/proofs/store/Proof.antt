@@ -1,5 +1,4 @@
 -- `store::store` meets its contract: each memory has one writer, whose promise is handed on.
--- Assumes nothing.
 use mathlib.Core.Path.{_∙_, ap}
 use denote.Ref.{now}
 use Prim.Native.Nat.{ℕ}

@@ -1,5 +1,4 @@
 -- `store::tail_of` meets its contract: the tail stays, or, of an empty entry, the cell is its tail.
--- Assumes nothing.
 use borrow.Author.Tests.{eq-eqb, ne-eqb}
 use Rattle.plan.specs.Plan.{seatEnds}
 use Rattle.store.proofs.tail_of.Statement.{statement}

@@ -1,5 +1,4 @@
 -- `store::words_fill` meets its contract: rotation's VC is written first, then the cell's, which may be the same.
--- Assumes nothing.
 use Rattle.plan.specs.Plan.{rotated}
 use borrow.Author.Needs.{needs}
 use Rattle.store.proofs.words_fill.Statement.{statement}

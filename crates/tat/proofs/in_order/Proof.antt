@@ -1,4 +1,4 @@
--- `tat::in_order` meets its contract: within the run, and after the previous cell, if there is one. Assumes nothing.
+-- `tat::in_order` meets its contract: within the run, and after the previous cell, if there is one.
 use borrow.Author.Tests.{lt-ltb, le-ltb, not-true, not-false}
 use Rattle.meaning.specs.Numbers.{slotNumbers}
 use Rattle.tat.specs.Schedule.{inOrder}

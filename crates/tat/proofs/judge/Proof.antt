@@ -1,5 +1,4 @@
 -- `tat::judge` meets its contract: too early, or in time; how early it is comes back from the bits that hold it.
--- Assumes nothing.
 use Prim.Native.Nat.{ℕ, _+_}
 use mathlib.Core.Path.{sym, ap, _∙_}
 use mathlib.Core.Bool.{true}
@@ -12,27 +11,6 @@ use borrow.Author.Needs.{needs}
 use Rattle.tat.proofs.judge.Statement.{statement}
 use Rattle.tat.proofs.judge.Tie as tie
 
-early-by-requires : tie.Need-early-by-requires
-early-by-requires c κs = search needs
-
-later-of-requires : tie.Need-later-of-requires
-later-of-requires c κs = search needs
-
-add-next : tie.Need-add-next
-add-next c = search needs
-
-sub-before : tie.Need-sub-before
-sub-before c = search needs
-
-sub-tolerance : tie.Need-sub-tolerance
-sub-tolerance c = search needs
-
-cast-tolerance : tie.Need-cast-tolerance
-cast-tolerance c = search needs
-
-state-of-requires : tie.Need-state-of-requires
-state-of-requires c κs = search needs
-
 returns : tie.Need-returns
 returns c =
     let a = c .before .before .before .before .args in
@@ -42,9 +20,6 @@ returns c =
     (back _ (a .state .tat) (a .now) (c .before .before .before .early-by .ensures) (p .2) (p .1))
     ∙ ap (λ (s : Tat). timedOf 0 2 (subℕ (a .state .tat) (a .now)) 0 s) (c .state-of .ensures)
     ∙ sym (too-early (a .f) (a .c) (a .arrival) (a .now) (a .state .tat) (omega (arith, due, c .before .if1 .taken)))
-
-state-of-requires-2 : tie.Need-state-of-requires-2
-state-of-requires-2 c κs = search needs
 
 returns-2 : tie.Need-returns-2
 returns-2 c =
@@ -62,13 +37,13 @@ pub judge-spec : {M : Type 1} → statement M
 judge-spec =
     tie.close
     (tie.spec
-    early-by-requires
-    later-of-requires
-    add-next
-    sub-before
-    sub-tolerance
-    cast-tolerance
-    state-of-requires
+    (λ c κs. search needs)
+    (λ c κs. search needs)
+    (λ c. search needs)
+    (λ c. search needs)
+    (λ c. search needs)
+    (λ c. search needs)
+    (λ c κs. search needs)
     returns
-    state-of-requires-2
+    (λ c κs. search needs)
     returns-2)

@@ -1,4 +1,4 @@
--- `tat::spaces_hold` meets its contract: its two tests are the contract's own. Assumes nothing.
+-- `tat::spaces_hold` meets its contract: its two tests are the contract's own.
 use borrow.Author.Tests.{le-leb, lt-leb}
 use Rattle.tat.proofs.spaces_hold.Statement.{statement}
 use Rattle.tat.proofs.spaces_hold.Tie as tie

@@ -1,5 +1,4 @@
 -- `tat::stored_fits` meets its contract: not started, nothing is read; started, its two tests are the definition's own.
--- Assumes nothing.
 use borrow.Author.Tests.{lt-ltb, le-ltb, not-true, not-false}
 use Rattle.meaning.specs.Numbers.{slotNumbers}
 use Rattle.tat.specs.Schedule.{tooLate, storedFits}

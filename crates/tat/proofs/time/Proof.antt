@@ -1,5 +1,4 @@
 -- `tat::time` meets its contract: a refusal leaves all as it came; a first cell is on time; a later one is judged by TAT.
--- Assumes nothing.
 use mathlib.Core.Path.{_≡_, sym, ap, _∙_}
 use native.Mathlib.Omega.{arith}
 use borrow.Author.Needs.{needs}
@@ -21,9 +20,6 @@ good : (c : tie.Else1)
     → let a = c .before .before .args in Good (a .tat) (a .n) (a .m) (a .f) (a .c) (a .arrival)
 good c = let a = c .before .before .args in good-is (a .tat) (a .n) (a .m) (a .f) (a .c) (a .arrival) (none c)
 
-refusal-of-requires : tie.Need-refusal-of-requires
-refusal-of-requires c κs = search needs
-
 returns : tie.Need-returns
 returns c =
     let a = c .before .before .args in
@@ -35,9 +31,6 @@ unfolding slotNumbers
 parts-of-requires c κs =
     let a = c .before .before .args in
     (good c .run, rules-facts (a .n) (bucketOf (a .m) (a .f) (a .c) 0) (good c .rules) .m-low)
-
-state-of-requires : tie.Need-state-of-requires
-state-of-requires c κs = search needs
 
 judge-requires : tie.Need-judge-requires
 judge-requires c κs =
@@ -82,10 +75,10 @@ pub time-spec : {M : Type 1} → statement M
 time-spec =
     tie.close
     (tie.spec
-    refusal-of-requires
+    (λ c κs. search needs)
     returns
     parts-of-requires
-    state-of-requires
+    (λ c κs. search needs)
     judge-requires
     returns-2
     judge-requires-2

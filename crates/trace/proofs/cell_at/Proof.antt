@@ -1,27 +1,17 @@
 -- `cell_at`: a CA names where its 53 octets start, and is refused where they do not all stand.
--- Assumes nothing.
 use Rattle.trace.specs.Trace.{cellAt}
 use Rattle.trace.proofs.Cases.{whole-read, whole-short}
 use borrow.Author.Needs.{needs}
 use Rattle.trace.proofs.cell_at.Statement.{statement}
 use Rattle.trace.proofs.cell_at.Tie as tie
 
-sub-if1 : tie.Need-sub-if1
-sub-if1 c = search needs
-
 returns : tie.Need-returns
 unfolding cellAt
 returns c = whole-short _ _ _ _ (search needs)
-
-add-t3 : tie.Need-add-t3
-add-t3 c = search needs
-
-add-t4 : tie.Need-add-t4
-add-t4 c = search needs
 
 returns-2 : tie.Need-returns-2
 unfolding cellAt
 returns-2 c = whole-read _ _ _ _ (search needs) (search needs)
 
 pub cell-at-spec : {M : Type 1} → statement M
-cell-at-spec = tie.close (tie.spec sub-if1 returns add-t3 add-t4 returns-2)
+cell-at-spec = tie.close (tie.spec (λ c. search needs) returns (λ c. search needs) (λ c. search needs) returns-2)

@@ -1,5 +1,4 @@
 -- `event_at`: the place tells the end and what lies past it; where a mark stands, it tells the record.
--- Assumes nothing.
 use Rattle.trace.proofs.Cases.{stands-empty, stands-end, stands-short, stands-first, stands-later}
 use borrow.Author.Needs.{needs}
 use Rattle.trace.proofs.event_at.Statement.{statement}
@@ -17,17 +16,8 @@ returns-3 c = stands-short _ _ (search needs) (search needs)
 returns-4 : tie.Need-returns-4
 returns-4 c = stands-short _ _ (search needs) (search needs)
 
-u16-at-requires : tie.Need-u16-at-requires
-u16-at-requires c κs = search needs
-
-first-at-requires : tie.Need-first-at-requires
-first-at-requires c κs = search needs
-
 returns-5 : tie.Need-returns-5
 returns-5 c = stands-first _ _ (search needs) (search needs) (c .before .before .u16-at .ensures) (search needs) (search needs)
-
-later-at-requires : tie.Need-later-at-requires
-later-at-requires c κs = search needs
 
 returns-6 : tie.Need-returns-6
 returns-6 c = stands-later _ _ (search needs) (search needs) (c .before .before .u16-at .ensures) (search needs) (search needs)
@@ -40,8 +30,8 @@ event-at-spec =
     returns-2
     returns-3
     returns-4
-    u16-at-requires
-    first-at-requires
+    (λ c κs. search needs)
+    (λ c κs. search needs)
     returns-5
-    later-at-requires
+    (λ c κs. search needs)
     returns-6)

@@ -1,18 +1,11 @@
 -- `first_at`: at place 0 a GM is read, and a GR as a raw one; any other mark is refused.
--- Assumes nothing.
 use Rattle.trace.proofs.Cases.{first-gm, first-gr, first-other}
 use borrow.Author.Needs.{needs}
 use Rattle.trace.proofs.first_at.Statement.{statement}
 use Rattle.trace.proofs.first_at.Tie as tie
 
-setup-at-requires : tie.Need-setup-at-requires
-setup-at-requires c κs = search needs
-
 returns : tie.Need-returns
 returns c = first-gm _ _ _ (search needs) (search needs)
-
-setup-at-requires-2 : tie.Need-setup-at-requires-2
-setup-at-requires-2 c κs = search needs
 
 returns-2 : tie.Need-returns-2
 returns-2 c = first-gr _ _ _ (search needs) (search needs) (search needs)
@@ -21,4 +14,4 @@ returns-3 : tie.Need-returns-3
 returns-3 c = first-other _ _ _ (search needs) (search needs)
 
 pub first-at-spec : {M : Type 1} → statement M
-first-at-spec = tie.close (tie.spec setup-at-requires returns setup-at-requires-2 returns-2 returns-3)
+first-at-spec = tie.close (tie.spec (λ c κs. search needs) returns (λ c κs. search needs) returns-2 returns-3)

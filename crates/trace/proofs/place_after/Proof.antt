@@ -1,5 +1,4 @@
 -- `place_after`: of the three answers only a record leads on; the tag tells which it is.
--- Assumes nothing.
 use Prim.Native.Nat.{ℕ}
 use mathlib.Core.Path.{_≡_, refl}
 use mathlib.Core.Logic.{_⊎_, ⊎-elim}
@@ -19,9 +18,6 @@ stays (Read e next) at h = ⊎-elim (λ t. omega arith) (λ t. omega arith) h
 stays End at h = refl
 stays (Unreadable place) at h = refl
 
-enum-known-found : tie.Need-enum-known-found
-enum-known-found c = search needs
-
 returns : tie.Need-returns
 returns c = stays (c .before .args .found) (c .before .args .at) (c .match .keys2)
 
@@ -29,4 +25,4 @@ returns-2 : tie.Need-returns-2
 returns-2 c = search needs
 
 pub place-after-spec : {M : Type 1} → statement M
-place-after-spec = tie.close (tie.spec enum-known-found returns returns-2)
+place-after-spec = tie.close (tie.spec (λ c. search needs) returns (λ c. search needs))

@@ -1,5 +1,4 @@
 -- `slot::after` meets its contract: a number below n, and one more, needs at most one reset.
--- Assumes nothing.
 use mathlib.Core.Path.{sym, _∙_, ap}
 use native.Mathlib.Omega.{arith}
 use native.Mathlib.Nat.{mod-self, mod-eq-of-lt}

@@ -1,5 +1,4 @@
 -- `unchecked::clock` meets its contract: step 1.
--- Assumes nothing.
 use mathlib.Core.Path.{_∙_}
 use Rattle.meaning.specs.Numbers.{slotNumbers}
 use Rattle.plan.specs.Plan.{clocked}

@@ -1,5 +1,4 @@
 -- `slot::shape` meets its contract: each refusal in its order.
--- Assumes nothing.
 use mathlib.Core.Path.{sym}
 use borrow.Author.Tests.{eq-eqb, ne-eqb}
 use Rattle.unchecked.specs.Slot.{shapeOf}

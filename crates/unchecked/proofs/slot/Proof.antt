@@ -1,5 +1,4 @@
 -- `unchecked::slot` meets its promise: refusals 1, 2 and 9, then the clock, then steps 2 to 5.
--- Assumes nothing.
 use mathlib.Core.Path.{sym, _∙_, ap}
 use denote.Ref.{now}
 use Rattle.meaning.specs.State.{stateOf}

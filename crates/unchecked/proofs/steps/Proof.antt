@@ -1,5 +1,4 @@
 -- `slot::steps` meets its contract: steps 2 and 3 are judged on the words as they came, then the case writes.
--- Assumes nothing.
 use mathlib.Core.Path.{sym, _∙_, ap}
 use native.Mathlib.Omega.{arith}
 use denote.Ref.{now}

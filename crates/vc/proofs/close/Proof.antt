@@ -1,5 +1,4 @@
 -- `vc::close` meets its contract: the refusals in their order, and where none is given seven words of 0.
--- Assumes nothing.
 use mathlib.Core.Path.{_≡_, sym, _∙_, ap}
 use mathlib.Core.List.{List}
 use Prim.Native.Nat.{ℕ, _+_, _*_, _≤_}

@@ -1,5 +1,4 @@
 -- `vc::debt_of` meets its contract: the update of the bucket, over the three words read.
--- Assumes nothing.
 use Rattle.meaning.specs.Bucket.{fall}
 use Rattle.meaning.specs.Words.{vcAt, debt}
 use borrow.Author.Needs.{needs}

@@ -1,5 +1,4 @@
 -- `vc::names_vc` meets its contract: its two tests are the contract's own.
--- Assumes nothing.
 use borrow.Author.Tests.{le-leb, lt-leb}
 use Rattle.vc.proofs.names_vc.Statement.{statement}
 use Rattle.vc.proofs.names_vc.Tie as tie

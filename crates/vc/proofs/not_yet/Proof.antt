@@ -1,5 +1,4 @@
 -- `vc::not_yet` meets its contract: 8 where a cell waits or a debt is left, else 0.
--- Assumes nothing.
 use Rattle.meaning.specs.Words.{vcAt}
 use borrow.Author.Needs.{needs}
 use Rattle.vc.proofs.not_yet.Statement.{statement}

@@ -1,5 +1,4 @@
 -- `vc::open` meets its contract: the refusals in their order, and where none is given the words of an opened VC.
--- Assumes nothing.
 use mathlib.Core.Path.{_≡_, sym, _∙_, ap}
 use mathlib.Core.List.{List}
 use Prim.Native.Nat.{ℕ, _+_, _*_, _≤_}

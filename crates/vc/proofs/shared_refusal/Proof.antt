@@ -1,5 +1,4 @@
 -- `vc::shared_refusal` meets its contract: the first of 1, 2 and 4, and where none is given the VC's words are judged.
--- Assumes nothing.
 use mathlib.Core.Path.{_≡_, sym, _∙_}
 use Rattle.meaning.specs.State.{wordsLong}
 use Rattle.vc.proofs.Order.{earlyRefusal, shared-early, shared-late, early-lent}

@@ -1,5 +1,4 @@
 -- `walks::entries` walks the time slot queues: what remains of the entries is the whole of them, at each turn.
--- Assumes nothing.
 use mathlib.Core.Path.{_≡_, refl, _∙_}
 use Prim.Native.Nat.{_≤_, _<_, _-_}
 use lib.ListN.{length}

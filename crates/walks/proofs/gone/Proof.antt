@@ -1,5 +1,4 @@
 -- `walks::gone` finds whether a budget is all 0: the numbers before i are, at each turn.
--- Assumes nothing.
 use mathlib.Core.Path.{_≡_, refl}
 use denote.Ref.{now}
 use Prim.Native.Nat.{ℕ, _≤_, _<_, _-_}

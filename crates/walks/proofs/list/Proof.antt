@@ -1,5 +1,4 @@
 -- `walks::list` walks a list by its head and tail: an empty one by both, any other by its chain.
--- Assumes nothing.
 use mathlib.Core.Path.{_∙_}
 use Rattle.walks.proofs.ListLaws.{list-empty, list-some}
 use borrow.Author.Needs.{needs}

@@ -1,5 +1,4 @@
 -- `walks::lists` walks the Free List, the Output List and the queues, and stops as `listsOf` does.
--- Assumes nothing.
 use mathlib.Core.Path.{_∙_}
 use Rattle.walks.specs.Walk.{walked}
 use Rattle.walks.proofs.StoredLaws.{lists-free, lists-output, lists-on}

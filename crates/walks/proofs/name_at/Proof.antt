@@ -1,5 +1,4 @@
 -- `walks::name_at` reads the header of a space: the four octets are those of `headerAt`.
--- Assumes nothing.
 use mathlib.Core.Path.{_∙_}
 use Rattle.walks.proofs.NameRead.{name-read, name-read-bad}
 use borrow.Author.Needs.{needs}

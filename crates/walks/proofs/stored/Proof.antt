@@ -1,5 +1,4 @@
 -- `walks::stored` says whether all lists together use both budgets up: at each return by the law of what the walks leave.
--- Assumes nothing.
 use mathlib.Core.Path.{sym, ap, _∙_}
 use Rattle.walks.specs.Walk.{Walked, walked}
 use Rattle.walks.proofs.Choice.{false-true}

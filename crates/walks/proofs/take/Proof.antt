@@ -1,5 +1,4 @@
 -- `walks::take` takes one off a budget: the three ways through it are the three laws of one taking.
--- Assumes nothing.
 use denote.Ref.{now}
 use Rattle.walks.proofs.BudgetLaws.{take-yes, take-none, take-past}
 use borrow.Author.Needs.{needs}

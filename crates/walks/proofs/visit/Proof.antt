@@ -1,5 +1,4 @@
 -- `walks::visit` takes the named VC off the cells' budget in a queue, and nothing otherwise.
--- Assumes nothing.
 use mathlib.Core.Path.{refl}
 use Rattle.walks.specs.Walk.{mayWait, lessWait}
 use borrow.Author.Needs.{needs}

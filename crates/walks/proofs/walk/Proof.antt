@@ -1,5 +1,4 @@
 -- `walks::walk` walks a chain: what remains of the walk is the whole of it, at each turn, and the spaces' budget falls.
--- Assumes nothing.
 use mathlib.Core.Path.{_≡_, refl, _∙_}
 use Prim.Native.Nat.{_<_}
 use lib.ListN.{length}

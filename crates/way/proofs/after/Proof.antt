@@ -1,5 +1,4 @@
 -- `way::after` meets its contract: one more needs at most one reset.
--- Assumes nothing.
 use mathlib.Core.Path.{sym, _∙_, ap}
 use native.Mathlib.Omega.{arith}
 use native.Mathlib.Nat.{mod-self, mod-eq-of-lt}
@@ -8,9 +7,6 @@ use borrow.Author.Needs.{needs}
 use Rattle.way.proofs.after.Statement.{statement}
 use Rattle.way.proofs.after.Tie as tie
 
-add-y : tie.Need-add-y
-add-y c = search needs
-
 returns : tie.Need-returns
 returns c = sym (ap (λ (m : ℕ). m % c .before .args .n) (c .if1 .taken) ∙ mod-self (c .before .args .n))
 
@@ -18,4 +14,4 @@ returns-2 : tie.Need-returns-2
 returns-2 c = sym (mod-eq-of-lt {n = c .before .args .x + 1} {m = c .before .args .n} (omega arith))
 
 pub after-spec : {M : Type 1} → statement M
-after-spec = tie.close (tie.spec add-y returns returns-2)
+after-spec = tie.close (tie.spec (λ c. search needs) returns returns-2)

@@ -1,16 +1,9 @@
 -- `way::one_back` meets its contract: one less, or the last.
--- Assumes nothing.
 use native.Mathlib.Omega.{arith}
 use borrow.Author.Tests.{eq-eqb, ne-eqb}
 use borrow.Author.Needs.{needs}
 use Rattle.way.proofs.one_back.Statement.{statement}
 use Rattle.way.proofs.one_back.Tie as tie
-
-sub-result : tie.Need-sub-result
-sub-result c = search needs
-
-sub-result-2 : tie.Need-sub-result-2
-sub-result-2 c = search needs
 
 returns : tie.Need-returns
 returns c = (simp (eq-eqb _ _ (c .if1 .taken)), omega arith)
@@ -19,4 +12,4 @@ returns-2 : tie.Need-returns-2
 returns-2 c = (simp (ne-eqb _ _ (c .if1 .left)), omega arith)
 
 pub one-back-spec : {M : Type 1} → statement M
-one-back-spec = tie.close (tie.spec sub-result sub-result-2 returns returns-2)
+one-back-spec = tie.close (tie.spec (λ c. search needs) (λ c. search needs) returns returns-2)

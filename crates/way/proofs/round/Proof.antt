@@ -1,5 +1,4 @@
 -- `way::round` meets its contract: n stands for 0.
--- Assumes nothing.
 use borrow.Author.Tests.{eq-eqb, ne-eqb}
 use Rattle.way.proofs.round.Statement.{statement}
 use Rattle.way.proofs.round.Tie as tie

@@ -1,16 +1,13 @@
--- `hec::syndromes::wrong_bit` meets its contract: its table is that of `specs/WrongBit.antt`, whose rule is proved. Assumes nothing.
+-- `hec::syndromes::wrong_bit` meets its contract: its table is that of `specs/WrongBit.antt`, whose rule is proved.
 use borrow.Author.Needs.{needs}
 use Rattle.hec.specs.WrongBit.{wrongBits}
 use Rattle.hec.proofs.TableRule.{table-rule}
 use Rattle.hec.proofs.syndromes.wrong_bit.Statement.{statement}
 use Rattle.hec.proofs.syndromes.wrong_bit.Tie as tie
 
-array-read-result : tie.Need-array-read-result
-array-read-result c = search needs
-
 returns : tie.Need-returns
 unfolding wrongBits
 returns c = table-rule (c .args .syndrome) (search needs)
 
 pub wrong-bit-spec : {M : Type 1} → statement M
-wrong-bit-spec = tie.close (tie.spec array-read-result returns)
+wrong-bit-spec = tie.close (tie.spec (λ c. search needs) returns)
