@@ -110,7 +110,9 @@ fn piece(
 // Pieces from a place on, as long as both buffers have room for the next, be it a record or a line.
 fn pieces(trace: &[u8], total: usize, at: usize, out: &mut [u8], text: &mut [u8]) -> Filled
     ensures { λ r. ⌜ r .number ≡ 0 ⌝ }
-    ensures { λ r. ⌜ Took (now (trace .entry)) at (fillOf (now (trace .entry)) total at (length (now (out .entry))) (length (now (text .entry)))) (now (out .entry)) (now (text .entry)) r (now (out .exit)) (now (text .exit)) ⌝ }
+    ensures { λ r. ⌜ Took (now (trace .entry)) at
+        (fillOf (now (trace .entry)) total at (length (now (out .entry))) (length (now (text .entry))))
+        (now (out .entry)) (now (text .entry)) r (now (out .exit)) (now (text .exit)) ⌝ }
 {
     let mut now = at;
     let mut written = 0usize;

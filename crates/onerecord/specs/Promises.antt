@@ -1,5 +1,5 @@
 -- What the writer of a record promises: its number, the next place, and every octet of the output, for every output, place
--- and record. proofs/Once.antt: two results of a promise coincide.
+-- and record, each by an equation.
 use Prim.Native.Nat.{ℕ, _+_}
 use mathlib.Core.Path.{_≡_}
 use mathlib.Core.List.{List}
