@@ -1,0 +1,5 @@
+pub mod OctetLaws
+pub mod HexLaws
+pub mod ShapeLaws
+pub mod FieldLaws
+pub mod LineLaws
