@@ -1,0 +1,3 @@
+pub mod Fewest
+pub mod Merge
+pub mod Settled

@@ -1,0 +1,4 @@
+pub mod Fewest
+pub mod Settled
+pub mod Reading
+pub mod Flow
