@@ -1,5 +1,5 @@
 -- Document 01, "Judging the promises": demand 3 of another policer's events. "One that stores and never sends is shut out by
--- 2 and 3; discarding everything would meet 3 alone, so 3 is stated over 2's rules."
+-- demands 2 and 3; discarding everything would meet 3 alone, so 3 is stated over 2's rules."
 --
 --   callsBy f r cs   == the run r, and then the calls cs, where f serves the slots; open and close are as they are
 --   OnEvents N h     == the clauses of demand 3 that speak of the events alone, as they stand in promises/specs/Demand3
