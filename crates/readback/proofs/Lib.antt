@@ -1,3 +1,5 @@
 pub mod Fewest
 pub mod Merge
 pub mod Settled
+pub mod Records
+pub mod Trip
