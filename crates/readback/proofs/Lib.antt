@@ -3,3 +3,4 @@ pub mod Merge
 pub mod Settled
 pub mod Records
 pub mod Trip
+pub mod Streams
