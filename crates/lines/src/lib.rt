@@ -77,7 +77,7 @@ fn digits(out: &mut [u8], at: usize, n: u32) -> usize
 }
 
 // A number and the octet after it.
-fn number(out: &mut [u8], at: usize, n: u32, after: u8) -> usize
+pub fn number(out: &mut [u8], at: usize, n: u32, after: u8) -> usize
     requires { ⌜ at + 13 ≤ length (now out) ⌝ }
     ensures { λ r. ⌜ Put (now (out .entry)) at (decimalOf n ++ (after ∷ [])) (now (out .exit)) r ⌝ }
     ensures { λ r. ⌜ r ≤ at + 13 ⌝ }
