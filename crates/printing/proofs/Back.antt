@@ -1,5 +1,5 @@
 -- A printed line, read by the grammar of texts, says the very record that it was printed from: field after field, each is
--- read back and put behind the octets before it. Assumes nothing.
+-- read back and put behind the octets before it.
 use Prim.Native.Nat.{ℕ, _+_, _≤_, _<_}
 use mathlib.Core.Path.{_≡_, refl, sym, ap, _∙_}
 use mathlib.Core.Bool.{Bool, true, false}

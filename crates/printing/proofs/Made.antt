@@ -1,4 +1,4 @@
--- What a fill has made so far, and that a place without a record ends it. Assumes nothing.
+-- What a fill has made so far, and that a place without a record ends it.
 use Prim.Native.Nat.{ℕ, _+_, _≤_}
 use mathlib.Core.Path.{_≡_, refl, sym, subst}
 use mathlib.Core.Logic.{_⊎_, inl, inr}

@@ -1,5 +1,5 @@
 -- A number that was printed is the number that is read, and so are hex digits: digit by digit from the left, each is worth
--- what the parser makes of it. Assumes nothing.
+-- what the parser makes of it.
 use Prim.Native.Nat.{ℕ, zero, suc, _+_, _-_, _*_, _/_, _%_, _^_, _≤_, _<_}
 use mathlib.Core.Path.{_≡_, refl, sym, ap, _∙_}
 use mathlib.Core.Bool.{Bool, true, false, _&&_}

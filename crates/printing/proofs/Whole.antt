@@ -1,5 +1,5 @@
 -- Fills one after the other make the text of the whole trace: each puts the lines of the next records, and where no record
--- stands there is nothing more to put. Assumes nothing.
+-- stands there is nothing more to put.
 use Prim.Native.Nat.{ℕ, zero, suc, _+_, _≤_, _<_}
 use mathlib.Core.Path.{_≡_, refl, sym, ap, _∙_}
 use mathlib.Core.List.{List, [], _∷_, _++_, append-assoc, append-nil}

@@ -1,5 +1,4 @@
 -- A cell that the reader finds lies within the trace, and a record leads on: both are in what every answer of it fits.
--- Assumes nothing.
 use Prim.Native.Nat.{ℕ, _+_, _≤_, _<_}
 use mathlib.Core.Path.{_≡_, subst}
 use mathlib.Core.List.{List}

@@ -1,5 +1,4 @@
 -- Each line part by part, in the order in which the functions put the parts; and hex digits, octet after octet.
--- Assumes nothing.
 use mathlib.Core.Path.{_≡_, refl, sym, ap, _∙_}
 use mathlib.Core.Bool.{Bool}
 use mathlib.Core.List.{List, [], _∷_, _++_, append-assoc}

@@ -1,5 +1,5 @@
 -- As few as possible: k records hold at most 65,535 × k slots, and a pause of n slots is written in n / 65,535 records,
--- rounded up. Assumes nothing.
+-- rounded up.
 use Prim.Native.Nat.{ℕ, zero, suc, _+_, _*_, _/_, _%_, _≤_}
 use mathlib.Core.Path.{_≡_, refl, sym, ap, _∙_}
 use mathlib.Core.Bool.{Bool, true, false}

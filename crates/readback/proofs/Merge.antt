@@ -1,5 +1,5 @@
 -- Merging a pause into events, and the octets that come of it: full records may be written as soon as they are full, and
--- only the rest, below 65,535, is kept for what follows. Assumes nothing.
+-- only the rest, below 65,535, is kept for what follows.
 use Prim.Native.Nat.{ℕ, zero, suc, _+_, _*_, _/_, _%_, _≤_, _<_}
 use mathlib.Core.Path.{_≡_, refl, sym, ap, _∙_}
 use mathlib.Core.List.{List, [], _∷_, _++_, append-assoc, append-nil}

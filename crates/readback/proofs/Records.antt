@@ -1,5 +1,5 @@
 -- The octets of a record that the reader found are those that stand in the trace from its place to the next: its numbers,
--- written high octet first, are the octets that they were read from. Assumes nothing.
+-- written high octet first, are the octets that they were read from.
 use Prim.Native.Nat.{ℕ, zero, suc, _+_, _*_, _/_, _%_, _≤_, _<_}
 use mathlib.Core.Path.{_≡_, refl, sym, ap, _∙_}
 use mathlib.Core.Bool.{Bool, true, false, _&&_}

@@ -1,5 +1,5 @@
 -- The round trip on events: merging the pauses that were read changes no octet exactly when each SL directly followed by an
--- SL is full. Where one isn't, the record written there holds more slots than the one that was read. Assumes nothing.
+-- SL is full. Where one isn't, the record written there holds more slots than the one that was read.
 use Prim.Native.Nat.{ℕ, zero, suc, _+_, _-_, _*_, _/_, _%_, _≤_, _<_, min}
 use mathlib.Core.Path.{_≡_, refl, sym, ap, _∙_}
 use mathlib.Core.List.{List, [], _∷_, _++_, append-assoc, append-nil}

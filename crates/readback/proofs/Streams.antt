@@ -1,5 +1,5 @@
 -- Written line by line, a text comes to the octets of its merged events: what is carried from line to line is the rest of
--- a pause, and full records are never taken back. Assumes nothing.
+-- a pause, and full records are never taken back.
 use Prim.Native.Nat.{ℕ, zero, suc, _+_, _*_, _/_, _%_, _≤_, _<_}
 use mathlib.Core.Path.{_≡_, refl, sym, ap, _∙_}
 use mathlib.Core.Bool.{Bool, true, false, _&&_}

@@ -1,5 +1,5 @@
 -- Writing what was read: of a trace that is readable throughout, the octets of its events are the trace, and merging keeps
--- them exactly when each SL directly followed by an SL is full. Assumes nothing.
+-- them exactly when each SL directly followed by an SL is full.
 use Prim.Native.Nat.{ℕ, zero, suc, _+_, _≤_, _<_}
 use mathlib.Core.Path.{_≡_, refl, sym, ap, _∙_}
 use mathlib.Core.List.{List, [], _∷_, _++_}

@@ -1,4 +1,4 @@
--- The fields of a line, one field further. Assumes nothing.
+-- The fields of a line, one field further.
 use Prim.Native.Nat.{ℕ, zero, suc, _+_, _-_, _*_, _/_, _%_, _≤_, _<_}
 use mathlib.Core.Path.{_≡_, refl, sym, ap, _∙_, subst}
 use mathlib.Core.Bool.{Bool, true, false}

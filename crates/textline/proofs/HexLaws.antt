@@ -1,4 +1,4 @@
--- Hex digits and the octets that they make, one octet further; and octets put behind others. Assumes nothing.
+-- Hex digits and the octets that they make, one octet further; and octets put behind others.
 use Prim.Native.Nat.{ℕ, zero, suc, _+_, _-_, _*_, _/_, _%_, _≤_, _<_}
 use mathlib.Core.Path.{_≡_, refl, sym, ap, _∙_}
 use mathlib.Core.Bool.{Bool, true, false}

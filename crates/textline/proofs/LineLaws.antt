@@ -1,4 +1,4 @@
--- A line by its mark: no shape is no line, a count of slots, or fields behind the mark. Assumes nothing.
+-- A line by its mark: no shape is no line, a count of slots, or fields behind the mark.
 use Prim.Native.Nat.{ℕ, zero, suc, _+_, _-_, _*_, _/_, _%_, _≤_, _<_}
 use mathlib.Core.Path.{_≡_, refl, sym, ap, _∙_}
 use mathlib.Core.Bool.{Bool, true, false}

@@ -1,5 +1,4 @@
 -- The grammar's readings, one octet further: what stands at a place of a text is the first octet of what is left there.
--- Assumes nothing.
 use Prim.Native.Nat.{ℕ, zero, suc, _+_, _-_, _*_, _≤_, _<_}
 use mathlib.Core.Path.{_≡_, refl, sym, ap, _∙_}
 use mathlib.Core.Bool.{Bool, true, false}

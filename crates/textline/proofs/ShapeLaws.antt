@@ -1,4 +1,4 @@
--- The shapes of marks and the fields of a shape's number, case by case. Assumes nothing.
+-- The shapes of marks and the fields of a shape's number, case by case.
 use Prim.Native.Nat.{ℕ, zero, suc, _+_, _-_, _*_, _/_, _%_, _≤_, _<_}
 use mathlib.Core.Path.{_≡_, refl, sym, ap, _∙_}
 use mathlib.Core.Bool.{Bool, true, false}

@@ -1,5 +1,4 @@
 -- `printing::cell_text` puts the line of a CA: its mark, the hex digits, the line feed.
--- Assumes nothing.
 use native.Mathlib.Omega.{arith}
 use Rattle.lines.proofs.Puts.{put-is, put-then}
 use Rattle.printing.proofs.Words.{cell-words}
@@ -7,21 +6,9 @@ use borrow.Author.Needs.{needs}
 use Rattle.printing.proofs.cell_text.Statement.{statement}
 use Rattle.printing.proofs.cell_text.Tie as tie
 
-mark-requires : tie.Need-mark-requires
-mark-requires c κs = search needs
-
-hexes-requires : tie.Need-hexes-requires
-hexes-requires c κs = search needs
-
-feed-requires : tie.Need-feed-requires
-feed-requires c κs = search needs
-
-same-length : tie.Need-same-length
-same-length c = search needs
-
 returns : tie.Need-returns
 returns c = (put-is (cell-words _ _) (put-then (put-then (c .before .before .before .before .before .before .before .before .before .before .mark .ensures) (c .before .before .before .before .before .before .hexes .ensures .0)) (c .before .before .feed .ensures)), omega (arith, c .before .before .before .before .before .before .before .before .before .before .mark .ensures .next, c .before .before .before .before .before .before .hexes .ensures .1, c .before .before .feed .ensures .next))
 
 pub cell-text-spec : {M : Type 1} → statement M
 cell-text-spec =
-    tie.close (tie.spec mark-requires hexes-requires feed-requires same-length returns)
+    tie.close (tie.spec (λ c κs. search needs) (λ c κs. search needs) (λ c κs. search needs) (λ c. search needs) returns)

@@ -1,20 +1,10 @@
 -- `printing::close_text` puts the line of a VX: its mark, then a number.
--- Assumes nothing.
 use borrow.Author.Needs.{needs}
 use native.Mathlib.Omega.{arith}
 use Rattle.lines.proofs.Puts.{put-is, put-then}
 use Rattle.printing.proofs.Words.{close-words}
 use Rattle.printing.proofs.close_text.Statement.{statement}
 use Rattle.printing.proofs.close_text.Tie as tie
-
-mark-requires : tie.Need-mark-requires
-mark-requires c κs = search needs
-
-number-requires : tie.Need-number-requires
-number-requires c κs = search needs
-
-same-length : tie.Need-same-length
-same-length c = search needs
 
 returns : tie.Need-returns
 returns c = (λ trace. put-is (close-words trace _) (put-then (c .before .before .before .before .before .before .mark .ensures) (c .before .before .number .ensures .0)), omega (arith, c .before .before .before .before .before .before .mark .ensures .next, c .before .before .number .ensures .1))
@@ -23,7 +13,7 @@ pub close-text-spec : {M : Type 1} → statement M
 close-text-spec =
     tie.close
     (tie.spec
-    mark-requires
-    number-requires
-    same-length
+    (λ c κs. search needs)
+    (λ c κs. search needs)
+    (λ c. search needs)
     returns)

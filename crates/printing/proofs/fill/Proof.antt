@@ -1,5 +1,4 @@
 -- `printing::fill` puts line after line: the invariant is what it has made so far, the measure what is left of the trace.
--- Assumes nothing.
 use borrow.Author.Needs.{needs}
 use native.Mathlib.Omega.{arith}
 use Prim.Native.Nat.{ℕ, _-_}

@@ -1,5 +1,4 @@
 -- `printing::hexes` puts the octets of a cell one by one: after i turns the first i stand there in hex.
--- Assumes nothing.
 use borrow.Author.Needs.{needs}
 use Prim.Native.Nat.{ℕ, _+_, _-_, _≤_, _<_}
 use mathlib.Core.Path.{_≡_, refl, ap}

@@ -1,29 +1,10 @@
 -- `printing::open_text` puts the line of a VO: its mark, then four numbers.
--- Assumes nothing.
 use borrow.Author.Needs.{needs}
 use native.Mathlib.Omega.{arith}
 use Rattle.lines.proofs.Puts.{put-is, put-then}
 use Rattle.printing.proofs.Words.{open-words}
 use Rattle.printing.proofs.open_text.Statement.{statement}
 use Rattle.printing.proofs.open_text.Tie as tie
-
-mark-requires : tie.Need-mark-requires
-mark-requires c κs = search needs
-
-number-requires : tie.Need-number-requires
-number-requires c κs = search needs
-
-number-requires-2 : tie.Need-number-requires-2
-number-requires-2 c κs = search needs
-
-number-requires-3 : tie.Need-number-requires-3
-number-requires-3 c κs = search needs
-
-number-requires-4 : tie.Need-number-requires-4
-number-requires-4 c κs = search needs
-
-same-length : tie.Need-same-length
-same-length c = search needs
 
 returns : tie.Need-returns
 returns c = (λ trace. put-is (open-words trace _ _ _ _) (put-then (put-then (put-then (put-then (c .before .before .before .before .before .before .before .before .before .before .before .before .before .before .before .before .before .before .mark .ensures) (c .before .before .before .before .before .before .before .before .before .before .before .before .before .before .number .ensures .0)) (c .before .before .before .before .before .before .before .before .before .before .number2 .ensures .0)) (c .before .before .before .before .before .before .number3 .ensures .0)) (c .before .before .number4 .ensures .0)), omega (arith, c .before .before .before .before .before .before .before .before .before .before .before .before .before .before .before .before .before .before .mark .ensures .next, c .before .before .before .before .before .before .before .before .before .before .before .before .before .before .number .ensures .1, c .before .before .before .before .before .before .before .before .before .before .number2 .ensures .1, c .before .before .before .before .before .before .number3 .ensures .1, c .before .before .number4 .ensures .1))
@@ -32,10 +13,10 @@ pub open-text-spec : {M : Type 1} → statement M
 open-text-spec =
     tie.close
     (tie.spec
-    mark-requires
-    number-requires
-    number-requires-2
-    number-requires-3
-    number-requires-4
-    same-length
+    (λ c κs. search needs)
+    (λ c κs. search needs)
+    (λ c κs. search needs)
+    (λ c κs. search needs)
+    (λ c κs. search needs)
+    (λ c. search needs)
     returns)

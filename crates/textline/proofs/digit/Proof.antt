@@ -1,4 +1,4 @@
--- `digit`: an octet from 48 to 57 is a digit, any other is none. Assumes nothing.
+-- `digit`: an octet from 48 to 57 is a digit, any other is none.
 use Rattle.textline.proofs.OctetLaws.{digit-low, digit-high, digit-is}
 use borrow.Author.Needs.{needs}
 use Rattle.textline.proofs.digit.Statement.{statement}

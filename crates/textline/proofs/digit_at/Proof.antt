@@ -1,4 +1,4 @@
--- `digit_at`: behind the end there is no digit; elsewhere the octet at the place tells. Assumes nothing.
+-- `digit_at`: behind the end there is no digit; elsewhere the octet at the place tells.
 use mathlib.Core.Path.{_≡_, refl, sym, ap, _∙_}
 use Rattle.writing.specs.Grammar.{digitOf}
 use Rattle.textline.proofs.OctetLaws.{digit-end, digit-here}
@@ -9,17 +9,8 @@ use Rattle.textline.proofs.digit_at.Tie as tie
 returns : tie.Need-returns
 returns c = let a = c .before .before .args in (digit-end (a .text .now) (a .p) (search needs), search needs)
 
-shared-slice-read-wide : tie.Need-shared-slice-read-wide
-shared-slice-read-wide c = search needs
-
-wide-requires : tie.Need-wide-requires
-wide-requires c κs = search needs
-
-digit-requires : tie.Need-digit-requires
-digit-requires c κs = search needs
-
 returns-2 : tie.Need-returns-2
 returns-2 c = let a = c .before .before .before .before .before .args in (digit-here (a .text .now) (a .p) (search needs) (c .digit .ensures .0 ∙ ap digitOf (c .before .wide .ensures .0)), c .digit .ensures .1)
 
 pub digit-at-spec : {M : Type 1} → statement M
-digit-at-spec = tie.close (tie.spec returns shared-slice-read-wide wide-requires digit-requires returns-2)
+digit-at-spec = tie.close (tie.spec returns (λ c. search needs) (λ c κs. search needs) (λ c κs. search needs) returns-2)

@@ -1,5 +1,4 @@
 -- `digits_from`: the digits from the value so far on are those from the start on; a value above its bound stays above it.
--- Assumes nothing.
 use Prim.Native.Nat.{_-_, _≤_}
 use mathlib.Core.Path.{_≡_, refl, sym, ap, _∙_}
 use native.Mathlib.Omega.{arith}

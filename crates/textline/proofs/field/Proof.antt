@@ -1,4 +1,4 @@
--- `field`: the digit of a shape names the field. Assumes nothing.
+-- `field`: the digit of a shape names the field.
 use mathlib.Core.Path.{_≡_, refl, sym, ap, _∙_}
 use native.Mathlib.Omega.{arith}
 use Rattle.writing.specs.Shapes.{wide}
@@ -12,17 +12,11 @@ use Rattle.textline.proofs.field.Tie as tie
 field8-requires : tie.Need-field8-requires
 field8-requires c κs = let k = ap wide (kind-8 (c .before .before .before .before .args .kind) (search needs)) in omega (arith, k)
 
-same-length : tie.Need-same-length
-same-length c = search needs
-
 returns : tie.Need-returns
 returns c = let a = c .before .before .before .before .before .before .before .args in let f = c .before .before .field8 in (field-named (a .text .now) (a .rec .now) (f .last .1 .1 .0) (a .p) (a .at) (f .result) (kind-8 (a .kind) (search needs)) (f .ensures .0), f .ensures .1)
 
 field16-requires : tie.Need-field16-requires
 field16-requires c κs = let k = ap wide (kind-16 (c .before .before .before .before .before .args .kind) (search needs) (search needs)) in omega (arith, k)
-
-same-length-2 : tie.Need-same-length-2
-same-length-2 c = search needs
 
 returns-2 : tie.Need-returns-2
 returns-2 c = let a = c .before .before .before .before .before .before .before .before .args in let f = c .before .before .field16 in (field-named (a .text .now) (a .rec .now) (f .last .1 .1 .0) (a .p) (a .at) (f .result) (kind-16 (a .kind) (search needs) (search needs)) (f .ensures .0), f .ensures .1)
@@ -30,17 +24,11 @@ returns-2 c = let a = c .before .before .before .before .before .before .before 
 field32-requires : tie.Need-field32-requires
 field32-requires c κs = let k = ap wide (kind-32 (c .before .before .before .before .before .before .args .kind) (search needs) (search needs) (search needs)) in omega (arith, k)
 
-same-length-3 : tie.Need-same-length-3
-same-length-3 c = search needs
-
 returns-3 : tie.Need-returns-3
 returns-3 c = let a = c .before .before .before .before .before .before .before .before .before .args in let f = c .before .before .field32 in (field-named (a .text .now) (a .rec .now) (f .last .1 .1 .0) (a .p) (a .at) (f .result) (kind-32 (a .kind) (search needs) (search needs) (search needs)) (f .ensures .0), f .ensures .1)
 
 hexes-requires : tie.Need-hexes-requires
 hexes-requires c κs = let k = ap wide (kind-cell (c .before .before .before .before .before .before .args .kind) (search needs) (search needs) (search needs)) in omega (arith, k)
-
-same-length-4 : tie.Need-same-length-4
-same-length-4 c = search needs
 
 returns-4 : tie.Need-returns-4
 unfolding fieldAt
@@ -51,14 +39,14 @@ field-spec =
     tie.close
     (tie.spec
     field8-requires
-    same-length
+    (λ c. search needs)
     returns
     field16-requires
-    same-length-2
+    (λ c. search needs)
     returns-2
     field32-requires
-    same-length-3
+    (λ c. search needs)
     returns-3
     hexes-requires
-    same-length-4
+    (λ c. search needs)
     returns-4)

@@ -1,4 +1,4 @@
--- `field8`: a number that fits its field is put behind the octets before it. Assumes nothing.
+-- `field8`: a number that fits its field is put behind the octets before it.
 use mathlib.Core.Path.{_≡_, refl, sym, ap, _∙_}
 use mathlib.Core.List.{List}
 use Prim.Native.Nat.{ℕ}
@@ -10,21 +10,9 @@ use borrow.Author.Needs.{needs}
 use Rattle.textline.proofs.field8.Statement.{statement}
 use Rattle.textline.proofs.field8.Tie as tie
 
-number-requires : tie.Need-number-requires
-number-requires c κs = search needs
-
 returns : tie.Need-returns
 unfolding fieldAt
 returns c = let a = c .before .before .before .before .args in let n = c .before .number in (and-refused _ (number-none (a .text .now) (n .result .value) (n .result .next) (n .ensures .0) (search needs)), (search needs, λ z. absurd (z refl)))
-
-cast-rec : tie.Need-cast-rec
-cast-rec c = search needs
-
-slice-write-rec : tie.Need-slice-write-rec
-slice-write-rec c = search needs
-
-same-length : tie.Need-same-length
-same-length c = search needs
 
 returns-2 : tie.Need-returns-2
 unfolding fieldAt
@@ -38,4 +26,4 @@ returns-2 c =
     )
 
 pub field8-spec : {M : Type 1} → statement M
-field8-spec = tie.close (tie.spec number-requires returns cast-rec slice-write-rec same-length returns-2)
+field8-spec = tie.close (tie.spec (λ c κs. search needs) returns (λ c. search needs) (λ c. search needs) (λ c. search needs) returns-2)

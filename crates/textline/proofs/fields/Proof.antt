@@ -1,4 +1,4 @@
--- `fields`: the fields that are left, put behind the octets so far, are all fields put behind the mark. Assumes nothing.
+-- `fields`: the fields that are left, put behind the octets so far, are all fields put behind the mark.
 use Prim.Native.Nat.{ℕ, _+_, _-_, _/_, _%_, _≤_}
 use mathlib.Core.Path.{_≡_, refl, sym, ap, _∙_}
 use native.Mathlib.Omega.{arith}

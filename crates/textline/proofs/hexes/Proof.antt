@@ -1,4 +1,4 @@
--- `hexes`: after i octets the digits from here on, put behind those octets, are all digits put behind the first. Assumes nothing.
+-- `hexes`: after i octets the digits from here on, put behind those octets, are all digits put behind the first.
 use Prim.Native.Nat.{ℕ, _+_, _-_, _*_, _≤_, max}
 use mathlib.Core.Path.{_≡_, refl, sym, ap, _∙_}
 use native.Mathlib.Omega.{arith}

@@ -1,4 +1,4 @@
--- `line_at`: no shape is no line; a count of slots, or fields behind the mark, make one. Assumes nothing.
+-- `line_at`: no shape is no line; a count of slots, or fields behind the mark, make one.
 use Prim.Native.Nat.{ℕ, _+_, _/_, _%_}
 use mathlib.Core.Path.{_≡_, refl, sym, ap, _∙_}
 use native.Mathlib.Omega.{arith}
@@ -14,23 +14,11 @@ use borrow.Author.Needs.{needs}
 use Rattle.textline.proofs.line_at.Statement.{statement}
 use Rattle.textline.proofs.line_at.Tie as tie
 
-mark-at-requires : tie.Need-mark-at-requires
-mark-at-requires c κs = search needs
-
-shape-of-requires : tie.Need-shape-of-requires
-shape-of-requires c κs = search needs
-
 returns : tie.Need-returns
 returns c = let a = c .before .before .before .before .before .args in let m = c .before .before .mark-at in let o = c .before .shape-of in let s = a .text .now in let e : shapeOf (a .p =? 0) (markOf (drop (a .p) s)) ≡ refused = sym (ap (λ (k : ℕ). shapeOf (a .p =? 0) k) (m .ensures)) ∙ named-none (o .result) (o .ensures .0) (search needs) in (no-line s (a .rec .now) (a .p) e, record { within = search needs; fits = search needs; on = λ z. absurd (z refl); none = λ _. (refl, refl) })
 
 add-slots : tie.Need-add-slots
 add-slots c = let a = c .before .before .before .before .before .before .args in let m = c .before .before .before .mark-at in let o = c .before .before .shape-of in let s = a .text .now in let e : shapeOf (a .p =? 0) (markOf (drop (a .p) s)) ≡ next slots = sym (ap (λ (k : ℕ). shapeOf (a .p =? 0) k) (m .ensures)) ∙ named-slots (o .result) (o .ensures .0) (search needs) in omega (arith, inside s (a .rec .now) (a .p) e)
-
-slots-requires : tie.Need-slots-requires
-slots-requires c κs = search needs
-
-cast-t11 : tie.Need-cast-t11
-cast-t11 c = search needs
 
 returns-2 : tie.Need-returns-2
 returns-2 c = let a = c .before .before .before .before .before .before .before .before .args in let m = c .before .before .before .before .before .mark-at in let o = c .before .before .before .before .shape-of in let s = a .text .now in let e : shapeOf (a .p =? 0) (markOf (drop (a .p) s)) ≡ next slots = sym (ap (λ (k : ℕ). shapeOf (a .p =? 0) k) (m .ensures)) ∙ named-slots (o .result) (o .ensures .0) (search needs) in
@@ -39,20 +27,8 @@ returns-2 c = let a = c .before .before .before .before .before .before .before 
       record { within = n .ensures .1 .0 .1; fits = search needs; on = λ z. omega (arith, n .ensures .1 .1 .0 z); none = λ z. (refl, n .ensures .1 .1 .1 z) },
     )
 
-cast-put16 : tie.Need-cast-put16
-cast-put16 c = search needs
-
-put16-requires : tie.Need-put16-requires
-put16-requires c κs = search needs
-
 add-fields : tie.Need-add-fields
 add-fields c = let a = c .before .before .before .before .before .before .before .before .before .before .args in let m = c .before .before .before .before .before .before .before .mark-at in let o = c .before .before .before .before .before .before .shape-of in let s = a .text .now in let e : shapeOf (a .p =? 0) (markOf (drop (a .p) s)) ≡ next (fields (decode (o .result % 16) (o .result / 16))) = sym (ap (λ (k : ℕ). shapeOf (a .p =? 0) k) (m .ensures)) ∙ named-fields (o .result) (o .ensures .0) (search needs) (search needs) in omega (arith, inside s (a .rec .now) (a .p) e)
-
-fields-requires : tie.Need-fields-requires
-fields-requires c κs = search needs
-
-same-length : tie.Need-same-length
-same-length c = search needs
 
 returns-3 : tie.Need-returns-3
 returns-3 c = let a = c .before .before .before .before .before .before .before .before .before .before .before .before .before .before .args in let m = c .before .before .before .before .before .before .before .before .before .before .before .mark-at in let o = c .before .before .before .before .before .before .before .before .before .before .shape-of in let s = a .text .now in let e : shapeOf (a .p =? 0) (markOf (drop (a .p) s)) ≡ next (fields (decode (o .result % 16) (o .result / 16))) = sym (ap (λ (k : ℕ). shapeOf (a .p =? 0) k) (m .ensures)) ∙ named-fields (o .result) (o .ensures .0) (search needs) (search needs) in
@@ -75,16 +51,16 @@ pub line-at-spec : {M : Type 1} → statement M
 line-at-spec =
     tie.close
     (tie.spec
-    mark-at-requires
-    shape-of-requires
+    (λ c κs. search needs)
+    (λ c κs. search needs)
     returns
     add-slots
-    slots-requires
-    cast-t11
+    (λ c κs. search needs)
+    (λ c. search needs)
     returns-2
-    cast-put16
-    put16-requires
+    (λ c. search needs)
+    (λ c κs. search needs)
     add-fields
-    fields-requires
-    same-length
+    (λ c κs. search needs)
+    (λ c. search needs)
     returns-3)

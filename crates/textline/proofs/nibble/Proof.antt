@@ -1,4 +1,4 @@
--- `nibble`: the three ranges of hex digits, and what lies below, between and above them. Assumes nothing.
+-- `nibble`: the three ranges of hex digits, and what lies below, between and above them.
 use Rattle.textline.proofs.OctetLaws.{nibble-low, nibble-digit, nibble-between, nibble-capital, nibble-above, nibble-small, nibble-high}
 use borrow.Author.Needs.{needs}
 use Rattle.textline.proofs.nibble.Statement.{statement}
@@ -13,17 +13,11 @@ returns-2 c = (nibble-digit _ (search needs) (search needs), search needs)
 returns-3 : tie.Need-returns-3
 returns-3 c = (nibble-between _ (search needs) (search needs), search needs)
 
-sub-result : tie.Need-sub-result
-sub-result c = search needs
-
 returns-4 : tie.Need-returns-4
 returns-4 c = (nibble-capital _ (search needs) (search needs), search needs)
 
 returns-5 : tie.Need-returns-5
 returns-5 c = (nibble-above _ (search needs) (search needs), search needs)
-
-sub-result-2 : tie.Need-sub-result-2
-sub-result-2 c = search needs
 
 returns-6 : tie.Need-returns-6
 returns-6 c = (nibble-small _ (search needs) (search needs), search needs)
@@ -38,9 +32,9 @@ nibble-spec =
     returns
     returns-2
     returns-3
-    sub-result
+    (λ c. search needs)
     returns-4
     returns-5
-    sub-result-2
+    (λ c. search needs)
     returns-6
     returns-7)

@@ -1,4 +1,4 @@
--- `nibble_at`: behind the end there is no hex digit; elsewhere the octet at the place tells. Assumes nothing.
+-- `nibble_at`: behind the end there is no hex digit; elsewhere the octet at the place tells.
 use Rattle.textline.proofs.OctetLaws.{nibble-end, nibble-here}
 use borrow.Author.Needs.{needs}
 use Rattle.textline.proofs.nibble_at.Statement.{statement}
@@ -7,14 +7,8 @@ use Rattle.textline.proofs.nibble_at.Tie as tie
 returns : tie.Need-returns
 returns c = let a = c .before .before .args in (nibble-end (a .text .now) (a .p) (search needs), search needs)
 
-shared-slice-read-nibble : tie.Need-shared-slice-read-nibble
-shared-slice-read-nibble c = search needs
-
-nibble-requires : tie.Need-nibble-requires
-nibble-requires c κs = search needs
-
 returns-2 : tie.Need-returns-2
 returns-2 c = let a = c .before .before .before .before .args in (nibble-here (a .text .now) (a .p) (search needs) (c .nibble .ensures .0), c .nibble .ensures .1)
 
 pub nibble-at-spec : {M : Type 1} → statement M
-nibble-at-spec = tie.close (tie.spec returns shared-slice-read-nibble nibble-requires returns-2)
+nibble-at-spec = tie.close (tie.spec returns (λ c. search needs) (λ c κs. search needs) returns-2)

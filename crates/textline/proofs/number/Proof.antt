@@ -1,4 +1,4 @@
--- `number`: no digit is no number, a 0 is a number by itself, any other digit is followed by more. Assumes nothing.
+-- `number`: no digit is no number, a 0 is a number by itself, any other digit is followed by more.
 use Prim.Native.Nat.{_+_}
 use mathlib.Core.Path.{_≡_, refl, sym, ap, _∙_}
 use native.Mathlib.Omega.{arith}
@@ -6,9 +6,6 @@ use Rattle.textline.proofs.OctetLaws.{digit-inside, is-found, number-no
 use borrow.Author.Needs.{needs}
 use Rattle.textline.proofs.number.Statement.{statement}
 use Rattle.textline.proofs.number.Tie as tie
-
-digit-at-requires : tie.Need-digit-at-requires
-digit-at-requires c κs = search needs
 
 returns : tie.Need-returns
 returns c = let a = c .before .before .before .args in let d = c .before .digit-at in (number-no (a .text .now) (a .p) (d .result) (d .ensures .0) (a .most) (search needs), ((search needs, search needs), λ z. absurd (z refl)))
@@ -26,4 +23,4 @@ returns-3 : tie.Need-returns-3
 returns-3 c = let a = c .before .before .before .before .before .args in let d = c .before .before .before .digit-at in let f = c .digits-from .ensures in (f .0 ∙ number-digits (a .text .now) (a .p) (d .result) (d .ensures .0) (a .most) (search needs) (search needs), (f .1 .0, λ z. omega (arith, f .1 .1 z)))
 
 pub number-spec : {M : Type 1} → statement M
-number-spec = tie.close (tie.spec digit-at-requires returns add-q returns-2 digits-from-requires returns-3)
+number-spec = tie.close (tie.spec (λ c κs. search needs) returns add-q returns-2 digits-from-requires returns-3)

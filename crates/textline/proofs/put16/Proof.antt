@@ -1,4 +1,4 @@
--- `put16`: two stores are two octets behind those before. Assumes nothing.
+-- `put16`: two stores are two octets behind those before.
 use Prim.Native.Nat.{_/_, _%_}
 use native.Mathlib.Omega.{arith}
 use lib.ListN.{length-set}
@@ -7,23 +7,8 @@ use borrow.Author.Needs.{needs}
 use Rattle.textline.proofs.put16.Statement.{statement}
 use Rattle.textline.proofs.put16.Tie as tie
 
-add-b : tie.Need-add-b
-add-b c = search needs
-
-cast-rec : tie.Need-cast-rec
-cast-rec c = search needs
-
-slice-write-rec : tie.Need-slice-write-rec
-slice-write-rec c = search needs
-
-cast-rec-2 : tie.Need-cast-rec-2
-cast-rec-2 c = search needs
-
 slice-write-rec-2 : tie.Need-slice-write-rec-2
 slice-write-rec-2 c = simp length-set (omega arith)
-
-same-length : tie.Need-same-length
-same-length c = search needs
 
 returns : tie.Need-returns
 returns c = let a = c .args in put-two (a .rec .now) (a .at) (a .v / 256) (a .v % 256) (search needs)
@@ -32,10 +17,10 @@ pub put16-spec : {M : Type 1} → statement M
 put16-spec =
     tie.close
     (tie.spec
-    add-b
-    cast-rec
-    slice-write-rec
-    cast-rec-2
+    (λ c. search needs)
+    (λ c. search needs)
+    (λ c. search needs)
+    (λ c. search needs)
     slice-write-rec-2
-    same-length
+    (λ c. search needs)
     returns)

@@ -1,4 +1,4 @@
--- `put32`: the high half, and the low one behind it. Assumes nothing.
+-- `put32`: the high half, and the low one behind it.
 use Prim.Native.Nat.{ℕ, _+_, _/_, _%_}
 use mathlib.Core.Path.{_≡_, refl, sym, ap, _∙_}
 use native.Mathlib.Omega.{arith}
@@ -8,18 +8,6 @@ use Rattle.textline.proofs.HexLaws.{put-both}
 use borrow.Author.Needs.{needs}
 use Rattle.textline.proofs.put32.Statement.{statement}
 use Rattle.textline.proofs.put32.Tie as tie
-
-put16-requires : tie.Need-put16-requires
-put16-requires c κs = search needs
-
-add-put16 : tie.Need-add-put16
-add-put16 c = search needs
-
-put16-requires-2 : tie.Need-put16-requires-2
-put16-requires-2 c κs = search needs
-
-same-length : tie.Need-same-length
-same-length c = search needs
 
 returns : tie.Need-returns
 returns c =
@@ -31,4 +19,4 @@ returns c =
     ∙ put-both (a .rec .now) (m .last .0) (n .last .0) (of16 (a .v / 65536)) (of16 (a .v % 65536)) (a .at) (a .at + 2) (a .at + 2 + 2) (m .ensures) (n .ensures)
 
 pub put32-spec : {M : Type 1} → statement M
-put32-spec = tie.close (tie.spec put16-requires add-put16 put16-requires-2 same-length returns)
+put32-spec = tie.close (tie.spec (λ c κs. search needs) (λ c. search needs) (λ c κs. search needs) (λ c. search needs) returns)

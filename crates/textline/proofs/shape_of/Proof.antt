@@ -1,4 +1,4 @@
--- `shape_of`: the tests are those of the table of marks, row by row. Assumes nothing.
+-- `shape_of`: the tests are those of the table of marks, row by row.
 use Rattle.textline.proofs.ShapeLaws.{head-gm, head-gr, head-no, later-ca, later-sl, later-vo, later-vx, later-no}
 use Rattle.textline.specs.Found.{decode, span}
 use borrow.Author.Needs.{needs}

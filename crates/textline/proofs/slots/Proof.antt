@@ -1,4 +1,4 @@
--- `slots`: a space, a number that is not 0, a line feed. Assumes nothing.
+-- `slots`: a space, a number that is not 0, a line feed.
 use mathlib.Core.Path.{_≡_, refl, sym, ap, _∙_}
 use native.Mathlib.Omega.{arith}
 use Prim.Native.Nat.{ℕ}
@@ -9,15 +9,9 @@ use borrow.Author.Needs.{needs}
 use Rattle.textline.proofs.slots.Statement.{statement}
 use Rattle.textline.proofs.slots.Tie as tie
 
-expect-requires : tie.Need-expect-requires
-expect-requires c κs = search needs
-
 returns : tie.Need-returns
 unfolding slotsAt
 returns c = let a = c .before .before .before .args in let x = c .before .expect in (and-refused _ (rest-none (a .text .now) (x .result) (x .ensures .0) (search needs)), ((search needs, search needs), ((λ z. absurd (z refl)), (λ _. refl))))
-
-number-requires : tie.Need-number-requires
-number-requires c κs = search needs
 
 returns-2 : tie.Need-returns-2
 unfolding slotsAt
@@ -26,9 +20,6 @@ returns-2 c = let a = c .before .before .before .before .before .args in let x =
 returns-3 : tie.Need-returns-3
 unfolding slotsAt
 returns-3 c = let a = c .before .before .before .before .before .before .before .args in let x = c .before .before .before .before .before .expect in let i = c .before .before .before .before .if1 .left in let n = c .before .before .before .number in let j = c .before .before .if2 .left in (and-next _ (found-some (x .result) (x .ensures .0) i) (and-next _ (found-some (n .result .next) (n .ensures .0) j) (simp (eq-eqb (n .result .value) 0 (search needs)))), ((search needs, search needs), ((λ z. absurd (z refl)), (λ _. refl))))
-
-expect-requires-2 : tie.Need-expect-requires-2
-expect-requires-2 c κs = search needs
 
 returns-4 : tie.Need-returns-4
 unfolding slotsAt
@@ -49,11 +40,11 @@ pub slots-spec : {M : Type 1} → statement M
 slots-spec =
     tie.close
     (tie.spec
-    expect-requires
+    (λ c κs. search needs)
     returns
-    number-requires
+    (λ c κs. search needs)
     returns-2
     returns-3
-    expect-requires-2
+    (λ c κs. search needs)
     returns-4
     returns-5)

@@ -1,4 +1,4 @@
--- `wide_of`: the octets of the field that a digit names. Assumes nothing.
+-- `wide_of`: the octets of the field that a digit names.
 use mathlib.Core.Path.{_≡_, refl, sym, ap, _∙_}
 use Rattle.textline.proofs.ShapeLaws.{kind-8, kind-16, kind-32, kind-cell}
 use Rattle.writing.specs.Shapes.{wide}
