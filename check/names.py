@@ -1,7 +1,7 @@
 #!/usr/bin/env python3
 """The documents name what is there.
 
-In README.md, docs/ARCHITECTURE.md, docs/COVERAGE.md and docs/ARGUMENT.md every name in backquotes of one of these forms must stand in the tree:
+In README.md, docs/ARCHITECTURE.md, docs/COVERAGE.md, docs/ARGUMENT.md and docs/REFERENCE.md every name in backquotes of one of these forms must stand in the tree:
   crate::function             a function, struct or constant of crates/crate/src
   crate/Module.name           a definition or law of crates/crate/specs/Module.antt or crates/crate/proofs/Module.antt
   Module.name                 a definition of crates/meaning/specs/Module.antt
@@ -16,7 +16,7 @@ import re
 import sys
 
 os.chdir(os.path.join(os.path.dirname(os.path.abspath(__file__)), '..'))
-DOCUMENTS = ['README.md', 'docs/ARCHITECTURE.md', 'docs/COVERAGE.md', 'docs/ARGUMENT.md']
+DOCUMENTS = ['README.md', 'docs/ARCHITECTURE.md', 'docs/COVERAGE.md', 'docs/ARGUMENT.md', 'docs/REFERENCE.md']
 crates = set(os.listdir('crates'))
 cache = {}
 
