@@ -7,7 +7,7 @@
  *
  * Every call answers for every argument and every content of the lent memory.
  * A refused call leaves everything as it came. What each call does is said over
- * its declaration; document 01 of the project has the exact rules.
+ * its declaration; docs/REFERENCE.md has the exact rules.
  *
  * Rules of lending:
  *  - a pointer is followed by the length of what it points to, in elements;

@@ -5,8 +5,6 @@
 --   hexOf octets       == octets as hex digits, the high half of each first
 --   lineOf trace r     == the line of a record that the reader found in a trace
 --   textOf trace       == the lines of all records, up to the end or to the first that can't be read
---   endOf trace        == where that is
---   stopOf more trace  == what is said of it: nothing at the end of a trace that doesn't go on, otherwise `stop 10 PLACE`
 use Prim.Native.Nat.{ℕ, zero, suc, _+_, _/_, _%_, _≤_}
 use mathlib.Core.Bool.{Bool}
 use mathlib.Core.List.{List, [], _∷_, _++_}
@@ -16,7 +14,6 @@ use Rattle.meaning.specs.Numbers.{octets}
 use Rattle.trace.specs.Trace.{TraceRecord, GM, VO, VX, CA, SL, Stands, event, finish, refusal, standsAt}
 use Rattle.trace.specs.Trace.{markGM, markGR, markVO, markVX, markCA, markSL}
 use Rattle.lines.specs.Text.{decimalOf, line}
-use Rattle.lines.specs.Lines.{stopLine}
 use Rattle.writing.specs.Shapes.{of16}
 
 -- "0".."9" from 48, "a".."f" from 97
