@@ -7,6 +7,7 @@ ghost use Rattle.handover.specs.Listed.{Handed, Ample, Listed};
 ghost use Rattle.steps.specs.declared.Run.{Run};
 ghost use Rattle.steps.specs.Lent.{worldHere, worldBefore, worldAfter};
 ghost use Rattle.steps.specs.Fill.{room, LentFor, startRun, sizesOf};
+use meaning::WORDS_PER_VC;
 
 // Fills the buffer and writes it out, until the listing is whole, or until a write fails.
 fn hand_over(
@@ -53,14 +54,14 @@ fn lend(
     let v = sizes.v as usize;
     let octets = 53 * n;
     let ends = 2 * n;
-    let sevens = 7 * v;
+    let many = WORDS_PER_VC * v;
     hand_over(
         fd,
         input,
         &mut cells[..octets],
         &mut links[..n],
         &mut calendar[..ends],
-        &mut words[..sevens],
+        &mut words[..many],
         out,
     )
 }

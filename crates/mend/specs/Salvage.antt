@@ -8,6 +8,7 @@
 --   meetsRule trace n q  == whether q is a place to resume at
 --   resume trace n p     == the least place after p that meets the rule, or the input's end
 --   stepAt trace n p     == whether a record is kept at p, and the place after it or after the stretch
+--   takenAt trace n p    == one step: the end, a kept record or a stretch, and the place behind it
 --   walk trace n         == the pieces, in order: each kept record and each stretch, by first octet and length
 --   salvageFront trace n == the refusal 17, or the pieces;  salvage trace == that of a trace known to its end
 --   salvageInput input   == what the program does with an input of any length
@@ -20,6 +21,7 @@ use Rattle.meaning.specs.Plain.{if_then_else_, _<?_, _≤?_, _=?_}
 use Rattle.trace.specs.Trace.{Stands, event, finish, refusal, standsAt, be16, markOctets}
 use Rattle.trace.specs.Trace.{markGM, markGR, markVO, markVX, markCA, markSL}
 use Rattle.mend.specs.declared.Stride.{Stride}
+use Rattle.mend.specs.declared.Taken.{Taken}
 
 pub data Reading : Type 0 where
   none : Reading
@@ -76,6 +78,11 @@ stepOf trace n p (upTo e) = record { kept = true; next = e }
 
 unfoldable pub stepAt : List ℕ → ℕ → ℕ → Stride
 stepAt trace n p = stepOf trace n p (readsTo trace p)
+
+unfoldable pub takenAt : List ℕ → ℕ → ℕ → Taken
+takenAt trace n p =
+    if n ≤? p then record { end = true; kept = false; next = p }
+    else record { end = false; kept = stepAt trace n p .kept; next = stepAt trace n p .next }
 
 -- "It writes the readable records and lists .. each skipped stretch by first octet and length"
 pub data Piece : Type 0 where

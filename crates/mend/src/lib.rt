@@ -3,12 +3,19 @@ ghost use mathlib.Core.Path.{_≡_};
 ghost use Prim.Native.Nat.{_+_, _≤_, _<_};
 ghost use lib.ListN.{length};
 ghost use Rattle.trace.specs.Trace.{be16};
-ghost use Rattle.mend.specs.Salvage.{isMark, knownMark, meetsRule, resume, stepAt};
+ghost use Rattle.mend.specs.Salvage.{isMark, knownMark, meetsRule, resume, stepAt, takenAt};
 use trace::Found;
 use trace::event_at;
 
 // A record is kept or a stretch skipped, and the walk goes on at `next`.
 pub struct Stride {
+    pub kept: bool,
+    pub next: usize,
+}
+
+// One step through an input: its end, a record that is kept or a stretch that is skipped, and the place behind it.
+pub struct Taken {
+    pub end: bool,
     pub kept: bool,
     pub next: usize,
 }
@@ -122,4 +129,23 @@ pub fn step(trace: &[u8], total: usize, at: usize) -> Stride
         return Stride { kept: false, next };
     };
     Stride { kept: true, next }
+}
+
+// One step: at or past the input's end nothing is taken, and the place stays.
+pub fn take_piece(trace: &[u8], total: usize, at: usize) -> Taken
+    ensures { λ r. ⌜ r ≡ takenAt (now (trace .entry)) total at ⌝ }
+{
+    if total <= at {
+        return Taken {
+            end: true,
+            kept: false,
+            next: at,
+        };
+    }
+    let s = step(trace, total, at);
+    Taken {
+        end: false,
+        kept: s.kept,
+        next: s.next,
+    }
 }

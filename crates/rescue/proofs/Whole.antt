@@ -177,12 +177,18 @@ module _ (s : List ℕ) (n : ℕ) where
 
   -- ---- whether it is mended
 
-  pub not-mended : (out text : List ℕ) {r : Bool} → mends s out text ≡ false → MendPromise s n out text r out text
-  not-mended out text h =
+  pub not-mended : (out text : List ℕ) {r : Bool} → mends s out text ≡ false → (begun (readsTo s 0) ≡ true → r ≡ false)
+      → MendPromise s n out text r out text
+  not-mended out text h no-yes =
       record {
         handed = λ e. absurd (let x : false ≡ true = sym h ∙ e in let y : _≡_ {A = ℕ} 0 1 = cc in omega arith);
         kept = λ _. (refl, refl);
+        short = λ b _. no-yes b;
       }
+
+  -- 17: it doesn't begin with a record, so nothing is asked of the answer
+  pub not-begun : {r : Bool} → begun (readsTo s 0) ≡ false → begun (readsTo s 0) ≡ true → r ≡ false
+  not-begun h e = absurd (let x : false ≡ true = sym h ∙ e in let y : _≡_ {A = ℕ} 0 1 = cc in omega arith)
 
   pub is-mended : {out text out′ text′ : List ℕ} {r : Bool} → mends s out text ≡ true → Handed s n out text r out′ text′
       → MendPromise s n out text r out′ text′
@@ -190,6 +196,7 @@ module _ (s : List ℕ) (n : ℕ) where
       record {
         handed = λ _. f;
         kept = λ e. absurd (let x : true ≡ false = sym h ∙ e in let y : _≡_ {A = ℕ} 0 1 = cc in omega arith);
+        short = λ _ e. absurd (let x : true ≡ false = sym h ∙ e in let y : _≡_ {A = ℕ} 0 1 = cc in omega arith);
       }
 
 module _ (s out text : List ℕ) where

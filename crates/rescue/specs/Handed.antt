@@ -37,3 +37,5 @@ mends trace out text = begun (readsTo trace 0) && (recordRoom ≤? length out &&
 pub record MendPromise (trace : List ℕ) (n : ℕ) (out text : List ℕ) (r : Bool) (out′ text′ : List ℕ) : Type 0 where
   pub handed : mends trace out text ≡ true → Handed trace n out text r out′ text′
   pub kept : mends trace out text ≡ false → (out′ ≡ out) × (text′ ≡ text)
+  -- a buffer too short is a no; at 17 the answer is whether that line was written
+  pub short : begun (readsTo trace 0) ≡ true → mends trace out text ≡ false → r ≡ false

@@ -4,7 +4,9 @@ use mathlib.Core.Path.{_≡_, refl, sym, _∙_}
 use mathlib.Core.Bool.{Bool, true, false, not}
 use native.Mathlib.Omega.{arith}
 use borrow.Author.Needs.{needs}
-use Rattle.rescue.proofs.Whole.{not-mended, is-mended, mends-17, mends-short, mends-narrow, mends-all}
+use Rattle.mend.specs.Salvage.{readsTo}
+use Rattle.mending.specs.Fill.{begun}
+use Rattle.rescue.proofs.Whole.{not-mended, not-begun, is-mended, mends-17, mends-short, mends-narrow, mends-all}
 use Rattle.rescue.proofs.mend.Statement.{statement}
 use Rattle.rescue.proofs.mend.Tie as tie
 
@@ -19,17 +21,18 @@ off false e = refl
 returns : tie.Need-returns
 returns c =
     let a = c .before .before .before .before .before .before .before .args in
-    not-mended _ _ _ _ (mends-17 (a .trace .now) (a .out .now) (a .text .now) (sym (c .before .before .before .begins .ensures) ∙ off _ (c .before .before .if1 .taken)))
+    let none : begun (readsTo (a .trace .now) 0) ≡ false = sym (c .before .before .before .begins .ensures) ∙ off _ (c .before .before .if1 .taken) in
+    not-mended _ _ _ _ (mends-17 (a .trace .now) (a .out .now) (a .text .now) none) (not-begun (a .trace .now) (a .total) none)
 
 returns-2 : tie.Need-returns-2
 returns-2 c =
     let a = c .before .before .before .before .before .before .args in
-    not-mended _ _ _ _ (mends-short (a .trace .now) (a .out .now) (a .text .now) (c .if2 .taken))
+    not-mended _ _ _ _ (mends-short (a .trace .now) (a .out .now) (a .text .now) (c .if2 .taken)) (λ _. refl)
 
 returns-3 : tie.Need-returns-3
 returns-3 c =
     let a = c .before .before .before .before .before .before .before .args in
-    not-mended _ _ _ _ (mends-narrow (a .trace .now) (a .out .now) (a .text .now) (c .if3 .taken))
+    not-mended _ _ _ _ (mends-narrow (a .trace .now) (a .out .now) (a .text .now) (c .if3 .taken)) (λ _. refl)
 
 hand-over-requires : tie.Need-hand-over-requires
 hand-over-requires c κs = (sym (c .before .before .before .before .before .begins .ensures) ∙ over _ (c .before .before .before .before .if1 .left), (c .before .before .before .if2 .left, c .before .before .if3 .left))
