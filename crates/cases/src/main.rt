@@ -18,7 +18,7 @@ fn one_case(k: u8) -> bool {
     let mut calendar = [0u16; 2048];
     let mut words = [0u32; 7168];
     let mut out = [0u8; 65536];
-    handover::list(
+    list_write::list(
         1,
         &input[..long],
         &mut cells,

@@ -6,8 +6,8 @@ use lib.ListN.{length, take, drop}
 use Rattle.meaning.specs.Plain.{if_then_else_, _=?_}
 use Rattle.meaning.specs.Line.{Slice, cellMemory, idleCell, Part, linePart, sliceOf, octetsOf, lineCell}
 use Rattle.meaning.specs.Promises.{startOf, LinePromise}
-use Rattle.line.specs.declared.Place.{Place}
-use Rattle.line.specs.Placed.{sliceNumber, placeOf}
+use Rattle.call_line.specs.declared.Place.{Place}
+use Rattle.call_line.specs.Placed.{sliceNumber, placeOf}
 use Rattle.clurimoon.specs.Places.{placePromise}
 
 -- the slice that a place names: 1 the idle cell, otherwise the cell memory

@@ -6,8 +6,8 @@ use mathlib.Core.Path.{_≡_}
 use mathlib.Core.List.{List}
 use lib.ListN.{length}
 use Rattle.meaning.specs.Line.{linePart}
-use Rattle.line.specs.declared.Place.{Place}
-use Rattle.line.specs.Placed.{placeOf}
+use Rattle.call_line.specs.declared.Place.{Place}
+use Rattle.call_line.specs.Placed.{placeOf}
 
 abbrev pub placePromise : List ℕ → List ℕ → ℕ → Place → Type 0
 placePromise cells idle number p = p ≡ placeOf (linePart (length cells) (length idle) number)

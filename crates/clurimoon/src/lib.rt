@@ -5,16 +5,16 @@ ghost use lib.ListN.{length};
 ghost use Rattle.meaning.specs.Calls.{zeros};
 ghost use Rattle.meaning.specs.Promises.{setupPromise, openPromise, closePromise, slotPromise, AuditPromise};
 ghost use Rattle.meaning.specs.Lent.{before, after, setUpAfter, servedAfter};
-ghost use Rattle.burst.specs.Promise.{burstPromise};
-ghost use Rattle.tat.specs.Schedule.{timed};
+ghost use Rattle.call_burst.specs.Promise.{burstPromise};
+ghost use Rattle.call_time.specs.Schedule.{timed};
 ghost use Rattle.clurimoon.specs.Places.{placePromise};
-use burst::BurstEnd;
-use line::Place;
+use call_burst::BurstEnd;
+use call_line::Place;
 use meaning::Fresh;
 use meaning::Record;
 use meaning::Served;
-use tat::Tat;
-use tat::Timed;
+use call_time::Tat;
+use call_time::Timed;
 
 #[no_mangle]
 pub extern "C" fn clurimoon_setup(
@@ -28,7 +28,7 @@ pub extern "C" fn clurimoon_setup(
 ) -> Fresh
     ensures { λ r. ⌜ setupPromise n v raw (before zeros cells links calendar words) (setUpAfter r cells links calendar words) ⌝ }
 {
-    setup::setup(n, v, raw, cells, links, calendar, words)
+    call_setup::setup(n, v, raw, cells, links, calendar, words)
 }
 
 #[no_mangle]
@@ -42,14 +42,14 @@ pub extern "C" fn clurimoon_open(
 ) -> u16
     ensures { λ r. ⌜ openPromise ctl (now (words .entry)) vci m f c r (now (words .exit)) ⌝ }
 {
-    vc::open(ctl, words, vci, m, f, c)
+    call_vc::open(ctl, words, vci, m, f, c)
 }
 
 #[no_mangle]
 pub extern "C" fn clurimoon_close(ctl: Record, words: &mut [u32], vci: u16) -> u16
     ensures { λ r. ⌜ closePromise ctl (now (words .entry)) vci r (now (words .exit)) ⌝ }
 {
-    vc::close(ctl, words, vci)
+    call_vc::close(ctl, words, vci)
 }
 
 #[no_mangle]
@@ -63,7 +63,7 @@ pub extern "C" fn clurimoon_slot(
 ) -> Served
     ensures { λ s. ⌜ slotPromise (before ctl cells links calendar words) (now (cell .entry)) (servedAfter s cells links calendar words) ⌝ }
 {
-    slot::slot(ctl, cells, links, calendar, words, cell)
+    call_slot::slot(ctl, cells, links, calendar, words, cell)
 }
 
 // No slice can be handed back to C: the answer says where the line's part lies.
@@ -71,7 +71,7 @@ pub extern "C" fn clurimoon_slot(
 pub extern "C" fn clurimoon_line(cells: &[u8], idle: &[u8], number: u16) -> Place
     ensures { λ r. ⌜ placePromise (now (cells .entry)) (now (idle .entry)) number r ⌝ }
 {
-    line::line_part(cells.len(), idle.len(), number)
+    call_line::line_part(cells.len(), idle.len(), number)
 }
 
 #[no_mangle]
@@ -84,7 +84,7 @@ pub extern "C" fn clurimoon_audit(
 ) -> bool
     ensures { λ a. ⌜ AuditPromise (before ctl cells links calendar words) a ⌝ }
 {
-    audit::audit(ctl, cells, links, calendar, words)
+    call_audit::audit(ctl, cells, links, calendar, words)
 }
 
 #[no_mangle]
@@ -101,7 +101,7 @@ pub extern "C" fn clurimoon_burst(
 ) -> BurstEnd
     ensures { λ r. ⌜ burstPromise (before ctl cells links calendar words) arrivals sizes departures answers r (after (r .ctl) cells links calendar words) ⌝ }
 {
-    burst::burst(
+    call_burst::burst(
         ctl,
         cells,
         links,
@@ -119,5 +119,5 @@ pub extern "C" fn clurimoon_burst(
 pub extern "C" fn clurimoon_time(state: Tat, n: u16, m: u8, f: u32, c: u32, arrival: u64) -> Timed
     ensures { λ r. ⌜ r ≡ timed state n m f c arrival ⌝ }
 {
-    tat::time(state, n, m, f, c, arrival)
+    call_time::time(state, n, m, f, c, arrival)
 }

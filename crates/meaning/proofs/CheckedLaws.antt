@@ -10,9 +10,9 @@ use borrow.Author.Tests.{eq-eqb, eqb-false, le-leb}
 use lib.Dec.{eqb, ltb, leb}
 use lib.Bits.{bitXor}
 use lib.ListN.{length, getD, length-set}
-use Rattle.hec.specs.Check.{syndromeOf}
-use Rattle.hec.specs.WrongBit.{noError, wrongBit, flipped}
-use Rattle.hec.specs.Modes.{correction, detection, Arriving, passes, drops, checked, arriving, arrivingFits}
+use Rattle.base_hec.specs.Check.{syndromeOf}
+use Rattle.base_hec.specs.WrongBit.{noError, wrongBit, flipped}
+use Rattle.base_hec.specs.Modes.{correction, detection, Arriving, passes, drops, checked, arriving, arrivingFits}
 use Rattle.meaning.specs.Plain.{if_then_else_, _=?_, Out, refused, next, needs, _andThen_}
 use Rattle.meaning.specs.Numbers.{rangesHold, octets}
 use Rattle.meaning.specs.State.{State, lengthsHold, withRecord, recordInMode, withMode}

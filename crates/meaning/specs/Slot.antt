@@ -4,7 +4,7 @@ use Prim.Native.Nat.{ℕ, _+_, _-_, _%_}
 use mathlib.Core.Bool.{Bool, not, _&&_, _||_}
 use mathlib.Core.List.{List}
 use lib.ListN.{length}
-use Rattle.hec.specs.Modes.{Arriving, arriving, arrivingFits}
+use Rattle.base_hec.specs.Modes.{Arriving, arriving, arrivingFits}
 use Rattle.meaning.specs.Plain.{if_then_else_, _<?_, _≤?_, _=?_, Out, refused, next, needs, _andThen_}
 use Rattle.meaning.specs.Numbers.{rangesHold, octets, cellStart, slotNumbers, unknown, dropped}
 use Rattle.meaning.specs.State.{State, freeList, outputList, lengthsHold}

@@ -10,9 +10,9 @@ use native.Mathlib.Omega.{arith}
 use borrow.Author.Tests.{eqb-true, ltb-true}
 use lib.Dec.{eqb, ltb}
 use lib.ListN.{length}
-use Rattle.hec.specs.Check.{syndromeOf}
-use Rattle.hec.specs.WrongBit.{noError, wrongBit, flipped}
-use Rattle.hec.specs.Modes.{Arriving, correction, detection, passes, drops, checked, arriving}
+use Rattle.base_hec.specs.Check.{syndromeOf}
+use Rattle.base_hec.specs.WrongBit.{noError, wrongBit, flipped}
+use Rattle.base_hec.specs.Modes.{Arriving, correction, detection, passes, drops, checked, arriving}
 use Rattle.meaning.specs.Plain.{_=?_}
 use Rattle.meaning.specs.Numbers.{octets, dropped}
 use Rattle.meaning.specs.State.{State, withWords}
@@ -21,14 +21,14 @@ use Rattle.meaning.specs.Calls.{rawNumber, freshRecord, freshState}
 use Rattle.meaning.specs.Work.{Work}
 use Rattle.meaning.specs.Slot.{slot}
 use Rattle.meaning.proofs.CheckedLaws.{arriving-plain, arriving-none, not-raw, dropped-none}
-use Rattle.runs.specs.Run.{Call, onOpen, onClose, onSlot, Event, ran, Run, runOf, shown, letIn, call, calls, freshRun, served}
-use Rattle.runs.specs.Leak.{Opening, leakAccepts, accepts, openingOf}
-use Rattle.runs.specs.Seen.{cellsIn}
-use Rattle.runs.specs.Judged.{Judged, judgedOf, judgedUnder, judgedBy, judged, judgedAs}
-use Rattle.runs.proofs.OutLaws.{if-holds}
-use Rattle.runs.proofs.ModeLaws.{raw-kept, mode-moved, slot-stays}
-use Rattle.invariant.proofs.RunLaws.{Kept}
-use Rattle.invariant.proofs.CheckLaws.{slot-is, slot-served, slot-refused}
+use Rattle.meaning_runs.specs.Run.{Call, onOpen, onClose, onSlot, Event, ran, Run, runOf, shown, letIn, call, calls, freshRun, served}
+use Rattle.meaning_runs.specs.Leak.{Opening, leakAccepts, accepts, openingOf}
+use Rattle.meaning_runs.specs.Seen.{cellsIn}
+use Rattle.meaning_runs.specs.Judged.{Judged, judgedOf, judgedUnder, judgedBy, judged, judgedAs}
+use Rattle.meaning_runs.proofs.OutLaws.{if-holds}
+use Rattle.meaning_runs.proofs.ModeLaws.{raw-kept, mode-moved, slot-stays}
+use Rattle.theory_invariant.proofs.RunLaws.{Kept}
+use Rattle.theory_invariant.proofs.CheckLaws.{slot-is, slot-served, slot-refused}
 use Rattle.promises.specs.Checked.{Lent, after, modeOf, Mended, HeaderCheck, plainCall, plainCalls}
 
 -- ── raw never changes ──

@@ -17,20 +17,20 @@ use Rattle.meaning.specs.Numbers.{rangesHold}
 use Rattle.meaning.specs.State.{State}
 use Rattle.meaning.specs.Words.{Vc, vcAt, writeVc, closedVc, debt}
 use Rattle.meaning.specs.Calls.{calledOf, closeCall}
-use Rattle.runs.specs.Run.{Call, onOpen, onClose, onSlot, Event, opened, closed, ran, Run, call, calls, freshRun, served}
-use Rattle.runs.specs.Leak.{Opening, parts, dueTime, openingOf}
-use Rattle.runs.specs.Seen.{ofVc, cellsOf, departuresOf, cellAt}
-use Rattle.queues.specs.Queue.{sum, sums, flat, turn}
-use Rattle.queues.proofs.QueueLaws.{sum-append, sums-flat, turn-sums}
-use Rattle.queues.proofs.OrderLaws.{ofVc-yes, ofVc-no}
-use Rattle.chains.proofs.CountLaws.{is-yes, is-no}
-use Rattle.table.specs.Stored.{earliestAfter, earliest, level, clock, OpenVc, VcIs}
-use Rattle.table.proofs.LeakLaws.{and-left, and-right, due-time}
-use Rattle.table.proofs.VcLaws.{debt-is}
-use Rattle.memory.specs.Held.{Queued, vciOf}
-use Rattle.invariant.specs.Invariant.{cellIn, vciIn, isOf, waits, Inv}
-use Rattle.invariant.proofs.CallLaws.{shared-in, shared-out}
-use Rattle.invariant.proofs.RunLaws.{Kept, call-kept, calls-kept, run-kept}
+use Rattle.meaning_runs.specs.Run.{Call, onOpen, onClose, onSlot, Event, opened, closed, ran, Run, call, calls, freshRun, served}
+use Rattle.meaning_runs.specs.Leak.{Opening, parts, dueTime, openingOf}
+use Rattle.meaning_runs.specs.Seen.{ofVc, cellsOf, departuresOf, cellAt}
+use Rattle.theory_queues.specs.Queue.{sum, sums, flat, turn}
+use Rattle.theory_queues.proofs.QueueLaws.{sum-append, sums-flat, turn-sums}
+use Rattle.theory_queues.proofs.OrderLaws.{ofVc-yes, ofVc-no}
+use Rattle.theory_chains.proofs.CountLaws.{is-yes, is-no}
+use Rattle.theory_table.specs.Stored.{earliestAfter, earliest, level, clock, OpenVc, VcIs}
+use Rattle.theory_table.proofs.LeakLaws.{and-left, and-right, due-time}
+use Rattle.theory_table.proofs.VcLaws.{debt-is}
+use Rattle.theory_memory.specs.Held.{Queued, vciOf}
+use Rattle.theory_invariant.specs.Invariant.{cellIn, vciIn, isOf, waits, Inv}
+use Rattle.theory_invariant.proofs.CallLaws.{shared-in, shared-out}
+use Rattle.theory_invariant.proofs.RunLaws.{Kept, call-kept, calls-kept, run-kept}
 use Rattle.promises.specs.Demand3.{Demand3}
 use Rattle.promises.specs.Debt.{lastSlot, PaidAfter, Paid, AllLeft, Across, Debt, roundedUp, Refused}
 use Rattle.promises.proofs.Demand3Laws.{waiting, many-left, many-cells, demanded}

@@ -12,16 +12,16 @@ use lib.Seq.{getD-append-add}
 use Rattle.meaning.specs.State.{State, freeList, outputList}
 use Rattle.meaning.specs.Lists.{isEmpty}
 use Rattle.meaning.specs.Slot.{slot}
-use Rattle.runs.specs.Run.{Event, served}
-use Rattle.runs.specs.Seen.{Cell, Departure, ofVc, cellsIn, cellsOf, departuresOf, noCell, noDeparture, cellAt, departureAt}
-use Rattle.queues.specs.Queue.{one, All, flat, turn}
-use Rattle.queues.proofs.QueueLaws.{map-length, turn-sums}
-use Rattle.queues.proofs.LineLaws.{still-in-time}
-use Rattle.queues.proofs.OrderLaws.{ofVc-append, ofVc-map, ofVc-all}
-use Rattle.queues.proofs.RisingLaws.{rising-of, rising-at}
-use Rattle.memory.specs.Held.{dueOf, Has}
-use Rattle.memory.proofs.HasLaws.{SomeFree, some-free, free-marked}
-use Rattle.invariant.specs.Invariant.{Left, seenAs, cellLeft, cellIn, vciIn, InTime, Delayed, Inv}
+use Rattle.meaning_runs.specs.Run.{Event, served}
+use Rattle.meaning_runs.specs.Seen.{Cell, Departure, ofVc, cellsIn, cellsOf, departuresOf, noCell, noDeparture, cellAt, departureAt}
+use Rattle.theory_queues.specs.Queue.{one, All, flat, turn}
+use Rattle.theory_queues.proofs.QueueLaws.{map-length, turn-sums}
+use Rattle.theory_queues.proofs.LineLaws.{still-in-time}
+use Rattle.theory_queues.proofs.OrderLaws.{ofVc-append, ofVc-map, ofVc-all}
+use Rattle.theory_queues.proofs.RisingLaws.{rising-of, rising-at}
+use Rattle.theory_memory.specs.Held.{dueOf, Has}
+use Rattle.theory_memory.proofs.HasLaws.{SomeFree, some-free, free-marked}
+use Rattle.theory_invariant.specs.Invariant.{Left, seenAs, cellLeft, cellIn, vciIn, InTime, Delayed, Inv}
 use Rattle.promises.specs.Demand3.{Demand3}
 use Rattle.promises.proofs.VerdictLaws.{says, accepts}
 

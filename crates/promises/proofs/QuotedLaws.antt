@@ -3,7 +3,7 @@ use Prim.Native.Nat.{ℕ}
 use native.Mathlib.Omega.{arith}
 use mathlib.Core.List.{List}
 use Rattle.meaning.specs.State.{State}
-use Rattle.runs.specs.Run.{Event}
+use Rattle.meaning_runs.specs.Run.{Event}
 use Rattle.promises.specs.Demand3.{Demand3}
 use Rattle.promises.specs.Quoted.{Quoted}
 

@@ -8,11 +8,11 @@ use mathlib.Core.Option.{some}
 use native.Mathlib.Omega.{arith}
 use lib.Dec.{lit<}
 use Rattle.meaning.specs.Numbers.{rangesHold}
-use Rattle.runs.specs.Run.{Call}
-use Rattle.runs.specs.Leak.{openingWith}
-use Rattle.runs.specs.Seen.{departureAt}
-use Rattle.runs.specs.Eight.{eightCalls, eightEvents}
-use Rattle.runs.specs.Computed.{byComputation}
+use Rattle.meaning_runs.specs.Run.{Call}
+use Rattle.meaning_runs.specs.Leak.{openingWith}
+use Rattle.meaning_runs.specs.Seen.{departureAt}
+use Rattle.meaning_runs.specs.Eight.{eightCalls, eightEvents}
+use Rattle.meaning_runs.specs.Computed.{byComputation}
 use Rattle.promises.specs.Reached.{Reached, Within, lateAtTwo, lateAtFive, PeakKept}
 
 pub reached-at-two : (raw : Bool) → Reached 2 3 raw lateAtTwo 2 1

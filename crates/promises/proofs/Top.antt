@@ -7,12 +7,12 @@ use mathlib.Core.List.{List, [], _∷_}
 use Rattle.meaning.specs.Numbers.{rangesHold}
 use Rattle.meaning.specs.State.{State}
 use Rattle.meaning.specs.Calls.{setup}
-use Rattle.runs.specs.Run.{Call, Event, numberOf, Run, runOf, calls, freshRun}
-use Rattle.queues.specs.Queue.{All}
-use Rattle.invariant.proofs.FreshLaws.{setup-fresh}
-use Rattle.invariant.proofs.RunLaws.{Kept, run-kept}
-use Rattle.invariant.proofs.AuditLaws.{audit-holds}
-use Rattle.unwrapped.proofs.NeverWraps.{never-wraps-after-setup}
+use Rattle.meaning_runs.specs.Run.{Call, Event, numberOf, Run, runOf, calls, freshRun}
+use Rattle.theory_queues.specs.Queue.{All}
+use Rattle.theory_invariant.proofs.FreshLaws.{setup-fresh}
+use Rattle.theory_invariant.proofs.RunLaws.{Kept, run-kept}
+use Rattle.theory_invariant.proofs.AuditLaws.{audit-holds}
+use Rattle.theory_clock.proofs.NeverWraps.{never-wraps-after-setup}
 use Rattle.promises.specs.Demand2.{Demand2Holds}
 use Rattle.promises.specs.Demand3.{Demand3, Demand3Holds}
 use Rattle.promises.specs.Debt.{Debt, Refused, DebtHolds}

@@ -15,12 +15,12 @@ use Rattle.meaning.specs.State.{State}
 use Rattle.meaning.specs.Header.{Header, headerOf, headerAt, noUserCell, namesVc}
 use Rattle.meaning.specs.Slot.{slot}
 use Rattle.meaning.proofs.CheckedLaws.{dropped-none}
-use Rattle.runs.specs.Run.{Event, letIn, served}
-use Rattle.runs.specs.Leak.{Opening, dueSlot, leakAccepts, openingOf}
-use Rattle.runs.specs.Judged.{Judged, judgedOf, judgedBy, judged, judgedAs}
-use Rattle.invariant.specs.Invariant.{Inv}
-use Rattle.invariant.proofs.ArriveLaws.{names-facts}
-use Rattle.invariant.proofs.CheckLaws.{slot-served}
+use Rattle.meaning_runs.specs.Run.{Event, letIn, served}
+use Rattle.meaning_runs.specs.Leak.{Opening, dueSlot, leakAccepts, openingOf}
+use Rattle.meaning_runs.specs.Judged.{Judged, judgedOf, judgedBy, judged, judgedAs}
+use Rattle.theory_invariant.specs.Invariant.{Inv}
+use Rattle.theory_invariant.proofs.ArriveLaws.{names-facts}
+use Rattle.theory_invariant.proofs.CheckLaws.{slot-served}
 
 module _ (N z : ℕ) (h : List Event) (s : State) (i : Inv N z h s) where
   pub says : (cell : List ℕ) → length cell =? 0 || length cell =? 53 ≡ true

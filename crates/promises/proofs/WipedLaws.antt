@@ -7,10 +7,10 @@ use mathlib.Core.List.{[], _∷_}
 use mathlib.Core.Option.{none, some}
 use native.Mathlib.Omega.{arith}
 use lib.ListN.{length}
-use Rattle.runs.specs.Run.{opened, calls, freshRun, served}
-use Rattle.runs.specs.Leak.{openingWith}
-use Rattle.runs.specs.Seen.{departuresOf}
-use Rattle.runs.specs.Computed.{byComputation}
+use Rattle.meaning_runs.specs.Run.{opened, calls, freshRun, served}
+use Rattle.meaning_runs.specs.Leak.{openingWith}
+use Rattle.meaning_runs.specs.Seen.{departuresOf}
+use Rattle.meaning_runs.specs.Computed.{byComputation}
 use Rattle.promises.specs.Debt.{Across}
 use Rattle.promises.specs.Wiped.{closeWiping, callWiping, callsWiping, beforeClose, reopenedAtOnce, closedEveryFive}
 

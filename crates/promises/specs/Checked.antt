@@ -12,16 +12,16 @@ use mathlib.Core.Logic.{_≢_, _⊎_}
 use mathlib.Core.Bool.{Bool, true, false, _||_}
 use mathlib.Core.List.{List, [], _∷_}
 use lib.ListN.{length}
-use Rattle.hec.specs.WrongBit.{flipped}
-use Rattle.hec.specs.Modes.{Arriving, correction, detection}
+use Rattle.base_hec.specs.WrongBit.{flipped}
+use Rattle.base_hec.specs.Modes.{Arriving, correction, detection}
 use Rattle.meaning.specs.Plain.{_=?_}
 use Rattle.meaning.specs.Numbers.{octets, dropped}
 use Rattle.meaning.specs.State.{withMode}
 use Rattle.meaning.specs.Calls.{rawNumber, setup}
 use Rattle.meaning.specs.Slot.{uncheckedSlot, told, slot}
-use Rattle.runs.specs.Run.{Call, onOpen, onClose, onSlot, ran, Run, runOf, shown, letIn, call, calls}
-use Rattle.runs.specs.Leak.{openingOf}
-use Rattle.runs.specs.Seen.{cellsIn}
+use Rattle.meaning_runs.specs.Run.{Call, onOpen, onClose, onSlot, ran, Run, runOf, shown, letIn, call, calls}
+use Rattle.meaning_runs.specs.Leak.{openingOf}
+use Rattle.meaning_runs.specs.Seen.{cellsIn}
 
 -- no cell, or one of 53 octets
 abbrev pub Lent : List ℕ → Type 0

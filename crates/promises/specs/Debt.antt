@@ -17,9 +17,9 @@ use lib.ListN.{length}
 use Rattle.meaning.specs.State.{State}
 use Rattle.meaning.specs.Words.{vcAt, debt}
 use Rattle.meaning.specs.Calls.{setup, closeCall}
-use Rattle.runs.specs.Run.{Call, Event, closed, Run, runOf, calls, served}
-use Rattle.runs.specs.Leak.{Opening, parts, dueTime, openingOf}
-use Rattle.runs.specs.Seen.{cellsOf, departuresOf, cellAt}
+use Rattle.meaning_runs.specs.Run.{Call, Event, closed, Run, runOf, calls, served}
+use Rattle.meaning_runs.specs.Leak.{Opening, parts, dueTime, openingOf}
+use Rattle.meaning_runs.specs.Seen.{cellsOf, departuresOf, cellAt}
 
 abbrev pub lastSlot : List Event → ℕ
 lastSlot h = served h - 1

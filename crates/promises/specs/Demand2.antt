@@ -8,8 +8,8 @@ use mathlib.Core.Path.{_≡_}
 use mathlib.Core.Bool.{Bool}
 use mathlib.Core.List.{List}
 use Rattle.meaning.specs.Calls.{setup}
-use Rattle.runs.specs.Run.{Call, freshRun}
-use Rattle.unwrapped.specs.UnwrappedRun.{NeverWraps}
+use Rattle.meaning_runs.specs.Run.{Call, freshRun}
+use Rattle.theory_clock.specs.UnwrappedRun.{NeverWraps}
 
 abbrev pub Demand2Holds : Type 0
 Demand2Holds = (N z : ℕ) (raw : Bool) (cells links calendar words : List ℕ)

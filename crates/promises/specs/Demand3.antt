@@ -29,10 +29,10 @@ use Rattle.meaning.specs.Header.{headerAt, namesVc}
 use Rattle.meaning.specs.Lists.{isEmpty}
 use Rattle.meaning.specs.Calls.{setup}
 use Rattle.meaning.specs.Slot.{slot}
-use Rattle.runs.specs.Run.{Call, Event, runOf, letIn, calls, served}
-use Rattle.runs.specs.Leak.{Opening, leakAccepts, openingOf}
-use Rattle.runs.specs.Seen.{cellsOf, departuresOf, cellAt, departureAt}
-use Rattle.runs.specs.Judged.{judgedOf, judgedAs}
+use Rattle.meaning_runs.specs.Run.{Call, Event, runOf, letIn, calls, served}
+use Rattle.meaning_runs.specs.Leak.{Opening, leakAccepts, openingOf}
+use Rattle.meaning_runs.specs.Seen.{cellsOf, departuresOf, cellAt, departureAt}
+use Rattle.meaning_runs.specs.Judged.{judgedOf, judgedAs}
 
 pub record Demand3 (N z : ℕ) (h : List Event) (s : State) : Type 0 where
   -- 6, 1 and 4: the k-th departure of a VC is its k-th accepted cell. So nothing leaves that was not accepted, no cell

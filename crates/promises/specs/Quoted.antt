@@ -3,8 +3,8 @@
 use Prim.Native.Nat.{ℕ, _+_, _-_, _*_, _≤_, _<_}
 use mathlib.Core.List.{List}
 use lib.ListN.{length}
-use Rattle.runs.specs.Run.{Event}
-use Rattle.runs.specs.Seen.{departuresOf, cellAt, departureAt}
+use Rattle.meaning_runs.specs.Run.{Event}
+use Rattle.meaning_runs.specs.Seen.{departuresOf, cellAt, departureAt}
 
 pub record Quoted (N : ℕ) (h : List Event) : Type 0 where
   pub by-delay : (v k : ℕ) → k < length (departuresOf v h)

@@ -11,12 +11,12 @@ use mathlib.Core.Bool.{Bool, true}
 use mathlib.Core.List.{List, [], _∷_, _++_}
 use mathlib.Core.Option.{some}
 use lib.ListN.{length, replicate, set}
-use Rattle.hec.specs.Check.{hecOf}
+use Rattle.base_hec.specs.Check.{hecOf}
 use Rattle.meaning.specs.Numbers.{rangesHold}
-use Rattle.runs.specs.Run.{Call, onOpen, onSlot, calls, freshRun}
-use Rattle.runs.specs.Leak.{Opening, parts, openingOf}
-use Rattle.runs.specs.Seen.{departuresOf, cellAt, departureAt}
-use Rattle.runs.specs.Eight.{cellFor}
+use Rattle.meaning_runs.specs.Run.{Call, onOpen, onSlot, calls, freshRun}
+use Rattle.meaning_runs.specs.Leak.{Opening, parts, openingOf}
+use Rattle.meaning_runs.specs.Seen.{departuresOf, cellAt, departureAt}
+use Rattle.meaning_runs.specs.Eight.{cellFor}
 
 pub record Reached (N z : ℕ) (raw : Bool) (cs : List Call) (v k : ℕ) : Type 0 where
   pub leaves : k < length (departuresOf v (calls (freshRun N z raw) cs .events))

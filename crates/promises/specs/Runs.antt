@@ -7,7 +7,7 @@ use mathlib.Core.Bool.{Bool}
 use mathlib.Core.List.{List, [], _∷_}
 use Rattle.meaning.specs.Calls.{setup}
 use Rattle.meaning.specs.Audit.{AuditHolds}
-use Rattle.runs.specs.Run.{Call, Event, numberOf, Run, runOf, calls}
+use Rattle.meaning_runs.specs.Run.{Call, Event, numberOf, Run, runOf, calls}
 
 -- no call was refused with 3
 abbrev pub NeverThree : List Event → Type 0

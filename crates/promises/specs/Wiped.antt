@@ -14,8 +14,8 @@ use Rattle.meaning.specs.Plain.{if_then_else_, _=?_}
 use Rattle.meaning.specs.State.{withWords}
 use Rattle.meaning.specs.Words.{vcAt, writeVc, closedVc}
 use Rattle.meaning.specs.Calls.{Called, calledOf, sharedRefusal}
-use Rattle.runs.specs.Run.{Call, onOpen, onClose, onSlot, closed, Run, runOf, call}
-use Rattle.runs.specs.Eight.{cellFor}
+use Rattle.meaning_runs.specs.Run.{Call, onOpen, onClose, onSlot, closed, Run, runOf, call}
+use Rattle.meaning_runs.specs.Eight.{cellFor}
 
 unfoldable pub closeWiping : Record → List ℕ → ℕ → Called
 closeWiping r words vci =

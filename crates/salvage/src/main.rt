@@ -6,7 +6,7 @@
 fn main() {
     let mut input = [0u8; 524288];
     let long = io::read_full(0, &mut input);
-    let counted = rescue::count_on(0, long);
+    let counted = mend_write::count_on(0, long);
     if !counted.good {
         return;
     }
@@ -18,5 +18,5 @@ fn main() {
     }
     let mut out = [0u8; 65536];
     let mut text = [0u8; 65536];
-    rescue::mend(1, 2, &input[..long], counted.total, &mut out, &mut text);
+    mend_write::mend(1, 2, &input[..long], counted.total, &mut out, &mut text);
 }

@@ -16,7 +16,7 @@ fn main() {
     let mut calendar = [0u16; 2048];
     let mut words = [0u32; 7168];
     let mut out = [0u8; 65536];
-    handover::list(
+    list_write::list(
         1,
         &input[..long],
         &mut cells,

@@ -1,0 +1,73 @@
+-- What step 3 has found out of a cell on a likely way: that it is accepted, and where it goes. Only what passed is stated, and
+-- never that something else is refused: each test that fails leaves the likely way, and the slot is served as the call has it.
+-- k is the record in the slot, its clock moved.
+--
+--   Judges k words vci D S == an open VC accepts a cell
+--   Arrives k words cell.. == the VC that the cell names accepts it
+--   Seats k .. p           == the cell has its space, its entry and the Free List without it
+--   Spotted k .. p         == all of these
+use Prim.Native.Nat.{ℕ, _+_, _*_, _≤_, _<_}
+use mathlib.Core.Path.{_≡_}
+use mathlib.Core.Bool.{true}
+use mathlib.Core.List.{List}
+use lib.ListN.{length, getD}
+use Rattle.meaning.specs.declared.Record.{Record}
+use Rattle.meaning.specs.Numbers.{mostN, mostV, octets, cellStart, perEntry, wordsIn, accepted, fPlace, waitingPlace}
+use Rattle.meaning.specs.Words.{vcAt, bucketFits}
+use Rattle.meaning.specs.Lists.{endsFit}
+use Rattle.meaning.specs.Lent.{Slice}
+use Rattle.slot_arrive.specs.declared.Judged.{Judged}
+use Rattle.slot_arrive.specs.Arrival.{bucketNow, judgedAs, judgedBucket, judgedOf}
+use Rattle.mem_lists.specs.declared.Seat.{Seat}
+use Rattle.mem_lists.specs.Spaces.{endsOf, seatAs, entryOf, seatOf}
+use Rattle.slot_plan.specs.Plan.{freeEnds}
+use Rattle.slot_plan.specs.Facts.{Accepted}
+use Rattle.burst_way.specs.declared.Way.{Way}
+use Rattle.burst_arrive.specs.declared.Spot.{Spot}
+
+-- the accepted cell's judgement and seat, from what was found
+abbrev pub judgedAt : List ℕ → Spot → Judged
+judgedAt words p =
+    judgedAs true accepted (p .vci) (p .d) (p .s + getD words (fPlace (p .vci)) 0) (getD words (waitingPlace (p .vci)) 0 + 1)
+
+abbrev pub seatAt : Record → Spot → Seat
+seatAt k p = seatAs true (p .x) (endsOf (p .link) (k .freetail)) (p .e) (endsOf (p .head) (p .tail))
+
+pub record Seats (k : Record) (links calendar : List ℕ) (p : Spot) : Type 0 where
+  pub seat : seatAt k p ≡ seatOf (k .n) links calendar (k .turn) (freeEnds k) (p .d)
+  pub e-is : p .e ≡ entryOf (k .n) (k .turn) (p .d)
+  pub x-low : p .x < k .n
+  pub link-low : p .link < k .n
+  pub tail-low : k .freetail < k .n
+  pub entry-fits : endsFit (k .n) (endsOf (p .head) (p .tail)) ≡ true
+
+-- an open VC that accepts a cell with this D, its S being s before the cell
+pub record Judges (k : Record) (words : List ℕ) (vci D S : ℕ) : Type 0 where
+  pub judged : judgedAs true accepted vci D (S + getD words (fPlace vci) 0) (getD words (waitingPlace vci) 0 + 1)
+      ≡ judgedBucket (k .n) vci (bucketNow (k .t) (vcAt words vci)) (vcAt words vci .waiting)
+  pub fits : bucketFits (k .n) (vcAt words vci .bucket) ≡ true
+  pub near : D < k .n
+  pub waiting-high : getD words (waitingPlace vci) 0 < k .n
+
+-- the same of the VC that a cell names
+pub record Arrives (k : Record) (words cell : List ℕ) (vci D S : ℕ) : Type 0 where
+  pub judged : judgedAs true accepted vci D (S + getD words (fPlace vci) 0) (getD words (waitingPlace vci) 0 + 1)
+      ≡ judgedOf (k .n) (k .v) (k .t) words cell
+  pub is-accepted : Accepted k (judgedAs true accepted vci D (S + getD words (fPlace vci) 0) (getD words (waitingPlace vci) 0 + 1)) cell words
+
+pub record Spotted (k : Record) (links calendar words cell : List ℕ) (p : Spot) : Type 0 where
+  pub judged : judgedAt words p ≡ judgedOf (k .n) (k .v) (k .t) words cell
+  pub is-accepted : Accepted k (judgedAt words p) cell words
+  pub seats : Seats k links calendar p
+
+-- ---- what is asked of lent memories, for contracts: w is the policer in the slot to come
+abbrev pub MaySeat : Way → Slice → Slice → ℕ → Type 0
+MaySeat w links calendar D =
+    (w .n ≤ mostN) × (length (links .now) ≡ w .n) × (length (calendar .now) ≡ perEntry * w .n) × (w .turn < w .n) × (D < w .n)
+    × (endsFit (w .n) (endsOf (w .freehead) (w .freetail)) ≡ true)
+
+abbrev pub MayArrive : Way → Slice → Slice → Slice → Slice → ℕ → Type 0
+MayArrive w links calendar words arrivals i =
+    (w .n ≤ mostN) × (w .v ≤ mostV) × (length (links .now) ≡ w .n) × (length (calendar .now) ≡ perEntry * w .n)
+    × (length (words .now) ≡ wordsIn (w .v)) × (w .turn < w .n) × (cellStart i + octets ≤ length (arrivals .now))
+    × (endsFit (w .n) (endsOf (w .freehead) (w .freetail)) ≡ true)

@@ -1,0 +1,63 @@
+-- `burst_depart::off_quiet` meets its contract: the plan, and the VC that the header of its space names.
+use Rattle.burst_depart.proofs.LeaveLaws.{plan-none, plan-low, quiet-leaves}
+use Rattle.burst_depart.specs.Leaving.{OffHere}
+use Rattle.burst_way.specs.Way.{slotRecord}
+use Rattle.meaning.specs.Lists.{entryAt}
+use Rattle.slot_plan.proofs.Found.{no}
+use borrow.Author.Tests.{not-false}
+use native.Mathlib.Omega.{arith}
+use mathlib.Core.Path.{sym, _∙_}
+use borrow.Author.Needs.{needs}
+use Rattle.burst_depart.proofs.off_quiet.Statement.{statement}
+use Rattle.burst_depart.proofs.off_quiet.Tie as tie
+
+returns : tie.Need-returns
+returns c =
+    λ ok. no (sym (c .stuck .ensures) ∙ ok)
+
+returns-2 : tie.Need-returns-2
+returns-2 c =
+    let from = c .before .before .before .before .before .before .before .before in
+    let a = from .args in
+    let k = slotRecord (a .w) in
+    let entry = entryAt (a .calendar .now) (a .w .turn) in
+    let o = c .before .before .before .plan .result in
+    λ ok.
+    plan-none k (a .links .now) entry o (OffHere k (a .cells .now) (a .links .now) (a .words .now)) (c .before .before .before .plan .ensures ok) (c .if2 .taken)
+
+seen-requires : tie.Need-seen-requires
+seen-requires c κs =
+    let from = c .before .before .before .before .before .before .before .before in
+    let a = from .args in
+    let k = slotRecord (a .w) in
+    let entry = entryAt (a .calendar .now) (a .w .turn) in
+    let o = c .before .before .before .plan .result in
+    let low = plan-low k (a .links .now) entry o (c .before .before .before .plan .ensures (not-false _ (c .before .if1 .left))) (c .if2 .left) in
+    (from .pre .0 .n-high, from .pre .0 .v-high, omega (arith, low, from .pre .0 .cells-long), from .pre .0 .words-long)
+
+returns-3 : tie.Need-returns-3
+returns-3 c =
+    let from = c .before .before .before .before .before .before .before .before .before .before in
+    let a = from .args in
+    let k = slotRecord (a .w) in
+    let entry = entryAt (a .calendar .now) (a .w .turn) in
+    let o = c .before .before .before .before .before .plan .result in
+    λ ok.
+    quiet-leaves k (a .cells .now) (a .links .now) (a .words .now) entry o (c .before .seen .result) (c .with-vci .result)
+    (c .before .before .before .before .before .plan .ensures (not-false _ (c .before .before .before .if1 .left)))
+    (c .before .before .if2 .left)
+    (sym (c .before .seen .ensures))
+    (c .with-vci .ensures)
+    ok
+
+pub off-quiet-spec : {M : Type 1} → statement M
+off-quiet-spec =
+    tie.close
+    (tie.spec
+    (λ c κs. search needs)
+    (λ c κs. search needs)
+    returns
+    returns-2
+    seen-requires
+    (λ c κs. search needs)
+    returns-3)

@@ -1,0 +1,105 @@
+// Step 2 on a likely way: rotation's VC, and how full an open VC's bucket is, which step 3 asks too. A test that fails leaves
+// the likely way with everything as it came, and the slot is then served as the call has it: so the order of the tests is
+// free, and nothing here refuses.
+ghost use mathlib.Core.Path.{_≡_};
+ghost use mathlib.Core.Bool.{true, false};
+ghost use Prim.Native.Nat.{_+_, _*_, _≤_};
+ghost use lib.ListN.{length, getD};
+ghost use Rattle.meaning.specs.Numbers.{mostN};
+ghost use Rattle.meaning.specs.State.{HasVc};
+ghost use Rattle.burst_way.specs.Way.{slotRecord};
+ghost use Rattle.burst_rotate.specs.Turning.{Met, Turned};
+use meaning::AT_C;
+use meaning::AT_F;
+use meaning::AT_LAST;
+use meaning::AT_M;
+use meaning::AT_S;
+use meaning::WORDS_PER_VC;
+use burst_way::Way;
+
+// An open VC's bucket: ok where its words but waiting are in range; S as it has fallen, and C-F.
+pub struct Bucketed {
+    pub ok: bool,
+    pub s: u32,
+    pub room: u32,
+}
+
+// What step 2 writes to rotation's VC.
+pub struct Turn {
+    pub ok: bool,
+    pub s: u32,
+    pub last: u32,
+}
+
+fn unmet() -> Bucketed
+    ensures { λ r. ⌜ r .ok ≡ false ⌝ }
+{
+    Bucketed {
+        ok: false,
+        s: 0,
+        room: 0,
+    }
+}
+
+// That C is at least F needs no test: if not, C-F on 32 bits is above 2^31, and (C-F)/L far above N.
+pub fn met(n: usize, words: &[u32], vci: usize, t: u32) -> Bucketed
+    requires { ⌜ (n ≤ mostN) × (HasVc vci (now words)) ⌝ }
+    ensures { λ r. ⌜ (r .ok ≡ true → Met n t (now (words .entry)) vci r) ⌝ }
+{
+    let b = WORDS_PER_VC * vci;
+    let m = words[b + AT_M];
+    if m > 15 {
+        return unmet();
+    }
+    let f = words[b + AT_F];
+    if f > 16777216 {
+        return unmet();
+    }
+    if f >> m == 0 {
+        return unmet();
+    }
+    let c = words[b + AT_C];
+    let room = std::num::wrapping_sub_u32(c, f);
+    if room >> m >= n as u32 {
+        return unmet();
+    }
+    let s = words[b + AT_S];
+    if s > c {
+        return unmet();
+    }
+    let now = leaf_bucket::fallen_to(s, m, words[b + AT_LAST], t);
+    Bucketed {
+        ok: true,
+        s: now,
+        room: room,
+    }
+}
+
+// Step 2. VC 0 is never open: its words are not read there, so the caller knows that its open word is 0.
+pub fn turned(w: Way, words: &[u32]) -> Turn
+    requires { ⌜ (w .n ≤ mostN) × (HasVc (w .rotation) (now words)) × (w .rotation ≡ 0 → getD (now words) 0 0 ≡ 0) ⌝ }
+    ensures { λ r. ⌜ (r .ok ≡ true → Turned (slotRecord w) (now (words .entry)) r) ⌝ }
+{
+    let b = WORDS_PER_VC * w.rotation;
+    let o = words[b];
+    if o == 0 {
+        return Turn {
+            ok: true,
+            s: words[b + AT_S],
+            last: words[b + AT_LAST],
+        };
+    }
+    if o == 1 {
+        let k = met(w.n, words, w.rotation, w.t);
+        return Turn {
+            ok: k.ok,
+            s: k.s,
+            last: w.t,
+        };
+    }
+    Turn {
+        ok: false,
+        s: 0,
+        last: 0,
+    }
+}

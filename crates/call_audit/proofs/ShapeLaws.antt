@@ -1,0 +1,150 @@
+-- The tests of ranges and lengths as plain facts: what the code finds gives the test's answer, and the answer gives the
+-- facts back.
+use Prim.Native.Nat.{ℕ, _*_, _≤_, _<_}
+use mathlib.Core.Path.{_≡_, sym, _∙_}
+use mathlib.Core.Bool.{Bool, true, false, not, _&&_}
+use mathlib.Core.List.{List}
+use lib.ListN.{length}
+use borrow.Author.Tests.{lt-ltb, le-ltb, le-leb, lt-leb, eqb-true, ltb-true, leb-true, not-true, not-false}
+use Rattle.meaning.specs.declared.Record.{Record}
+use Rattle.meaning.specs.Plain.{_<?_, _≤?_, _=?_}
+use Rattle.meaning.specs.Numbers.{mostN, leastV, mostV, rangesHold, octets, perEntry, wordsPerVc}
+use Rattle.meaning.specs.State.{stateOf, wordsLong, lengthsHold}
+use Rattle.meaning.specs.Audit.{AuditHolds}
+use Rattle.call_audit.specs.Shape.{recordFits, shapeHolds}
+use Rattle.mem_walks.proofs.Choice.{both}
+
+-- N and V
+
+module _ (N z : ℕ) where
+  ranges-facts : rangesHold N z ≡ true → (1 ≤ N) × (N ≤ mostN) × (leastV ≤ z) × (z ≤ mostV)
+  unfolding rangesHold
+  ranges-facts h =
+      let a = both (1 ≤? N && N ≤? mostN && leastV ≤? z) (z ≤? mostV) h in
+      let b = both (1 ≤? N && N ≤? mostN) (leastV ≤? z) (a .0) in
+      let d = both (1 ≤? N) (N ≤? mostN) (b .0) in
+      (leb-true 1 N (d .0), leb-true N mostN (d .1), leb-true leastV z (b .1), leb-true z mostV (a .1))
+
+-- The four lengths
+
+module _ (N z : ℕ) (cells links calendar words : List ℕ) where
+  lengths-facts : lengthsHold N z cells links calendar words ≡ true
+      → (length calendar ≡ perEntry * N) × (length words ≡ wordsPerVc * z)
+  unfolding lengthsHold wordsLong
+  lengths-facts h =
+      let first = length cells =? octets * N && length links =? N in
+      let a = both (first && length calendar =? perEntry * N) (length words =? wordsPerVc * z) h in
+      let b = both first (length calendar =? perEntry * N) (a .0) in
+      (eqb-true (length calendar) (perEntry * N) (b .1), eqb-true (length words) (wordsPerVc * z) (a .1))
+
+-- The record's other numbers, as the code meets them
+
+module _ (r : Record) where
+  pub fits-no-turn : r .n ≤ r .turn → false ≡ recordFits r
+  unfolding recordFits
+  fits-no-turn h = rw (le-ltb (r .turn) (r .n) h)
+
+  module _ (turn : r .turn < r .n) where
+    pub fits-no-rotation : r .v ≤ r .rotation → false ≡ recordFits r
+    unfolding recordFits
+    fits-no-rotation h = rw (lt-ltb (r .turn) (r .n) turn, le-ltb (r .rotation) (r .v) h)
+
+    module _ (rotation : r .rotation < r .v) where
+      pub fits-no-raw : 1 < r .raw → false ≡ recordFits r
+      unfolding recordFits
+      fits-no-raw h = rw (lt-ltb (r .turn) (r .n) turn, lt-ltb (r .rotation) (r .v) rotation, lt-leb (r .raw) 1 h)
+
+      pub fits-rest : r .raw ≤ 1 → r .mode ≤? 1 ≡ recordFits r
+      unfolding recordFits
+      fits-rest h = rw (lt-ltb (r .turn) (r .n) turn, lt-ltb (r .rotation) (r .v) rotation, le-leb (r .raw) 1 h)
+
+  fits-facts : recordFits r ≡ true → (r .turn < r .n) × (r .rotation < r .v) × (r .raw ≤ 1) × (r .mode ≤ 1)
+  unfolding recordFits
+  fits-facts h =
+      let a = both (r .turn <? r .n && r .rotation <? r .v && r .raw ≤? 1) (r .mode ≤? 1) h in
+      let b = both (r .turn <? r .n && r .rotation <? r .v) (r .raw ≤? 1) (a .0) in
+      let d = both (r .turn <? r .n) (r .rotation <? r .v) (b .0) in (
+        ltb-true (r .turn) (r .n) (d .0),
+        ltb-true (r .rotation) (r .v) (d .1),
+        leb-true (r .raw) 1 (b .1),
+        leb-true (r .mode) 1 (a .1),
+      )
+
+abbrev lengthsTest : ℕ → ℕ → List ℕ → List ℕ → List ℕ → List ℕ → Bool
+lengthsTest N z cells links calendar words =
+    length cells =? octets * N && length links =? N && length calendar =? perEntry * N && length words =? wordsPerVc * z
+
+-- All of it, as the code meets it: p and q are what the two tests answer
+
+module _ (r : Record) (cells links calendar words : List ℕ) (p : Bool) (ranges : p ≡ rangesHold (r .n) (r .v)) where
+  abbrev shape : Bool
+  shape = shapeHolds (stateOf r cells links calendar words)
+
+  pub shape-no-ranges : not p ≡ true → false ≡ shape
+  unfolding shapeHolds
+  shape-no-ranges h = rw (← ranges, not-true p h)
+
+  module _ (q : Bool) (lengths : q ≡ lengthsTest (r .n) (r .v) cells links calendar words) (ok : not p ≡ false) where
+    pub shape-no-lengths : not q ≡ true → false ≡ shape
+    unfolding shapeHolds lengthsHold wordsLong
+    shape-no-lengths h = rw (← ranges, not-false p ok, ← lengths, not-true q h)
+
+    pub shape-rest : not q ≡ false → recordFits r ≡ shape
+    unfolding shapeHolds lengthsHold wordsLong
+    shape-rest h = rw (← ranges, not-false p ok, ← lengths, not-false q h)
+
+-- What a yes means, and that it is given
+
+-- "lengths and ranges hold", but for the VC words
+pub record Shaped (r : Record) (cells links calendar words : List ℕ) : Type 0 where
+  pub ranges : rangesHold (r .n) (r .v) ≡ true
+  pub lengths : lengthsHold (r .n) (r .v) cells links calendar words ≡ true
+  pub turn-low : r .turn < r .n
+  pub rotation-low : r .rotation < r .v
+  pub raw-low : r .raw ≤ 1
+  pub mode-low : r .mode ≤ 1
+  -- what the two tests say in plain numbers, as far as the code needs it
+  pub n-most : r .n ≤ mostN
+  pub v-least : leastV ≤ r .v
+  pub v-most : r .v ≤ mostV
+  pub calendar-long : length calendar ≡ perEntry * r .n
+  pub words-long : length words ≡ wordsPerVc * r .v
+
+module _ (r : Record) (cells links calendar words : List ℕ) where
+  pub shape-of : (a : Bool) → a ≡ shapeHolds (stateOf r cells links calendar words) → a ≡ true
+      → Shaped r cells links calendar words
+  unfolding shapeHolds
+  shape-of found e h =
+      let ranges = rangesHold (r .n) (r .v) in
+      let lengths = lengthsHold (r .n) (r .v) cells links calendar words in
+      let a = both (ranges && lengths) (recordFits r) (sym e ∙ h) in
+      let d = both ranges lengths (a .0) in
+      let k = fits-facts r (a .1) in
+      let f = ranges-facts (r .n) (r .v) (d .0) in
+      let g = lengths-facts (r .n) (r .v) cells links calendar words (d .1) in
+      record {
+        ranges = d .0;
+        lengths = d .1;
+        turn-low = k .0;
+        rotation-low = k .1;
+        raw-low = k .2;
+        mode-low = k .3;
+        n-most = f .1;
+        v-least = f .2;
+        v-most = f .3;
+        calendar-long = g .0;
+        words-long = g .1;
+      }
+
+  pub clauses-shape : AuditHolds (stateOf r cells links calendar words)
+      → shapeHolds (stateOf r cells links calendar words) ≡ true
+  unfolding shapeHolds recordFits
+  clauses-shape s =
+      rw (
+        s .ranges,
+        s .lengths,
+        lt-ltb (r .turn) (r .n) (s .turn-low),
+        lt-ltb (r .rotation) (r .v) (s .rotation-low),
+        le-leb (r .raw) 1 (s .raw-low),
+        le-leb (r .mode) 1 (s .mode-low),
+      )

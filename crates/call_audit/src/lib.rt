@@ -1,0 +1,116 @@
+// The audit of a policer's state: the clauses that need no walk, then a budget of 1 for each space and of waiting for
+// each open VC, which the lists must use up.
+ghost use mathlib.Core.Path.{_≡_};
+ghost use mathlib.Core.Bool.{true};
+ghost use Prim.Native.Nat.{ℕ, _+_, _*_, _≤_, _<_};
+ghost use lib.ListN.{length, getD};
+ghost use Rattle.meaning.specs.Numbers.{wordsIn};
+ghost use Rattle.meaning.specs.State.{HasVc};
+ghost use Rattle.meaning.specs.Words.{vcAt};
+ghost use Rattle.meaning.specs.Promises.{AuditPromise};
+ghost use Rattle.meaning.specs.Lent.{before};
+ghost use Rattle.mem_walks.specs.Budget.{Gone};
+ghost use Rattle.call_audit.specs.Budgets.{inside, waitsOf, waitsAt, AllFit};
+ghost use Rattle.call_audit.specs.Shape.{recordFits, shapeHolds};
+use meaning::AT_WAITING;
+use meaning::Record;
+use meaning::WORDS_PER_VC;
+use leaf_refusal::lengths_hold;
+use leaf_refusal::ranges_hold;
+use mem_walks::stored;
+use mem_words::vc_fits;
+
+// Each of the n spaces may be met once.
+fn fill_spaces(b: &mut [u32], n: u16)
+    requires { ⌜ (n ≤ length (now b)) × Gone (now b) ⌝ }
+    ensures { λ a. ⌜ ((x : ℕ) → getD (now (b .exit)) x 0 ≡ inside x n) ⌝ }
+{
+    let mut x = 0u16;
+    while x < n {
+        b[x as usize] = 1;
+        x += 1;
+    }
+}
+
+// The cells that may wait at a VC: none at a closed one, whatever its word says.
+fn waits_of(words: &[u32], vci: u16) -> u32
+    requires { ⌜ HasVc vci (now words) ⌝ }
+    ensures { λ a. ⌜ a ≡ waitsOf (vcAt (now (words .entry)) vci) ⌝ }
+{
+    let base = WORDS_PER_VC * (vci as usize);
+    if words[base] == 1 {
+        return words[base + AT_WAITING];
+    }
+    0
+}
+
+// The words of VC 1 to V-1 are in their ranges; their waiting cells go into the cells' budget.
+fn fill_waits(n: u16, v: u16, words: &[u32], waits: &mut [u32]) -> bool
+    requires { ⌜ (1 < v) × (v ≤ length (now waits)) × (wordsIn v ≤ length (now words)) × Gone (now waits) ⌝ }
+    ensures yes { λ a. ⌜ (a ≡ true → (AllFit n v (now (words .entry)) × ((k : ℕ) → getD (now (waits .exit)) k 0 ≡ waitsAt (now (words .entry)) v k))) ⌝ }
+    ensures no { λ a. ⌜ (AllFit n v (now (words .entry)) → a ≡ true) ⌝ }
+{
+    let mut vci = 1u16;
+    while vci < v {
+        if vc_fits(n, words, vci) {
+            waits[vci as usize] = waits_of(words, vci);
+            vci += 1;
+        } else {
+            return false;
+        }
+    }
+    true
+}
+
+// T is below N and rotation below V; raw and mode are each 0 or 1.
+fn record_fits(r: Record) -> bool
+    ensures { λ a. ⌜ a ≡ recordFits r ⌝ }
+{
+    if r.turn >= r.n {
+        return false;
+    }
+    if r.rotation >= r.v {
+        return false;
+    }
+    if r.raw > 1 {
+        return false;
+    }
+    r.mode <= 1
+}
+
+// N, V, the four lengths, and the record's numbers that name no space.
+fn shaped(r: Record, cells: &[u8], links: &[u16], calendar: &[u16], words: &[u32]) -> bool
+    ensures { λ a. ⌜ a ≡ shapeHolds (before r cells links calendar words) ⌝ }
+{
+    if !ranges_hold(r.n, r.v) {
+        return false;
+    }
+    if !lengths_hold(
+        r.n,
+        r.v,
+        cells.len(),
+        links.len(),
+        calendar.len(),
+        words.len(),
+    ) {
+        return false;
+    }
+    record_fits(r)
+}
+
+// Do the clauses of the audit hold? Linear in N + V: each list is walked once, and no space twice.
+pub fn audit(r: Record, cells: &[u8], links: &[u16], calendar: &[u16], words: &[u32]) -> bool
+    ensures { λ a. ⌜ AuditPromise (before r cells links calendar words) a ⌝ }
+{
+    if shaped(r, cells, links, calendar, words) {
+        if calendar[2 * (r.turn as usize)] == 65535 {
+            let mut waits = [0u32; 1024];
+            if fill_waits(r.n, r.v, words, &mut waits) {
+                let mut spaces = [0u32; 1024];
+                fill_spaces(&mut spaces, r.n);
+                return stored(r, cells, links, calendar, &mut spaces, &mut waits);
+            }
+        }
+    }
+    false
+}

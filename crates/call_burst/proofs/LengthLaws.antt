@@ -1,0 +1,168 @@
+-- A slot keeps the lengths of the four memories: each step is followed. So a slot of a burst is never refused with 1, 2 or
+-- 9: it is served, or refused with 3.
+use Prim.Native.Nat.{ℕ, _+_, _*_, _%_, _≤_, _<_}
+use mathlib.Core.Path.{_≡_, refl, _∙_}
+use mathlib.Core.Bool.{Bool, true, false, not, _&&_, _||_}
+use mathlib.Core.List.{List}
+use native.Mathlib.Omega.{arith}
+use borrow.Author.Tests.{eqb-false, not-true}
+use lib.ListN.{length, set, length-set}
+use Rattle.meaning.specs.Plain.{if_then_else_, _<?_, _≤?_, _=?_, refused, _andThen_}
+use Rattle.meaning.specs.Numbers.{cellStart, empty, unknown, wordsPerVc}
+use Rattle.meaning.specs.State.{Ends, freeList, outputList, withRecord, withCells, withLinks, withCalendar, withWords}
+use Rattle.meaning.specs.State.{recordWith, withClock, withFreeList, withOutputList}
+use Rattle.meaning.specs.Header.{headerAt, noUserCell, namesVc, namesOpenVc}
+use Rattle.meaning.specs.Bucket.{isExcess, delay}
+use Rattle.meaning.specs.Words.{Vc, vcAt, openWordFits, upToDate}
+use Rattle.meaning.specs.Lists.{isEmpty, endsFit, entryAt, Taken, takeHead, Grown, joinHead, joinTail, addTail}
+use Rattle.meaning.specs.Work.{Work, withArrival}
+use Rattle.meaning.specs.Arrival.{place, accept, judge}
+use Rattle.meaning.specs.Slot.{step1, step2, step3, step4, depart, step5, fiveSteps, slot}
+use Rattle.meaning.proofs.ListsLaws.{fit-head, entry-length}
+use Rattle.meaning.proofs.WordsLaws.{write-length}
+use Rattle.meaning.proofs.CellsLaws.{cell-length}
+use Rattle.slot_steps.proofs.EndLaws.{AllOut, needs-all, if-all, then-all, any-all, both-true, taken-head}
+
+-- links that a list has grown into
+head-links : (links : List ℕ) (e : Ends) (x : ℕ) → length (joinHead links e x .links) ≡ length links
+unfolding joinHead
+head-links links e x = go (isEmpty e)
+  where
+    grown : Bool → Grown
+    grown b =
+        if b then record { ends = record { head = x; tail = x }; links = links }
+        else record { ends = record { head = x; tail = e .tail }; links = set links x (e .head) }
+
+    go : (b : Bool) → length (grown b .links) ≡ length links
+    go true = refl
+    go false = length-set links x (e .head)
+
+tail-links : (links : List ℕ) (e more : Ends) → length (joinTail links e more .links) ≡ length links
+unfolding joinTail
+tail-links links e more = go (isEmpty e)
+  where
+    grown : Bool → Grown
+    grown b =
+        if b then record { ends = more; links = links }
+        else record { ends = record { head = e .head; tail = more .tail }; links = set links (e .tail) (more .head) }
+
+    go : (b : Bool) → length (grown b .links) ≡ length links
+    go true = refl
+    go false = length-set links (e .tail) (more .head)
+
+neither : (a b : Bool) → a || b ≡ false → a ≡ false
+neither true b e = e
+neither false b e = refl
+
+module _ (N z : ℕ) where
+  pub record Long (w : Work) : Type 0 where
+    pub n-is : w .state .ctl .n ≡ N
+    pub v-is : w .state .ctl .v ≡ z
+    pub cells-long : length (w .state .cells) ≡ 53 * N
+    pub links-long : length (w .state .links) ≡ N
+    pub calendar-long : length (w .state .calendar) ≡ 2 * N
+    pub words-long : length (w .state .words) ≡ wordsPerVc * z
+
+  step1-long : (w : Work) → Long w → AllOut Long (step1 w)
+  unfolding step1 withClock withRecord recordWith
+  step1-long w h =
+      let c = w .state .ctl in
+      needs-all Long (c .turn <? c .n && c .rotation <? c .v) _
+      (λ _. record { n-is = h .n-is; v-is = h .v-is; cells-long = h .cells-long; links-long = h .links-long; calendar-long = h .calendar-long; words-long = h .words-long })
+
+  step2-long : (w : Work) → Long w → AllOut Long (step2 w)
+  unfolding step2 withWords
+  step2-long w h =
+      let s = w .state in
+      let vc = vcAt (s .words) (s .ctl .rotation) in
+      if-all Long (s .ctl .rotation =? 0) _ _ (λ _. h)
+      (λ _. needs-all Long (openWordFits vc) _
+      (λ _. if-all Long (vc .opened =? 0) _ _ (λ _. h)
+      (λ _. any-all Long (upToDate (s .ctl .n) (s .ctl .t) vc) _
+      (λ now. record { n-is = h .n-is; v-is = h .v-is; cells-long = h .cells-long; links-long = h .links-long; calendar-long = h .calendar-long; words-long = write-length (s .words) (s .ctl .rotation) now ∙ h .words-long }))))
+
+  judge-long : (cell : List ℕ) (v : ℕ) (w : Work) → Long w → length cell ≡ 53 → (vc : Vc) → AllOut Long (judge cell v w vc)
+  unfolding judge accept place withWords withCells withLinks withCalendar withFreeList withRecord recordWith
+  judge-long cell v w h c vc =
+      let s = w .state in
+      if-all Long (isExcess (vc .bucket)) _ _
+      (λ _. record { n-is = h .n-is; v-is = h .v-is; cells-long = h .cells-long; links-long = h .links-long; calendar-long = h .calendar-long; words-long = write-length (s .words) v _ ∙ h .words-long })
+      (λ _. needs-all Long (vc .waiting <? s .ctl .n) _
+      (λ _. needs-all Long (endsFit (s .ctl .n) (freeList s) && not (isEmpty (freeList s))) _
+      (λ e. let f = both-true (endsFit (s .ctl .n) (freeList s)) (not (isEmpty (freeList s))) e in
+      then-all (λ (t : Taken). t .space ≡ s .ctl .freehead) Long (takeHead (s .ctl .n) (s .links) (freeList s)) _
+      (taken-head (s .ctl .n) (s .links) (freeList s))
+      (λ taken is. let e = (s .ctl .turn + delay (vc .bucket)) % s .ctl .n in
+      let low = fit-head (s .ctl .n) (freeList s) (f .0) (eqb-false (s .ctl .freehead) empty (not-true _ (f .1))) in
+      needs-all Long (endsFit (s .ctl .n) (entryAt (s .calendar) e)) _
+      (λ _. record {
+        n-is = h .n-is;
+        v-is = h .v-is;
+        cells-long = cell-length (s .cells) (taken .space) cell (omega (arith, is, low, h .n-is, h .cells-long)) c ∙ h .cells-long;
+        links-long = head-links (s .links) (entryAt (s .calendar) e) (taken .space) ∙ h .links-long;
+        calendar-long = entry-length (s .calendar) e (joinHead (s .links) (entryAt (s .calendar) e) (taken .space) .ends) ∙ h .calendar-long;
+        words-long = write-length (s .words) v _ ∙ h .words-long;
+      })))))
+
+  step3-long : (cell : List ℕ) → ((length cell ≡ 0 → ⊥) → length cell ≡ 53) → (w : Work) → Long w → AllOut Long (step3 cell w)
+  unfolding step3
+  step3-long cell c w h =
+      let s = w .state in
+      let a = headerAt cell 0 in
+      let vc = vcAt (s .words) (a .vci) in
+      if-all Long (length cell =? 0 || noUserCell a) _ _ (λ _. h)
+      (λ e. if-all Long (not (namesVc (s .ctl .v) a)) _ _ (λ _. same)
+      (λ _. needs-all Long (openWordFits vc) _
+      (λ _. if-all Long (vc .opened =? 0) _ _ (λ _. same)
+      (λ _. any-all Long (upToDate (s .ctl .n) (s .ctl .t) vc) _
+      (judge-long cell (a .vci) w h (c (eqb-false (length cell) 0 (neither (length cell =? 0) (noUserCell a) e))))))))
+    where
+      same : Long (withArrival w unknown (headerAt cell 0 .vci) 0)
+      same = record { n-is = h .n-is; v-is = h .v-is; cells-long = h .cells-long; links-long = h .links-long; calendar-long = h .calendar-long; words-long = h .words-long }
+
+  step4-long : (w : Work) → Long w → AllOut Long (step4 w)
+  unfolding step4 withCalendar withLinks withOutputList withRecord recordWith
+  step4-long w h =
+      let s = w .state in
+      let entry = entryAt (s .calendar) (s .ctl .turn) in
+      needs-all Long (endsFit (s .ctl .n) entry && endsFit (s .ctl .n) (outputList s)) _
+      (λ _. if-all Long (isEmpty entry) _ _ (λ _. h)
+      (λ _. record {
+        n-is = h .n-is;
+        v-is = h .v-is;
+        cells-long = h .cells-long;
+        links-long = tail-links (s .links) (outputList s) entry ∙ h .links-long;
+        calendar-long = entry-length (s .calendar) (s .ctl .turn) _ ∙ h .calendar-long;
+        words-long = h .words-long;
+      }))
+
+  step5-long : (w : Work) → Long w → AllOut Long (step5 w)
+  unfolding step5 depart addTail withWords withLinks withFreeList withOutputList withRecord recordWith
+  step5-long w h =
+      let s = w .state in
+      if-all Long (isEmpty (outputList s)) _ _ (λ _. h)
+      (λ _. any-all Long (takeHead (s .ctl .n) (s .links) (outputList s)) _
+      (λ taken. let a = headerAt (s .cells) (cellStart (taken .space)) in
+      let vc = vcAt (s .words) (a .vci) in
+      needs-all Long (namesOpenVc (s .ctl .v) (s .words) a) _
+      (λ _. needs-all Long (1 ≤? vc .waiting && vc .waiting ≤? s .ctl .n) _
+      (λ _. needs-all Long (endsFit (s .ctl .n) (freeList s)) _
+      (λ _. record {
+        n-is = h .n-is;
+        v-is = h .v-is;
+        cells-long = h .cells-long;
+        links-long = tail-links (s .links) (freeList s) (record { head = taken .space; tail = taken .space }) ∙ h .links-long;
+        calendar-long = h .calendar-long;
+        words-long = write-length (s .words) (a .vci) _ ∙ h .words-long;
+      })))))
+
+  pub five-long : (cell : List ℕ) → ((length cell ≡ 0 → ⊥) → length cell ≡ 53) → (w : Work) → Long w → AllOut Long (fiveSteps cell w)
+  unfolding fiveSteps
+  five-long cell c w h =
+      then-all Long Long (step1 w andThen step2 andThen step3 cell andThen step4) step5
+      (then-all Long Long (step1 w andThen step2 andThen step3 cell) step4
+      (then-all Long Long (step1 w andThen step2) (step3 cell)
+      (then-all Long Long (step1 w) step2 (step1-long w h) step2-long)
+      (step3-long cell c))
+      step4-long)
+      step5-long

@@ -1,0 +1,95 @@
+-- The two refusals that are open's or close's own come after the shared ones, and in their order; then the words change.
+use Prim.Native.Nat.{ℕ}
+use mathlib.Core.Path.{_≡_, refl}
+use mathlib.Core.Bool.{Bool, true, false, not, _&&_}
+use mathlib.Core.List.{List}
+use native.Mathlib.Omega.{arith}
+use borrow.Author.Tests.{eq-eqb, ne-eqb}
+use Rattle.meaning.specs.declared.Record.{Record}
+use Rattle.meaning.specs.Plain.{_=?_}
+use Rattle.meaning.specs.Bucket.{bucketOf, obeysRules}
+use Rattle.meaning.specs.Words.{Vc, vcAt, writeVc, openedVc, closedVc, debt}
+use Rattle.meaning.specs.Calls.{Called, calledOf, sharedRefusal, openCall, closeCall}
+use Rattle.leaf_refusal.specs.Order.{refuseOf, firstOf}
+use Rattle.call_vc.specs.NotYet.{notYet}
+use Rattle.leaf_refusal.proofs.Two.{two-given, two-none}
+
+-- ---- open
+module _ (r : Record) (words : List ℕ) (vci m F C : ℕ) where
+  -- "already open"
+  abbrev already : Bool
+  already = vcAt words vci .opened =? 1
+
+  -- "m, F or C against the rules above"
+  abbrev against : Bool
+  against = not (obeysRules (r .n) (bucketOf m F C 0))
+
+  abbrev pub openRefusal : ℕ
+  openRefusal = firstOf (refuseOf 5 already) (refuseOf 6 against)
+
+  -- "Each leaves everything as it came."
+  abbrev asItWas : ℕ → Called
+  asItWas k = calledOf k words
+
+  abbrev opening : Called
+  opening = calledOf 0 (writeVc words vci (openedVc (r .t) (bucketOf m F C 0)))
+
+  pub open-shared : (sharedRefusal r words vci ≡ 0 → ⊥)
+      → calledOf (sharedRefusal r words vci) words ≡ openCall r words vci m F C
+  unfolding openCall
+  open-shared h = simp (ne-eqb (sharedRefusal r words vci) 0 h)
+
+  pub open-refused : sharedRefusal r words vci ≡ 0
+      → (openRefusal ≡ 0 → ⊥)
+      → calledOf openRefusal words ≡ openCall r words vci m F C
+  unfolding openCall
+  open-refused e h = rw (eq-eqb (sharedRefusal r words vci) 0 e) (two-given 5 6 refl refl asItWas opening already against h)
+
+  pub open-done : sharedRefusal r words vci ≡ 0 → openRefusal ≡ 0 → opening ≡ openCall r words vci m F C
+  unfolding openCall
+  open-done e h = rw (eq-eqb (sharedRefusal r words vci) 0 e) (two-none 5 6 refl refl asItWas opening already against h)
+
+-- ---- close
+-- 8 is given exactly where one of its two halves is
+halves-given : (a b : Bool) → (firstOf (refuseOf 8 (not a)) (refuseOf 8 (not b)) ≡ 0 → ⊥)
+    → (firstOf (refuseOf 8 (not a)) (refuseOf 8 (not b)) ≡ 8) × (not (a && b) ≡ true)
+halves-given true true h = absurd (h refl)
+halves-given true false h = (refl, refl)
+halves-given false true h = (refl, refl)
+halves-given false false h = (refl, refl)
+
+halves-none : (a b : Bool) → firstOf (refuseOf 8 (not a)) (refuseOf 8 (not b)) ≡ 0 → not (a && b) ≡ false
+halves-none true true h = refl
+halves-none true false h = absurd (omega arith)
+halves-none false true h = absurd (omega arith)
+halves-none false false h = absurd (omega arith)
+
+module _ (r : Record) (words : List ℕ) (vci : ℕ) where
+  abbrev vc : Vc
+  vc = vcAt words vci
+
+  pub close-shared : (sharedRefusal r words vci ≡ 0 → ⊥)
+      → calledOf (sharedRefusal r words vci) words ≡ closeCall r words vci
+  unfolding closeCall
+  close-shared h = simp (ne-eqb (sharedRefusal r words vci) 0 h)
+
+  pub close-closed : sharedRefusal r words vci ≡ 0 → vc .opened ≡ 0 → calledOf 7 words ≡ closeCall r words vci
+  unfolding closeCall
+  close-closed e o = rw (eq-eqb (sharedRefusal r words vci) 0 e, eq-eqb (vc .opened) 0 o)
+
+  pub close-not-yet : sharedRefusal r words vci ≡ 0 → (vc .opened ≡ 0 → ⊥) → (notYet (r .t) vc ≡ 0 → ⊥)
+      → calledOf (notYet (r .t) vc) words ≡ closeCall r words vci
+  unfolding closeCall
+  close-not-yet e o h =
+      let g = halves-given (vc .waiting =? 0) (debt (r .t) vc =? 0) h in
+      rw (eq-eqb (sharedRefusal r words vci) 0 e, ne-eqb (vc .opened) 0 o, g .0, g .1)
+
+  pub close-done : sharedRefusal r words vci ≡ 0 → (vc .opened ≡ 0 → ⊥) → notYet (r .t) vc ≡ 0
+      → calledOf 0 (writeVc words vci closedVc) ≡ closeCall r words vci
+  unfolding closeCall
+  close-done e o h =
+      rw (
+        eq-eqb (sharedRefusal r words vci) 0 e,
+        ne-eqb (vc .opened) 0 o,
+        halves-none (vc .waiting =? 0) (debt (r .t) vc =? 0) h,
+      )

@@ -1,0 +1,112 @@
+// Opening and closing a VC.
+ghost use mathlib.Core.Path.{_≡_};
+ghost use mathlib.Core.Bool.{_&&_};
+ghost use Prim.Native.Nat.{_+_, _*_, _≤_};
+ghost use lib.ListN.{length};
+ghost use Rattle.meaning.specs.Plain.{_<?_, _≤?_};
+ghost use Rattle.meaning.specs.State.{HasVc};
+ghost use Rattle.meaning.specs.Words.{vcAt, debt};
+ghost use Rattle.meaning.specs.Calls.{sharedRefusal};
+ghost use Rattle.meaning.specs.Promises.{openPromise, closePromise};
+ghost use Rattle.call_vc.specs.NotYet.{notYet};
+use leaf_bucket::fallen_to;
+use leaf_bucket::obeys_rules;
+use meaning::AT_LAST;
+use meaning::AT_M;
+use meaning::AT_S;
+use meaning::AT_WAITING;
+use meaning::Record;
+use meaning::WORDS_PER_VC;
+use leaf_refusal::first;
+use leaf_refusal::ranges_hold;
+use leaf_refusal::refuse;
+use mem_words::vc_fits;
+use mem_words::write_vc;
+
+// "VCI .. 1 to V-1"
+fn names_vc(v: u16, vci: u16) -> bool
+    ensures { λ r. ⌜ r ≡ (1 ≤? vci && vci <? v) ⌝ }
+{
+    if vci < 1 {
+        return false;
+    }
+    vci < v
+}
+
+// Refusals 1, 2, 4 and 3, in this order, or 0. The VC's words are read only where they are lent.
+fn shared_refusal(ctl: Record, words: &[u32], vci: u16) -> u16
+    ensures { λ r. ⌜ r ≡ sharedRefusal ctl (now (words .entry)) vci ⌝ }
+{
+    let ranges = refuse(1, !ranges_hold(ctl.n, ctl.v));
+    let lengths = refuse(2, words.len() != WORDS_PER_VC * (ctl.v as usize));
+    let name = refuse(4, !names_vc(ctl.v, vci));
+    let early = first(ranges, lengths);
+    let k = first(early, name);
+    if k != 0 {
+        return k;
+    }
+    refuse(3, !vc_fits(ctl.n, words, vci))
+}
+
+// "Opening sets open 1, the given m, F and C, S 0, last t, waiting 0."
+pub fn open(ctl: Record, words: &mut [u32], vci: u16, m: u8, f: u32, c: u32) -> u16
+    ensures { λ r. ⌜ openPromise ctl (now (words .entry)) vci m f c r (now (words .exit)) ⌝ }
+{
+    let shared = shared_refusal(ctl, words, vci);
+    if shared != 0 {
+        return shared;
+    }
+    let opened = words[WORDS_PER_VC * (vci as usize)];
+    let already = refuse(5, opened == 1);
+    let against = refuse(6, !obeys_rules(ctl.n, m as u32, f, c));
+    let k = first(already, against);
+    if k != 0 {
+        return k;
+    }
+    write_vc(words, vci, 1, m as u32, f, c, 0, ctl.t, 0);
+    0
+}
+
+// What is left in the VC's bucket once it is brought up to date as of t. It is worked out, not stored.
+fn debt_of(words: &[u32], vci: u16, t: u32) -> u32
+    requires { ⌜ (HasVc vci (now words)) × (vcAt (now words) vci .bucket .m ≤ 15) ⌝ }
+    ensures { λ r. ⌜ r ≡ debt t (vcAt (now (words .entry)) vci) ⌝ }
+{
+    let base = WORDS_PER_VC * (vci as usize);
+    let m = words[base + AT_M];
+    let s = words[base + AT_S];
+    let last = words[base + AT_LAST];
+    fallen_to(s, m, last, t)
+}
+
+// Refusal 8 of an open VC, or 0: a cell of it waits, or it has a debt.
+fn not_yet(words: &[u32], vci: u16, t: u32) -> u16
+    requires { ⌜ (HasVc vci (now words)) × (vcAt (now words) vci .bucket .m ≤ 15) ⌝ }
+    ensures { λ r. ⌜ r ≡ notYet t (vcAt (now (words .entry)) vci) ⌝ }
+{
+    let waiting = words[WORDS_PER_VC * (vci as usize) + AT_WAITING];
+    let waits = refuse(8, waiting != 0);
+    let owed = debt_of(words, vci, t);
+    let owes = refuse(8, owed != 0);
+    first(waits, owes)
+}
+
+// "Closing clears all seven words." Of a closed VC only the open word is read.
+pub fn close(ctl: Record, words: &mut [u32], vci: u16) -> u16
+    ensures { λ r. ⌜ closePromise ctl (now (words .entry)) vci r (now (words .exit)) ⌝ }
+{
+    let shared = shared_refusal(ctl, words, vci);
+    if shared != 0 {
+        return shared;
+    }
+    let opened = words[WORDS_PER_VC * (vci as usize)];
+    if opened == 0 {
+        return 7;
+    }
+    let k = not_yet(words, vci, ctl.t);
+    if k != 0 {
+        return k;
+    }
+    write_vc(words, vci, 0, 0, 0, 0, 0, 0, 0);
+    0
+}

@@ -1,0 +1,29 @@
+-- `leaf_refusal::lengths_hold` meets its contract: its four tests are the contract's own.
+use borrow.Author.Tests.{eq-eqb, ne-eqb}
+use borrow.Author.Needs.{needs}
+use Rattle.leaf_refusal.proofs.lengths_hold.Statement.{statement}
+use Rattle.leaf_refusal.proofs.lengths_hold.Tie as tie
+
+returns : tie.Need-returns
+returns c = simp (ne-eqb _ _ (c .if1 .taken))
+
+returns-2 : tie.Need-returns-2
+returns-2 c = simp (eq-eqb _ _ (c .before .if1 .left), ne-eqb _ _ (c .if2 .taken))
+
+returns-3 : tie.Need-returns-3
+returns-3 c = simp (
+  eq-eqb _ _ (c .before .before .if1 .left),
+  eq-eqb _ _ (c .before .if2 .left),
+  ne-eqb _ _ (c .if3 .taken),
+)
+
+returns-4 : tie.Need-returns-4
+returns-4 c = simp (
+  eq-eqb _ _ (c .before .before .if1 .left),
+  eq-eqb _ _ (c .before .if2 .left),
+  eq-eqb _ _ (c .if3 .left),
+)
+
+pub lengths-hold-spec : {M : Type 1} → statement M
+lengths-hold-spec =
+    tie.close (tie.spec (λ c. search needs) returns returns-2 (λ c. search needs) returns-3 (λ c. search needs) returns-4)

@@ -1,0 +1,61 @@
+// Refusal numbers and their order: a call works out each of its refusals, and gives the first.
+ghost use mathlib.Core.Path.{_≡_};
+ghost use mathlib.Core.Bool.{_&&_};
+ghost use Prim.Native.Nat.{_*_};
+ghost use Rattle.meaning.specs.Plain.{_=?_};
+ghost use Rattle.meaning.specs.Numbers.{rangesHold, octets, perEntry, wordsIn};
+ghost use Rattle.leaf_refusal.specs.Order.{refuseOf, firstOf};
+use meaning::WORDS_PER_VC;
+
+// Refusal 1: "N cell spaces, 1 to 1,024"; "V, 2 to 1,024".
+pub fn ranges_hold(n: u16, v: u16) -> bool
+    ensures { λ r. ⌜ r ≡ rangesHold n v ⌝ }
+{
+    if n < 1 {
+        return false;
+    }
+    if n > 1024 {
+        return false;
+    }
+    if v < 2 {
+        return false;
+    }
+    v <= 1024
+}
+
+// Refusal 2: "53 × N octets of cells; N links; 2 × N calendar numbers; 7 × V words".
+pub fn lengths_hold(
+    n: u16,
+    v: u16,
+    cells: usize,
+    links: usize,
+    calendar: usize,
+    words: usize,
+) -> bool
+    ensures { λ r. ⌜ r ≡ (cells =? octets * n && links =? n && calendar =? perEntry * n && words =? wordsIn v) ⌝ }
+{
+    if cells != 53 * (n as usize) {
+        return false;
+    }
+    if links != n as usize {
+        return false;
+    }
+    if calendar != 2 * (n as usize) {
+        return false;
+    }
+    words == WORDS_PER_VC * (v as usize)
+}
+
+// The number of a refusal, or 0 where it isn't given.
+pub fn refuse(number: u16, given: bool) -> u16
+    ensures { λ r. ⌜ r ≡ refuseOf number given ⌝ }
+{
+    if given { number } else { 0 }
+}
+
+// The first of two refusals that is given: in a call's order the one comes before the other.
+pub fn first(one: u16, other: u16) -> u16
+    ensures { λ r. ⌜ r ≡ firstOf one other ⌝ }
+{
+    if one == 0 { other } else { one }
+}

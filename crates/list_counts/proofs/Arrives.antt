@@ -1,0 +1,153 @@
+-- Steps 1 to 3 of a slot: an accepted cell is one more that waits, and no other waiting word changes.
+use Prim.Native.Nat.{ℕ, _+_, _-_, _%_, _≤_, _<_}
+use mathlib.Core.Path.{_≡_, refl, sym, ap, subst, _∙_}
+use mathlib.Core.Bool.{Bool, true, false, not, _&&_, _||_}
+use mathlib.Core.Logic.{_≢_}
+use mathlib.Core.List.{List}
+use native.Mathlib.Omega.{arith}
+use borrow.Author.Tests.{eqb-false, ltb-true}
+use lib.ListN.{length}
+use Rattle.meaning.specs.declared.Answer.{Answer}
+use Rattle.meaning.specs.Plain.{_<?_, _≤?_, _=?_, Out, refused, next, needs, _andThen_}
+use Rattle.meaning.specs.Numbers.{accepted}
+use Rattle.meaning.specs.State.{State, freeList, withRecord, withCells, withLinks, withCalendar, withWords, recordWith, withClock, withFreeList, writeCell}
+use Rattle.meaning.specs.Bucket.{isExcess, delay, fill, elapsed, fall}
+use Rattle.meaning.specs.Header.{Header, headerAt, noUserCell, namesVc}
+use Rattle.meaning.specs.Words.{Vc, vcAt, writeVc, withWaiting, withBucket, upToDate, openWordFits, bucketFits}
+use Rattle.meaning.specs.Lists.{isEmpty, Taken, takeHead, entryAt, writeEntry, joinHead, endsFit}
+use Rattle.meaning.specs.Work.{Work, withState, withVc, withArrival}
+use Rattle.meaning.specs.Arrival.{place, accept, judge}
+use Rattle.meaning.specs.Slot.{step1, step2, step3}
+use Rattle.list_meaning.specs.Listing.{isAccepted}
+use Rattle.list_counts.proofs.Balance.{Holds, holds-then, holds-if, holds-needs, both, not-not, one, Words, Quiet, Fresh, write-words, write-same}
+
+module _ (z base : ℕ) where
+  -- ---- steps 1 and 2
+
+  pub step1-even : (w : Work) → Fresh z base w → Holds (Fresh z base) (step1 w)
+  unfolding step1 withClock withRecord recordWith
+  step1-even w f =
+      holds-needs (Fresh z base) (w .state .ctl .turn <? w .state .ctl .n && w .state .ctl .rotation <? w .state .ctl .v) _
+      (λ _. record { v-is = f .v-is; words = f .words; bare = f .bare })
+
+  -- brought up to date, a VC keeps its open and its waiting word
+  abbrev Kept : Vc → Vc → Type 0
+  Kept vc now = (now .opened ≡ vc .opened) × (now .waiting ≡ vc .waiting)
+
+  date-kept : (N t : ℕ) (vc : Vc) → Holds (Kept vc) (upToDate N t vc)
+  unfolding upToDate
+  date-kept N t vc =
+      let now : Vc = record { opened = vc .opened; bucket = fall (elapsed t (vc .last)) (vc .bucket); last = t; waiting = vc .waiting } in
+      let kept : Kept vc now = (refl, refl) in
+      holds-needs (Kept vc) (bucketFits N (vc .bucket)) (next now) (λ _. kept)
+
+  pub step2-even : (w : Work) → Fresh z base w → Holds (Fresh z base) (step2 w)
+  unfolding step2 withWords
+  step2-even w f =
+      let s = w .state in
+      let vci = s .ctl .rotation in
+      let vc = vcAt (s .words) vci in
+      holds-if (Holds (Fresh z base)) (vci =? 0) (next w) _ (λ _. f)
+      (λ _. holds-needs (Fresh z base) (openWordFits vc) _
+      (λ _. holds-if (Holds (Fresh z base)) (vc .opened =? 0) (next w) _ (λ _. f)
+      (λ _. holds-then (Kept vc) (Fresh z base) (upToDate (s .ctl .n) (s .ctl .t) vc) _ (date-kept (s .ctl .n) (s .ctl .t) vc)
+      (λ now k. record { v-is = f .v-is; words = write-same z base (s .words) base vci now (f .words) (k .0) (k .1); bare = f .bare }))))
+
+  -- ---- step 3
+
+  quiet : (w : Work) → Fresh z base w → Quiet z base w
+  quiet w f =
+      let a : isAccepted (w .answer) ≡ false = ap (λ (x : Answer). isAccepted x) (f .bare) in
+      record {
+        v-is = f .v-is;
+        words = subst (Words z base (w .state .words)) (sym (ap (λ (b : Bool). base + one b) a ∙ nothing-more)) (f .words);
+        unsent = ap (λ (x : Answer). x .space) (f .bare);
+        number = ap (λ (x : Answer). x .number) (f .bare);
+      }
+    where
+      nothing-more : base + 0 ≡ base
+      nothing-more = omega arith
+
+  -- an arrival that is not accepted
+  not-accepted : (w : Work) (words′ : List ℕ) (verdict vci : ℕ) → Fresh z base w → Words z base words′ base → verdict =? accepted ≡ false
+      → Quiet z base (withArrival (withState w (withWords (w .state) words′)) verdict vci 0)
+  unfolding withWords
+  not-accepted w words′ verdict vci f l e =
+      record {
+        v-is = f .v-is;
+        words = subst (Words z base words′) (sym (ap (λ (b : Bool). base + one b) e ∙ nothing-more)) l;
+        unsent = ap (λ (x : Answer). x .space) (f .bare);
+        number = ap (λ (x : Answer). x .number) (f .bare);
+      }
+    where
+      nothing-more : base + 0 ≡ base
+      nothing-more = omega arith
+
+  unknown-quiet : (w : Work) (verdict vci : ℕ) → Fresh z base w → verdict =? accepted ≡ false → Quiet z base (withArrival w verdict vci 0)
+  unfolding withWords
+  unknown-quiet w verdict vci f e = not-accepted w (w .state .words) verdict vci f (f .words) e
+
+  place-quiet : (cell : List ℕ) (D : ℕ) (w : Work) (t : Taken) → Quiet z base w → Holds (Quiet z base) (place cell D w t)
+  unfolding place withCells withLinks withCalendar withFreeList withRecord recordWith
+  place-quiet cell D w t q =
+      let s = w .state in
+      let e = (s .ctl .turn + D) % s .ctl .n in
+      let entry = entryAt (s .calendar) e in
+      let grown = joinHead (s .links) entry (t .space) in
+      let s3 = withLinks (withCells (withFreeList s (t .left)) (writeCell (s .cells) (t .space) cell)) (grown .links) in
+      let s4 : State = withCalendar s3 (writeEntry (s .calendar) e (grown .ends)) in
+      let q′ : Quiet z base (withState w s4) = record { v-is = q .v-is; words = q .words; unsent = q .unsent; number = q .number } in
+      holds-needs (Quiet z base) (endsFit (s .ctl .n) entry) (next (withState w s4)) (λ _. q′)
+
+  accept-quiet : (cell : List ℕ) (vci : ℕ) (w : Work) (vc : Vc) → Fresh z base w → vci < z → Kept (vcAt (w .state .words) vci) vc
+      → vc .opened ≢ 0 → Holds (Quiet z base) (accept cell vci w vc)
+  unfolding accept withWords
+  accept-quiet cell vci w vc f low k o =
+      let filled = withWaiting (withBucket vc (fill (vc .bucket))) (vc .waiting + 1) in
+      let s = w .state in
+      let N = s .ctl .n in
+      let D = delay (vc .bucket) in
+      let w1 : Work = withArrival (withVc w vci filled) accepted vci D in
+      let q : Quiet z base w1 =
+      record {
+        v-is = f .v-is;
+        words = write-words z base (s .words) base vci (base + 1) filled (f .words) low o (omega (arith, k .1));
+        unsent = ap (λ (x : Answer). x .space) (f .bare);
+        number = ap (λ (x : Answer). x .number) (f .bare);
+      } in
+      let rest = takeHead N (s .links) (freeList s) andThen place cell D w1 in
+      holds-needs (Quiet z base) (vc .waiting <? N) (needs (endsFit N (freeList s) && not (isEmpty (freeList s))) rest)
+      (λ _. holds-needs (Quiet z base) (endsFit N (freeList s) && not (isEmpty (freeList s))) rest
+      (λ _. holds-then (λ (t : Taken). 0 ≤ 0) (Quiet z base) (takeHead N (s .links) (freeList s)) (place cell D w1) (taken (takeHead N (s .links) (freeList s)))
+      (λ t _. place-quiet cell D w1 t q)))
+    where
+      taken : (x : Out Taken) → Holds (λ (t : Taken). 0 ≤ 0) x
+      taken refused = omega arith
+      taken (next t) = omega arith
+
+  judge-quiet : (cell : List ℕ) (vci : ℕ) (w : Work) (vc : Vc) → Fresh z base w → vci < z → Kept (vcAt (w .state .words) vci) vc
+      → vc .opened ≢ 0 → Holds (Quiet z base) (judge cell vci w vc)
+  unfolding judge
+  judge-quiet cell vci w vc f low k o =
+      holds-if (Holds (Quiet z base)) (isExcess (vc .bucket)) _ _
+      (λ _. not-accepted w (writeVc (w .state .words) vci vc) 2 vci f (write-same z base (w .state .words) base vci vc (f .words) (k .0) (k .1)) refl)
+      (λ _. accept-quiet cell vci w vc f low k o)
+
+  pub names-low : (v : ℕ) (h : Header) → namesVc v h ≡ true → h .vci < v
+  unfolding namesVc
+  names-low v h e = ltb-true (h .vci) v (both (h .vpi =? 0 && 1 ≤? h .vci) (h .vci <? v) e .1)
+
+  pub step3-even : (cell : List ℕ) (w : Work) → Fresh z base w → Holds (Quiet z base) (step3 cell w)
+  unfolding step3
+  step3-even cell w f =
+      let s = w .state in
+      let h = headerAt cell 0 in
+      let vc = vcAt (s .words) (h .vci) in
+      holds-if (Holds (Quiet z base)) (length cell =? 0 || noUserCell h) (next w) _ (λ _. quiet w f)
+      (λ _. holds-if (Holds (Quiet z base)) (not (namesVc (s .ctl .v) h)) _ _ (λ _. unknown-quiet w 3 (h .vci) f refl)
+      (λ n. holds-needs (Quiet z base) (openWordFits vc) _
+      (λ _. holds-if (Holds (Quiet z base)) (vc .opened =? 0) _ _ (λ _. unknown-quiet w 3 (h .vci) f refl)
+      (λ o. holds-then (Kept vc) (Quiet z base) (upToDate (s .ctl .n) (s .ctl .t) vc) _ (date-kept (s .ctl .n) (s .ctl .t) vc)
+      (λ now k. judge-quiet cell (h .vci) w now f
+      (subst (λ (x : ℕ). h .vci < x) (f .v-is) (names-low (s .ctl .v) h (not-not (namesVc (s .ctl .v) h) n)))
+      k (λ q. eqb-false _ _ o (sym (k .0) ∙ q)))))))

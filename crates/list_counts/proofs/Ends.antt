@@ -1,0 +1,226 @@
+-- THE END LINE: in every listing its waiting is the sum of the waiting words, modulo 2^32, and accepted less sent.
+use Prim.Native.Nat.{ℕ, zero, suc, _+_, _-_, _*_, _%_, _≤_, _<_}
+use mathlib.Core.Path.{_≡_, refl, sym, ap, subst, _∙_}
+use mathlib.Core.Bool.{Bool, true, false, not, _&&_, _||_}
+use mathlib.Core.Logic.{⊎-elim, _≢_}
+use mathlib.Core.List.{List, [], _∷_, _++_, append-assoc}
+use native.Mathlib.Omega.{arith}
+use borrow.Author.Tests.{eqb-true, eqb-false, leb-true, ltb-true}
+use lib.Dec.{eqb}
+use lib.ListN.{length, replicate, getD}
+use Rattle.meaning.specs.declared.Answer.{Answer}
+use Rattle.meaning.specs.declared.Record.{Record}
+use Rattle.meaning.specs.Plain.{if_then_else_, _<?_, _≤?_, _=?_}
+use Rattle.meaning.specs.Numbers.{rangesHold, slotNumbers, wordsPerVc, waitingPlace}
+use Rattle.meaning.specs.State.{State, stateOf, withWords, wordsLong, lengthsHold}
+use Rattle.meaning.specs.Bucket.{bucketOf, obeysRules}
+use Rattle.meaning.specs.Words.{Vc, vcAt, writeVc, openedVc, closedVc, openWordFits, bucketFits, vcFits, debt}
+use Rattle.meaning.proofs.WordsLaws.{write-read, write-read-other}
+use Rattle.meaning.specs.Calls.{SetUp, setUpOf, zeros, freshRecord, freshState, setup, Called, calledOf, sharedRefusal, openCall, closeCall}
+use Rattle.list_lines.specs.Lines.{stopLine}
+use Rattle.list_meaning.specs.Trace.{Call, setUp, openVc, closeVc, serve, Calls, finished, stopped, call, callsOf}
+use Rattle.list_meaning.specs.Listing.{manyOf, isAccepted, hasSent, recount, lessModulo, endOf, lineOf, stateAfter, answersAfter, endsRun, linesOf, lentFor, listingOf}
+use Rattle.list_counts.specs.Waiting.{sumWaiting, Balanced, Point, endAt, endOfInput}
+use Rattle.list_counts.proofs.Sums.{same-or-not, sum-after}
+use Rattle.list_counts.proofs.Balance.{both, not-not}
+use Rattle.list_counts.proofs.Served.{slot-balanced}
+
+-- ---- the printed number
+
+pub waiting-word : (s : State) (h : List Answer) → Balanced s h
+    → lessModulo (recount h .accepted) (recount h .sent) ≡ sumWaiting (s .ctl .v) (s .words) % slotNumbers
+unfolding lessModulo recount slotNumbers
+waiting-word s h b = omega (arith, b .even)
+
+-- ---- open, close and setup keep the balance
+
+getD-replicate-zero : (k i : ℕ) → _≡_ {A = ℕ} (getD (replicate {A = ℕ} k 0) i 0) 0
+getD-replicate-zero zero i = refl
+getD-replicate-zero (suc k) zero = refl
+getD-replicate-zero (suc k) (suc i) = getD-replicate-zero k i
+
+-- words of which one VC's are written, where as much waits as before
+module _ (s : State) (h : List Answer) (vci : ℕ) (vc : Vc) (b : Balanced s h) (long : length (s .words) ≡ wordsPerVc * s .ctl .v)
+    (low : vci < s .ctl .v) (same : vc .waiting ≡ vcAt (s .words) vci .waiting) (fit : vc .opened ≡ 0 → vc .waiting ≡ 0) where
+  written-balanced : Balanced (withWords s (writeVc (s .words) vci vc)) h
+  unfolding withWords
+  written-balanced =
+      let inside : wordsPerVc * vci + wordsPerVc ≤ length (s .words) = omega (arith, long, low) in
+      record {
+        even = omega (arith, b .even, same, sum-after (s .words) vci vc inside (s .ctl .v) low);
+        closed = λ u l o.
+            ⊎-elim
+            (λ (q : u ≡ vci).
+            let r : vcAt (writeVc (s .words) vci vc) u ≡ vc = ap (vcAt (writeVc (s .words) vci vc)) q ∙ write-read (s .words) vci vc inside in
+            ap (λ (x : Vc). x .waiting) r ∙ fit (sym (ap (λ (x : Vc). x .opened) r) ∙ o))
+            (λ (q : u ≢ vci).
+            let r = write-read-other (s .words) vci vc u q in
+            ap (λ (x : Vc). x .waiting) r ∙ b .closed u l (sym (ap (λ (x : Vc). x .opened) r) ∙ o))
+            (same-or-not u vci (eqb u vci) refl);
+      }
+
+-- what is known where neither 1, 2, 4 nor 3 is given
+pub record Passed (r : Record) (words : List ℕ) (vci : ℕ) : Type 0 where
+  pub long : length words ≡ wordsPerVc * r .v
+  pub low : vci < r .v
+  pub fits : vcFits (r .n) (vcAt words vci) ≡ true
+
+refusal-zero : (b : Bool) (k x : ℕ) → 0 < k → (if not b then k else x) ≡ 0 → (b ≡ true) × (x ≡ 0)
+refusal-zero true k x p e = (refl, e)
+refusal-zero false k x p e = absurd (omega arith)
+
+passed : (r : Record) (words : List ℕ) (vci : ℕ) → sharedRefusal r words vci ≡ 0 → Passed r words vci
+unfolding sharedRefusal wordsLong
+passed r words vci e =
+    let a = refusal-zero (rangesHold (r .n) (r .v)) 1 _ (omega arith) e in
+    let b = refusal-zero (length words =? wordsPerVc * r .v) 2 _ (omega arith) (a .1) in
+    let c = refusal-zero (1 ≤? vci && vci <? r .v) 4 _ (omega arith) (b .1) in
+    let d = refusal-zero (vcFits (r .n) (vcAt words vci)) 3 0 (omega arith) (c .1) in
+    record { long = eqb-true _ _ (b .0); low = ltb-true _ _ (both (1 ≤? vci) (vci <? r .v) (c .0) .1); fits = d .0 }
+
+choose-called : (P : Called → Type 0) (b : Bool) (x y : Called) → (b ≡ true → P x) → (b ≡ false → P y) → P (if b then x else y)
+choose-called P true x y p q = p refl
+choose-called P false x y p q = q refl
+
+-- the words as they came
+kept-balanced : (s : State) (h : List Answer) → Balanced s h → Balanced (withWords s (s .words)) h
+unfolding withWords
+kept-balanced s h b = record { even = b .even; closed = b .closed }
+
+-- an open word that fits and is neither 0 nor 1 there is none
+zero-opened : (N : ℕ) (vc : Vc) → vcFits N vc ≡ true → vc .opened =? 1 ≡ false → vc .opened ≡ 0
+unfolding vcFits openWordFits
+zero-opened N vc f o = go (vc .opened =? 0) refl
+  where
+    go : (b : Bool) → vc .opened =? 0 ≡ b → vc .opened ≡ 0
+    go true e = eqb-true _ _ e
+    go false e =
+        let g : (if vc .opened =? 0 then true else (vc .opened ≤? 1 && bucketFits N (vc .bucket) && vc .waiting ≤? N)) ≡ true = f in
+        let k : vc .opened ≤? 1 && bucketFits N (vc .bucket) && vc .waiting ≤? N ≡ true = rw e at g in
+        let l : vc .opened ≤ 1 = leb-true _ _ (both (vc .opened ≤? 1) (bucketFits N (vc .bucket)) (both (vc .opened ≤? 1 && bucketFits N (vc .bucket)) (vc .waiting ≤? N) k .0) .0) in
+        let n : vc .opened ≢ 1 = eqb-false _ _ o in
+        omega (arith, l, n)
+
+open-balanced : (s : State) (h : List Answer) (vci m F C : ℕ) → Balanced s h
+    → Balanced (withWords s (openCall (s .ctl) (s .words) vci m F C .words)) h
+unfolding openCall openedVc
+open-balanced s h vci m F C b =
+    let r = s .ctl in
+    let k = sharedRefusal r (s .words) vci in
+    let P : Called → Type 0 = λ x. Balanced (withWords s (x .words)) h in
+    let kept = kept-balanced s h b in
+    choose-called P (not (k =? 0)) _ _ (λ _. kept) (λ e.
+    let p = passed r (s .words) vci (eqb-true k 0 (not-not (k =? 0) e)) in
+    choose-called P (vcAt (s .words) vci .opened =? 1) _ _ (λ _. kept) (λ o.
+    choose-called P (not (obeysRules (r .n) (bucketOf m F C 0))) _ _ (λ _. kept) (λ _.
+    let z = zero-opened (r .n) (vcAt (s .words) vci) (p .fits) o in
+    written-balanced s h vci (openedVc (r .t) (bucketOf m F C 0)) b (p .long) (p .low) (opened-none r m F C ∙ sym (b .closed vci (p .low) z)) (λ _. opened-none r m F C))))
+  where
+    opened-none : (r : Record) (m F C : ℕ) → openedVc (r .t) (bucketOf m F C 0) .waiting ≡ 0
+    opened-none r m F C = refl
+
+close-balanced : (s : State) (h : List Answer) (vci : ℕ) → Balanced s h
+    → Balanced (withWords s (closeCall (s .ctl) (s .words) vci .words)) h
+unfolding closeCall closedVc
+close-balanced s h vci b =
+    let r = s .ctl in
+    let k = sharedRefusal r (s .words) vci in
+    let P : Called → Type 0 = λ x. Balanced (withWords s (x .words)) h in
+    let kept = kept-balanced s h b in
+    choose-called P (not (k =? 0)) _ _ (λ _. kept) (λ e.
+    let p = passed r (s .words) vci (eqb-true k 0 (not-not (k =? 0) e)) in
+    choose-called P (vcAt (s .words) vci .opened =? 0) _ _ (λ _. kept) (λ _.
+    let none = vcAt (s .words) vci .waiting =? 0 in
+    let paid = debt (r .t) (vcAt (s .words) vci) =? 0 in
+    choose-called P (not (none && paid)) _ _ (λ _. kept) (λ w.
+    written-balanced s h vci closedVc b (p .long) (p .low) (sym (eqb-true _ 0 (both none paid (not-not (none && paid) w) .0))) (λ _. refl))))
+
+-- no VC, no cell: a record of zeros
+zeros-balanced : (cells links calendar words : List ℕ) → Balanced (stateOf zeros cells links calendar words) []
+unfolding zeros sumWaiting manyOf
+zeros-balanced cells links calendar words = record { even = refl; closed = λ vci l o. absurd (omega arith) }
+
+cleared-vc : (k vci : ℕ) → vcAt (replicate k 0) vci .waiting ≡ 0
+unfolding vcAt
+cleared-vc k vci = getD-replicate-zero k (waitingPlace vci)
+
+cleared-sum : (k z : ℕ) → sumWaiting z (replicate k 0) ≡ 0
+unfolding sumWaiting
+cleared-sum k zero = refl
+cleared-sum k (suc z) = omega (arith, cleared-sum k z, cleared-vc k z)
+
+fresh-balanced : (N z : ℕ) (raw : Bool) → Balanced (freshState N z raw) []
+unfolding freshState freshRecord manyOf
+fresh-balanced N z raw = record { even = omega (arith, cleared-sum (wordsPerVc * z) z); closed = λ vci l o. cleared-vc (wordsPerVc * z) vci }
+
+choose-set-up : (P : SetUp → Type 0) (b : Bool) (x y : SetUp) → P x → P y → P (if b then x else y)
+choose-set-up P true x y p q = p
+choose-set-up P false x y p q = q
+
+pub setup-balanced : (N z : ℕ) (raw : Bool) (cells links calendar words : List ℕ) → Balanced (setup N z raw cells links calendar words .state) []
+unfolding setup
+setup-balanced N z raw cells links calendar words =
+    let P : SetUp → Type 0 = λ x. Balanced (x .state) [] in
+    choose-set-up P (not (rangesHold N z)) _ _ (zeros-balanced cells links calendar words)
+    (choose-set-up P (not (lengthsHold N z cells links calendar words)) _ _ (zeros-balanced cells links calendar words) (fresh-balanced N z raw))
+
+-- ---- every listing
+
+pub call-balanced : (s : State) (h : List Answer) (c : Call) → Balanced s h → Balanced (stateAfter s c) (answersAfter s h c)
+unfolding stateAfter answersAfter
+call-balanced s h (setUp N z raw) b = setup-balanced N z raw (s .cells) (s .links) (s .calendar) (s .words)
+call-balanced s h (openVc vci m F C) b = open-balanced s h vci m F C b
+call-balanced s h (closeVc vci) b = close-balanced s h vci b
+call-balanced s h (serve cell) b = slot-balanced s cell h b
+
+-- a run that ends with a call ends with a refused setup: no slot was served
+ends-balanced : (s : State) (h : List Answer) (c : Call) → Balanced s h → endsRun s c ≡ true → Balanced (stateAfter s c) []
+unfolding endsRun stateAfter
+ends-balanced s h (setUp N z raw) b e = setup-balanced N z raw (s .cells) (s .links) (s .calendar) (s .words)
+ends-balanced s h (openVc vci m F C) b e = absurd (let z : _≡_ {A = ℕ} 0 1 = cc in omega arith)
+ends-balanced s h (closeVc vci) b e = absurd (let z : _≡_ {A = ℕ} 0 1 = cc in omega arith)
+ends-balanced s h (serve cell) b e = absurd (let z : _≡_ {A = ℕ} 0 1 = cc in omega arith)
+
+-- the listing's last line is the end line over the answers at its end, and there the balance holds
+pub record Ended (s : State) (h : List Answer) (cs : Calls) : Type 0 where
+  pub before : List ℕ
+  pub last : linesOf s h cs ≡ before ++ endOf (recount (endAt s h cs .answers))
+  pub balance : Balanced (endAt s h cs .state) (endAt s h cs .answers)
+
+lines-ended : (s : State) (h : List Answer) (cs : Calls) → Balanced s h → Ended s h cs
+unfolding linesOf endAt
+lines-ended s h finished b = record { before = []; last = refl; balance = b }
+lines-ended s h (stopped place) b = record { before = stopLine place; last = refl; balance = b }
+lines-ended s h (call c rest) b = go (endsRun s c) refl (lines-ended (stateAfter s c) (answersAfter s h c) rest (call-balanced s h c b))
+  where
+    go : (e : Bool) → endsRun s c ≡ e → Ended (stateAfter s c) (answersAfter s h c) rest → Ended s h (call c rest)
+    go true e r = record { before = lineOf s c; last = rw e; balance = rw e (ends-balanced s h c b e) }
+    go false e r =
+        record {
+          before = lineOf s c ++ r .before;
+          last = rw e (ap (λ (x : List ℕ). lineOf s c ++ x) (r .last) ∙ sym (append-assoc (lineOf s c) (r .before) _));
+          balance = rw e (r .balance);
+        }
+
+lent-balanced : (cs : Calls) → Balanced (lentFor cs) []
+unfolding lentFor
+lent-balanced finished = zeros-balanced [] [] [] []
+lent-balanced (stopped place) = zeros-balanced [] [] [] []
+lent-balanced (call (setUp N z raw) rest) = zeros-balanced _ _ _ _
+lent-balanced (call (openVc vci m F C) rest) = zeros-balanced [] [] [] []
+lent-balanced (call (closeVc vci) rest) = zeros-balanced [] [] [] []
+lent-balanced (call (serve cell) rest) = zeros-balanced [] [] [] []
+
+-- THE END LINE of every input's listing
+pub record EndLine (input : List ℕ) : Type 0 where
+  pub before : List ℕ
+  pub last : listingOf input ≡ before ++ endOf (recount (endOfInput input .answers))
+  -- "waiting": the sum of the waiting words, which is accepted less sent
+  pub sum : sumWaiting (endOfInput input .state .ctl .v) (endOfInput input .state .words) + manyOf hasSent (endOfInput input .answers) ≡ manyOf isAccepted (endOfInput input .answers)
+  pub word : lessModulo (recount (endOfInput input .answers) .accepted) (recount (endOfInput input .answers) .sent) ≡ sumWaiting (endOfInput input .state .ctl .v) (endOfInput input .state .words) % slotNumbers
+
+pub end-line : (input : List ℕ) → EndLine input
+unfolding listingOf endOfInput
+end-line input =
+    let e = lines-ended (lentFor (callsOf input)) [] (callsOf input) (lent-balanced (callsOf input)) in
+    record { before = e .before; last = e .last; sum = e .balance .even; word = waiting-word _ _ (e .balance) }

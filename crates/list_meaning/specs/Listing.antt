@@ -1,0 +1,107 @@
+-- Document 01, "Trace and listing": the listing of a whole trace, one line a call, over the calls' own definitions.
+--
+--   recount h        == the end line's four counts, modulo 2^32, counted anew over the answers h of the slots
+--   linesOf s h cs   == the listing of the calls cs from state s on, after slots with the answers h (newest first)
+--   listingOf input  == the listing of what the program is given
+use Prim.Native.Nat.{ℕ, _+_, _-_, _*_, _%_}
+use mathlib.Core.Bool.{Bool, false, not}
+use mathlib.Core.List.{List, [], _∷_, _++_}
+use lib.ListN.{replicate}
+use Rattle.meaning.specs.declared.Answer.{Answer}
+use Rattle.meaning.specs.Plain.{if_then_else_, _=?_}
+use Rattle.meaning.specs.Numbers.{octets, perEntry, wordsPerVc, empty, slotNumbers, accepted, excess, unknown}
+use Rattle.meaning.specs.State.{State, stateOf, withWords}
+use Rattle.meaning.specs.Calls.{SetUp, Called, zeros, setup, openCall, closeCall}
+use Rattle.meaning.specs.Work.{Work}
+use Rattle.meaning.specs.Slot.{slot}
+use Rattle.list_lines.specs.Lines.{setupLine, openLine, closeLine, slotLine, stopLine, endLine}
+use Rattle.list_meaning.specs.declared.Tally.{Tally}
+use Rattle.list_meaning.specs.Trace.{Call, setUp, openVc, closeVc, serve, Calls, finished, stopped, call, callsOf}
+
+-- how many of the answers pass a test
+unfoldable pub manyOf : (Answer → Bool) → List Answer → ℕ
+manyOf test [] = 0
+manyOf test (a ∷ h) = manyOf test h + (if test a then 1 else 0)
+
+abbrev pub isAccepted : Answer → Bool
+isAccepted a = a .verdict =? accepted
+
+abbrev pub isExcess : Answer → Bool
+isExcess a = a .verdict =? excess
+
+abbrev pub isUnknown : Answer → Bool
+isUnknown a = a .verdict =? unknown
+
+abbrev pub hasSent : Answer → Bool
+hasSent a = not (a .space =? empty)
+
+-- "accepted excess unknown sent .., each modulo 2^32"; document 02 (i), of a dropped cell: "no end count includes it"
+unfoldable pub recount : List Answer → Tally
+recount h =
+    record {
+      accepted = manyOf isAccepted h % slotNumbers;
+      excess = manyOf isExcess h % slotNumbers;
+      unknown = manyOf isUnknown h % slotNumbers;
+      sent = manyOf hasSent h % slotNumbers;
+    }
+
+-- a less b, modulo 2^32, of numbers modulo 2^32
+unfoldable pub lessModulo : ℕ → ℕ → ℕ
+lessModulo a b = (a + slotNumbers - b) % slotNumbers
+
+-- "`end accepted excess unknown sent waiting`": waiting is accepted less sent
+unfoldable pub endOf : Tally → List ℕ
+endOf t = endLine (t .accepted) (t .excess) (t .unknown) (t .sent) (lessModulo (t .accepted) (t .sent))
+
+abbrev pub setupOn : State → ℕ → ℕ → Bool → SetUp
+setupOn s N z raw = setup N z raw (s .cells) (s .links) (s .calendar) (s .words)
+
+-- the line of a call in state s; whether a policer is raw doesn't show
+unfoldable pub lineOf : State → Call → List ℕ
+lineOf s (setUp N z raw) = setupLine N z (setupOn s N z raw .number)
+lineOf s (openVc vci m F C) = openLine vci (openCall (s .ctl) (s .words) vci m F C .number)
+lineOf s (closeVc vci) = closeLine vci (closeCall (s .ctl) (s .words) vci .number)
+lineOf s (serve cell) = slotLine (slot s cell .state .ctl .t) (slot s cell .answer)
+
+unfoldable pub stateAfter : State → Call → State
+stateAfter s (setUp N z raw) = setupOn s N z raw .state
+stateAfter s (openVc vci m F C) = withWords s (openCall (s .ctl) (s .words) vci m F C .words)
+stateAfter s (closeVc vci) = withWords s (closeCall (s .ctl) (s .words) vci .words)
+stateAfter s (serve cell) = slot s cell .state
+
+-- the answers of the slots since setup, newest first
+unfoldable pub answersAfter : State → List Answer → Call → List Answer
+answersAfter s h (setUp N z raw) = []
+answersAfter s h (openVc vci m F C) = h
+answersAfter s h (closeVc vci) = h
+answersAfter s h (serve cell) = slot s cell .answer ∷ h
+
+-- "After a refused setup .. only the end line follows"; "a refused open or close does not" end the run
+unfoldable pub endsRun : State → Call → Bool
+endsRun s (setUp N z raw) = not (setupOn s N z raw .number =? 0)
+endsRun s (openVc vci m F C) = false
+endsRun s (closeVc vci) = false
+endsRun s (serve cell) = false
+
+unfoldable pub linesOf : State → List Answer → Calls → List ℕ
+linesOf s h finished = endOf (recount h)
+linesOf s h (stopped place) = stopLine place ++ endOf (recount h)
+linesOf s h (call c rest) =
+    lineOf s c ++ (if endsRun s c then endOf (recount []) else linesOf (stateAfter s c) (answersAfter s h c) rest)
+
+-- memory as document 01 sizes it for the setup that comes first
+unfoldable pub lentFor : Calls → State
+lentFor (call (setUp N z raw) rest) =
+    stateOf zeros
+    (replicate (octets * N) 0)
+    (replicate N 0)
+    (replicate (perEntry * N) 0)
+    (replicate (wordsPerVc * z) 0)
+lentFor (call (openVc vci m F C) rest) = stateOf zeros [] [] [] []
+lentFor (call (closeVc vci) rest) = stateOf zeros [] [] [] []
+lentFor (call (serve cell) rest) = stateOf zeros [] [] [] []
+lentFor finished = stateOf zeros [] [] [] []
+lentFor (stopped place) = stateOf zeros [] [] [] []
+
+unfoldable pub listingOf : List ℕ → List ℕ
+listingOf input = linesOf (lentFor (callsOf input)) [] (callsOf input)

@@ -1,0 +1,127 @@
+-- What one call promises is what its step does: the calls' own promises, turned into steps.
+use Prim.Native.Nat.{ℕ, _+_, _≤_}
+use mathlib.Core.Path.{_≡_, refl, sym, ap, _∙_}
+use mathlib.Core.Bool.{Bool, true, false, not}
+use mathlib.Core.List.{List, [], _++_, append-nil}
+use native.Mathlib.Omega.{arith}
+use borrow.Author.Tests.{eq-eqb, ne-eqb}
+use Rattle.meaning.specs.declared.Record.{Record}
+use Rattle.meaning.specs.declared.Fresh.{Fresh}
+use Rattle.meaning.specs.declared.Served.{Served}
+use Rattle.meaning.specs.Plain.{if_then_else_, _=?_}
+use Rattle.meaning.specs.State.{State, stateOf, withWords}
+use Rattle.meaning.specs.Calls.{SetUp, setUpOf, zeros, Called, calledOf}
+use Rattle.meaning.specs.Work.{Work, workOf}
+use Rattle.meaning.specs.Slot.{slot}
+use Rattle.meaning.specs.Promises.{setupPromise, openPromise, closePromise, slotPromise}
+use Rattle.list_lines.specs.Lines.{setupLine, openLine, closeLine, slotLine}
+use Rattle.list_lines.specs.Put.{Put}
+use Rattle.list_lines.proofs.Puts.{put-is, put-then}
+use Rattle.list_meaning.specs.declared.Tally.{Tally}
+use Rattle.list_whole.specs.declared.Run.{Run}
+use Rattle.list_meaning.specs.Trace.{setUp, openVc, closeVc, serve}
+use Rattle.list_meaning.specs.Listing.{endOf, lineOf, stateAfter, endsRun}
+use Rattle.list_whole.specs.Run.{World, onward, worldOf, counted, noTally, tallyAfter, called}
+use Rattle.list_whole.specs.Fill.{room, Did}
+
+abbrev worldBy : (at left : ℕ) → Tally → Work → World
+worldBy at left t w =
+    record { state = w .state; at = at; left = left; done = false; tally = counted t (w .answer) }
+
+pub serve-did : (run : Run) (at left : ℕ) (cells links calendar words cell out : List ℕ) (used : ℕ)
+    (r : Served) (cells′ links′ calendar′ words′ : List ℕ) (tally : Tally) (out′ : List ℕ) (used′ : ℕ)
+    → slotPromise (stateOf (run .ctl) cells links calendar words) cell (workOf (stateOf (r .ctl) cells′ links′ calendar′ words′) (r .answer))
+    → tally ≡ counted (run .tally) (r .answer)
+    → Put out used (slotLine (r .ctl .t) (r .answer)) out′ used′
+    → used′ ≤ used + 64
+    → Did (called (worldOf run cells links calendar words) (serve cell) at left) 64 out used
+    (worldOf (onward (r .ctl) at left false tally) cells′ links′ calendar′ words′) out′ used′
+unfolding called lineOf stateAfter endsRun tallyAfter
+serve-did run at left cells links calendar words cell out used r cells′ links′ calendar′ words′ tally out′ used′ e q p f =
+    let text : Work → List ℕ = λ w. slotLine (w .state .ctl .t) (w .answer) in
+    record {
+      world =
+          ap (λ (x : Tally). worldOf (onward (r .ctl) at left false x) cells′ links′ calendar′ words′) q
+          ∙ ap (worldBy at left (run .tally)) e;
+      put = put-is (append-nil _ ∙ sym (ap text e)) p;
+      few = f;
+    }
+
+-- ---- open and close
+
+module _ (run run′ : Run) (next : ℕ) (cells links calendar words words′ out out′ : List ℕ) (used used′ number : ℕ)
+    (going : run .done ≡ false) (moved : run′ ≡ onward (run .ctl) next 0 (run .done) (run .tally)) (few : used′ ≤ used + 64) where
+  reworded : {k : Called} → calledOf number words′ ≡ k
+      → worldOf run′ cells links calendar words′
+      ≡ record { state = withWords (stateOf (run .ctl) cells links calendar words) (k .words); at = next; left = 0; done = false; tally = run .tally }
+  unfolding withWords
+  reworded e =
+      ap (λ (x : Run). worldOf x cells links calendar words′) moved
+      ∙ ap (λ (b : Bool). worldOf (onward (run .ctl) next 0 b (run .tally)) cells links calendar words′) going
+      ∙ ap (λ (k : Called). worldOf (onward (run .ctl) next 0 false (run .tally)) cells links calendar (k .words)) e
+
+  pub open-did : (vci m F C : ℕ) → openPromise (run .ctl) words vci m F C number words′
+      → Put out used (openLine vci number) out′ used′
+      → Did (called (worldOf run cells links calendar words) (openVc vci m F C) next 0) room out used
+      (worldOf run′ cells links calendar words′) out′ used′
+  unfolding called lineOf stateAfter endsRun tallyAfter
+  open-did vci m F C e p =
+      record {
+        world = reworded e;
+        put = put-is (append-nil _ ∙ sym (ap (λ (k : Called). openLine vci (k .number)) e)) p;
+        few = omega arith;
+      }
+
+  pub close-did : (vci : ℕ) → closePromise (run .ctl) words vci number words′
+      → Put out used (closeLine vci number) out′ used′
+      → Did (called (worldOf run cells links calendar words) (closeVc vci) next 0) room out used
+      (worldOf run′ cells links calendar words′) out′ used′
+  unfolding called lineOf stateAfter endsRun tallyAfter
+  close-did vci e p =
+      record {
+        world = reworded e;
+        put = put-is (append-nil _ ∙ sym (ap (λ (k : Called). closeLine vci (k .number)) e)) p;
+        few = omega arith;
+      }
+
+-- ---- setup
+
+module _ (run : Run) (N z : ℕ) (raw : Bool) (next : ℕ) (cells links calendar words out : List ℕ) (used : ℕ)
+    (r : Fresh) (cells′ links′ calendar′ words′ : List ℕ)
+    (e : setupPromise N z raw (stateOf zeros cells links calendar words) (setUpOf (r .number) (stateOf (r .ctl) cells′ links′ calendar′ words′))) where
+  setupText : SetUp → List ℕ
+  setupText x = setupLine N z (x .number) ++ (if not (x .number =? 0) then endOf noTally else [])
+
+  setupWorld : SetUp → World
+  setupWorld x = record { state = x .state; at = next; left = 0; done = not (x .number =? 0); tally = noTally }
+
+  pub setup-did : (out′ : List ℕ) (used′ : ℕ) → r .number ≡ 0
+      → Put out used (setupLine N z (r .number)) out′ used′ → used′ ≤ used + 64
+      → Did (called (worldOf run cells links calendar words) (setUp N z raw) next 0) room out used
+      (worldOf (onward (r .ctl) next 0 false noTally) cells′ links′ calendar′ words′) out′ used′
+  unfolding called lineOf stateAfter endsRun tallyAfter setupText setupWorld
+  setup-did out′ used′ q p f =
+      let t : not (r .number =? 0) ≡ false = simp (eq-eqb (r .number) 0 q) in
+      record {
+        world =
+            ap (λ (b : Bool). worldOf (onward (r .ctl) next 0 b noTally) cells′ links′ calendar′ words′) (sym t)
+            ∙ ap setupWorld e;
+        put = put-is (sym (ap setupText e) ∙ ap (λ (b : Bool). setupLine N z (r .number) ++ (if b then endOf noTally else [])) t ∙ append-nil _) p;
+        few = omega arith;
+      }
+
+  pub setup-ends : (out″ : List ℕ) (line : ℕ) (out′ : List ℕ) (used′ : ℕ) → (r .number ≡ 0 → ⊥)
+      → Put out used (setupLine N z (r .number)) out″ line → line ≤ used + 64
+      → Put out″ line (endOf noTally) out′ used′ → used′ ≤ line + 80
+      → Did (called (worldOf run cells links calendar words) (setUp N z raw) next 0) room out used
+      (worldOf (onward (r .ctl) next 0 true noTally) cells′ links′ calendar′ words′) out′ used′
+  unfolding called lineOf stateAfter endsRun tallyAfter setupText setupWorld
+  setup-ends out″ line out′ used′ q p f p2 f2 =
+      let t : not (r .number =? 0) ≡ true = simp (ne-eqb (r .number) 0 q) in
+      record {
+        world =
+            ap (λ (b : Bool). worldOf (onward (r .ctl) next 0 b noTally) cells′ links′ calendar′ words′) (sym t)
+            ∙ ap setupWorld e;
+        put = put-is (sym (ap setupText e) ∙ ap (λ (b : Bool). setupLine N z (r .number) ++ (if b then endOf noTally else [])) t) (put-then p p2);
+        few = omega arith;
+      }

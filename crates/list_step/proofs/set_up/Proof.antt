@@ -1,0 +1,38 @@
+-- `list_step::set_up` sets up and puts the line; a refused setup puts the end line too, as the step `called` says.
+use Rattle.list_step.proofs.Did.{setup-did, setup-ends}
+use borrow.Author.Needs.{needs}
+use Rattle.list_step.proofs.set_up.Statement.{statement}
+use Rattle.list_step.proofs.set_up.Tie as tie
+
+returns : tie.Need-returns
+returns c run =
+    let l = c .before .before .before .before in
+    let s = l .before .before .before .before .before .before .before .before .before .before .before in
+    setup-did run _ _ _ _ _ _ _ _ _ _ _ _ _ _ _ (s .setup .ensures) _ _ (c .if1 .taken) (l .setup-line .ensures .0) (l .setup-line .ensures .1)
+
+returns-2 : tie.Need-returns-2
+returns-2 c run =
+    let e = c .before .before in
+    let l = e .before .before .before .before .before .before in
+    let s = l .before .before .before .before .before .before .before .before .before .before .before in
+    setup-ends run _ _ _ _ _ _ _ _ _ _ _ _ _ _ _ (s .setup .ensures) _ _ _ _ (e .before .before .if1 .left) (l .setup-line .ensures .0) (l .setup-line .ensures .1) (e .end-tally .ensures .0) (e .end-tally .ensures .1)
+
+pub set-up-spec : {M : Type 1} → statement M
+set-up-spec =
+    tie.close
+    (tie.spec
+    (λ c κs. search needs)
+    (λ c κs. search needs)
+    (λ c. search needs)
+    (λ c. search needs)
+    (λ c. search needs)
+    (λ c. search needs)
+    (λ c. search needs)
+    returns
+    (λ c κs. search needs)
+    (λ c. search needs)
+    (λ c. search needs)
+    (λ c. search needs)
+    (λ c. search needs)
+    (λ c. search needs)
+    returns-2)

@@ -1,0 +1,94 @@
+-- A run: any list of calls, one after the other, refused ones among them. "each call gets the record and memory as the
+-- call before left them"
+--
+--   Call          == open, close or slot, with what the caller hands over
+--   Event         == a call, and what it said
+--   Run           == the state after some calls, and their events, the newest first
+--   call r c      == the run r, and then the call c
+--   calls r cs    == the run r, and then the calls cs, in this order
+--   letIn s cell  == what the header check of request (i) lets through in the state s: of a policer that is not raw, all
+--   freshRun N z raw  == after a setup that answered 0, before any other call
+--   numberOf e    == the number that a call answered
+--   served h      == how many slots the events h served: the number of the next slot, which never wraps
+use Prim.Native.Nat.{ℕ, _+_}
+use mathlib.Core.Bool.{Bool}
+use mathlib.Core.List.{List, [], _∷_}
+use lib.ListN.{replicate}
+use Rattle.base_hec.specs.Modes.{Arriving, arriving}
+use Rattle.meaning.specs.declared.Answer.{Answer}
+use Rattle.meaning.specs.Plain.{if_then_else_, _=?_}
+use Rattle.meaning.specs.Numbers.{octets, empty}
+use Rattle.meaning.specs.State.{State, withWords}
+use Rattle.meaning.specs.Calls.{freshState, openCall, closeCall}
+use Rattle.meaning.specs.Work.{Work}
+use Rattle.meaning.specs.Slot.{slot}
+use Rattle.meaning.specs.Line.{lineCell}
+
+pub data Call : Type 0 where
+  -- VCI, m, F, C
+  onOpen : ℕ → ℕ → ℕ → ℕ → Call
+  -- VCI
+  onClose : ℕ → Call
+  -- the octets lent: any list
+  onSlot : List ℕ → Call
+
+pub data Event : Type 0 where
+  -- VCI, m, F, C, and the number answered
+  opened : ℕ → ℕ → ℕ → ℕ → ℕ → Event
+  -- VCI, and the number answered
+  closed : ℕ → ℕ → Event
+  -- the octets that the header check let through, the answer, and the octets of the line cell shown after it
+  ran : List ℕ → Answer → List ℕ → Event
+
+abbrev pub numberOf : Event → ℕ
+numberOf (opened vci m F C number) = number
+numberOf (closed vci number) = number
+numberOf (ran cell a out) = a .number
+
+pub record Run : Type 0 where
+  pub state : State
+  pub events : List Event
+
+abbrev pub runOf : State → List Event → Run
+runOf s h = record { state = s; events = h }
+
+-- The line cell is asked for after each slot, with an idle cell of 53 octets. What departs is shown; nothing is noted
+-- where nothing departs.
+abbrev pub idle : List ℕ
+idle = replicate octets 0
+
+unfoldable pub shown : Work → List ℕ
+shown w = if w .answer .space =? empty then [] else lineCell (w .state .cells) idle (w .answer .space)
+
+-- Document 02 (i): what is judged, stored and sent is the mended cell, so that is what an event notes: "octets unchanged"
+-- and due times speak of it. Of a dropped cell nothing is noted.
+abbrev pub letIn : State → List ℕ → Arriving
+letIn s cell = arriving (s .ctl .raw) (s .ctl .mode) cell
+
+unfoldable pub call : Run → Call → Run
+call r (onOpen vci m F C) =
+    let s = r .state in
+    let c = openCall (s .ctl) (s .words) vci m F C in
+    runOf (withWords s (c .words)) (opened vci m F C (c .number) ∷ r .events)
+call r (onClose vci) =
+    let s = r .state in
+    let c = closeCall (s .ctl) (s .words) vci in
+    runOf (withWords s (c .words)) (closed vci (c .number) ∷ r .events)
+call r (onSlot cell) =
+    let w = slot (r .state) cell in
+    runOf (w .state) (ran (letIn (r .state) cell .cell) (w .answer) (shown w) ∷ r .events)
+
+unfoldable pub calls : Run → List Call → Run
+calls r [] = r
+calls r (c ∷ cs) = calls (call r c) cs
+
+-- "'From a fresh state' means that a setup has answered 0, no other setup follows"
+unfoldable pub freshRun : ℕ → ℕ → Bool → Run
+freshRun N z raw = runOf (freshState N z raw) []
+
+-- A refused slot is not served. "The first slot after setup is slot 0."
+unfoldable pub served : List Event → ℕ
+served [] = 0
+served (opened vci m F C number ∷ h) = served h
+served (closed vci number ∷ h) = served h
+served (ran cell a out ∷ h) = (if a .number =? 0 then 1 else 0) + served h

@@ -1,0 +1,84 @@
+-- Memory once a cell has been accepted: its header stands in its space, and its VC is open and counts it; every other header,
+-- open word and waiting stays.
+use Prim.Native.Nat.{ℕ, _+_, _*_, _≤_}
+use mathlib.Core.Path.{_≡_, refl, _∙_, ap}
+use mathlib.Core.Logic.{_≢_}
+use mathlib.Core.Bool.{Bool, true, false}
+use mathlib.Core.List.{List}
+use native.Mathlib.Omega.{arith}
+use lib.ListN.{length, getD, set, length-set}
+use lib.Seq.{getD-set-same, getD-set-other}
+use Rattle.meaning.specs.Plain.{if_then_else_}
+use Rattle.meaning.specs.Numbers.{openPlace, sPlace, lastPlace, waitingPlace, wordsPerVc, vcPlace}
+use Rattle.meaning.specs.State.{writeCell}
+use Rattle.meaning.specs.Header.{Header, headerAt}
+use Rattle.meaning.specs.Words.{vcAt}
+use Rattle.meaning.proofs.CellsLaws.{header-own, header-other}
+use Rattle.mem_lists.specs.Spaces.{Stored, Counted}
+
+-- ---- the cells
+pub stored : (own x : ℕ) (cells cell : List ℕ) → 53 * x + 53 ≤ length cells → length cell ≡ 53
+    → headerAt cell 0 .vpi ≡ 0
+    → headerAt cell 0 .vci ≡ own
+    → Stored own x cells (writeCell cells x cell)
+stored own x cells cell inside long vpi vci =
+    record {
+      vpi-own = ap (λ (h : Header). h .vpi) (header-own cells x cell inside long) ∙ vpi;
+      vci-own = ap (λ (h : Header). h .vci) (header-own cells x cell inside long) ∙ vci;
+      others = λ y ne. header-other cells x cell inside long y ne;
+    }
+
+-- ---- words of which each VC's open word and waiting are kept
+pub record Kept (words words₂ : List ℕ) : Type 0 where
+  pub long : length words₂ ≡ length words
+  pub opened : (u : ℕ) → getD words₂ (openPlace u) 0 ≡ getD words (openPlace u) 0
+  pub waiting : (u : ℕ) → getD words₂ (waitingPlace u) 0 ≡ getD words (waitingPlace u) 0
+
+-- S and last of a VC written, where on
+pub kept-fall : (on : Bool) (r S t : ℕ) (words : List ℕ)
+    → Kept words (if on then set (set words (sPlace r) S) (lastPlace r) t else words)
+kept-fall false r S t words = record { long = refl; opened = λ u. refl; waiting = λ u. refl }
+kept-fall true r S t words =
+    record {
+      long = simp length-set;
+      opened = λ u. past (openPlace u) (λ e. omega arith) (λ e. omega arith);
+      waiting = λ u. past (waitingPlace u) (λ e. omega arith) (λ e. omega arith);
+    }
+  where
+    past : (j : ℕ) → j ≢ lastPlace r → j ≢ sPlace r
+        → getD (set (set words (sPlace r) S) (lastPlace r) t) j 0 ≡ getD words j 0
+    past j p q =
+        getD-set-other (set words (sPlace r) S) (lastPlace r) j t 0 p ∙ getD-set-other words (sPlace r) j S 0 q
+
+-- ---- the words
+module _ (N own S t w : ℕ) (words words₂ : List ℕ) (kept : Kept words words₂) where
+  abbrev was : List ℕ
+  was = set (set words₂ (sPlace own) S) (lastPlace own) t
+
+  pub counted : vcPlace own + wordsPerVc ≤ length words → vcAt words own .opened ≡ 1 → 1 ≤ w → w ≤ N
+      → Counted N own words (set was (waitingPlace own) w)
+  unfolding vcAt
+  counted inside opened some most =
+      record {
+        open-own = open-word own ∙ opened;
+        some-own = rw own-waiting some;
+        most-own = rw own-waiting most;
+        opened-others = λ u ne. open-word u;
+        waiting-others = λ u ne.
+            getD-set-other was (waitingPlace own) (waitingPlace u) w 0 (λ e. ne (omega arith))
+            ∙ fall .waiting u
+            ∙ kept .waiting u;
+      }
+    where
+      fall : Kept words₂ was
+      fall = kept-fall true own S t words₂
+
+      open-word : (u : ℕ) → getD (set was (waitingPlace own) w) (openPlace u) 0 ≡ getD words (openPlace u) 0
+      open-word u =
+          getD-set-other was (waitingPlace own) (openPlace u) w 0 (λ e. omega arith)
+          ∙ fall .opened u
+          ∙ kept .opened u
+
+      own-waiting : getD (set was (waitingPlace own) w) (waitingPlace own) 0 ≡ w
+      own-waiting =
+          getD-set-same was (waitingPlace own) w 0 (omega (arith, fall .long, kept .long))

@@ -1,0 +1,103 @@
+-- What steps 3, 4 and 5 of a slot find in heads, tails, links and headers, as numbers: nothing is written yet.
+--
+--   linked on i x l   == the links l, with link i naming x where on
+--   seatOf            == where an accepted cell goes: its space, the Free List without it, its entry and that entry's ends
+--   offOf             == what departs from a list of spaces: space, VC, and what is left of the list
+use Prim.Native.Nat.{ℕ, _+_, _-_, _≤_}
+use mathlib.Core.Path.{_≡_}
+use mathlib.Core.Logic.{_≢_}
+use mathlib.Core.Bool.{Bool, true, false, _&&_}
+use mathlib.Core.List.{List}
+use lib.ListN.{getD, set}
+use Rattle.meaning.specs.Plain.{if_then_else_, _<?_, _≤?_, _=?_}
+use Rattle.meaning.specs.Numbers.{empty, cellStart}
+use Rattle.meaning.specs.State.{Ends}
+pub use Rattle.meaning.specs.State.{endsOf}
+use Rattle.meaning.specs.Header.{headerAt, namesOpenVc}
+use Rattle.meaning.specs.Words.{vcAt}
+use Rattle.meaning.specs.Lists.{endsFit, entryAt}
+use Rattle.mem_lists.specs.declared.Seat.{Seat}
+use Rattle.mem_lists.specs.declared.Off.{Off}
+
+unfoldable pub linked : Bool → ℕ → ℕ → List ℕ → List ℕ
+linked on i x l = if on then set l i x else l
+
+abbrev pub seatAs : Bool → ℕ → Ends → ℕ → Ends → Seat
+seatAs ok x free e entry =
+    record {
+      ok = ok;
+      x = x;
+      freehead = free .head;
+      freetail = free .tail;
+      e = e;
+      head = entry .head;
+      tail = entry .tail;
+    }
+
+abbrev pub noSeat : Seat
+noSeat = seatAs false 0 (endsOf 0 0) 0 (endsOf 0 0)
+
+-- the Free List has two ends below N; the cell joins entry e, whose ends fit
+unfoldable pub seatIn : ℕ → List ℕ → Ends → ℕ → Ends → Seat
+seatIn N links free e entry =
+    let follower = getD links (free .head) 0 in
+    if free .head =? free .tail then seatAs true (free .head) (endsOf empty empty) e entry
+    else if follower <? N then seatAs true (free .head) (endsOf follower (free .tail)) e entry
+    else noSeat
+
+-- the same, whether they fit or not
+unfoldable pub seatAt : ℕ → List ℕ → List ℕ → Ends → ℕ → Seat
+seatAt N links calendar free e =
+    let entry = entryAt calendar e in
+    let follower = getD links (free .head) 0 in
+    if endsFit N entry
+    then (if free .head =? free .tail then seatAs true (free .head) (endsOf empty empty) e entry
+    else if follower <? N then seatAs true (free .head) (endsOf follower (free .tail)) e entry
+    else noSeat)
+    else noSeat
+
+-- (T + D) modulo N, where both are below N
+unfoldable pub entryOf : ℕ → ℕ → ℕ → ℕ
+entryOf N T D = if T + D <? N then T + D else T + D - N
+
+unfoldable pub seatOf : ℕ → List ℕ → List ℕ → ℕ → Ends → ℕ → Seat
+seatOf N links calendar T free D =
+    if free .head <? N && free .tail <? N then seatAt N links calendar free (entryOf N T D) else noSeat
+
+abbrev pub offAs : Bool → ℕ → ℕ → Ends → Off
+offAs ok space vci left = record { ok = ok; space = space; vci = vci; head = left .head; tail = left .tail }
+
+abbrev pub noneOff : Off
+noneOff = offAs false 0 0 (endsOf 0 0)
+
+-- the cell in space x may depart: "the departing header names an open VC", "waiting at most N .. above 0"
+unfoldable pub mayLeave : ℕ → ℕ → List ℕ → List ℕ → ℕ → Bool
+mayLeave N z cells words x =
+    let h = headerAt cells (cellStart x) in
+    let waiting = vcAt words (h .vci) .waiting in
+    namesOpenVc z words h && 1 ≤? waiting && waiting ≤? N
+
+-- the head of the list from x to tail departs
+unfoldable pub offOf : ℕ → ℕ → List ℕ → List ℕ → List ℕ → ℕ → ℕ → Off
+offOf N z cells links words x tail =
+    let vci = headerAt cells (cellStart x) .vci in
+    let follower = getD links x 0 in
+    if mayLeave N z cells words x
+    then (if x =? tail then offAs true x vci (endsOf empty empty)
+    else if follower <? N then offAs true x vci (endsOf follower tail)
+    else noneOff)
+    else noneOff
+
+-- cells′ are the cells once a cell of VC own stands in space x
+pub record Stored (own x : ℕ) (cells cells′ : List ℕ) : Type 0 where
+  pub vpi-own : headerAt cells′ (cellStart x) .vpi ≡ 0
+  pub vci-own : headerAt cells′ (cellStart x) .vci ≡ own
+  pub others : (y : ℕ) → y ≢ x → headerAt cells′ (cellStart y) ≡ headerAt cells (cellStart y)
+
+-- words′ are the words once that cell is counted: VC own is open and has 1 to N cells waiting
+pub record Counted (N own : ℕ) (words words′ : List ℕ) : Type 0 where
+  pub open-own : vcAt words′ own .opened ≡ 1
+  pub some-own : 1 ≤ vcAt words′ own .waiting
+  pub most-own : vcAt words′ own .waiting ≤ N
+  pub opened-others : (u : ℕ) → u ≢ own → vcAt words′ u .opened ≡ vcAt words u .opened
+  pub waiting-others : (u : ℕ) → u ≢ own → vcAt words′ u .waiting ≡ vcAt words u .waiting

@@ -1,0 +1,388 @@
+// Lists of spaces by head, tail and links: what a slot reads of them, and the few words that it writes.
+ghost use mathlib.Core.Path.{_≡_};
+ghost use mathlib.Core.Bool.{true};
+ghost use Prim.Native.Nat.{_+_, _*_, _≤_, _<_};
+ghost use lib.ListN.{length, getD, set};
+ghost use Rattle.meaning.specs.Numbers.{mostN, mostV, octets, cellStart, perEntry, wordsIn};
+ghost use Rattle.meaning.specs.State.{HasVc};
+ghost use Rattle.meaning.specs.Lists.{endsFit, writeEntry};
+ghost use Rattle.mem_lists.specs.Spaces.{endsOf, linked, noSeat, seatIn, seatAt, seatOf, offOf};
+ghost use Rattle.mem_lists.specs.Leaver.{mayGo, namedVc, leaverOf, offFrom, leaverAfter, offAfter};
+use meaning::AT_WAITING;
+use meaning::WORDS_PER_VC;
+
+// Where an accepted cell goes: its space x, the Free List without it, its entry e and that entry's head and tail.
+pub struct Seat {
+    pub ok: bool,
+    pub x: u16,
+    pub freehead: u16,
+    pub freetail: u16,
+    pub e: u16,
+    pub head: u16,
+    pub tail: u16,
+}
+
+// What departs: the space, its VC, and what is left of the Output List.
+pub struct Off {
+    pub ok: bool,
+    pub space: u16,
+    pub vci: u16,
+    pub head: u16,
+    pub tail: u16,
+}
+
+// "a head and tail are both below N or both 65,535"
+pub fn pair(n: u16, head: u16, tail: u16) -> bool
+    requires { ⌜ n ≤ 1024 ⌝ }
+    ensures { λ r. ⌜ r ≡ endsFit n (endsOf head tail) ⌝ }
+{
+    if head < n {
+        return tail < n;
+    }
+    if head == 65535 {
+        return tail == 65535;
+    }
+    false
+}
+
+fn no_seat() -> Seat
+    ensures { λ r. ⌜ r ≡ noSeat ⌝ }
+{
+    Seat {
+        ok: false,
+        x: 0,
+        freehead: 0,
+        freetail: 0,
+        e: 0,
+        head: 0,
+        tail: 0,
+    }
+}
+
+// The seat of a cell that joins entry e, from head to tail, which fit, where the Free List is not empty.
+fn seat_in(
+    n: u16,
+    links: &[u16],
+    freehead: u16,
+    freetail: u16,
+    e: u16,
+    head: u16,
+    tail: u16,
+) -> Seat
+    requires { ⌜ (length (now links) ≡ n) × (freehead < n) ⌝ }
+    ensures { λ r. ⌜ r ≡ seatIn n (now (links .entry)) (endsOf freehead freetail) e (endsOf head tail) ⌝ }
+{
+    if freehead == freetail {
+        return Seat {
+            ok: true,
+            x: freehead,
+            freehead: 65535,
+            freetail: 65535,
+            e: e,
+            head: head,
+            tail: tail,
+        };
+    }
+    let after = links[freehead as usize];
+    if after < n {
+        return Seat {
+            ok: true,
+            x: freehead,
+            freehead: after,
+            freetail: freetail,
+            e: e,
+            head: head,
+            tail: tail,
+        };
+    }
+    no_seat()
+}
+
+// The same, the entry's head and tail read and judged: one number after the other, since a pair's test as one truth value
+// costs twice as much.
+pub fn seat_at(
+    n: u16,
+    links: &[u16],
+    calendar: &[u16],
+    freehead: u16,
+    freetail: u16,
+    e: u16,
+) -> Seat
+    requires { ⌜ (n ≤ mostN) × (length (now links) ≡ n) × (length (now calendar) ≡ perEntry * n) × (e < n) × (freehead < n) ⌝ }
+    ensures { λ r. ⌜ r ≡ seatAt n (now (links .entry)) (now (calendar .entry)) (endsOf freehead freetail) e ⌝ }
+{
+    let head = calendar[2 * (e as usize)];
+    let tail = calendar[2 * (e as usize) + 1];
+    if head == 65535 {
+        if tail == 65535 {
+            return seat_in(n, links, freehead, freetail, e, head, tail);
+        }
+        return no_seat();
+    }
+    if head >= n {
+        return no_seat();
+    }
+    if tail >= n {
+        return no_seat();
+    }
+    seat_in(n, links, freehead, freetail, e, head, tail)
+}
+
+// The seat of a cell with delay d: it joins entry (T+D) modulo N, which one comparison gives.
+pub fn seat_for(
+    n: u16,
+    links: &[u16],
+    calendar: &[u16],
+    turn: u16,
+    freehead: u16,
+    freetail: u16,
+    d: u16,
+) -> Seat
+    requires { ⌜ (n ≤ mostN) × (length (now links) ≡ n) × (length (now calendar) ≡ perEntry * n) × (turn < n) × (d < n) ⌝ }
+    ensures { λ r. ⌜ r ≡ seatOf n (now (links .entry)) (now (calendar .entry)) turn (endsOf freehead freetail) d ⌝ }
+{
+    if freehead < n {
+        if freetail < n {
+            let far = turn + d;
+            let e = if far < n { far } else { far - n };
+            return seat_at(n, links, calendar, freehead, freetail, e);
+        }
+    }
+    no_seat()
+}
+
+// VC u is open and has 1 to N cells waiting.
+fn may_go(n: u16, words: &[u32], u: u16) -> bool
+    requires { ⌜ HasVc u (now words) ⌝ }
+    ensures { λ r. ⌜ r ≡ mayGo n (now (words .entry)) u ⌝ }
+{
+    let b = WORDS_PER_VC * (u as usize);
+    if words[b] == 1 {
+        let waiting = words[b + AT_WAITING];
+        if waiting != 0 {
+            return waiting <= n as u32;
+        }
+    }
+    false
+}
+
+// The VC that VPI and VCI as one number name, if a cell of it may depart, else 0.
+fn named_vc(n: u16, v: u16, words: &[u32], name: u32) -> u16
+    requires { ⌜ length (now words) ≡ wordsIn v ⌝ }
+    ensures { λ r. ⌜ r ≡ namedVc n v (now (words .entry)) name ⌝ }
+{
+    if name != 0 {
+        if name < v as u32 {
+            let u = name as u16;
+            if may_go(n, words, u) {
+                return u;
+            }
+        }
+    }
+    0
+}
+
+// The VC whose cell is in space x, if that cell may depart, else 0.
+pub fn leaver(n: u16, v: u16, cells: &[u8], words: &[u32], x: u16) -> u16
+    requires { ⌜ (v ≤ mostV) × (cellStart x + octets ≤ length (now cells)) × (length (now words) ≡ wordsIn v) ⌝ }
+    ensures { λ r. ⌜ r ≡ leaverOf n v (now (cells .entry)) (now (words .entry)) x ⌝ }
+{
+    let name = leaf_header::name_at(cells, 53 * (x as usize));
+    named_vc(n, v, words, name)
+}
+
+// The same once a cell of VC own has been accepted into space s: own's words need no reading.
+fn leaver_after(n: u16, v: u16, cells: &[u8], words: &[u32], own: u16, s: u16, x: u16) -> u16
+    requires { ⌜ (v ≤ mostV) × (1 ≤ own) × (own < v) × (cellStart x + octets ≤ length (now cells)) × (length (now words) ≡ wordsIn v) ⌝ }
+    ensures { λ r. ⌜ r ≡ leaverAfter n v (now (cells .entry)) (now (words .entry)) own s x ⌝ }
+{
+    if x == s {
+        return own;
+    }
+    let name = leaf_header::name_at(cells, 53 * (x as usize));
+    if name == own as u32 {
+        return own;
+    }
+    named_vc(n, v, words, name)
+}
+
+// Space x departs with a cell of VC vci (0: it may not), follower being the next in its list, if it is not the tail.
+fn off_from(n: u16, vci: u16, x: u16, follower: u16, tail: u16) -> Off
+    ensures { λ r. ⌜ r ≡ offFrom n vci x follower tail ⌝ }
+{
+    if vci != 0 {
+        if x == tail {
+            return Off {
+                ok: true,
+                space: x,
+                vci: vci,
+                head: 65535,
+                tail: 65535,
+            };
+        }
+        if follower < n {
+            return Off {
+                ok: true,
+                space: x,
+                vci: vci,
+                head: follower,
+                tail: tail,
+            };
+        }
+    }
+    Off {
+        ok: false,
+        space: 0,
+        vci: 0,
+        head: 0,
+        tail: 0,
+    }
+}
+
+// The head x of a list that ends at tail departs, in memory as it is. The answer is handed on field by field: as a whole it
+// would be packed into one word.
+pub fn off_head(
+    n: u16,
+    v: u16,
+    cells: &[u8],
+    links: &[u16],
+    words: &[u32],
+    x: u16,
+    tail: u16,
+) -> Off
+    requires { ⌜ (n ≤ mostN) × (v ≤ mostV) × (x < n) × (length (now cells) ≡ octets * n) × (length (now links) ≡ n) × (length (now words) ≡ wordsIn v) ⌝ }
+    ensures { λ r. ⌜ r ≡ offOf n v (now (cells .entry)) (now (links .entry)) (now (words .entry)) x tail ⌝ }
+{
+    let vci = leaver(n, v, cells, words, x);
+    let follower = if x == tail { 65535 } else { links[x as usize] };
+    let o = off_from(n, vci, x, follower, tail);
+    Off {
+        ok: o.ok,
+        space: o.space,
+        vci: o.vci,
+        head: o.head,
+        tail: o.tail,
+    }
+}
+
+// Link x once link i names y, where on.
+fn link_after(links: &[u16], on: bool, i: u16, y: u16, x: u16) -> u16
+    requires { ⌜ x < length (now links) ⌝ }
+    ensures { λ r. ⌜ r ≡ getD (linked on i y (now (links .entry))) x 0 ⌝ }
+{
+    if on {
+        if x == i {
+            return y;
+        }
+    }
+    links[x as usize]
+}
+
+// The head x of the Output List departs, once the chain from head to tail has joined its end, old.
+pub fn off_joined(
+    n: u16,
+    v: u16,
+    cells: &[u8],
+    links: &[u16],
+    words: &[u32],
+    x: u16,
+    old: u16,
+    head: u16,
+    tail: u16,
+) -> Off
+    requires { ⌜ (n ≤ mostN) × (v ≤ mostV) × (x < n) × (length (now cells) ≡ octets * n) × (length (now links) ≡ n) × (length (now words) ≡ wordsIn v) ⌝ }
+    ensures { λ r. ⌜ r ≡ offOf n v (now (cells .entry)) (set (now (links .entry)) old head) (now (words .entry)) x tail ⌝ }
+{
+    let vci = leaver(n, v, cells, words, x);
+    let follower = if x == tail {
+        65535
+    } else {
+        link_after(links, true, old, head, x)
+    };
+    let o = off_from(n, vci, x, follower, tail);
+    Off {
+        ok: o.ok,
+        space: o.space,
+        vci: o.vci,
+        head: o.head,
+        tail: o.tail,
+    }
+}
+
+// Link x once link s names y, where named, and then link old names head, where joins.
+fn links_after(
+    links: &[u16],
+    s: u16,
+    named: bool,
+    y: u16,
+    joins: bool,
+    old: u16,
+    head: u16,
+    x: u16,
+) -> u16
+    requires { ⌜ x < length (now links) ⌝ }
+    ensures { λ r. ⌜ r ≡ getD (linked joins old head (linked named s y (now (links .entry)))) x 0 ⌝ }
+{
+    if joins {
+        if x == old {
+            return head;
+        }
+    }
+    link_after(links, named, s, y, x)
+}
+
+// The same once a cell of VC own has been accepted into space s, whose link names y where named, and, where joins, link old names head.
+pub fn off_after(
+    n: u16,
+    v: u16,
+    cells: &[u8],
+    links: &[u16],
+    words: &[u32],
+    own: u16,
+    s: u16,
+    named: bool,
+    y: u16,
+    joins: bool,
+    old: u16,
+    head: u16,
+    x: u16,
+    tail: u16,
+) -> Off
+    requires { ⌜ (n ≤ mostN) × (v ≤ mostV) × (x < n) × (1 ≤ own) × (own < v) × (length (now cells) ≡ octets * n) × (length (now links) ≡ n) × (length (now words) ≡ wordsIn v) ⌝ }
+    ensures { λ r. ⌜ r ≡ offAfter n v (now (cells .entry)) (linked joins old head (linked named s y (now (links .entry)))) (now (words .entry)) own s x tail ⌝ }
+{
+    let vci = leaver_after(n, v, cells, words, own, s, x);
+    let follower = if x == tail {
+        65535
+    } else {
+        links_after(links, s, named, y, joins, old, head, x)
+    };
+    let o = off_from(n, vci, x, follower, tail);
+    Off {
+        ok: o.ok,
+        space: o.space,
+        vci: o.vci,
+        head: o.head,
+        tail: o.tail,
+    }
+}
+
+// One link, where on.
+pub fn put_link(links: &mut [u16], on: bool, i: u16, x: u16)
+    requires { ⌜ (on ≡ true → i < length (now links)) ⌝ }
+    ensures { λ r. ⌜ now (links .exit) ≡ linked on i x (now (links .entry)) ⌝ }
+{
+    if on {
+        links[i as usize] = x;
+    }
+}
+
+// The two numbers of entry e.
+pub fn put_entry(calendar: &mut [u16], e: u16, head: u16, tail: u16)
+    requires { ⌜ 2 * e + 2 ≤ length (now calendar) ⌝ }
+    ensures { λ r. ⌜ now (calendar .exit) ≡ writeEntry (now (calendar .entry)) e (endsOf head tail) ⌝ }
+{
+    let at = 2 * (e as usize);
+    calendar[at] = head;
+    calendar[at + 1] = tail;
+}

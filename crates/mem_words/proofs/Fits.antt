@@ -1,0 +1,56 @@
+-- The ranges of a VC's words for refusal 3, as they are tested one after the other, and as plain facts once they fit.
+use Prim.Native.Nat.{ℕ, _*_, _≤_, _<_}
+use mathlib.Core.Path.{_≡_, sym, _∙_}
+use mathlib.Core.Bool.{true, false}
+use mathlib.Core.List.{List}
+use native.Mathlib.Omega.{arith}
+use borrow.Author.Tests.{lt-leb, eq-eqb, ne-eqb, leb-true}
+use lib.ListN.{getD}
+use Rattle.meaning.specs.Plain.{_≤?_}
+use Rattle.meaning.specs.Numbers.{wordsPerVc}
+use Rattle.meaning.specs.Bucket.{Bucket, bucketOf, obeysRules}
+use Rattle.meaning.specs.Words.{Vc, vcAt, bucketFits, openWordFits, vcFits}
+pub use Rattle.meaning.proofs.WordsLaws.{opened-at}
+use Rattle.leaf_bucket.proofs.Rules.{Obeys, rules-any-S, rules-facts, both}
+
+-- ---- a bucket, of which the rules on m, F and C are tested first
+pub bucket-breaks : (N : ℕ) (b : Bucket) → obeysRules N (bucketOf (b .m) (b .F) (b .C) 0) ≡ false → false ≡ bucketFits N b
+unfolding bucketFits
+bucket-breaks N b e = rw (sym (rules-any-S N b 0) ∙ e)
+
+pub bucket-obeys : (N : ℕ) (b : Bucket)
+    → obeysRules N (bucketOf (b .m) (b .F) (b .C) 0) ≡ true
+    → (b .S ≤? b .C) ≡ bucketFits N b
+unfolding bucketFits
+bucket-obeys N b e = rw (sym (rules-any-S N b 0) ∙ e)
+
+-- what a fitting bucket holds
+pub record Fitting (N m F C S : ℕ) : Type 0 where
+  pub rules : Obeys N m F C
+  pub S-most : S ≤ C
+
+pub bucket-facts : (N : ℕ) (b : Bucket) → bucketFits N b ≡ true → Fitting N (b .m) (b .F) (b .C) (b .S)
+unfolding bucketFits
+bucket-facts N b e =
+    let p = both (obeysRules N b) (b .S ≤? b .C) e in
+    record { rules = rules-facts N b (p .0); S-most = leb-true _ _ (p .1) }
+
+-- ---- a VC, of which the open word is tested first
+pub vc-closed : (N : ℕ) (vc : Vc) → vc .opened ≡ 0 → true ≡ vcFits N vc
+unfolding vcFits
+vc-closed N vc e = simp (eq-eqb _ _ e)
+
+pub vc-open-breaks : (N : ℕ) (vc : Vc) → 1 < vc .opened → false ≡ vcFits N vc
+unfolding vcFits openWordFits
+vc-open-breaks N vc h = simp (ne-eqb (vc .opened) 0 (λ e. omega arith), lt-leb _ _ h)
+
+pub vc-bucket-breaks : (N : ℕ) (vc : Vc) → vc .opened ≡ 1 → bucketFits N (vc .bucket) ≡ false → false ≡ vcFits N vc
+unfolding vcFits openWordFits
+vc-bucket-breaks N vc h e = simp (h, e)
+
+pub vc-open-fits : (N : ℕ) (vc : Vc)
+    → vc .opened ≡ 1
+    → bucketFits N (vc .bucket) ≡ true
+    → (vc .waiting ≤? N) ≡ vcFits N vc
+unfolding vcFits openWordFits
+vc-open-fits N vc h e = simp (h, e)

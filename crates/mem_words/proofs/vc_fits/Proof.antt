@@ -1,0 +1,52 @@
+-- `mem_words::vc_fits` meets its contract: a closed VC fits, and an open one by its open word, its bucket and waiting, in turn.
+use mathlib.Core.Path.{sym, _∙_}
+use native.Mathlib.Omega.{arith}
+use borrow.Author.Tests.{not-true, not-false}
+use Rattle.meaning.specs.Words.{vcAt}
+use Rattle.mem_words.proofs.Fits.{vc-closed, vc-open-breaks, vc-bucket-breaks, vc-open-fits, opened-at}
+use borrow.Author.Needs.{needs}
+use Rattle.mem_words.proofs.vc_fits.Statement.{statement}
+use Rattle.mem_words.proofs.vc_fits.Tie as tie
+
+returns : tie.Need-returns
+returns c = vc-closed _ _ (opened-at _ _ ∙ c .if1 .taken)
+
+returns-2 : tie.Need-returns-2
+returns-2 c =
+    let a = c .before .before .before .before .args in
+    vc-open-breaks _ _ (omega (arith, opened-at (a .words .now) (a .vci)))
+
+returns-3 : tie.Need-returns-3
+returns-3 c =
+    let a = c .before .before .before .before .before .before .args in
+    vc-bucket-breaks
+    _
+    _
+    (omega (arith, opened-at (a .words .now) (a .vci)))
+    (sym (c .before .bucket-fits .ensures) ∙ not-true _ (c .if3 .taken))
+
+returns-4 : tie.Need-returns-4
+unfolding vcAt
+returns-4 c =
+    let a = c .before .before .before .before .before .before .before .args in
+    vc-open-fits
+    _
+    _
+    (omega (arith, opened-at (a .words .now) (a .vci)))
+    (sym (c .before .before .bucket-fits .ensures) ∙ not-false _ (c .before .if3 .left))
+
+pub vc-fits-spec : {M : Type 1} → statement M
+vc-fits-spec =
+    tie.close
+    (tie.spec
+    (λ c. search needs)
+    (λ c. search needs)
+    (λ c. search needs)
+    returns
+    returns-2
+    (λ c κs. search needs)
+    returns-3
+    (λ c. search needs)
+    (λ c. search needs)
+    (λ c. search needs)
+    returns-4)

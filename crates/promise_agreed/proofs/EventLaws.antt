@@ -1,0 +1,96 @@
+-- One event more: what it adds to the slots served, to the VC's opening and to the engine's state, and that an event which
+-- moves neither of the two keeps them tied.
+use Prim.Native.Nat.{ℕ, suc}
+use mathlib.Core.Path.{_≡_, sym, _∙_, subst}
+use mathlib.Core.Logic.{_≢_}
+use mathlib.Core.Bool.{true, false, _&&_}
+use mathlib.Core.List.{List, _∷_}
+use mathlib.Core.Option.{Option, some}
+use native.Mathlib.Omega.{arith}
+use native.Mathlib.Decide.{ℕ-discrete}
+use borrow.Author.Tests.{eq-eqb, ne-eqb}
+use Rattle.meaning.specs.declared.Answer.{Answer}
+use Rattle.meaning.specs.Plain.{_=?_}
+use Rattle.meaning.specs.Numbers.{accepted}
+use Rattle.meaning.specs.Header.{headerAt, namesVc}
+use Rattle.meaning_runs.specs.Run.{Event, ran, served}
+use Rattle.meaning_runs.specs.Leak.{Opening, openingWith, dueTime, accepts, openingOf}
+use Rattle.call_time.specs.declared.Tat.{Tat}
+use Rattle.promise_agreed.specs.Agreed.{Watched, isFor, ask, engineAfter}
+use Rattle.promise_agreed.proofs.StepLaws.{TiedTo, tied-later}
+use Rattle.promise_agreed.proofs.HeaderLaws.{and-no}
+
+-- the VC is open as at first, and the engine's state goes with its last due time
+pub record Tied (w : Watched) (h : List Event) : Type 0 where
+  pub previous : Option ℕ
+  pub is : openingOf (w .vci) h ≡ some (openingWith (w .m) (w .F) (w .C) previous)
+  pub state : TiedTo (w .F) (served h) previous (engineAfter w h)
+
+pub tied-of : (w : Watched) (h h′ : List Event) (p : Option ℕ) (t : ℕ) (s : Tat)
+    → openingOf (w .vci) h′ ≡ some (openingWith (w .m) (w .F) (w .C) p)
+    → served h′ ≡ t → engineAfter w h′ ≡ s → TiedTo (w .F) t p s → Tied w h′
+tied-of w h h′ p t s is n e k =
+    record {
+      previous = p;
+      is = is;
+      state = subst (λ (x : ℕ). TiedTo (w .F) x p (engineAfter w h′)) (sym n)
+          (subst (λ (x : Tat). TiedTo (w .F) t p x) (sym e) k);
+    }
+
+module _ (w : Watched) (h : List Event) (cell : List ℕ) (a : Answer) (out : List ℕ) where
+  pub served-one : a .number ≡ 0 → served (ran cell a out ∷ h) ≡ suc (served h)
+  unfolding served
+  served-one e = rw (eq-eqb (a .number) 0 e) (omega arith)
+
+  served-none : a .number ≢ 0 → served (ran cell a out ∷ h) ≡ served h
+  unfolding served
+  served-none e = rw (ne-eqb (a .number) 0 e) (omega arith)
+
+  pub engine-asked : isFor w cell a ≡ true → engineAfter w (ran cell a out ∷ h) ≡ ask w (engineAfter w h) (served h) .tat
+  unfolding engineAfter
+  engine-asked e = rw e
+
+  engine-still : isFor w cell a ≡ false → engineAfter w (ran cell a out ∷ h) ≡ engineAfter w h
+  unfolding engineAfter
+  engine-still e = rw e
+
+  pub opening-moved : (o : Opening) → openingOf (w .vci) h ≡ some o → accepts (w .vci) a ≡ true
+      → openingOf (w .vci) (ran cell a out ∷ h) ≡ some (openingWith (o .m) (o .F) (o .C) (some (dueTime o (served h))))
+  unfolding openingOf
+  opening-moved o q e = rw (e, q)
+
+  pub opening-still : accepts (w .vci) a ≡ false → openingOf (w .vci) (ran cell a out ∷ h) ≡ openingOf (w .vci) h
+  unfolding openingOf
+  opening-still e = rw e
+
+  pub for-it : a .number ≡ 0 → (namesVc (w .z) (headerAt cell 0) && headerAt cell 0 .vci =? w .vci) ≡ true → isFor w cell a ≡ true
+  unfolding isFor
+  for-it n e = rw (eq-eqb (a .number) 0 n, e)
+
+  pub not-for-it : (namesVc (w .z) (headerAt cell 0) && headerAt cell 0 .vci =? w .vci) ≡ false → isFor w cell a ≡ false
+  unfolding isFor
+  not-for-it e = rw e (and-no (a .number =? 0))
+
+  pub not-served : a .number ≢ 0 → isFor w cell a ≡ false
+  unfolding isFor
+  not-served n = rw (ne-eqb (a .number) 0 n)
+
+  pub accepts-is : a .verdict ≡ accepted → a .vci ≡ w .vci → accepts (w .vci) a ≡ true
+  unfolding accepts
+  accepts-is e f = rw (e, eq-eqb (a .vci) (w .vci) f)
+
+  pub accepts-not : a .verdict ≢ accepted → accepts (w .vci) a ≡ false
+  unfolding accepts
+  accepts-not e = rw (ne-eqb (a .verdict) accepted e)
+
+  -- what a slot that moved neither leaves
+  pub quiet : Tied w h → isFor w cell a ≡ false → accepts (w .vci) a ≡ false → Tied w (ran cell a out ∷ h)
+  quiet k e f = go (ℕ-discrete (a .number) 0)
+    where
+      go : Dec (a .number ≡ 0) → Tied w (ran cell a out ∷ h)
+      go (yes n) =
+          tied-of w h (ran cell a out ∷ h) (k .previous) (suc (served h)) (engineAfter w h) (opening-still f ∙ k .is)
+          (served-one n) (engine-still e) (tied-later (w .F) (served h) (k .previous) (engineAfter w h) (k .state))
+      go (no n) =
+          tied-of w h (ran cell a out ∷ h) (k .previous) (served h) (engineAfter w h) (opening-still f ∙ k .is)
+          (served-none n) (engine-still e) (k .state)

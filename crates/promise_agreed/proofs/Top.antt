@@ -1,0 +1,156 @@
+-- The engine equals the policer on every run: by induction over the calls, from the invariant of runs.
+use Prim.Native.Nat.{ℕ, _≤_}
+use mathlib.Core.Path.{_≡_, refl, sym, ap, _∙_, subst}
+use mathlib.Core.Logic.{_≢_}
+use mathlib.Core.Bool.{Bool, true, false, _&&_}
+use mathlib.Core.List.{List, [], _∷_, map}
+use mathlib.Core.Option.{none, some}
+use native.Mathlib.Nat.{le-trans, le-refl}
+use native.Mathlib.Omega.{arith}
+use borrow.Author.Tests.{eq-eqb, ne-eqb}
+use Rattle.meaning.specs.declared.Answer.{Answer}
+use Rattle.meaning.specs.Plain.{if_then_else_, _=?_}
+use Rattle.meaning.specs.Numbers.{slotNumbers}
+use Rattle.meaning.specs.State.{State}
+use Rattle.meaning.specs.Calls.{setup}
+use Rattle.meaning_runs.specs.Run.{Call, onOpen, onClose, onSlot, Event, opened, closed, ran, Run, runOf, call, calls, freshRun, served}
+use Rattle.meaning_runs.specs.Leak.{openingWith, openingOf}
+use Rattle.theory_queues.specs.Queue.{All}
+use Rattle.theory_invariant.proofs.FreshLaws.{setup-fresh}
+use Rattle.theory_invariant.proofs.RunLaws.{Kept, call-kept, run-kept}
+use Rattle.call_time.specs.declared.Tat.{Tat}
+use Rattle.call_time.specs.Asked.{notStarted}
+use Rattle.promise_agreed.specs.Agreed.{Watched, watch, engineAfter, Agrees, Apart, AgreedAlways, AgreedOneVc}
+use Rattle.promise_agreed.proofs.HeaderLaws.{and-no}
+use Rattle.promise_agreed.proofs.EventLaws.{Tied, not-served}
+use Rattle.promise_agreed.proofs.SlotLaws.{went}
+
+-- slots are only ever added
+one-more : (h : List Event) (e : Event) → served h ≤ served (e ∷ h)
+unfolding served
+one-more h (opened vci m F C number) = omega arith
+one-more h (closed vci number) = omega arith
+one-more h (ran cell a out) = omega arith
+
+call-more : (r : Run) (c : Call) → served (r .events) ≤ served (call r c .events)
+unfolding call
+call-more r (onOpen vci m F C) = one-more (r .events) _
+call-more r (onClose vci) = one-more (r .events) _
+call-more r (onSlot cell) = one-more (r .events) _
+
+calls-more : (r : Run) (cs : List Call) → served (r .events) ≤ served (calls r cs .events)
+unfolding calls
+calls-more r [] = le-refl (served (r .events))
+calls-more r (c ∷ cs) = le-trans (call-more r c) (calls-more (call r c) cs)
+
+-- a call that neither opens nor closes the VC leaves its opening
+other-vc : (v vci number : ℕ) → vci ≢ v → (number =? 0 && vci =? v) ≡ false
+other-vc v vci number n = rw (ne-eqb vci v n) (and-no (number =? 0))
+
+-- ── one call ──
+module _ (w : Watched) where
+  pub record Together (r : Run) : Type 0 where
+    pub kept : Kept (w .N) (w .z) r
+    pub tied : Tied w (r .events)
+    pub agrees : Agrees w (r .events)
+
+  tied-open : (h : List Event) (vci m F C number : ℕ) → vci ≢ w .vci → Tied w h → Tied w (opened vci m F C number ∷ h)
+  unfolding openingOf served engineAfter
+  tied-open h vci m F C number n k =
+      record { previous = k .previous; is = rw (other-vc (w .vci) vci number n) (k .is); state = k .state }
+
+  tied-close : (h : List Event) (vci number : ℕ) → vci ≢ w .vci → Tied w h → Tied w (closed vci number ∷ h)
+  unfolding openingOf served engineAfter
+  tied-close h vci number n k =
+      record { previous = k .previous; is = rw (other-vc (w .vci) vci number n) (k .is); state = k .state }
+
+  one-call : (r : Run) (c : Call) → Together r → Apart (w .vci) c → served (call r c .events) ≤ slotNumbers → Together (call r c)
+  unfolding call Agrees
+  one-call r (onOpen vci m F C) g n low =
+      record {
+        kept = call-kept (w .N) (w .z) r (onOpen vci m F C) (g .kept);
+        tied = tied-open (r .events) vci m F C _ n (g .tied);
+        agrees = g .agrees;
+      }
+  one-call r (onClose vci) g n low =
+      record {
+        kept = call-kept (w .N) (w .z) r (onClose vci) (g .kept);
+        tied = tied-close (r .events) vci _ n (g .tied);
+        agrees = g .agrees;
+      }
+  one-call r (onSlot cell) g n low =
+      let x = went w (r .events) (r .state) (g .kept .inv) (g .tied) cell low in
+      record {
+        kept = call-kept (w .N) (w .z) r (onSlot cell) (g .kept);
+        tied = x .tied;
+        agrees = (g .agrees, x .says);
+      }
+
+  pub all-calls : (r : Run) (cs : List Call) → Together r → All (Apart (w .vci)) cs
+      → served (calls r cs .events) ≤ slotNumbers → Together (calls r cs)
+  unfolding calls
+  all-calls r [] g n low = g
+  all-calls r (c ∷ cs) g n low =
+      all-calls (call r c) cs (one-call r c g (n .0) (le-trans (calls-more (call r c) cs) low)) (n .1) low
+
+-- ── before the first slot ──
+-- no slot was served: the engine isn't started, and there is no cell to agree on
+unserved : (h : List Event) (cell : List ℕ) (a : Answer) (out : List ℕ) → served (ran cell a out ∷ h) ≡ 0
+    → (a .number ≢ 0) × (served h ≡ 0)
+unfolding served
+unserved h cell a out e = (λ n. omega (arith, first n), omega (arith, e))
+  where
+    first : a .number ≡ 0 → 1 ≤ 0
+    first n = subst (λ (b : Bool). (if b then 1 else 0) ≤ 0) (eq-eqb (a .number) 0 n) (omega (arith, e))
+
+asleep : (w : Watched) (h : List Event) → served h ≡ 0 → (engineAfter w h ≡ notStarted) × Agrees w h
+unfolding engineAfter Agrees served
+asleep w [] e = (refl, tt)
+asleep w (opened vci m F C number ∷ h) e = asleep w h e
+asleep w (closed vci number ∷ h) e = asleep w h e
+asleep w (ran cell a out ∷ h) e =
+    let u = unserved h cell a out e in
+    let x = not-served w h cell a out (u .0) in
+    let k = asleep w h (u .1) in (
+      rw x (k .0),
+      (k .1, λ on. absurd (let y : _≡_ {A = Bool} true false = sym on ∙ x in let z : _≡_ {A = ℕ} 0 1 = cc in omega arith)),
+    )
+
+at-first : (w : Watched) (r : Run) → Kept (w .N) (w .z) r → served (r .events) ≡ 0
+    → openingOf (w .vci) (r .events) ≡ some (openingWith (w .m) (w .F) (w .C) none) → Together w r
+at-first w r k e o =
+    record {
+      kept = k;
+      tied = record {
+        previous = none;
+        is = o;
+        state = ap (λ (s : Tat). s .started) (asleep w (r .events) e .0);
+      };
+      agrees = asleep w (r .events) e .1;
+    }
+
+kept-after : (N z : ℕ) (raw : Bool) (cells links calendar words : List ℕ) → setup N z raw cells links calendar words .number ≡ 0
+    → (cs : List Call) → Kept N z (calls (runOf (setup N z raw cells links calendar words .state) []) cs)
+unfolding freshRun
+kept-after N z raw cells links calendar words e cs =
+    let fresh = setup-fresh N z raw cells links calendar words e in
+    subst (λ (s : State). Kept N z (calls (runOf s []) cs)) (sym (fresh .1)) (run-kept N z (fresh .0) raw cs)
+
+-- REQUEST (v)
+pub agreed : AgreedAlways
+agreed N z raw cells links calendar words e before v m F C none-served is-open after apart low =
+    let r = calls (runOf (setup N z raw cells links calendar words .state) []) before in
+    let w = watch N z v m F C in
+    all-calls w r after
+    (at-first w r (kept-after N z raw cells links calendar words e before) none-served is-open) apart low .agrees
+
+-- and of one VC alone
+only-slots : (v : ℕ) (lent : List (List ℕ)) → All (Apart v) (map onSlot lent)
+only-slots v [] = tt
+only-slots v (cell ∷ lent) = (tt, only-slots v lent)
+
+pub agreed-one-vc : AgreedOneVc
+unfolding call calls served openingOf
+agreed-one-vc N z raw cells links calendar words e v m F C zero lent low =
+    agreed N z raw cells links calendar words e (onOpen v m F C ∷ []) v m F C refl
+    (rw (eq-eqb _ 0 (zero .0), eq-eqb v v refl) refl) (map onSlot lent) (only-slots v lent) low

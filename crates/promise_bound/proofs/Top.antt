@@ -1,0 +1,74 @@
+-- REQUEST (xiii), of every run from a fresh state: demand 3 holds of it, each open that answered 0 kept to the rules, each
+-- accepted cell's VC was open, and at most one cell leaves in a slot.
+use Prim.Native.Nat.{ℕ, _^_, _≤_}
+use mathlib.Core.Path.{_≡_, refl, sym, subst}
+use mathlib.Core.Bool.{Bool, true, false, not}
+use mathlib.Core.List.{List, [], _∷_}
+use native.Mathlib.Omega.{arith}
+use borrow.Author.Tests.{eqb-false}
+use Rattle.meaning.specs.declared.Record.{Record}
+use Rattle.meaning.specs.Plain.{if_then_else_, _=?_}
+use Rattle.meaning.specs.State.{State}
+use Rattle.meaning.specs.Bucket.{bucketOf, obeysRules}
+use Rattle.meaning.specs.Words.{vcAt, writeVc, openedVc}
+use Rattle.meaning.specs.Calls.{calledOf, sharedRefusal, setup, openCall}
+use Rattle.meaning_runs.specs.Run.{Call, onOpen, onClose, onSlot, Run, runOf, call, calls, freshRun}
+use Rattle.theory_table.proofs.LeakLaws.{rules-are}
+use Rattle.theory_invariant.proofs.FreshLaws.{setup-fresh}
+use Rattle.theory_invariant.proofs.RunLaws.{Kept, calls-kept, run-kept}
+use Rattle.promises.proofs.Top.{demand3}
+use Rattle.promise_bound.specs.Bound.{BoundHolds}
+use Rattle.promise_bound.proofs.AcceptedLaws.{calls-open}
+use Rattle.promise_bound.proofs.EveryLaws.{every}
+use Rattle.promise_bound.proofs.BoundLaws.{OpensObey, bounded}
+use Rattle.promise_bound.proofs.LineLaws.{whole-line}
+
+-- an open that answers 0
+opens-by : (k : ℕ) (b c : Bool) (words after : List ℕ)
+    → (if not (k =? 0) then calledOf k words else if b then calledOf 5 words else if not c then calledOf 6 words else calledOf 0 after) .number ≡ 0
+    → c ≡ true
+opens-by k b c words after = go (k =? 0) refl b c
+  where
+    go : (a : Bool) → k =? 0 ≡ a → (b c : Bool)
+        → (if not a then calledOf k words else if b then calledOf 5 words else if not c then calledOf 6 words else calledOf 0 after) .number ≡ 0
+        → c ≡ true
+    go false e b c n = absurd (eqb-false k 0 e n)
+    go true e true c n = absurd (omega (arith, n))
+    go true e false false n = absurd (omega (arith, n))
+    go true e false true n = refl
+
+opens : (r : Record) (words : List ℕ) (v m F C : ℕ) → openCall r words v m F C .number ≡ 0 → 2 ^ m ≤ F
+unfolding openCall
+opens r words v m F C e =
+    rules-are (r .n) (bucketOf m F C 0)
+    (opens-by (sharedRefusal r words v) (vcAt words v .opened =? 1) (obeysRules (r .n) (bucketOf m F C 0)) words
+    (writeVc words v (openedVc (r .t) (bucketOf m F C 0))) e) .F-low
+
+call-obey : (r : Run) (c : Call) → OpensObey (r .events) → OpensObey (call r c .events)
+unfolding call
+call-obey r (onOpen v m F C) o = (opens (r .state .ctl) (r .state .words) v m F C, o)
+call-obey r (onClose v) o = o
+call-obey r (onSlot cell) o = o
+
+calls-obey : (r : Run) (cs : List Call) → OpensObey (r .events) → OpensObey (calls r cs .events)
+unfolding calls
+calls-obey r [] o = o
+calls-obey r (c ∷ cs) o = calls-obey (call r c) cs (call-obey r c o)
+
+-- after a setup that answered 0 the invariant of runs holds
+starts : (N z : ℕ) (raw : Bool) (cells links calendar words : List ℕ) → setup N z raw cells links calendar words .number ≡ 0
+    → Kept N z (runOf (setup N z raw cells links calendar words .state) [])
+unfolding freshRun calls
+starts N z raw cells links calendar words e =
+    let fresh = setup-fresh N z raw cells links calendar words e in
+    subst (λ (s : State). Kept N z (runOf s [])) (sym (fresh .1)) (run-kept N z (fresh .0) raw [])
+
+pub bound : BoundHolds
+bound N z raw cells links calendar words e cs =
+    let start = runOf (setup N z raw cells links calendar words .state) [] in
+    let kept = starts N z raw cells links calendar words e in
+    let r = calls start cs in
+    bounded N z (r .events) (r .state) (kept .inv .stage .ranges .N-low) (calls-obey start cs tt)
+    (whole-line N z (r .events) (r .state) (calls-kept N z start cs kept .inv))
+    (λ v k low. every v (r .events) (calls-open N z start cs kept tt) k low)
+    (demand3 N z raw cells links calendar words e cs)

@@ -1,0 +1,173 @@
+-- What an open, a clean cell of an open VC and an empty slot do in a run, by demand 3's own clauses: an open that keeps to
+-- the rules answers 0, a cell that the leak rule takes is accepted, an empty slot is served.
+use Prim.Native.Nat.{ℕ, suc, _≤_, _<_}
+use mathlib.Core.Path.{_≡_, refl, ap, _∙_}
+use mathlib.Core.Logic.{_≢_}
+use mathlib.Core.Bool.{Bool, true, false, cond, _&&_, _||_}
+use mathlib.Core.List.{List, [], _∷_, _++_}
+use mathlib.Core.Option.{Option, none, some}
+use native.Mathlib.Omega.{arith}
+use borrow.Author.Tests.{eq-eqb, ne-eqb, lt-ltb}
+use lib.Dec.{eqb}
+use lib.ListN.{length}
+use Rattle.base_hec.specs.Modes.{Arriving, correction, passes, arriving}
+use Rattle.meaning.specs.declared.Answer.{Answer}
+use Rattle.meaning.specs.Plain.{_=?_}
+use Rattle.meaning.specs.Numbers.{accepted, nothing}
+use Rattle.meaning.specs.State.{State}
+use Rattle.meaning.specs.Bucket.{bucketOf, obeysRules}
+use Rattle.meaning.specs.Words.{vcAt}
+use Rattle.meaning.specs.Calls.{openCall}
+use Rattle.meaning.specs.Slot.{slot}
+use Rattle.meaning.proofs.CheckedLaws.{arriving-none}
+use Rattle.meaning_runs.specs.Run.{onOpen, onSlot, Event, opened, Run, letIn, call, served}
+use Rattle.meaning_runs.specs.Leak.{Opening, openingWith, dueTime, dueSlot, leakAccepts, accepts, openingOf}
+use Rattle.meaning_runs.specs.Seen.{Cell, cellUnder, cellsOf}
+use Rattle.meaning_runs.specs.Judged.{Judged, judgedOf, judgedUnder, judgedBy, judgedAs}
+use Rattle.meaning_runs.specs.Computed.{byComputation}
+use Rattle.theory_table.specs.Stored.{VcIs}
+use Rattle.theory_invariant.proofs.CallLaws.{shared-in}
+use Rattle.theory_invariant.proofs.CheckLaws.{slot-served}
+use Rattle.theory_invariant.proofs.RunLaws.{Kept}
+use Rattle.promises.specs.Reached.{cleanFor}
+use Rattle.promise_bound.proofs.CellLaws.{cells-new, cells-not}
+
+-- ── a clean cell of the VC v, which both kinds of policer let through ──
+pub record Clean (z v : ℕ) : Type 0 where
+  pub lent : length (cleanFor v) =? 0 || length (cleanFor v) =? 53 ≡ true
+  pub lets-in : (raw mode : ℕ)
+      → (arriving raw mode (cleanFor v) .cell ≡ cleanFor v) × (arriving raw mode (cleanFor v) .dropped ≡ false)
+  pub judged-as : (t : ℕ) (openings : ℕ → Option Opening) → judgedBy z t openings (cleanFor v) ≡ judgedUnder t v (openings v)
+
+either : (b : Bool) (mode : ℕ) (cell : List ℕ)
+    → (cond b (passes cell mode) (passes cell correction) .cell ≡ cell)
+    × (cond b (passes cell mode) (passes cell correction) .dropped ≡ false)
+either true mode cell = (refl, refl)
+either false mode cell = (refl, refl)
+
+pub clean-one : (z : ℕ) → 3 ≤ z → Clean z 1
+unfolding byComputation
+clean-one z low =
+    record {
+      lent = refl;
+      lets-in = λ raw mode. either (eqb raw 0) mode (cleanFor 1);
+      judged-as = λ t openings. rw (lt-ltb 1 z (omega (arith, low)));
+    }
+
+pub clean-two : (z : ℕ) → 3 ≤ z → Clean z 2
+unfolding byComputation
+clean-two z low =
+    record {
+      lent = refl;
+      lets-in = λ raw mode. either (eqb raw 0) mode (cleanFor 2);
+      judged-as = λ t openings. rw (lt-ltb 2 z (omega (arith, low)));
+    }
+
+-- ── what a call leaves ──
+-- a cell of the VC v was accepted under the opening o
+pub record Took (v : ℕ) (o : Opening) (h k : List Event) : Type 0 where
+  pub slots : served k ≡ suc (served h)
+  pub own : openingOf v k ≡ some (openingWith (o .m) (o .F) (o .C) (some (dueTime o (served h))))
+  pub other : (u : ℕ) → u ≢ v → (openingOf u k ≡ openingOf u h) × (cellsOf u k ≡ cellsOf u h)
+  pub cell : Cell
+  pub due : cell .due ≡ dueSlot o (served h)
+  pub cells : cellsOf v k ≡ cellsOf v h ++ (cell ∷ [])
+
+-- nothing was
+pub record Idle (h k : List Event) : Type 0 where
+  pub slots : served k ≡ suc (served h)
+  pub cells : (u : ℕ) → cellsOf u k ≡ cellsOf u h
+
+module _ (N z : ℕ) (r : Run) (kept : Kept N z r) where
+  abbrev h : List Event
+  h = r .events
+
+  abbrev s : State
+  s = r .state
+
+  serves : (cell : List ℕ) → length cell =? 0 || length cell =? 53 ≡ true → served (call r (onSlot cell) .events) ≡ suc (served h)
+  unfolding call served
+  serves cell lent = rw (slot-served N z h s (kept .inv) cell lent .number) (omega arith)
+
+  fails : (b : Bool) → b && false ≡ false
+  fails true = refl
+  fails false = refl
+
+  -- ── a slot with a cell ──
+  module _ (v : ℕ) (c : Clean z v) (o : Opening) (open-is : openingOf v h ≡ some o) (takes : leakAccepts o (served h) ≡ true) where
+    abbrev a : Answer
+    a = slot s (cleanFor v) .answer
+
+    says : judgedOf (a .verdict) (a .vci) (a .d) ≡ judgedUnder (served h) v (some o)
+    says =
+        slot-served N z h s (kept .inv) (cleanFor v) (c .lent) .says
+        ∙ rw (c .lets-in (s .ctl .raw) (s .ctl .mode) .1, c .lets-in (s .ctl .raw) (s .ctl .mode) .0)
+        (c .judged-as (served h) (λ u. openingOf u h) ∙ ap (judgedUnder (served h) v) open-is)
+
+    verdict-is : a .verdict ≡ accepted
+    verdict-is = ap (λ (j : Judged). j .verdict) says ∙ rw takes
+
+    vci-is : a .vci ≡ v
+    vci-is = ap (λ (j : Judged). j .vci) says ∙ rw takes
+
+    accepts-own : accepts v a ≡ true
+    unfolding accepts
+    accepts-own = rw (verdict-is, eq-eqb (a .vci) v vci-is)
+
+    accepts-other : (u : ℕ) → u ≢ v → accepts u a ≡ false
+    unfolding accepts
+    accepts-other u ne = rw (ne-eqb (a .vci) u (λ e. ne (omega (arith, e, vci-is)))) (fails (a .verdict =? accepted))
+
+    pub took : Took v o (r .events) (call r (onSlot (cleanFor v)) .events)
+    unfolding call openingOf
+    took =
+        record {
+          slots = serves (cleanFor v) (c .lent);
+          own = rw (accepts-own, open-is);
+          other = λ u ne. (rw (accepts-other u ne), cells-not u h _ a _ (accepts-other u ne));
+          cell = cellUnder (served h) a (letIn s (cleanFor v) .cell) (some o);
+          due = refl;
+          cells = cells-new v h _ a _ accepts-own
+              ∙ ap (λ (x : Option Opening). cellsOf v h ++ (cellUnder (served h) a (letIn s (cleanFor v) .cell) x ∷ [])) open-is;
+        }
+
+  -- ── an empty slot ──
+  none-let : letIn s [] ≡ passes [] (s .ctl .mode)
+  none-let = arriving-none (s .ctl .raw) (s .ctl .mode) [] refl
+
+  judged-none : judgedAs z h (passes [] (s .ctl .mode)) ≡ judgedOf nothing 0 0
+  unfolding judgedBy
+  judged-none = refl
+
+  quiet : slot s [] .answer .verdict ≡ nothing
+  quiet =
+      ap (λ (j : Judged). j .verdict)
+      (slot-served N z h s (kept .inv) [] refl .says ∙ ap (judgedAs z h) none-let ∙ judged-none)
+
+  none-accepted : (u : ℕ) → accepts u (slot s [] .answer) ≡ false
+  unfolding accepts
+  none-accepted u = rw quiet
+
+  pub idle : Idle (r .events) (call r (onSlot []) .events)
+  unfolding call
+  idle = record { slots = serves [] refl; cells = λ u. cells-not u h _ (slot s [] .answer) _ (none-accepted u) }
+
+  -- ── an open that keeps to the rules ──
+  module _ (u m F C : ℕ) (low : 1 ≤ u) (high : u < z) (shut : openingOf u h ≡ none)
+      (rules : obeysRules N (bucketOf m F C 0) ≡ true) where
+    closed-word : (x : Option Opening) (q : ℕ) → x ≡ none → VcIs N z (served h) u (vcAt (s .words) u) q x → vcAt (s .words) u .opened ≡ 0
+    closed-word none q e k = k
+    closed-word (some o) q e k = absurd (let y : _≡_ {A = ℕ} 0 1 = cc in omega arith)
+
+    opens : openCall (s .ctl) (s .words) u m F C .number ≡ 0
+    unfolding openCall
+    opens =
+        rw (
+          shared-in N z h s (kept .inv) u low high,
+          closed-word (openingOf u h) _ shut (kept .inv .stage .table u low high),
+          ap (λ (n : ℕ). obeysRules n (bucketOf m F C 0)) (kept .inv .stage .n-is) ∙ rules,
+        )
+
+    pub opened-is : call r (onOpen u m F C) .events ≡ opened u m F C 0 ∷ r .events
+    unfolding call
+    opened-is = ap (λ (n : ℕ). opened u m F C n ∷ h) opens

@@ -1,0 +1,143 @@
+-- The cases in which a cell is accepted, from what was read, the cell and its VC's words being written in thought, to
+-- what the five steps leave.
+use Prim.Native.Nat.{ℕ, _≤_, _<_}
+use mathlib.Core.Path.{_≡_, sym, _∙_, ap}
+use mathlib.Core.Logic.{_≢_}
+use mathlib.Core.Bool.{Bool, true, false, not}
+use mathlib.Core.List.{List}
+use native.Mathlib.Omega.{arith}
+use lib.ListN.{getD}
+use Rattle.meaning.specs.declared.Record.{Record}
+use Rattle.meaning.specs.Plain.{_=?_, refused, next, _andThen_}
+use Rattle.meaning.specs.Numbers.{empty, waitingPlace}
+use Rattle.meaning.specs.State.{Ends, stateOf, freeList, recordWith, writeCell}
+use Rattle.meaning.specs.Lists.{emptyList, endsFit, entryAt, writeEntry}
+use Rattle.meaning.specs.Work.{Work}
+use Rattle.meaning.specs.Slot.{step4, step5}
+use Rattle.slot_arrive.specs.declared.Fall.{Fall}
+use Rattle.slot_arrive.specs.declared.Judged.{Judged}
+use Rattle.slot_arrive.specs.Arrival.{fallen, filled}
+use Rattle.mem_lists.specs.declared.Seat.{Seat}
+use Rattle.mem_lists.specs.declared.Off.{Off}
+use Rattle.mem_lists.specs.Spaces.{endsOf, linked, offOf, Stored, Counted}
+use Rattle.mem_lists.proofs.After.{stored, kept-fall, counted}
+use Rattle.slot_plan.specs.Plan.{withEnds, rotated, acceptWork, seatEnds, leftBy, leaving, joinedLinks, joinedHead, offMarked, offUnmarked, leavingMarked, leavingOutput}
+use Rattle.slot_plan.specs.Facts.{Sized, Accepted, Seated, OffStored}
+use Rattle.slot_plan.proofs.Cases.{leaving-go, leaving-off, output-head, unfit-entry, marked, output, none}
+use Rattle.slot_plan.proofs.Off.{off-shows}
+
+module _ (k : Record) (b : Fall) (j : Judged) (a : Seat) (cell cells links calendar words : List ℕ) where
+  abbrev pub accept-work : Work
+  accept-work = acceptWork k j a cell cells links calendar (rotated k b words)
+
+  -- the cells, the links and the words once the cell is accepted
+  abbrev cells₃ : List ℕ
+  cells₃ = writeCell cells (a .x) cell
+
+  abbrev links₃ : List ℕ
+  links₃ = linked (not (a .head =? empty)) (a .x) (a .head) links
+
+  abbrev words₃ : List ℕ
+  words₃ = filled (j .vci) (j .s) (k .t) (j .waiting) (rotated k b words)
+
+  module _ (z : Sized (stateOf k cells links calendar words)) (acc : Accepted k j cell words) (seat : Seated k a) where
+    is-stored : Stored (j .vci) (a .x) cells cells₃
+    is-stored =
+        stored (j .vci) (a .x) cells cell (omega (arith, z .cells-long, seat .x-low)) (acc .cell-long) (acc .vpi-is) (acc .vci-is)
+
+    is-counted : Counted (k .n) (j .vci) words words₃
+    unfolding filled rotated fallen
+    is-counted =
+        counted (k .n) (j .vci) (j .s) (k .t) (j .waiting) words _ (kept-fall (b .on) (k .rotation) (b .s) (k .t) words)
+        (omega (arith, z .words-long, acc .vci-high)) (acc .is-open) (acc .waiting-low) (acc .waiting-high)
+
+    free-fits : endsFit (accept-work .state .ctl .n) (freeList (accept-work .state)) ≡ true
+    unfolding acceptWork withEnds recordWith
+    free-fits = seat .free-fits
+
+    -- entry T is then marked, and is as it joins the Output List
+    module _ (entry : Ends) (o : Off) (is : OffStored k j a cells links words (not (k .outhead =? empty)) entry o) where
+      abbrev links₄ : List ℕ
+      links₄ = linked (not (k .outhead =? empty)) (k .outtail) (entry .head) links₃
+
+      abbrev calendar₄ : List ℕ
+      calendar₄ = writeEntry (writeEntry calendar (a .e) (seatEnds a)) (k .turn) emptyList
+
+      off-is : offMarked accept-work entry ≡ o
+      unfolding offMarked acceptWork withEnds recordWith joinedLinks joinedHead
+      off-is = sym (is cells₃ words₃ is-stored is-counted)
+
+      marked-is : leavingMarked accept-work entry ≡ leaving accept-work links₄ calendar₄ o
+      unfolding leavingMarked joinedLinks acceptWork withEnds recordWith
+      marked-is = ap (leaving accept-work links₄ calendar₄) off-is
+
+      pub accept-marked-none : o .ok ≡ false → leavingMarked accept-work entry ≡ refused
+      accept-marked-none e = marked-is ∙ leaving-off accept-work links₄ calendar₄ o e
+
+      pub accept-marked-goes : o .ok ≡ true → leavingMarked accept-work entry ≡ next (leftBy accept-work links₄ calendar₄ o)
+      accept-marked-goes e = marked-is ∙ leaving-go accept-work links₄ calendar₄ o e free-fits
+
+    -- it is not, and the Output List has a head
+    module _ (low : k .outhead < k .n) (o : Off) (is : OffStored k j a cells links words false (endsOf 0 (k .outtail)) o) where
+      abbrev calendar₃ : List ℕ
+      calendar₃ = writeEntry calendar (a .e) (seatEnds a)
+
+      unmarked-is : offUnmarked accept-work ≡ o
+      unfolding offUnmarked acceptWork withEnds recordWith linked
+      unmarked-is =
+          ap (λ (x : ℕ). offOf (k .n) (k .v) cells₃ links₃ words₃ x (k .outtail)) (sym (output-head k (endsOf 0 (k .outtail)) (z .n-high) low))
+          ∙ sym (is cells₃ words₃ is-stored is-counted)
+
+      output-is : leavingOutput accept-work ≡ leaving accept-work links₃ calendar₃ o
+      unfolding leavingOutput acceptWork withEnds recordWith
+      output-is = ap (leaving accept-work links₃ calendar₃) unmarked-is
+
+      pub accept-output-none : o .ok ≡ false → leavingOutput accept-work ≡ refused
+      accept-output-none e = output-is ∙ leaving-off accept-work links₃ calendar₃ o e
+
+      pub accept-output-goes : o .ok ≡ true
+          → leavingOutput accept-work ≡ next (leftBy accept-work (linked false (k .outtail) 0 links₃) calendar₃ o)
+      unfolding linked
+      accept-output-goes e = output-is ∙ leaving-go accept-work links₃ calendar₃ o e free-fits
+
+    -- what departs is of a VC below V that has a cell waiting
+    pub accept-shows : (joins : Bool) (entry : Ends) (o : Off) → OffStored k j a cells links words joins entry o → o .ok ≡ true
+        → (o .vci < k .v) × (1 ≤ getD words₃ (waitingPlace (o .vci)) 0)
+    accept-shows joins entry o is e =
+        let q = is cells₃ words₃ is-stored is-counted in
+        rw q
+        (off-shows (k .n) (k .v) cells₃ (linked joins (k .outtail) (entry .head) links₃) words₃ (joinedHead k entry) (entry .tail) (ap (λ (y : Off). y .ok) (sym q) ∙ e))
+
+  -- entry T once the cell has joined its own
+  pub joined-is : (head tail : ℕ) → head ≡ entryAt (writeEntry calendar (a .e) (seatEnds a)) (k .turn) .head
+      → tail ≡ entryAt (writeEntry calendar (a .e) (seatEnds a)) (k .turn) .tail
+      → entryAt (accept-work .state .calendar) (accept-work .state .ctl .turn) ≡ endsOf head tail
+  unfolding acceptWork withEnds recordWith
+  joined-is head tail p q = rw (p, q)
+
+  module _ (head tail : ℕ) (first : head ≡ entryAt (writeEntry calendar (a .e) (seatEnds a)) (k .turn) .head)
+      (last : tail ≡ entryAt (writeEntry calendar (a .e) (seatEnds a)) (k .turn) .tail) where
+    pub seated-unfit : endsFit (k .n) (endsOf head tail) ≡ false → (step4 accept-work andThen step5) ≡ refused
+    unfolding acceptWork withEnds recordWith
+    seated-unfit e = unfit-entry accept-work (endsOf head tail) (joined-is head tail first last) e
+
+    module _ (entry-fits : endsFit (k .n) (endsOf head tail) ≡ true) (output-fits : endsFit (k .n) (endsOf (k .outhead) (k .outtail)) ≡ true) where
+      pub seated-marked : head ≢ empty → (step4 accept-work andThen step5) ≡ leavingMarked accept-work (endsOf head tail)
+      unfolding acceptWork withEnds recordWith
+      seated-marked ne = marked accept-work (endsOf head tail) (joined-is head tail first last) entry-fits output-fits ne
+
+      pub seated-output : head ≡ empty → k .outhead ≢ empty → (step4 accept-work andThen step5) ≡ leavingOutput accept-work
+      unfolding acceptWork withEnds recordWith
+      seated-output e ne = output accept-work (endsOf head tail) (joined-is head tail first last) entry-fits output-fits e ne
+
+      pub seated-none : head ≡ empty → k .outhead ≡ empty → (step4 accept-work andThen step5) ≡ next accept-work
+      unfolding acceptWork withEnds recordWith
+      seated-none e o = none accept-work (endsOf head tail) (joined-is head tail first last) entry-fits output-fits e o
+
+-- what departs, its list's head having been worked out
+pub off-first : (k : Record) (j : Judged) (a : Seat) (cells links words : List ℕ) (joins : Bool) (entry : Ends) (x : ℕ) (o : Off)
+    → x ≡ joinedHead k entry
+    → ((cells′ words′ : List ℕ) → Stored (j .vci) (a .x) cells cells′ → Counted (k .n) (j .vci) words words′
+    → o ≡ offOf (k .n) (k .v) cells′ (linked joins (k .outtail) (entry .head) (linked (not (a .head =? empty)) (a .x) (a .head) links)) words′ x (entry .tail))
+    → OffStored k j a cells links words joins entry o
+off-first k j a cells links words joins entry x o e f = λ cells′ words′ s n. rw (← e) (f cells′ words′ s n)

@@ -1,0 +1,90 @@
+-- Step 3, as it was found in numbers: refused, no cell accepted, or a space sought for the accepted cell.
+use Prim.Native.Nat.{ℕ, _+_, _<_}
+use mathlib.Core.Path.{_≡_, refl, ap}
+use mathlib.Core.Logic.{_⊎_, inl, inr}
+use mathlib.Core.Bool.{Bool, true, false, _||_}
+use mathlib.Core.List.{List}
+use native.Mathlib.Omega.{arith}
+use borrow.Author.Tests.{eq-eqb, ne-eqb, le-leb, lt-leb}
+use lib.ListN.{length}
+use Rattle.meaning.specs.declared.Record.{Record}
+use Rattle.meaning.specs.Plain.{if_then_else_, _<?_, _=?_, Out, refused, next}
+use Rattle.meaning.specs.Numbers.{accepted, excess}
+use Rattle.meaning.specs.State.{stateOf, withWords}
+use Rattle.meaning.specs.Header.{Header, headerAt, noUserCell, namesVc}
+use Rattle.meaning.specs.Bucket.{fall, isExcess, fill}
+use Rattle.meaning.specs.Words.{Vc, vcAt, writeVc, withBucket, withWaiting, bucketFits, openWordFits, upToDate}
+use Rattle.meaning.specs.Work.{Work, workOf, answerOf}
+use Rattle.meaning.specs.Arrival.{accept, judge}
+use Rattle.meaning.specs.Slot.{step3}
+use Rattle.meaning.proofs.WordsLaws.{write-fill}
+use Rattle.slot_arrive.specs.declared.Judged.{Judged}
+use Rattle.slot_arrive.specs.Arrival.{bucketNow, judgedBucket, judgedVc, judgedOf, fallen, filled}
+use Rattle.slot_plan.specs.Plan.{rotatedWork, quietWork, seekingWork, seating}
+use Rattle.slot_plan.proofs.Rotate.{open-cases, upTo, update-is}
+
+-- the words of an accepted cell's VC
+fill-is : (words : List ℕ) (vci t : ℕ)
+    → writeVc words vci (withWaiting (withBucket (upTo t (vcAt words vci)) (fill (bucketNow t (vcAt words vci)))) (vcAt words vci .waiting + 1))
+    ≡ filled vci (fill (bucketNow t (vcAt words vci)) .S) t (vcAt words vci .waiting + 1) words
+unfolding filled fill bucketNow fall
+fill-is words vci t = write-fill words vci _ t _
+
+-- what step 3 comes to, from what was found
+unfoldable pub arriving : Record → Judged → List ℕ → List ℕ → List ℕ → List ℕ → List ℕ → Out Work
+arriving k j cell cells links calendar words =
+    if j .ok
+    then (if j .verdict =? accepted then seating k j cell cells links calendar words
+    else next (quietWork k j cells links calendar words))
+    else refused
+
+module _ (k : Record) (cell cells links calendar words : List ℕ) where
+  abbrev h : Header
+  h = headerAt cell 0
+
+  abbrev vc : Vc
+  vc = vcAt words (h .vci)
+
+  abbrev w : Work
+  w = rotatedWork k cells links calendar words
+
+  -- the VC is open and its words but waiting are in range
+  judge-is : (x a : Bool) → isExcess (bucketNow (k .t) vc) ≡ x → vc .waiting <? k .n ≡ a
+      → judge cell (h .vci) w (upTo (k .t) vc) ≡ arriving k (judgedBucket (k .n) (h .vci) (bucketNow (k .t) vc) (vc .waiting)) cell cells links calendar words
+  unfolding judge accept judgedBucket arriving rotatedWork quietWork fallen seating seekingWork withWords
+  judge-is true a ex ea =
+      rw ex
+      (ap (λ (l : List ℕ). next (workOf (stateOf k cells links calendar l) (answerOf 0 excess (h .vci) 0 65535 0))) (update-is words (h .vci) (k .t)))
+  judge-is false true ex ea = rw (ex, ea, fill-is words (h .vci) (k .t))
+  judge-is false false ex ea = rw (ex, ea)
+
+  abbrev found : Judged
+  found = judgedOf (k .n) (k .v) (k .t) words cell
+
+  Goal : Type 0
+  Goal = step3 cell w ≡ arriving k found cell cells links calendar words
+
+  fits : (f : Bool) → length cell =? 0 || noUserCell h ≡ false → namesVc (k .v) h ≡ true → vc .opened ≡ 1 → bucketFits (k .n) (vc .bucket) ≡ f → Goal
+  unfolding Goal step3 judgedOf judgedVc rotatedWork openWordFits upToDate bucketNow arriving
+  fits true c n o f =
+      rw (c, n, le-leb (vc .opened) 1 (omega arith), ne-eqb (vc .opened) 0 (λ q. omega arith), eq-eqb (vc .opened) 1 o, f)
+      (judge-is (isExcess (bucketNow (k .t) vc)) (vc .waiting <? k .n) refl refl)
+  fits false c n o f =
+      rw (c, n, le-leb (vc .opened) 1 (omega arith), ne-eqb (vc .opened) 0 (λ q. omega arith), eq-eqb (vc .opened) 1 o, f)
+
+  at-vc : length cell =? 0 || noUserCell h ≡ false → namesVc (k .v) h ≡ true
+      → (vc .opened ≡ 0) ⊎ ((vc .opened ≡ 1) ⊎ (1 < vc .opened)) → Goal
+  unfolding Goal step3 judgedOf judgedVc rotatedWork openWordFits arriving quietWork fallen
+  at-vc c n (inl o) = rw (c, n, le-leb (vc .opened) 1 (omega arith), eq-eqb (vc .opened) 0 o)
+  at-vc c n (inr (inl o)) = fits (bucketFits (k .n) (vc .bucket)) c n o refl
+  at-vc c n (inr (inr o)) = rw (c, n, lt-leb (vc .opened) 1 o, ne-eqb (vc .opened) 0 (λ q. omega arith), ne-eqb (vc .opened) 1 (λ q. omega arith))
+
+  at-cell : (c n : Bool) → length cell =? 0 || noUserCell h ≡ c → namesVc (k .v) h ≡ n → Goal
+  unfolding Goal step3 judgedOf rotatedWork arriving quietWork fallen
+  at-cell true n ec en = rw ec
+  at-cell false true ec en = at-vc ec en (open-cases (vc .opened))
+  at-cell false false ec en = rw (ec, en)
+
+  pub arrive-is : step3 cell w ≡ arriving k found cell cells links calendar words
+  unfolding Goal
+  arrive-is = at-cell (length cell =? 0 || noUserCell h) (namesVc (k .v) h) refl refl

@@ -1,0 +1,46 @@
+-- What departs: what its tests have shown; and that it depends on the words only by open words and waiting.
+use Prim.Native.Nat.{ℕ, _≤_, _<_}
+use mathlib.Core.Path.{_≡_, refl}
+use mathlib.Core.Bool.{Bool, true, false, _&&_}
+use mathlib.Core.List.{List}
+use borrow.Author.Tests.{leb-true}
+use lib.ListN.{getD}
+use Rattle.meaning.specs.Plain.{if_then_else_, _<?_, _≤?_, _=?_}
+use Rattle.meaning.specs.Numbers.{empty, openPlace, waitingPlace, cellStart}
+use Rattle.meaning.specs.Header.{Header, headerAt, namesVc, namesOpenVc}
+use Rattle.meaning.specs.Words.{vcAt}
+use Rattle.mem_lists.specs.declared.Off.{Off}
+use Rattle.mem_lists.specs.Spaces.{endsOf, offAs, noneOff, mayLeave, offOf}
+use Rattle.mem_lists.proofs.After.{Kept}
+use Rattle.slot_plan.proofs.Found.{no, and, names-facts}
+
+module _ (N z : ℕ) (cells links words : List ℕ) (x tail : ℕ) where
+  abbrev h : Header
+  h = headerAt cells (cellStart x)
+
+  abbrev off : Off
+  off = offOf N z cells links words x tail
+
+  may-shows : mayLeave N z cells words x ≡ true → (h .vci < z) × (1 ≤ getD words (waitingPlace (h .vci)) 0)
+  unfolding mayLeave namesOpenVc vcAt
+  may-shows e =
+      let p = and (namesVc z h && getD words (openPlace (h .vci)) 0 =? 1 && 1 ≤? getD words (waitingPlace (h .vci)) 0) (getD words (waitingPlace (h .vci)) 0 ≤? N) e in
+      let q = and (namesVc z h && getD words (openPlace (h .vci)) 0 =? 1) (1 ≤? getD words (waitingPlace (h .vci)) 0) (p .0) in
+      let r = and (namesVc z h) (getD words (openPlace (h .vci)) 0 =? 1) (q .0) in
+      (names-facts z h (r .0) .2, leb-true _ _ (q .1))
+
+  pub off-shows : off .ok ≡ true → (off .vci < z) × (1 ≤ getD words (waitingPlace (off .vci)) 0)
+  unfolding offOf
+  off-shows = go (mayLeave N z cells words x) (x =? tail) (getD links x 0 <? N) refl
+    where
+      go : (m a f : Bool) → mayLeave N z cells words x ≡ m
+          → (let o = if m then (if a then offAs true x (h .vci) (endsOf empty empty) else if f then offAs true x (h .vci) (endsOf (getD links x 0) tail) else noneOff) else noneOff in
+          o .ok ≡ true → (o .vci < z) × (1 ≤ getD words (waitingPlace (o .vci)) 0))
+      go true true f e = λ ok. may-shows e
+      go true false true e = λ ok. may-shows e
+      go true false false e = λ ok. no ok
+      go false a f e = λ ok. no ok
+
+  pub off-kept : (words′ : List ℕ) → Kept words words′ → offOf N z cells links words′ x tail ≡ off
+  unfolding offOf mayLeave namesOpenVc vcAt
+  off-kept words′ kept = rw (kept .opened (h .vci), kept .waiting (h .vci))

@@ -1,0 +1,59 @@
+-- What is known where the slot's cases write: each is shown by the tests that came before, and asked of the caller.
+--
+--   Sized s          == refusals 1 and 2 are not given, and the clock has moved
+--   Accepted k j ..  == of an accepted cell: its VC, its D and its waiting
+--   Seated k a       == of an accepted cell: its space and entry, and the Free List without the space
+--   OffStored k ..   == what departs, for every memory in which the cell is stored and counted
+use Prim.Native.Nat.{ℕ, _*_, _≤_, _<_}
+use mathlib.Core.Path.{_≡_}
+use mathlib.Core.Bool.{Bool, true, not}
+use mathlib.Core.List.{List}
+use lib.ListN.{length}
+use Rattle.meaning.specs.declared.Record.{Record}
+use Rattle.meaning.specs.Plain.{_=?_}
+use Rattle.meaning.specs.Numbers.{mostN, leastV, mostV, octets, perEntry, wordsPerVc, empty}
+use Rattle.meaning.specs.State.{State, Ends}
+use Rattle.meaning.specs.Header.{headerAt}
+use Rattle.meaning.specs.Words.{vcAt}
+use Rattle.meaning.specs.Lists.{endsFit}
+use Rattle.slot_arrive.specs.declared.Judged.{Judged}
+use Rattle.mem_lists.specs.declared.Seat.{Seat}
+use Rattle.mem_lists.specs.declared.Off.{Off}
+use Rattle.mem_lists.specs.Spaces.{endsOf, linked, offOf, Stored, Counted}
+use Rattle.slot_plan.specs.Plan.{joinedHead}
+
+pub record Sized (s : State) : Type 0 where
+  pub n-low : 1 ≤ s .ctl .n
+  pub n-high : s .ctl .n ≤ mostN
+  pub v-low : leastV ≤ s .ctl .v
+  pub v-high : s .ctl .v ≤ mostV
+  pub cells-long : length (s .cells) ≡ octets * s .ctl .n
+  pub links-long : length (s .links) ≡ s .ctl .n
+  pub calendar-long : length (s .calendar) ≡ perEntry * s .ctl .n
+  pub words-long : length (s .words) ≡ wordsPerVc * s .ctl .v
+  pub turn-low : s .ctl .turn < s .ctl .n
+  pub rotation-low : s .ctl .rotation < s .ctl .v
+
+pub record Accepted (k : Record) (j : Judged) (cell words : List ℕ) : Type 0 where
+  pub vci-low : 1 ≤ j .vci
+  pub vci-high : j .vci < k .v
+  pub near : j .d < k .n
+  pub waiting-low : 1 ≤ j .waiting
+  pub waiting-high : j .waiting ≤ k .n
+  pub is-open : vcAt words (j .vci) .opened ≡ 1
+  pub cell-long : length cell ≡ octets
+  pub vpi-is : headerAt cell 0 .vpi ≡ 0
+  pub vci-is : headerAt cell 0 .vci ≡ j .vci
+
+pub record Seated (k : Record) (a : Seat) : Type 0 where
+  pub x-low : a .x < k .n
+  pub e-low : a .e < k .n
+  pub entry-fits : endsFit (k .n) (endsOf (a .head) (a .tail)) ≡ true
+  pub free-fits : endsFit (k .n) (endsOf (a .freehead) (a .freetail)) ≡ true
+
+-- entry is what has joined the Output List, where joins: the cell's header and its VC's words need no second reading
+abbrev pub OffStored : Record → Judged → Seat → List ℕ → List ℕ → List ℕ → Bool → Ends → Off → Type 0
+OffStored k j a cells links words joins entry o =
+    (cells′ words′ : List ℕ) → Stored (j .vci) (a .x) cells cells′ → Counted (k .n) (j .vci) words words′
+    → o
+    ≡ offOf (k .n) (k .v) cells′ (linked joins (k .outtail) (entry .head) (linked (not (a .head =? empty)) (a .x) (a .head) links)) words′ (joinedHead k entry) (entry .tail)

@@ -1,0 +1,132 @@
+-- A slot as the code runs it: all is read and judged first, as numbers; then each case writes, a slice at a time.
+--
+--   clocked r                == the record once step 1 has moved the clock
+--   rotated k b words        == the words once step 2 has written what it found
+--   rotatedWork k ..         == the work after step 2, of which words are the words
+--   quietWork k j ..         == the work after step 3 where no cell is accepted; words are as step 2 left them
+--   seating k j ..           == what is left of step 3 once the cell is judged accepted
+--   acceptWork k j a ..      == the work after step 3 where the cell is accepted into seat a
+--   leftBy w links cal o     == the work after step 5 where o departs: w is the work after step 3, links and cal are as
+--                               step 4 left them
+--   leaving w links cal o    == the same, or refused where o or the Free List's ends are out of range
+use Prim.Native.Nat.{ℕ, _+_, _%_}
+use mathlib.Core.Bool.{not, _&&_}
+use mathlib.Core.List.{List}
+use Rattle.meaning.specs.declared.Record.{Record}
+use Rattle.meaning.specs.declared.Served.{Served}
+use Rattle.meaning.specs.Plain.{if_then_else_, _=?_, Out, refused, next, needs, _andThen_}
+use Rattle.meaning.specs.Numbers.{slotNumbers, empty, accepted, excess}
+use Rattle.meaning.specs.State.{stateOf, Ends, freeList, recordWith, writeCell}
+use Rattle.meaning.specs.Lists.{emptyList, isEmpty, endsFit, writeEntry, takeHead}
+use Rattle.meaning.specs.Work.{Work, workOf, answerOf, bareAnswer}
+use Rattle.meaning.specs.Arrival.{place}
+use Rattle.slot_arrive.specs.declared.Fall.{Fall}
+use Rattle.slot_arrive.specs.declared.Judged.{Judged}
+use Rattle.slot_arrive.specs.Arrival.{fallen, filled, oneLess}
+use Rattle.mem_lists.specs.declared.Seat.{Seat}
+use Rattle.mem_lists.specs.declared.Off.{Off}
+use Rattle.mem_lists.specs.Spaces.{endsOf, linked, offOf}
+
+-- the record with other ends of its two lists
+unfoldable pub withEnds : Record → Ends → Ends → Record
+withEnds r free output = recordWith r (r .t) (r .turn) (r .rotation) free output
+
+abbrev pub freeEnds : Record → Ends
+freeEnds r = endsOf (r .freehead) (r .freetail)
+
+abbrev pub outputEnds : Record → Ends
+outputEnds r = endsOf (r .outhead) (r .outtail)
+
+unfoldable pub clocked : Record → Record
+clocked r =
+    recordWith r ((r .t + 1) % slotNumbers) ((r .turn + 1) % r .n) ((r .rotation + 1) % r .v) (freeEnds r) (outputEnds r)
+
+unfoldable pub rotated : Record → Fall → List ℕ → List ℕ
+rotated k b words = fallen (b .on) (k .rotation) (b .s) (k .t) words
+
+unfoldable pub quietWork : Record → Judged → List ℕ → List ℕ → List ℕ → List ℕ → Work
+quietWork k j cells links calendar words =
+    workOf (stateOf k cells links calendar (fallen (j .verdict =? excess) (j .vci) (j .s) (k .t) words))
+    (answerOf 0 (j .verdict) (j .vci) 0 empty 0)
+
+-- the work after step 2
+unfoldable pub rotatedWork : Record → List ℕ → List ℕ → List ℕ → List ℕ → Work
+rotatedWork k cells links calendar words = workOf (stateOf k cells links calendar words) (bareAnswer 0)
+
+-- the work in step 3 when a cell is accepted and has no space yet, and the search for one
+unfoldable pub seekingWork : Record → Judged → List ℕ → List ℕ → List ℕ → List ℕ → Work
+seekingWork k j cells links calendar words =
+    workOf (stateOf k cells links calendar (filled (j .vci) (j .s) (k .t) (j .waiting) words))
+    (answerOf 0 accepted (j .vci) (j .d) empty 0)
+
+unfoldable pub seating : Record → Judged → List ℕ → List ℕ → List ℕ → List ℕ → List ℕ → Out Work
+seating k j cell cells links calendar words =
+    needs (endsFit (k .n) (freeEnds k) && not (isEmpty (freeEnds k)))
+    (takeHead (k .n) links (freeEnds k) andThen place cell (j .d) (seekingWork k j cells links calendar words))
+
+-- the entry that the cell has joined: at the head, and at the tail where it was empty
+unfoldable pub seatEnds : Seat → Ends
+seatEnds a = endsOf (a .x) (if a .head =? empty then a .x else a .tail)
+
+unfoldable pub acceptWork : Record → Judged → Seat → List ℕ → List ℕ → List ℕ → List ℕ → List ℕ → Work
+acceptWork k j a cell cells links calendar words =
+    workOf
+    (stateOf (withEnds k (endsOf (a .freehead) (a .freetail)) (outputEnds k))
+    (writeCell cells (a .x) cell)
+    (linked (not (a .head =? empty)) (a .x) (a .head) links)
+    (writeEntry calendar (a .e) (seatEnds a))
+    (filled (j .vci) (j .s) (k .t) (j .waiting) words))
+    (answerOf 0 accepted (j .vci) (j .d) empty 0)
+
+-- the Free List once space x has gone to its tail
+unfoldable pub freed : Record → ℕ → Ends
+freed r x = endsOf (if r .freehead =? empty then x else r .freehead) x
+
+unfoldable pub leftBy : Work → List ℕ → List ℕ → Off → Work
+leftBy w links calendar o =
+    let s = w .state in
+    let r = s .ctl in
+    let a = w .answer in
+    workOf
+    (stateOf (withEnds r (freed r (o .space)) (endsOf (o .head) (o .tail)))
+    (s .cells)
+    (linked (not (r .freehead =? empty)) (r .freetail) (o .space) links)
+    calendar
+    (oneLess (o .vci) (s .words)))
+    (answerOf (a .number) (a .verdict) (a .vci) (a .d) (o .space) (o .vci))
+
+unfoldable pub leaving : Work → List ℕ → List ℕ → Off → Out Work
+leaving w links calendar o =
+    if o .ok then (if endsFit (w .state .ctl .n) (freeList (w .state)) then next (leftBy w links calendar o) else refused)
+    else refused
+
+-- step 4: the links once entry T has joined the Output List, and that list's head
+unfoldable pub joinedLinks : Record → Ends → List ℕ → List ℕ
+joinedLinks r entry links = linked (not (r .outhead =? empty)) (r .outtail) (entry .head) links
+
+unfoldable pub joinedHead : Record → Ends → ℕ
+joinedHead r entry = if r .outhead =? empty then entry .head else r .outhead
+
+-- what departs from a work after step 3, where entry T is marked, and where it is not
+unfoldable pub offMarked : Work → Ends → Off
+offMarked w entry =
+    let s = w .state in
+    offOf (s .ctl .n) (s .ctl .v) (s .cells) (joinedLinks (s .ctl) entry (s .links)) (s .words) (joinedHead (s .ctl) entry) (entry .tail)
+
+unfoldable pub offUnmarked : Work → Off
+offUnmarked w =
+    let s = w .state in
+    offOf (s .ctl .n) (s .ctl .v) (s .cells) (s .links) (s .words) (s .ctl .outhead) (s .ctl .outtail)
+
+-- steps 4 and 5 of a work after step 3: entry T is marked, with these ends; or it is not, and the Output List has a head
+unfoldable pub leavingMarked : Work → Ends → Out Work
+leavingMarked w entry =
+    let s = w .state in
+    leaving w (joinedLinks (s .ctl) entry (s .links)) (writeEntry (s .calendar) (s .ctl .turn) emptyList) (offMarked w entry)
+
+unfoldable pub leavingOutput : Work → Out Work
+leavingOutput w = leaving w (w .state .links) (w .state .calendar) (offUnmarked w)
+
+-- what a case of the code gives back, with the memories as it leaves them
+abbrev pub servedWork : Served → List ℕ → List ℕ → List ℕ → List ℕ → Work
+servedWork s cells links calendar words = workOf (stateOf (s .ctl) cells links calendar words) (s .answer)

@@ -1,0 +1,12 @@
+-- `slot_store::seated` meets its contract: the record keeps its clock and its Output List.
+use Rattle.slot_plan.specs.Plan.{withEnds}
+use borrow.Author.Needs.{needs}
+use Rattle.slot_store.proofs.seated.Statement.{statement}
+use Rattle.slot_store.proofs.seated.Tie as tie
+
+returns : tie.Need-returns
+unfolding withEnds
+returns c = c .record-with .ensures
+
+pub seated-spec : {M : Type 1} → statement M
+seated-spec = tie.close (tie.spec (λ c κs. search needs) returns)

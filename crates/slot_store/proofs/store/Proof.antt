@@ -1,0 +1,46 @@
+-- `slot_store::store` meets its contract: each memory has one writer, whose promise is handed on.
+use mathlib.Core.Path.{_∙_, ap}
+use denote.Ref.{now}
+use Prim.Native.Nat.{ℕ}
+use Rattle.meaning.specs.State.{endsOf}
+use Rattle.meaning.specs.Lists.{writeEntry}
+use Rattle.slot_plan.specs.Plan.{seatEnds}
+use borrow.Author.Needs.{needs}
+use Rattle.slot_store.proofs.store.Statement.{statement}
+use Rattle.slot_store.proofs.store.Tie as tie
+
+returns : tie.Need-returns
+unfolding seatEnds
+returns c =
+    let at-put-entry = c .before .before in
+    let at-tail-of = at-put-entry .before .before in
+    let at-put-link = at-tail-of .before .before .before in
+    let at-put-cell = at-put-link .before .before .before .before .before in
+    let at-words-fill = at-put-cell .before .before .before .before in
+    let start = at-words-fill .before .before .before .before .before .before .before in (
+      at-put-cell .put-cell .ensures,
+      (
+        at-put-link .put-link .ensures,
+        (
+          at-put-entry .put-entry .ensures
+              ∙ ap (λ (tail : ℕ). writeEntry (now (start .args .calendar)) (start .args .a .e) (endsOf (start .args .a .x) tail))
+              (at-tail-of .tail-of .ensures),
+          at-words-fill .words-fill .ensures,
+        ),
+      ),
+    )
+
+pub store-spec : {M : Type 1} → statement M
+store-spec =
+    tie.close
+    (tie.spec
+    (λ c κs. search needs)
+    (λ c κs. search needs)
+    (λ c κs. search needs)
+    (λ c κs. search needs)
+    (λ c κs. search needs)
+    (λ c. search needs)
+    (λ c. search needs)
+    (λ c. search needs)
+    (λ c. search needs)
+    returns)

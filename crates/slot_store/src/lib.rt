@@ -1,0 +1,78 @@
+// Step 3 of an accepted cell: all that it writes, and the record once its space is taken.
+ghost use mathlib.Core.Path.{_≡_};
+ghost use mathlib.Core.Bool.{true, not};
+ghost use Prim.Native.Nat.{_+_, _*_, _≤_};
+ghost use lib.ListN.{length};
+ghost use Rattle.meaning.specs.Plain.{_=?_};
+ghost use Rattle.meaning.specs.Numbers.{empty};
+ghost use Rattle.meaning.specs.State.{writeCell, HasVc};
+ghost use Rattle.meaning.specs.Lists.{writeEntry};
+ghost use Rattle.meaning.specs.Lent.{here};
+ghost use Rattle.slot_arrive.specs.Arrival.{filled};
+ghost use Rattle.mem_lists.specs.Spaces.{endsOf, linked};
+ghost use Rattle.slot_plan.specs.Plan.{withEnds, rotated, seatEnds};
+ghost use Rattle.slot_plan.specs.Facts.{Sized, Accepted, Seated};
+use slot_arrive::Fall;
+use slot_arrive::Judged;
+use meaning::Record;
+use mem_lists::Seat;
+
+// Steps 2 and 3 in the words where a cell is accepted.
+fn words_fill(k: Record, b: Fall, j: Judged, words: &mut [u32])
+    requires { ⌜ (b .on ≡ true → HasVc (k .rotation) (now words)) ⌝ }
+    requires { ⌜ HasVc (j .vci) (now words) ⌝ }
+    ensures { λ r. ⌜ now (words .exit) ≡ filled (j .vci) (j .s) (k .t) (j .waiting) (rotated k b (now (words .entry))) ⌝ }
+{
+    slot_arrive::put_fall(words, b.on, k.rotation, b.s, k.t);
+    slot_arrive::put_fill(words, j.vci, j.s, k.t, j.waiting);
+}
+
+// The tail of an entry that a cell has joined at the head.
+pub fn tail_of(a: Seat) -> u16
+    ensures { λ r. ⌜ r ≡ seatEnds a .tail ⌝ }
+{
+    if a.head == 65535 { a.x } else { a.tail }
+}
+
+// The record once an accepted cell has taken its space.
+pub fn seated(k: Record, a: Seat) -> Record
+    ensures { λ r. ⌜ r ≡ withEnds k (endsOf (a .freehead) (a .freetail)) (endsOf (k .outhead) (k .outtail)) ⌝ }
+{
+    meaning::record_with(
+        k,
+        k.t,
+        k.turn,
+        k.rotation,
+        a.freehead,
+        a.freetail,
+        k.outhead,
+        k.outtail,
+    )
+}
+
+// Step 3 of an accepted cell: all that it writes.
+pub fn store(
+    k: Record,
+    b: Fall,
+    j: Judged,
+    a: Seat,
+    cells: &mut [u8],
+    links: &mut [u16],
+    calendar: &mut [u16],
+    words: &mut [u32],
+    cell: &[u8],
+)
+    requires { ⌜ Sized (here k cells links calendar words) ⌝ }
+    requires { ⌜ Accepted k j (now cell) (now words) ⌝ }
+    requires { ⌜ Seated k a ⌝ }
+    ensures cells { λ r. ⌜ now (cells .exit) ≡ writeCell (now (cells .entry)) (a .x) (now (cell .entry)) ⌝ }
+    ensures links { λ r. ⌜ now (links .exit) ≡ linked (not (a .head =? empty)) (a .x) (a .head) (now (links .entry)) ⌝ }
+    ensures calendar { λ r. ⌜ now (calendar .exit) ≡ writeEntry (now (calendar .entry)) (a .e) (seatEnds a) ⌝ }
+    ensures words { λ r. ⌜ now (words .exit) ≡ filled (j .vci) (j .s) (k .t) (j .waiting) (rotated k b (now (words .entry))) ⌝ }
+{
+    words_fill(k, b, j, words);
+    mem_cell::put_cell(cells, a.x, cell);
+    mem_lists::put_link(links, a.head != 65535, a.x, a.head);
+    let tail = tail_of(a);
+    mem_lists::put_entry(calendar, a.e, a.x, tail);
+}

@@ -1,0 +1,111 @@
+-- A printed line, read by the grammar of texts, says the very record that it was printed from: field after field, each is
+-- read back and put behind the octets before it.
+use Prim.Native.Nat.{ℕ, _+_, _≤_, _<_}
+use mathlib.Core.Path.{_≡_, refl, sym, ap, _∙_}
+use mathlib.Core.Bool.{Bool, true, false}
+use mathlib.Core.List.{List, [], _∷_, _++_, append-assoc}
+use lib.ListN.{length, getD, take, drop}
+use native.Mathlib.Omega.{arith}
+use borrow.Author.Tests.{ne-eqb}
+use Rattle.meaning.specs.Plain.{Out, refused, next, _andThen_, if_then_else_, _=?_}
+use Rattle.meaning.specs.Numbers.{octets}
+use Rattle.trace_record.specs.Trace.{GM, VO, VX, CA, SL, markGM, markGR, markVO, markVX, markCA, markSL}
+use Rattle.list_lines.specs.Text.{decimalOf}
+use Rattle.list_lines.specs.Text.{line as Text·line}
+use Rattle.text_meaning.specs.Shapes.{Field, n8, n16, n32, cell, of16, of32, find}
+use Rattle.text_meaning.specs.Events.{Event, told, pause, eventOf}
+use Rattle.text_meaning.specs.Grammar.{Number, number-of, Part, part, Told, tells, expect, digitOf, number, hexes, fieldAt, fieldsAt, slotsAt, shapedLine, line}
+use Rattle.text_print.specs.Print.{hexOf, lineOf}
+use Rattle.text_print.proofs.Parse.{number-back, hexes-back}
+
+-- neither a space nor a line feed is a digit
+space-ends : digitOf 32 ≡ 10
+unfolding digitOf
+space-ends = refl
+
+feed-ends : digitOf 10 ≡ 10
+unfolding digitOf
+feed-ends = refl
+
+module _ (fs : List Field) (o : List ℕ) (n x : ℕ) (s : List ℕ) (e : digitOf x ≡ 10) where
+  field8 : n ≤ 255 → fieldsAt (n8 ∷ fs) o (32 ∷ (decimalOf n ++ (x ∷ s))) ≡ fieldsAt fs (o ++ (n ∷ [])) (x ∷ s)
+  unfolding fieldsAt fieldAt expect
+  field8 h = rw (number-back 255 n x s h (omega arith) e)
+
+  field16 : n ≤ 65_535 → fieldsAt (n16 ∷ fs) o (32 ∷ (decimalOf n ++ (x ∷ s))) ≡ fieldsAt fs (o ++ of16 n) (x ∷ s)
+  unfolding fieldsAt fieldAt expect
+  field16 h = rw (number-back 65_535 n x s h (omega arith) e)
+
+  field32 : n ≤ 4_294_967_295 → fieldsAt (n32 ∷ fs) o (32 ∷ (decimalOf n ++ (x ∷ s))) ≡ fieldsAt fs (o ++ of32 n) (x ∷ s)
+  unfolding fieldsAt fieldAt expect
+  field32 h = rw (number-back 4_294_967_295 n x s h (omega arith) e)
+
+fields-end : (o s : List ℕ) → fieldsAt [] o (10 ∷ s) ≡ next (part o s)
+unfolding fieldsAt expect
+fields-end o s = refl
+
+field-cell : (xs o s : List ℕ) → length xs ≡ octets → ((i : ℕ) → i < length xs → getD xs i 0 < 256)
+    → fieldsAt (cell ∷ []) o (32 ∷ (hexOf xs ++ (10 ∷ s))) ≡ next (part (o ++ xs) s)
+unfolding fieldsAt fieldAt expect
+field-cell xs o s e g =
+    let h : hexes octets o (hexOf xs ++ (10 ∷ s)) ≡ next (part (o ++ xs) (10 ∷ s)) = ap (λ (k : ℕ). hexes k o (hexOf xs ++ (10 ∷ s))) (sym e) ∙ hexes-back xs o (10 ∷ s) g in
+    rw h
+
+-- what the fields of a line say
+abbrev toldBy : Out Part → Out Told
+toldBy x = x andThen λ p. next (tells (told (p .done)) (p .rest))
+
+module _ (trace s : List ℕ) where
+  pub close-back : (vci : ℕ) → vci ≤ 65_535 → line false (lineOf trace (VX vci) ++ s) ≡ next (tells (eventOf trace (VX vci)) s)
+  unfolding lineOf Text·line line shapedLine find eventOf
+  close-back vci h =
+      ap (λ (t : List ℕ). line false (of16 markVX ++ (32 ∷ t))) (append-assoc (decimalOf vci) (10 ∷ []) s)
+      ∙ ap toldBy (field16 [] (of16 markVX) vci 10 s feed-ends h ∙ fields-end (of16 markVX ++ of16 vci) s)
+
+  pub pause-back : (count : ℕ) → 1 ≤ count → count ≤ 65_535 → line false (lineOf trace (SL count) ++ s) ≡ next (tells (eventOf trace (SL count)) s)
+  unfolding lineOf Text·line line shapedLine find eventOf slotsAt expect
+  pause-back count l h =
+      ap (λ (t : List ℕ). line false (of16 markSL ++ (32 ∷ t))) (append-assoc (decimalOf count) (10 ∷ []) s)
+      ∙ rw (number-back 4_294_967_295 count 10 s (omega arith) (omega arith) feed-ends) (simp (ne-eqb count 0 (λ e. omega arith)))
+
+  setup-parts : (m N z : ℕ) → Text·line (of16 m ∷ decimalOf N ∷ decimalOf z ∷ []) ++ s ≡ of16 m ++ (32 ∷ (decimalOf N ++ (32 ∷ (decimalOf z ++ (10 ∷ s)))))
+  unfolding Text·line
+  setup-parts m N z = simp append-assoc
+
+  setup-fields : (m N z : ℕ) → N ≤ 65_535 → z ≤ 65_535
+      → fieldsAt (n16 ∷ n16 ∷ []) (of16 m) (32 ∷ (decimalOf N ++ (32 ∷ (decimalOf z ++ (10 ∷ s))))) ≡ next (part (of16 m ++ (of16 N ++ of16 z)) s)
+  setup-fields m N z h k =
+      field16 (n16 ∷ []) (of16 m) N 32 (decimalOf z ++ (10 ∷ s)) space-ends h
+      ∙ field16 [] (of16 m ++ of16 N) z 10 s feed-ends k
+      ∙ fields-end (of16 m ++ (of16 N ++ of16 z)) s
+
+  pub setup-back : (N z : ℕ) (raw : Bool) → N ≤ 65_535 → z ≤ 65_535
+      → line true (lineOf trace (GM N z raw) ++ s) ≡ next (tells (eventOf trace (GM N z raw)) s)
+  unfolding lineOf line shapedLine find eventOf
+  setup-back N z false h k = ap (line true) (setup-parts markGM N z) ∙ ap toldBy (setup-fields markGM N z h k)
+  setup-back N z true h k = ap (line true) (setup-parts markGR N z) ∙ ap toldBy (setup-fields markGR N z h k)
+
+  open-parts : (vci m F C : ℕ) → Text·line (of16 markVO ∷ decimalOf vci ∷ decimalOf m ∷ decimalOf F ∷ decimalOf C ∷ []) ++ s
+      ≡ of16 markVO ++ (32 ∷ (decimalOf vci ++ (32 ∷ (decimalOf m ++ (32 ∷ (decimalOf F ++ (32 ∷ (decimalOf C ++ (10 ∷ s)))))))))
+  unfolding Text·line
+  open-parts vci m F C = simp append-assoc
+
+  pub open-back : (vci m F C : ℕ) → vci ≤ 65_535 → m ≤ 255 → F ≤ 4_294_967_295 → C ≤ 4_294_967_295
+      → line false (lineOf trace (VO vci m F C) ++ s) ≡ next (tells (eventOf trace (VO vci m F C)) s)
+  unfolding lineOf line shapedLine find eventOf
+  open-back vci m F C hv hm hf hc =
+      ap (line false) (open-parts vci m F C)
+      ∙ ap toldBy
+      (field16 (n8 ∷ n32 ∷ n32 ∷ []) (of16 markVO) vci 32 (decimalOf m ++ (32 ∷ (decimalOf F ++ (32 ∷ (decimalOf C ++ (10 ∷ s)))))) space-ends hv
+      ∙ field8 (n32 ∷ n32 ∷ []) (of16 markVO ++ of16 vci) m 32 (decimalOf F ++ (32 ∷ (decimalOf C ++ (10 ∷ s)))) space-ends hm
+      ∙ field32 (n32 ∷ []) (of16 markVO ++ (of16 vci ++ (m ∷ []))) F 32 (decimalOf C ++ (10 ∷ s)) space-ends hf
+      ∙ field32 [] (of16 markVO ++ (of16 vci ++ (m ∷ of32 F))) C 10 s feed-ends hc
+      ∙ fields-end (of16 markVO ++ (of16 vci ++ (m ∷ (of32 F ++ of32 C)))) s)
+
+  pub cell-back : (start : ℕ) → length (take octets (drop start trace)) ≡ octets
+      → ((i : ℕ) → i < length (take octets (drop start trace)) → getD (take octets (drop start trace)) i 0 < 256)
+      → line false (lineOf trace (CA start) ++ s) ≡ next (tells (eventOf trace (CA start)) s)
+  unfolding lineOf Text·line line shapedLine find eventOf
+  cell-back start e g =
+      ap (λ (t : List ℕ). line false (of16 markCA ++ (32 ∷ t))) (append-assoc (hexOf (take octets (drop start trace))) (10 ∷ []) s)
+      ∙ ap toldBy (field-cell (take octets (drop start trace)) (of16 markCA) s e g)

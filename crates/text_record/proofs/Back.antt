@@ -1,0 +1,115 @@
+-- Each record, put in its place, is what the reader reads there: each number is read back from the octets that hold it.
+use Prim.Native.Nat.{ℕ, suc, _+_, _-_, _*_, _/_, _%_, _≤_, _<_}
+use mathlib.Core.Path.{_≡_, refl, sym, ap, _∙_}
+use mathlib.Core.Bool.{Bool, true, false}
+use mathlib.Core.List.{List, _++_}
+use lib.ListN.{length, getD, take, drop, length-drop}
+use lib.Seq.{ext-getD, getD-take, getD-drop, length-take-le}
+use native.Mathlib.Omega.{arith}
+use Rattle.meaning.specs.Numbers.{octets}
+use Rattle.trace_record.specs.Trace.{be16, be32, event, standsAt, setupAt, openAt, closeAt, cellAt, pauseAt, firstAt, laterAt}
+use Rattle.trace_record.specs.Trace.{markGM, markGR, markVO, markVX, markCA, markSL, longGM, longVO, longVX, longCA, longSL}
+use Rattle.trace_record.proofs.Cases.{whole-read, pause-whole, first-gm, first-gr, later-cell, later-pause, later-open, later-close, stands-first, stands-later}
+use Rattle.list_lines.specs.Put.{puts}
+use Rattle.text_record.specs.Record.{GM, VO, VX, CA, SL, recordOctets, recordAt}
+use Rattle.text_record.proofs.Puts.{puts-length, puts-in}
+
+add-two : (k : ℕ) → k + 2 ≡ suc (suc k)
+add-two k = omega arith
+
+-- a number of 16 bits from its two octets
+be16-is : (s : List ℕ) (i n : ℕ) → getD s i 0 ≡ n / 256 → getD s (i + 1) 0 ≡ n % 256 → n ≡ be16 s i
+unfolding be16
+be16-is s i n a b = omega arith
+
+be32-is : (s : List ℕ) (i n : ℕ) → n / 65_536 ≡ be16 s i → n % 65_536 ≡ be16 s (i + 2) → n ≡ be32 s i
+unfolding be32
+be32-is s i n a b = omega arith
+
+-- octets os in their place, at place at of an output that has room for them
+module _ (out : List ℕ) (at : ℕ) (os : List ℕ) (h : at + length os ≤ length out) where
+  -- octet k of them, at place j
+  octet-back : (k j n : ℕ) → j ≡ at + k → k < length os → getD os k 0 ≡ n → n ≡ getD (puts out at os) j 0
+  octet-back k j n e m g = sym (puts-in out at os k j e h m ∙ g)
+
+  -- a number of 16 bits whose octets are k and k + 1
+  two-back : (k j n : ℕ) → j ≡ at + k → k + 2 ≤ length os → getD os k 0 ≡ n / 256 → getD os (k + 1) 0 ≡ n % 256
+      → n ≡ be16 (puts out at os) j
+  two-back k j n e m a b =
+      be16-is (puts out at os) j n (sym (octet-back k j (n / 256) e (omega arith) a))
+      (sym (octet-back (k + 1) (j + 1) (n % 256) (omega arith) (omega arith) b))
+
+  room-back : (k : ℕ) → k ≤ length os → at + k ≤ length (puts out at os)
+  room-back k m = omega (arith, puts-length out at os)
+
+module _ (out : List ℕ) (at : ℕ) where
+  pub setup-back : (N z : ℕ) (raw : Bool) → at ≡ 0 → at + longGM ≤ length out
+      → standsAt (puts out at (recordOctets (GM N z raw))) at ≡ event (recordAt at (GM N z raw)) (at + longGM)
+  unfolding recordOctets recordAt setupAt
+  setup-back N z false e h =
+      let os = recordOctets (GM N z false) in let s = puts out at os in let l = puts-length out at os in
+      let n : N ≡ be16 s (at + 2) = two-back out at os h 2 (at + 2) N refl (omega arith) refl refl in
+      let v : z ≡ be16 s (at + 4) = two-back out at os h 4 (at + 4) z refl (omega arith) refl refl in
+      sym (stands-first s at (λ q. omega arith) (omega arith) (two-back out at os h 0 at markGM (omega arith) (omega arith) refl refl) e
+      (first-gm s at markGM refl (whole-read s at longGM _ (cc) (omega arith))))
+  setup-back N z true e h =
+      let os = recordOctets (GM N z true) in let s = puts out at os in let l = puts-length out at os in
+      let n : N ≡ be16 s (at + 2) = two-back out at os h 2 (at + 2) N refl (omega arith) refl refl in
+      let v : z ≡ be16 s (at + 4) = two-back out at os h 4 (at + 4) z refl (omega arith) refl refl in
+      sym (stands-first s at (λ q. omega arith) (omega arith) (two-back out at os h 0 at markGR (omega arith) (omega arith) refl refl) e
+      (first-gr s at markGR (λ q. omega arith) refl (whole-read s at longGM _ (cc) (omega arith))))
+
+  module _ (later : at ≡ 0 → ⊥) where
+    pub open-back : (vci m F C : ℕ) → at + longVO ≤ length out
+        → standsAt (puts out at (recordOctets (VO vci m F C))) at ≡ event (recordAt at (VO vci m F C)) (at + longVO)
+    unfolding recordOctets recordAt openAt
+    open-back vci m F C h =
+        let os = recordOctets (VO vci m F C) in let s = puts out at os in let l = puts-length out at os in
+        let n : vci ≡ be16 s (at + 2) = two-back out at os h 2 (at + 2) vci refl (omega arith) refl refl in
+        let k : m ≡ getD s (at + 4) 0 = octet-back out at os h 4 (at + 4) m refl (omega arith) refl in
+        let f : F ≡ be32 s (at + 5) = be32-is s (at + 5) F (two-back out at os h 5 (at + 5) (F / 65_536) refl (omega arith) refl refl)
+        (two-back out at os h 7 (at + 5 + 2) (F % 65_536) (omega arith) (omega arith) refl refl) in
+        let d : C ≡ be32 s (at + 9) = be32-is s (at + 9) C (two-back out at os h 9 (at + 9) (C / 65_536) refl (omega arith) refl refl)
+        (two-back out at os h 11 (at + 9 + 2) (C % 65_536) (omega arith) (omega arith) refl refl) in
+        sym (stands-later s at (λ q. omega arith) (omega arith) (two-back out at os h 0 at markVO (omega arith) (omega arith) refl refl) later
+        (later-open s at markVO (λ q. omega arith) (λ q. omega arith) refl (whole-read s at longVO _ (cc) (omega arith))))
+
+    pub close-back : (vci : ℕ) → at + longVX ≤ length out
+        → standsAt (puts out at (recordOctets (VX vci))) at ≡ event (recordAt at (VX vci)) (at + longVX)
+    unfolding recordOctets recordAt closeAt
+    close-back vci h =
+        let os = recordOctets (VX vci) in let s = puts out at os in let l = puts-length out at os in
+        let n : vci ≡ be16 s (at + 2) = two-back out at os h 2 (at + 2) vci refl (omega arith) refl refl in
+        sym (stands-later s at (λ q. omega arith) (omega arith) (two-back out at os h 0 at markVX (omega arith) (omega arith) refl refl) later
+        (later-close s at markVX (λ q. omega arith) (λ q. omega arith) (λ q. omega arith) refl (whole-read s at longVX _ (cc) (omega arith))))
+
+    pub pause-back : (count : ℕ) → (count ≡ 0 → ⊥) → at + longSL ≤ length out
+        → standsAt (puts out at (recordOctets (SL count))) at ≡ event (recordAt at (SL count)) (at + longSL)
+    unfolding recordOctets recordAt
+    pause-back count some h =
+        let os = recordOctets (SL count) in let s = puts out at os in let l = puts-length out at os in
+        sym (stands-later s at (λ q. omega arith) (omega arith) (two-back out at os h 0 at markSL (omega arith) (omega arith) refl refl) later
+        (later-pause s at markSL (λ q. omega arith) refl
+        (pause-whole s at (two-back out at os h 2 (at + 2) count refl (omega arith) refl refl) some (omega arith))))
+
+    pub cell-back : (cell : List ℕ) → length cell ≡ octets → at + longCA ≤ length out
+        → standsAt (puts out at (recordOctets (CA cell))) at ≡ event (recordAt at (CA cell)) (at + longCA)
+    unfolding recordOctets recordAt cellAt
+    cell-back cell e h =
+        let os = recordOctets (CA cell) in let s = puts out at os in let l = puts-length out at os in
+        let w : at + length os ≤ length out = omega (arith, e) in
+        sym (stands-later s at (λ q. omega arith) (omega arith) (two-back out at os w 0 at markCA (omega arith) (omega arith) refl refl) later
+        (later-cell s at markCA refl (whole-read s at longCA _ refl (omega arith))))
+
+    -- the 53 octets that a CA names are the cell's
+    pub cell-same : (cell : List ℕ) → length cell ≡ octets → at + longCA ≤ length out
+        → take octets (drop (at + 2) (puts out at (recordOctets (CA cell)))) ≡ cell
+    unfolding recordOctets
+    cell-same cell e h =
+        let os = recordOctets (CA cell) in let s = puts out at os in let l = puts-length out at os in
+        let w : at + length os ≤ length out = omega (arith, e) in
+        let d : length (drop (at + 2) s) ≡ length s - (at + 2) = length-drop (at + 2) s in
+        let t : length (take octets (drop (at + 2) s)) ≡ octets = length-take-le octets (drop (at + 2) s) (omega arith) in
+        ext-getD 0 (take octets (drop (at + 2) s)) cell (t ∙ sym e)
+        (λ k m. getD-take octets (drop (at + 2) s) k 0 (omega arith) ∙ getD-drop (at + 2) s k 0
+        ∙ puts-in out at os (k + 2) (at + 2 + k) (omega arith) w (omega arith) ∙ ap (λ (n : ℕ). getD os n 0) (add-two k))

@@ -1,0 +1,213 @@
+// Writing a trace, one record at a time: each function writes its record at a place of a lent output. It answers 0 and where
+// the next record starts; or 10 or 14, and the place as it came.
+ghost use mathlib.Core.List.{[], _∷_};
+ghost use mathlib.Core.Path.{_≡_};
+ghost use Prim.Native.Nat.{_+_, _-_, _≤_};
+ghost use lib.ListN.{length};
+ghost use Rattle.list_lines.specs.Put.{Put};
+ghost use Rattle.text_record.specs.Record.{GM as Record·GM, VO as Record·VO, VX as Record·VX, CA as Record·CA, SL as Record·SL};
+ghost use Rattle.text_meaning.specs.Shapes.{of16, of32};
+ghost use Rattle.text_record.specs.Record.{setupMark};
+ghost use Rattle.text_record.specs.Promises.{WritePromise};
+use text_meaning::Written;
+
+// The two letters of each mark, high octet first.
+const GM: u16 = 0x474d;
+
+const GR: u16 = 0x4752;
+
+const VO: u16 = 0x564f;
+
+const VX: u16 = 0x5658;
+
+const CA: u16 = 0x4341;
+
+const SL: u16 = 0x534c;
+
+fn one(out: &mut [u8], at: usize, x: u8) -> usize
+    requires { ⌜ at + 1 ≤ length (now out) ⌝ }
+    ensures { λ r. ⌜ Put (now (out .entry)) at (x ∷ []) (now (out .exit)) r ⌝ }
+{
+    out[at] = x;
+    at + 1
+}
+
+// A number of 16 bits, high octet first.
+fn two(out: &mut [u8], at: usize, x: u16) -> usize
+    requires { ⌜ at + 2 ≤ length (now out) ⌝ }
+    ensures { λ r. ⌜ Put (now (out .entry)) at (of16 x) (now (out .exit)) r ⌝ }
+{
+    let b = at + 1;
+    out[at] = (x / 256) as u8;
+    out[b] = (x % 256) as u8;
+    b + 1
+}
+
+// A number of 32 bits.
+fn four(out: &mut [u8], at: usize, x: u32) -> usize
+    requires { ⌜ at + 4 ≤ length (now out) ⌝ }
+    ensures { λ r. ⌜ Put (now (out .entry)) at (of32 x) (now (out .exit)) r ⌝ }
+{
+    let a = two(out, at, (x / 65536) as u16);
+    two(out, a, (x % 65536) as u16)
+}
+
+// The 53 octets of a cell: their part of the output is lent on.
+fn fifty_three(out: &mut [u8], at: usize, cell: &[u8]) -> usize
+    requires { ⌜ (at + 53 ≤ length (now out)) × (length (now cell) ≡ 53) ⌝ }
+    ensures { λ r. ⌜ Put (now (out .entry)) at (now (cell .entry)) (now (out .exit)) r ⌝ }
+{
+    let e = at + 53;
+    mem_cell::copy_cell(&mut out[at..e], cell);
+    e
+}
+
+// The octets of an output from a place on.
+fn room(at: usize, long: usize) -> usize
+    ensures { λ r. ⌜ r ≡ long - at ⌝ }
+{
+    if long < at {
+        return 0;
+    }
+    long - at
+}
+
+fn setup_mark(raw: bool) -> u16
+    ensures { λ r. ⌜ r ≡ setupMark raw ⌝ }
+{
+    if raw { GR } else { GM }
+}
+
+// GM or GR: first and only first.
+pub fn write_setup(out: &mut [u8], at: usize, n: u16, v: u16, raw: bool) -> Written
+    ensures { λ r. ⌜ WritePromise (now (out .entry)) at (Record·GM n v raw) r (now (out .exit)) ⌝ }
+{
+    if at != 0 {
+        return Written {
+            number: 10,
+            place: at,
+        };
+    }
+    if room(at, out.len()) < 6 {
+        return Written {
+            number: 14,
+            place: at,
+        };
+    }
+    let a = two(out, at, setup_mark(raw));
+    let b = two(out, a, n);
+    let next = two(out, b, v);
+    Written {
+        number: 0,
+        place: next,
+    }
+}
+
+pub fn write_open(out: &mut [u8], at: usize, vci: u16, m: u8, f: u32, c: u32) -> Written
+    ensures { λ r. ⌜ WritePromise (now (out .entry)) at (Record·VO vci m f c) r (now (out .exit)) ⌝ }
+{
+    if at == 0 {
+        return Written {
+            number: 10,
+            place: at,
+        };
+    }
+    if room(at, out.len()) < 13 {
+        return Written {
+            number: 14,
+            place: at,
+        };
+    }
+    let a = two(out, at, VO);
+    let b = two(out, a, vci);
+    let d = one(out, b, m);
+    let e = four(out, d, f);
+    let next = four(out, e, c);
+    Written {
+        number: 0,
+        place: next,
+    }
+}
+
+pub fn write_close(out: &mut [u8], at: usize, vci: u16) -> Written
+    ensures { λ r. ⌜ WritePromise (now (out .entry)) at (Record·VX vci) r (now (out .exit)) ⌝ }
+{
+    if at == 0 {
+        return Written {
+            number: 10,
+            place: at,
+        };
+    }
+    if room(at, out.len()) < 4 {
+        return Written {
+            number: 14,
+            place: at,
+        };
+    }
+    let a = two(out, at, VX);
+    let next = two(out, a, vci);
+    Written {
+        number: 0,
+        place: next,
+    }
+}
+
+// A cell of another length than 53 is no record: nothing that the reader reads would be it.
+pub fn write_cell(out: &mut [u8], at: usize, cell: &[u8]) -> Written
+    ensures { λ r. ⌜ WritePromise (now (out .entry)) at (Record·CA (now (cell .entry))) r (now (out .exit)) ⌝ }
+{
+    if at == 0 {
+        return Written {
+            number: 10,
+            place: at,
+        };
+    }
+    if cell.len() != 53 {
+        return Written {
+            number: 10,
+            place: at,
+        };
+    }
+    if room(at, out.len()) < 55 {
+        return Written {
+            number: 14,
+            place: at,
+        };
+    }
+    let a = two(out, at, CA);
+    let next = fifty_three(out, a, cell);
+    Written {
+        number: 0,
+        place: next,
+    }
+}
+
+// A pause of one record: at least one slot.
+pub fn write_pause(out: &mut [u8], at: usize, slots: u16) -> Written
+    ensures { λ r. ⌜ WritePromise (now (out .entry)) at (Record·SL slots) r (now (out .exit)) ⌝ }
+{
+    if at == 0 {
+        return Written {
+            number: 10,
+            place: at,
+        };
+    }
+    if slots == 0 {
+        return Written {
+            number: 10,
+            place: at,
+        };
+    }
+    if room(at, out.len()) < 4 {
+        return Written {
+            number: 14,
+            place: at,
+        };
+    }
+    let a = two(out, at, SL);
+    let next = two(out, a, slots);
+    Written {
+        number: 0,
+        place: next,
+    }
+}

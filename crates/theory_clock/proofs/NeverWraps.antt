@@ -1,0 +1,145 @@
+-- From setup on, the 32-bit slot number decides as a clock that never wraps, over runs of any length: each call agrees
+-- (SlotAgrees, CallsAgree), and the fresh states agree.
+use Prim.Native.Nat.{ℕ, zero, suc, _+_, _-_, _*_, _≤_}
+use mathlib.Core.Path.{_≡_, refl, sym, _∙_, ap}
+use mathlib.Core.Bool.{Bool, true, not}
+use mathlib.Core.List.{List, [], _∷_}
+use native.Mathlib.Omega.{arith}
+use native.Mathlib.Nat.{mod-eq-of-lt}
+use borrow.Author.Tests.{eq-eqb, not-false}
+use lib.ListN.{getD, replicate, length-replicate}
+use Rattle.meaning.specs.Plain.{if_then_else_, _=?_}
+use Rattle.meaning.specs.Numbers.{rangesHold, openPlace, wordsPerVc}
+use Rattle.meaning.specs.State.{State, lengthsHold, withRecord, withWords, recordWith, withClock}
+use Rattle.meaning.specs.Words.{Vc, vcAt, writeVc}
+use Rattle.meaning.specs.Calls.{Called, SetUp, freshRecord, freshState, setup}
+use Rattle.meaning.specs.Work.{Work}
+use Rattle.meaning.proofs.WordsLaws.{write-stored}
+use Rattle.meaning.specs.Line.{lineCell}
+use Rattle.meaning_runs.specs.Run.{Call, onOpen, onClose, onSlot, opened, closed, ran, Run, runOf, shown, letIn, call, calls, freshRun, served}
+use Rattle.meaning_runs.proofs.OutLaws.{if-holds}
+use Rattle.theory_clock.specs.Stored.{storedVc, storedWords, storedState, storedWork, storedCalled}
+use Rattle.theory_clock.specs.Unwrapped.{unwrappedSlot, unwrappedFresh}
+use Rattle.theory_clock.specs.Kept.{Kept}
+use Rattle.theory_clock.specs.UnwrappedRun.{unwrappedCall, unwrappedCalls, unwrappedFreshRun, NeverWraps}
+use Rattle.theory_clock.proofs.Wrap.{stored-zero}
+use Rattle.theory_clock.proofs.SlotAgrees.{ranges-v, slot-agrees, slot-keeps, slot-counts}
+use Rattle.theory_clock.proofs.CallsAgree.{open-agrees, open-keeps, close-agrees, close-keeps}
+
+-- words that are all 0: every VC is closed, so nothing is stored otherwise
+zeros : ℕ → List ℕ
+zeros k = replicate k 0
+
+zeros-at : (k i : ℕ) → getD (zeros k) i 0 ≡ 0
+unfolding zeros
+zeros-at zero i = refl
+zeros-at (suc k) zero = refl
+zeros-at (suc k) (suc i) = zeros-at k i
+
+closed-stored : (vc : Vc) → vc .opened ≡ 0 → storedVc vc ≡ vc
+unfolding storedVc
+closed-stored vc e = rw (eq-eqb (vc .opened) 0 e)
+
+fresh-words : (z k : ℕ) → storedWords z (zeros k) ≡ zeros k
+unfolding storedWords vcAt
+fresh-words zero k = refl
+fresh-words (suc z) k =
+    ap (λ (l : List ℕ). writeVc l z (storedVc (vcAt (zeros k) z))) (fresh-words z k)
+    ∙ ap (writeVc (zeros k) z) (closed-stored (vcAt (zeros k) z) (zeros-at k (openPlace z)))
+    ∙ write-stored (zeros k) z
+
+-- after setup t is 2^32-1, which is what is stored of 0 slots served
+pub fresh-agrees : (N z : ℕ) (raw : Bool) → storedState (unwrappedFresh N z raw) ≡ freshState N z raw
+unfolding storedState unwrappedFresh freshState freshRecord withClock withRecord withWords recordWith zeros
+fresh-agrees N z raw = rw (stored-zero, fresh-words z (wordsPerVc * z))
+
+pub fresh-kept : (N z : ℕ) (raw : Bool) → 2 ≤ z → Kept (unwrappedFresh N z raw)
+unfolding unwrappedFresh freshState freshRecord withClock withRecord recordWith vcAt zeros
+fresh-kept N z raw h =
+    record {
+      turns = omega (arith, mod-eq-of-lt {n = 0 + z - 1} {m = z} (omega arith));
+      recent = record {
+        long = length-replicate (wordsPerVc * z) 0;
+        behind = λ vci a b o. absurd (o (zeros-at (wordsPerVc * z) (openPlace vci)));
+      };
+    }
+
+unfoldable pub storedRun : Run → Run
+storedRun r = runOf (storedState (r .state)) (r .events)
+
+pub call-agrees : (r : Run) (c : Call) → Kept (r .state) → call (storedRun r) c ≡ storedRun (unwrappedCall r c)
+unfolding call unwrappedCall storedRun storedCalled storedWork storedState withClock withRecord withWords recordWith shown
+call-agrees r (onOpen vci m F C) kept =
+    ap (λ (c : Called). runOf (withWords (storedState (r .state)) (c .words)) (opened vci m F C (c .number) ∷ r .events))
+    (open-agrees (r .state) vci m F C kept)
+call-agrees r (onClose vci) kept =
+    ap (λ (c : Called). runOf (withWords (storedState (r .state)) (c .words)) (closed vci (c .number) ∷ r .events))
+    (close-agrees (r .state) vci kept)
+call-agrees r (onSlot cell) kept =
+    ap (λ (w : Work). runOf (w .state) (ran (letIn (r .state) cell .cell) (w .answer) (shown w) ∷ r .events))
+    (slot-agrees (r .state) cell kept)
+
+pub call-keeps : (r : Run) (c : Call) → Kept (r .state) → Kept (unwrappedCall r c .state)
+unfolding unwrappedCall
+call-keeps r (onOpen vci m F C) kept = open-keeps (r .state) vci m F C kept
+call-keeps r (onClose vci) kept = close-keeps (r .state) vci kept
+call-keeps r (onSlot cell) kept = slot-keeps (r .state) cell kept
+
+-- a run whose clock is the number of slots that its events served
+pub call-counts : (r : Run) (c : Call) → Kept (r .state) → r .state .ctl .t ≡ served (r .events)
+    → unwrappedCall r c .state .ctl .t ≡ served (unwrappedCall r c .events)
+unfolding unwrappedCall served withWords
+call-counts r (onOpen vci m F C) kept e = e
+call-counts r (onClose vci) kept e = e
+call-counts r (onSlot cell) kept e =
+    slot-counts (r .state) cell kept ∙ ap (λ (n : ℕ). (if unwrappedSlot (r .state) cell .answer .number =? 0 then 1 else 0) + n) e
+
+-- any number of calls, from any run that agrees so far
+calls-agree : (r : Run) (cs : List Call) → Kept (r .state) → r .state .ctl .t ≡ served (r .events)
+    → (calls (storedRun r) cs ≡ storedRun (unwrappedCalls r cs))
+    × (unwrappedCalls r cs .state .ctl .t ≡ served (unwrappedCalls r cs .events))
+    × Kept (unwrappedCalls r cs .state)
+unfolding calls unwrappedCalls
+calls-agree r [] kept e = (refl, e, kept)
+calls-agree r (c ∷ cs) kept e =
+    let rest = calls-agree (unwrappedCall r c) cs (call-keeps r c kept) (call-counts r c kept e) in
+    (ap (λ (r′ : Run). calls r′ cs) (call-agrees r c kept) ∙ rest .0, rest .1, rest .2)
+
+fresh-counts : (N z : ℕ) (raw : Bool) → unwrappedFresh N z raw .ctl .t ≡ served []
+unfolding unwrappedFresh freshState withClock withRecord recordWith served
+fresh-counts N z raw = refl
+
+pub never-wraps : (N z : ℕ) (raw : Bool) → rangesHold N z ≡ true → (cs : List Call) → NeverWraps N z raw cs
+unfolding freshRun unwrappedFreshRun storedRun storedState withClock withRecord withWords
+never-wraps N z raw range cs =
+    let fresh = runOf (unwrappedFresh N z raw) [] in
+    let all = calls-agree fresh cs (fresh-kept N z raw (ranges-v N z range .0)) (fresh-counts N z raw) in
+    let same = ap (λ (s : State). calls (runOf s []) cs) (sym (fresh-agrees N z raw)) ∙ all .0 in
+    record {
+      memories = ap (λ (r : Run). r .state) same;
+      answers = ap (λ (r : Run). r .events) same;
+      line = λ idle number. ap (λ (r : Run). lineCell (r .state .cells) idle number) same;
+      clock = all .1 ∙ ap (λ (r : Run). served (r .events)) (sym same);
+      rotation = all .2;
+    }
+
+-- "'From a fresh state' means that a setup has answered 0": whatever the lent memories held before
+pub setup-fresh : (N z : ℕ) (raw : Bool) (cells links calendar words : List ℕ)
+    → setup N z raw cells links calendar words .number ≡ 0
+    → (rangesHold N z ≡ true) × (setup N z raw cells links calendar words .state ≡ freshState N z raw)
+unfolding setup
+setup-fresh N z raw cells links calendar words =
+    if-holds P (not (rangesHold N z)) _ _ (λ _ p. absurd (omega arith))
+    (λ range. if-holds P (not (lengthsHold N z cells links calendar words)) _ _ (λ _ p. absurd (omega arith))
+    (λ _ p. (not-false (rangesHold N z) range, refl)))
+  where
+    P : SetUp → Type 0
+    P u = u .number ≡ 0 → (rangesHold N z ≡ true) × (u .state ≡ freshState N z raw)
+
+pub never-wraps-after-setup : (N z : ℕ) (raw : Bool) (cells links calendar words : List ℕ)
+    → setup N z raw cells links calendar words .number ≡ 0 → (cs : List Call)
+    → (setup N z raw cells links calendar words .state ≡ freshRun N z raw .state) × NeverWraps N z raw cs
+unfolding freshRun
+never-wraps-after-setup N z raw cells links calendar words p cs =
+    let f = setup-fresh N z raw cells links calendar words p in
+    (f .1, never-wraps N z raw (f .0) cs)

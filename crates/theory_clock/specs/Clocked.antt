@@ -1,0 +1,88 @@
+-- Close and slot over any clock: how it moves in a slot, and how many slots have elapsed since `last`, are parameters. With
+-- t and elapsed modulo 2^32 they are those of document 01 (proofs/Instances.antt), so a policer with another clock differs
+-- from it in the clock alone. Each step takes the part before it as a parameter too, under the name that it has there.
+use Prim.Native.Nat.{ℕ, _+_, _%_}
+use mathlib.Core.Bool.{Bool, not, _&&_, _||_}
+use mathlib.Core.List.{List}
+use lib.ListN.{length}
+use Rattle.base_hec.specs.Modes.{arrivingFits}
+use Rattle.meaning.specs.declared.Record.{Record}
+use Rattle.meaning.specs.Plain.{if_then_else_, _<?_, _=?_, Out, next, needs, _andThen_}
+use Rattle.meaning.specs.Numbers.{rangesHold, octets, unknown}
+use Rattle.meaning.specs.State.{State, lengthsHold, withClock, withMode}
+use Rattle.meaning.specs.Header.{headerAt, noUserCell, namesVc}
+use Rattle.meaning.specs.Bucket.{fall}
+use Rattle.meaning.specs.Words.{Vc, vcAt, writeVc, closedVc, openWordFits, bucketFits}
+use Rattle.meaning.specs.Calls.{Called, calledOf, sharedRefusal}
+use Rattle.meaning.specs.Work.{Work, workOf, bareAnswer, withState, withVc, withArrival}
+use Rattle.meaning.specs.Arrival.{judge}
+use Rattle.meaning.specs.Slot.{step4, step5, finish, told}
+use Rattle.meaning_runs.specs.Run.{letIn}
+
+-- "it is brought up to date: S falls by elapsed × L .. last becomes t"
+abbrev pub upToDateBy : (ℕ → ℕ → ℕ) → ℕ → ℕ → Vc → Out Vc
+upToDateBy elapsedBy N t vc =
+    needs (bucketFits N (vc .bucket))
+    (next (record { opened = vc .opened; bucket = fall (elapsedBy t (vc .last)) (vc .bucket); last = t; waiting = vc .waiting }))
+
+-- 1: the clock moves; "T by one modulo N, rotation by one modulo V"
+abbrev pub step1By : (ℕ → ℕ) → Work → Out Work
+step1By later w =
+    let s = w .state in
+    let r = s .ctl in
+    let T = (r .turn + 1) % r .n in
+    let rotation = (r .rotation + 1) % r .v in
+    needs (r .turn <? r .n && r .rotation <? r .v) (next (withState w (withClock s (later (r .t)) T rotation)))
+
+-- 2: the VC that rotation names
+abbrev pub step2By : (ℕ → ℕ → Vc → Out Vc) → Work → Out Work
+step2By upToDate w =
+    let s = w .state in
+    let vci = s .ctl .rotation in
+    let vc = vcAt (s .words) vci in
+    if vci =? 0 then next w
+    else needs (openWordFits vc)
+    (if vc .opened =? 0 then next w
+    else (upToDate (s .ctl .n) (s .ctl .t) vc andThen λ now. next (withVc w vci now)))
+
+-- 3: the VC of the arriving cell
+abbrev pub step3By : (ℕ → ℕ → Vc → Out Vc) → List ℕ → Work → Out Work
+step3By upToDate cell w =
+    let s = w .state in
+    let h = headerAt cell 0 in
+    let vc = vcAt (s .words) (h .vci) in
+    let isUnknown = next (withArrival w unknown (h .vci) 0) in
+    if length cell =? 0 || noUserCell h then next w
+    else if not (namesVc (s .ctl .v) h) then isUnknown
+    else needs (openWordFits vc)
+    (if vc .opened =? 0 then isUnknown
+    else (upToDate (s .ctl .n) (s .ctl .t) vc andThen judge cell (h .vci) w))
+
+-- 4 and 5 touch neither t nor elapsed, and keep every `last`
+abbrev pub fiveStepsBy : (Work → Out Work) → (Work → Out Work) → (List ℕ → Work → Out Work) → List ℕ → Work → Out Work
+fiveStepsBy step1 step2 step3 cell w = step1 w andThen step2 andThen step3 cell andThen step4 andThen step5
+
+-- "slot 1, 2, 9, 3", with the header check of document 02 (i) in front
+abbrev pub slotBy : (List ℕ → Work → Out Work) → State → List ℕ → Work
+slotBy fiveSteps s cell =
+    let N = s .ctl .n in
+    let z = s .ctl .v in
+    let a = letIn s cell in
+    if not (rangesHold N z) then workOf s (bareAnswer 1)
+    else if not (lengthsHold N z (s .cells) (s .links) (s .calendar) (s .words)) then workOf s (bareAnswer 2)
+    else if not (length cell =? 0 || length cell =? octets) then workOf s (bareAnswer 9)
+    else finish s (needs (arrivingFits (s .ctl .raw) (s .ctl .mode) cell)
+    (fiveSteps (a .cell) (workOf (withMode s (a .mode)) (bareAnswer 0)) andThen λ w. next (told (a .dropped) w)))
+
+-- document 02 (ii): "bring the VC up to date as of t": what is then left in its bucket
+abbrev pub debtBy : (ℕ → ℕ → ℕ) → ℕ → Vc → ℕ
+debtBy elapsedBy t vc = fall (elapsedBy t (vc .last)) (vc .bucket) .S
+
+-- "8 is given when waiting or the updated S isn't 0"; "Closing clears all seven words."
+abbrev pub closeBy : (ℕ → Vc → ℕ) → Record → List ℕ → ℕ → Called
+closeBy debt r words vci =
+    let k = sharedRefusal r words vci in
+    if not (k =? 0) then calledOf k words
+    else if vcAt words vci .opened =? 0 then calledOf 7 words
+    else if not (vcAt words vci .waiting =? 0 && debt (r .t) (vcAt words vci) =? 0) then calledOf 8 words
+    else calledOf 0 (writeVc words vci closedVc)

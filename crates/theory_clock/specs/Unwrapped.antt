@@ -1,0 +1,51 @@
+-- Open, close and slot with a clock that never wraps: an instance of those over any clock (specs/Clocked.antt).
+--
+-- The clock is the number k of slots served since setup, and stands where the record holds t. The word `last` of an open
+-- VC holds the number of slots that had been served when the VC was opened or last brought up to date. Both grow without
+-- bound: there is no modulus of t, `last` or elapsed here. All that touches none of the three is shared.
+use Prim.Native.Nat.{ℕ, _+_, _-_}
+use mathlib.Core.Bool.{Bool}
+use mathlib.Core.List.{List}
+use Rattle.meaning.specs.declared.Record.{Record}
+use Rattle.meaning.specs.Plain.{Out}
+use Rattle.meaning.specs.State.{State, withClock}
+use Rattle.meaning.specs.Words.{Vc}
+use Rattle.meaning.specs.Calls.{Called, openCall, freshState}
+use Rattle.meaning.specs.Work.{Work}
+use Rattle.theory_clock.specs.Clocked.{upToDateBy, step1By, step2By, step3By, fiveStepsBy, slotBy, debtBy, closeBy}
+
+-- k slots have been served, so k - last have elapsed
+unfoldable pub caughtUp : ℕ → ℕ → Vc → Out Vc
+caughtUp N k vc = upToDateBy (λ t last. t - last) N k vc
+
+-- 1: one slot more is served
+unfoldable pub tick : Work → Out Work
+tick w = step1By (λ k. k + 1) w
+
+unfoldable pub rotate : Work → Out Work
+rotate w = step2By caughtUp w
+
+unfoldable pub arrive : List ℕ → Work → Out Work
+arrive cell w = step3By caughtUp cell w
+
+unfoldable pub unwrappedSteps : List ℕ → Work → Out Work
+unwrappedSteps cell w = fiveStepsBy tick rotate arrive cell w
+
+unfoldable pub unwrappedSlot : State → List ℕ → Work
+unwrappedSlot s cell = slotBy unwrappedSteps s cell
+
+-- "Opening sets .. last t": here the number of slots served
+unfoldable pub unwrappedOpen : Record → List ℕ → ℕ → ℕ → ℕ → ℕ → Called
+unwrappedOpen r words vci m F C = openCall r words vci m F C
+
+unfoldable pub unwrappedDebt : ℕ → Vc → ℕ
+unwrappedDebt k vc = debtBy (λ t last. t - last) k vc
+
+unfoldable pub unwrappedClose : Record → List ℕ → ℕ → Called
+unwrappedClose r words vci = closeBy unwrappedDebt r words vci
+
+-- after setup no slot has been served; all else as setup leaves it
+unfoldable pub unwrappedFresh : ℕ → ℕ → Bool → State
+unwrappedFresh N z raw =
+    let s = freshState N z raw in
+    withClock s 0 (s .ctl .turn) (s .ctl .rotation)

@@ -1,0 +1,47 @@
+-- A run with the clock that never wraps, call for call beside `call` and `calls` of the runs.
+use Prim.Native.Nat.{ℕ}
+use mathlib.Core.Path.{_≡_}
+use mathlib.Core.Bool.{Bool}
+use mathlib.Core.List.{List, [], _∷_}
+use Rattle.meaning.specs.State.{withWords}
+use Rattle.meaning.specs.Line.{lineCell}
+use Rattle.meaning_runs.specs.Run.{Call, onOpen, onClose, onSlot, opened, closed, ran, Run, runOf, shown, served}
+use Rattle.meaning_runs.specs.Run.{letIn, calls, freshRun}
+use Rattle.theory_clock.specs.Unwrapped.{unwrappedOpen, unwrappedClose, unwrappedSlot, unwrappedFresh}
+use Rattle.theory_clock.specs.Stored.{storedState}
+use Rattle.theory_clock.specs.Kept.{Kept}
+
+unfoldable pub unwrappedCall : Run → Call → Run
+unwrappedCall r (onOpen vci m F C) =
+    let s = r .state in
+    let c = unwrappedOpen (s .ctl) (s .words) vci m F C in
+    runOf (withWords s (c .words)) (opened vci m F C (c .number) ∷ r .events)
+unwrappedCall r (onClose vci) =
+    let s = r .state in
+    let c = unwrappedClose (s .ctl) (s .words) vci in
+    runOf (withWords s (c .words)) (closed vci (c .number) ∷ r .events)
+unwrappedCall r (onSlot cell) =
+    let w = unwrappedSlot (r .state) cell in
+    runOf (w .state) (ran (letIn (r .state) cell .cell) (w .answer) (shown w) ∷ r .events)
+
+unfoldable pub unwrappedCalls : Run → List Call → Run
+unwrappedCalls r [] = r
+unwrappedCalls r (c ∷ cs) = unwrappedCalls (unwrappedCall r c) cs
+
+unfoldable pub unwrappedFreshRun : ℕ → ℕ → Bool → Run
+unwrappedFreshRun N z raw = runOf (unwrappedFresh N z raw) []
+
+-- Demand 2 over runs: of the same calls after setup, with the 32-bit clock and with the one that never wraps
+pub record NeverWraps (N z : ℕ) (raw : Bool) (cs : List Call) : Type 0 where
+  -- the same memories, t and `last` modulo 2^32
+  pub memories : calls (freshRun N z raw) cs .state ≡ storedState (unwrappedCalls (unwrappedFreshRun N z raw) cs .state)
+  -- the same numbers, answers and line cells, call for call
+  pub answers : calls (freshRun N z raw) cs .events ≡ unwrappedCalls (unwrappedFreshRun N z raw) cs .events
+  -- the same cell on the line, whatever idle cell is lent and whatever number is asked for
+  pub line : (idle : List ℕ) (number : ℕ)
+      → lineCell (calls (freshRun N z raw) cs .state .cells) idle number
+      ≡ lineCell (unwrappedCalls (unwrappedFreshRun N z raw) cs .state .cells) idle number
+  -- the clock that never wraps is the number of slots served
+  pub clock : unwrappedCalls (unwrappedFreshRun N z raw) cs .state .ctl .t ≡ served (calls (freshRun N z raw) cs .events)
+  -- rotation is (k + V - 1) modulo V, and no open VC is further behind than since rotation named it
+  pub rotation : Kept (unwrappedCalls (unwrappedFreshRun N z raw) cs .state)

@@ -1,0 +1,216 @@
+-- Step 3 of a slot, from the invariant: nothing, unknown, excess or accepted, as the header and the exact leak rule say,
+-- and never refused.
+use Prim.Native.Nat.{ℕ, suc, _-_, _≤_, _<_}
+use mathlib.Core.Path.{_≡_, refl, sym, ap, _∙_, subst₂, fun-ext}
+use mathlib.Core.Logic.{_≢_}
+use mathlib.Core.Bool.{Bool, true, false, _&&_, _||_}
+use mathlib.Core.List.{List, [], append-nil}
+use mathlib.Core.Option.{Option, none, some}
+use native.Mathlib.Decide.{ℕ-discrete}
+use native.Mathlib.Omega.{arith}
+use borrow.Author.Tests.{eq-eqb, ne-eqb, leb-true, ltb-true, eqb-true}
+use lib.ListN.{length}
+use Rattle.meaning.specs.Plain.{if_then_else_, _<?_, _≤?_, _=?_, next}
+use Rattle.meaning.specs.Numbers.{accepted, excess, unknown, nothing}
+use Rattle.meaning.specs.State.{State, withWords}
+use Rattle.meaning.specs.Header.{Header, headerAt, noUserCell, namesVc}
+use Rattle.meaning.specs.Words.{Vc, vcAt, writeVc, upToDate}
+use Rattle.meaning.specs.Work.{Work, bareAnswer, withVc, withArrival}
+use Rattle.meaning.specs.Arrival.{judge}
+use Rattle.meaning.specs.Slot.{step3}
+use Rattle.meaning.proofs.WordsLaws.{write-length, write-read, write-read-other}
+use Rattle.meaning_runs.specs.Leak.{Opening, dueSlot, leakAccepts}
+use Rattle.meaning_runs.specs.Seen.{ofVc}
+use Rattle.meaning_runs.specs.Judged.{judgedOf, judgedUnder, judgedBy}
+use Rattle.theory_queues.specs.Queue.{All, Alls, flat, turn, Good}
+use Rattle.theory_queues.proofs.QueueLaws.{turn-flat, alls-turn}
+use Rattle.theory_queues.proofs.LineLaws.{arrive-none}
+use Rattle.theory_queues.proofs.RisingLaws.{rising-up}
+use Rattle.theory_table.specs.Stored.{stored, VcIs, OpenVc}
+use Rattle.theory_table.proofs.ClockLaws.{clock-next}
+use Rattle.theory_table.proofs.LeakLaws.{and-left, and-right}
+use Rattle.theory_table.proofs.VcLaws.{word-fits, up-to-date, now-open, excess-is}
+use Rattle.theory_memory.specs.Held.{Queued, dueOf, vciOf}
+use Rattle.theory_invariant.specs.Invariant.{waits, Sits, Stage}
+use Rattle.theory_invariant.specs.Came.{after, half, Came}
+use Rattle.theory_invariant.proofs.StepLaws.{Goes}
+use Rattle.theory_invariant.proofs.AcceptLaws.{accept-goes}
+
+after-none : (now verdict vci : ℕ) (op : ℕ → Option Opening) → verdict ≢ accepted → (λ v. after now verdict vci op v) ≡ op
+after-none now verdict vci op ne = fun-ext (λ v. rw (ne-eqb verdict accepted ne))
+
+pub names-facts : (z : ℕ) (h : Header) → namesVc z h ≡ true → (1 ≤ h .vci) × (h .vci < z)
+unfolding namesVc
+names-facts z h e = (
+  leb-true 1 (h .vci) (and-right (h .vpi =? 0) (1 ≤? h .vci) (and-left (h .vpi =? 0 && 1 ≤? h .vci) (h .vci <? z) e)),
+  ltb-true (h .vci) z (and-right (h .vpi =? 0 && 1 ≤? h .vci) (h .vci <? z) e),
+)
+
+second : (a b c : Bool) → a || b ≡ true → a || c ≡ false → b ≡ true
+second true b c e f = absurd (let y : _≡_ {A = ℕ} 0 1 = cc in omega arith)
+second false b c e f = e
+
+module _ (now : ℕ) (cell : List ℕ) (op : ℕ → Option Opening) (free : List ℕ) (out : List Queued) (cal : List (List Queued))
+  where
+    module _ (w : Work) where
+      abbrev s : State
+      s = w .state
+
+      abbrev N : ℕ
+      N = s .ctl .n
+
+      abbrev z : ℕ
+      z = s .ctl .v
+
+      abbrev u : ℕ
+      u = headerAt cell 0 .vci
+
+      module _ (st : Stage N z (suc now) (suc now) (s .ctl .turn) s op free out (turn cal))
+          (good : Good dueOf (N - 1) now cal out)
+          (sits-out : All (Sits z op) out) (sits-cal : Alls (Sits z op) cal) (blank : w .answer ≡ bareAnswer 0) where
+        -- no cell is accepted
+        quiet : (w′ : Work) (verdict vci : ℕ) → verdict ≢ accepted → w′ .answer ≡ half verdict vci 0
+            → judgedBy z now op cell ≡ judgedOf verdict vci 0
+            → Stage N z (suc now) (suc now) (w′ .state .ctl .turn) (w′ .state) op free out (turn cal)
+            → Came N z now cell op out cal w′
+        quiet w′ verdict vci ne says judges st′ =
+            record {
+              verdict = verdict;
+              vci = vci;
+              D = 0;
+              says = says;
+              judges = judges;
+              free = free;
+              new = [];
+              r = turn cal;
+              stage = rw (after-none now verdict vci op ne) st′;
+              arrived = arrive-none dueOf (N - 1) now cal out good;
+              sits-out = rw (after-none now verdict vci op ne) sits-out;
+              sits-cal = rw (after-none now verdict vci op ne) (alls-turn (Sits z op) cal sits-cal);
+              order = λ v. ap (ofVc vciOf v) (turn-flat cal) ∙ sym (append-nil (ofVc vciOf v (flat cal)));
+              notes = rw (ne-eqb verdict accepted ne);
+              delays = tt;
+              rises = λ l k. rw (append-nil l) (rising-up (λ c. c .arrival) 0 now (suc now) l (omega arith) k);
+            }
+
+        -- the VC is brought up to date, and no more changes
+        module _ (u-low : 1 ≤ u) (u-high : u < z) (o : Opening) (o-is : op u ≡ some o)
+            (opn : OpenVc N z (suc now) u (vcAt (s .words) u) (waits u out (turn cal)) o) where
+          abbrev vc : Vc
+          vc = stored o (suc now) (waits u out (turn cal))
+
+          renewed : (v : ℕ) → 1 ≤ v → v < z → Dec (v ≡ u) → VcIs N z (suc now) v (vcAt (writeVc (s .words) u vc) v)
+              (waits v out (turn cal)) (op v)
+          renewed v h1 h2 (yes p) =
+              rw (p, write-read (s .words) u vc (omega (arith, st .words-long, u-high)), o-is)
+              (now-open N z (st .ranges .z-high) now (suc now) u (vcAt (s .words) u) (waits u out (turn cal)) o (omega arith)
+              (omega arith) opn)
+          renewed v h1 h2 (no p) = rw (write-read-other (s .words) u vc v p) (st .table v h1 h2)
+
+          over : judgedBy z now op cell ≡ judgedOf excess u 0
+              → Came N z now cell op out cal (withArrival (withVc w u vc) excess u 0)
+          unfolding withWords
+          over judges = quiet (withArrival (withVc w u vc) excess u 0) excess u (λ y. omega arith) (rw blank) judges
+              (record {
+                ranges = st .ranges;
+                n-is = st .n-is;
+                v-is = st .v-is;
+                t-is = st .t-is;
+                turn-low = st .turn-low;
+                rotation-is = st .rotation-is;
+                has = st .has;
+                words-long = write-length (s .words) u vc ∙ st .words-long;
+                table = λ v h1 h2. renewed v h1 h2 (ℕ-discrete v u);
+              })
+
+          brought : upToDate N (s .ctl .t) (vcAt (s .words) u) ≡ next vc
+          brought =
+              ap (λ (t : ℕ). upToDate N t (vcAt (s .words) u)) (st .t-is ∙ clock-next now)
+              ∙ up-to-date N z (st .ranges .z-high) now (suc now) u (vcAt (s .words) u) (waits u out (turn cal)) o u-high
+              (omega arith) (omega arith) opn
+
+          judge-goes : (b : Bool) → leakAccepts o now ≡ b → length cell ≡ 53 → namesVc z (headerAt cell 0) ≡ true
+              → judgedBy z now op cell ≡ (if b then judgedOf accepted u (dueSlot o now - now) else judgedOf excess u 0)
+              → Goes (judge cell u w vc) (Came N z now cell op out cal)
+          unfolding judge
+          judge-goes true e long named judges =
+              rw (excess-is N z (st .ranges .z-high) o now (waits u out (turn cal)), e)
+              (accept-goes now cell op free out cal w st good sits-out sits-cal blank long u named refl u-low u-high o o-is
+              opn e judges)
+          judge-goes false e long named judges =
+              rw (excess-is N z (st .ranges .z-high) o now (waits u out (turn cal)), e)
+              (record { work = withArrival (withVc w u vc) excess u 0; goes = refl; holds = over judges })
+
+        strange : judgedBy z now op cell ≡ judgedOf unknown u 0 → Came N z now cell op out cal (withArrival w unknown u 0)
+        strange judges = quiet (withArrival w unknown u 0) unknown u (λ y. omega arith) (rw blank) judges st
+
+        -- the header names a VC
+        module _ (some-cell : length cell =? 0 || noUserCell (headerAt cell 0) ≡ false)
+            (named : namesVc z (headerAt cell 0) ≡ true) (long : length cell ≡ 53) where
+          under : judgedBy z now op cell ≡ judgedUnder now u (op u)
+          unfolding judgedBy
+          under = rw (some-cell, named)
+
+          known : (a : Option Opening) → op u ≡ a → VcIs N z (suc now) u (vcAt (s .words) u) (waits u out (turn cal)) a
+              → Goes (step3 cell w) (Came N z now cell op out cal)
+          unfolding step3
+          known none e k =
+              record {
+                work = withArrival w unknown u 0;
+                goes = rw (
+                  some-cell,
+                  named,
+                  word-fits N z (st .ranges .z-high) (suc now) u (vcAt (s .words) u)
+                      (waits u out (turn cal)) none k,
+                  eq-eqb (vcAt (s .words) u .opened) 0 k,
+                );
+                holds = strange (under ∙ ap (judgedUnder now u) e);
+              }
+          known (some o) e k =
+              rw (
+                some-cell,
+                named,
+                word-fits N z (st .ranges .z-high) (suc now) u (vcAt (s .words) u) (waits u out (turn cal)) (some o) k,
+                ne-eqb (vcAt (s .words) u .opened) 0 is-open,
+                brought (names .0) (names .1) o e k,
+              )
+              (judge-goes (names .0) (names .1) o e k (leakAccepts o now) refl long named (under ∙ ap (judgedUnder now u) e))
+            where
+              names : (1 ≤ u) × (u < z)
+              names = names-facts z (headerAt cell 0) named
+
+              is-open : vcAt (s .words) u .opened ≢ 0
+              is-open y = omega (arith, ap (λ (c : Vc). c .opened) (k .is))
+
+        empty-goes : length cell =? 0 || noUserCell (headerAt cell 0) ≡ true
+            → Goes (step3 cell w) (Came N z now cell op out cal)
+        unfolding step3 judgedBy
+        empty-goes e = record { work = w; goes = rw e; holds = quiet w nothing 0 (λ y. omega arith) blank (rw e) st }
+
+        strange-goes : length cell =? 0 || noUserCell (headerAt cell 0) ≡ false → namesVc z (headerAt cell 0) ≡ false
+            → Goes (step3 cell w) (Came N z now cell op out cal)
+        unfolding step3 judgedBy
+        strange-goes e f = record { work = withArrival w unknown u 0; goes = rw (e, f); holds = strange (rw (e, f)) }
+
+        step3-at : length cell =? 0 || length cell =? 53 ≡ true → Goes (step3 cell w) (Came N z now cell op out cal)
+        step3-at fits = go (length cell =? 0 || noUserCell (headerAt cell 0)) (namesVc z (headerAt cell 0)) refl refl
+          where
+            go : (a b : Bool) → length cell =? 0 || noUserCell (headerAt cell 0) ≡ a → namesVc z (headerAt cell 0) ≡ b
+                → Goes (step3 cell w) (Came N z now cell op out cal)
+            go true b e f = empty-goes e
+            go false false e f = strange-goes e f
+            go false true e f =
+                known e f (eqb-true (length cell) 53
+                (second (length cell =? 0) (length cell =? 53) (noUserCell (headerAt cell 0)) fits e)) (op u) refl
+                (st .table u (names-facts z (headerAt cell 0) f .0) (names-facts z (headerAt cell 0) f .1))
+
+    pub step3-goes : (N z : ℕ) (w : Work) → Stage N z (suc now) (suc now) (w .state .ctl .turn) (w .state) op free out
+        (turn cal) → Good dueOf (N - 1) now cal out
+        → All (Sits z op) out → Alls (Sits z op) cal → w .answer ≡ bareAnswer 0 → length cell =? 0 || length cell =? 53 ≡ true
+        → Goes (step3 cell w) (Came N z now cell op out cal)
+    step3-goes N z w st =
+        subst₂ (λ (n v : ℕ). Stage n v (suc now) (suc now) (w .state .ctl .turn) (w .state) op free out (turn cal)
+        → Good dueOf (n - 1) now cal out
+        → All (Sits v op) out → Alls (Sits v op) cal → w .answer ≡ bareAnswer 0 → length cell =? 0 || length cell =? 53 ≡ true
+        → Goes (step3 cell w) (Came n v now cell op out cal))
+        (st .n-is) (st .v-is) (step3-at w) st

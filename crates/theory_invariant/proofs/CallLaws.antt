@@ -1,0 +1,180 @@
+-- A call that serves no slot: refused it changes nothing; else one VC, of which no cell is queued, gets another opening or
+-- none. Refusals 1, 2 and 3 are not given.
+use Prim.Native.Nat.{ℕ, _≤_, _<_}
+use mathlib.Core.Path.{_≡_, refl, sym, ap, _∙_, subst}
+use mathlib.Core.Logic.{_≢_}
+use mathlib.Core.Bool.{true, false, _&&_}
+use mathlib.Core.List.{List, [], _∷_}
+use mathlib.Core.Option.{Option}
+use native.Mathlib.Decide.{ℕ-discrete}
+use native.Mathlib.Omega.{arith}
+use borrow.Author.Tests.{le-leb, lt-ltb}
+use Rattle.meaning.specs.Plain.{_<?_, _≤?_}
+use Rattle.meaning.specs.State.{State, withWords}
+use Rattle.meaning.specs.Words.{Vc, vcAt, writeVc, vcFits}
+use Rattle.meaning.specs.Calls.{sharedRefusal}
+use Rattle.meaning.proofs.WordsLaws.{write-length, write-read, write-read-other}
+use Rattle.meaning_runs.specs.Run.{Event, served}
+use Rattle.meaning_runs.specs.Leak.{Opening, openingOf}
+use Rattle.meaning_runs.specs.Seen.{cellsIn, departuresIn}
+use Rattle.theory_queues.specs.Queue.{sum, sums, one, All, Alls, turn}
+use Rattle.theory_queues.proofs.QueueLaws.{turn-sums, all-map, alls-map, all-both, alls-both}
+use Rattle.theory_chains.proofs.CountLaws.{is-no, is-yes}
+use Rattle.theory_table.specs.Stored.{clock, VcIs}
+use Rattle.theory_table.proofs.VcLaws.{vc-fits}
+use Rattle.theory_memory.specs.Held.{Queued, vciOf}
+use Rattle.theory_invariant.specs.Invariant.{isOf, waits, Sits, Inv}
+use Rattle.theory_invariant.proofs.AfterLaws.{waits-low}
+use Rattle.theory_invariant.proofs.LengthLaws.{ranges-hold, words-hold}
+
+-- a cell of another VC
+abbrev pub Away : ℕ → Queued → Type 0
+Away u c = vciOf c ≢ u
+
+away-sum : (u : ℕ) (q : List Queued) → All (Away u) q → sum (isOf u) q ≡ 0
+away-sum u [] a = refl
+away-sum u (c ∷ q) a = omega (arith, is-no u (vciOf c) (λ e. a .0 (sym e)), away-sum u q (a .1))
+
+away-sums : (u : ℕ) (r : List (List Queued)) → Alls (Away u) r → sums (isOf u) r ≡ 0
+away-sums u [] a = refl
+away-sums u (q ∷ r) a = omega (arith, away-sum u q (a .0), away-sums u r (a .1))
+
+pub sum-away : (u : ℕ) (q : List Queued) → sum (isOf u) q ≡ 0 → All (Away u) q
+sum-away u [] e = tt
+sum-away u (c ∷ q) e = (λ f. omega (arith, is-yes u (vciOf c) (sym f)), sum-away u q (omega arith))
+
+pub sums-away : (u : ℕ) (r : List (List Queued)) → sums (isOf u) r ≡ 0 → Alls (Away u) r
+sums-away u [] e = tt
+sums-away u (q ∷ r) e = (sum-away u q (omega arith), sums-away u r (omega arith))
+
+-- events that serve no slot more, accept no cell more and send none more
+pub record Still (h h′ : List Event) : Type 0 where
+  pub slots : served h′ ≡ served h
+  pub cells : cellsIn h′ ≡ cellsIn h
+  pub departures : departuresIn h′ ≡ departuresIn h
+
+module _ (N z : ℕ) (h : List Event) (s : State) (i : Inv N z h s) where
+  abbrev now : ℕ
+  now = served h
+
+  abbrev op : ℕ → Option Opening
+  op v = openingOf v h
+
+  -- a refused call changes nothing; nor does another verdict that accepts no cell
+  pub unchanged : (h′ : List Event) → Still h h′ → ((v : ℕ) → openingOf v h′ ≡ openingOf v h) → Inv N z h′ s
+  unchanged h′ same e =
+      record {
+        free = i .free;
+        out = i .out;
+        cal = i .cal;
+        left = i .left;
+        stage = record {
+          ranges = i .stage .ranges;
+          n-is = i .stage .n-is;
+          v-is = i .stage .v-is;
+          t-is = i .stage .t-is ∙ ap clock (sym (same .slots));
+          turn-low = i .stage .turn-low;
+          rotation-is = rw (same .slots) (i .stage .rotation-is);
+          has = i .stage .has;
+          words-long = i .stage .words-long;
+          table = λ v h1 h2. rw (same .slots, e v) (i .stage .table v h1 h2);
+        };
+        raw-low = i .raw-low;
+        mode-low = i .mode-low;
+        good = rw (same .slots) (i .good);
+        sits-out = all-map (Sits z op) (Sits z (λ v. openingOf v h′)) sits (i .out) (i .sits-out);
+        sits-cal = alls-map (Sits z op) (Sits z (λ v. openingOf v h′)) sits (i .cal) (i .sits-cal);
+        seen = same .departures ∙ i .seen;
+        in-time = i .in-time;
+        order = λ v. rw (same .cells) (i .order v);
+        delays = rw (same .cells) (i .delays);
+        left-rise = rw (same .slots) (i .left-rise);
+        cells-rise = rw (same .slots, same .cells) (i .cells-rise);
+      }
+    where
+      sits : (c : Queued) → Sits z op c → Sits z (λ v. openingOf v h′) c
+      sits c p = (p .0, p .1, rw (e (vciOf c)) (p .2))
+
+  -- another opening, or none, for a VC of which no cell is queued
+  module _ (u : ℕ) (u-high : u < z) (away-out : All (Away u) (i .out)) (away-cal : Alls (Away u) (i .cal)) (vc′ : Vc)
+      (new : Option Opening)
+      (is : VcIs N z now u vc′ 0 new) (h′ : List Event) (same : Still h h′) (own : openingOf u h′ ≡ new)
+      (other : (v : ℕ) → v ≢ u → openingOf v h′ ≡ openingOf v h) where
+    nobody : waits u (i .out) (turn (i .cal)) ≡ 0
+    nobody = omega (arith, turn-sums (isOf u) (i .cal), away-sum u (i .out) away-out, away-sums u (i .cal) away-cal)
+
+    each : (v : ℕ) → 1 ≤ v → v < z → Dec (v ≡ u) → VcIs N z (served h′) v (vcAt (writeVc (s .words) u vc′) v)
+        (waits v (i .out) (turn (i .cal))) (openingOf v h′)
+    each v h1 h2 (yes p) =
+        subst (λ (k : ℕ). VcIs N z (served h′) k (vcAt (writeVc (s .words) u vc′) k) (waits k (i .out) (turn (i .cal)))
+        (openingOf k h′)) (sym p)
+        (rw (same .slots, write-read (s .words) u vc′ (omega (arith, i .stage .words-long)), nobody, own) is)
+    each v h1 h2 (no p) = rw (same .slots, write-read-other (s .words) u vc′ v p, other v p) (i .stage .table v h1 h2)
+
+    sits-on : (c : Queued) → Sits z op c × Away u c → Sits z (λ v. openingOf v h′) c
+    sits-on c p = (p .0 .0, p .0 .1, rw (other (vciOf c) (p .1)) (p .0 .2))
+
+    pub renewed : Inv N z h′ (withWords s (writeVc (s .words) u vc′))
+    unfolding withWords
+    renewed =
+        record {
+          free = i .free;
+          out = i .out;
+          cal = i .cal;
+          left = i .left;
+          stage = record {
+            ranges = i .stage .ranges;
+            n-is = i .stage .n-is;
+            v-is = i .stage .v-is;
+            t-is = i .stage .t-is ∙ ap clock (sym (same .slots));
+            turn-low = i .stage .turn-low;
+            rotation-is = rw (same .slots) (i .stage .rotation-is);
+            has = i .stage .has;
+            words-long = write-length (s .words) u vc′ ∙ i .stage .words-long;
+            table = λ v h1 h2. each v h1 h2 (ℕ-discrete v u);
+          };
+          raw-low = i .raw-low;
+          mode-low = i .mode-low;
+          good = rw (same .slots) (i .good);
+          sits-out = all-map (λ c. Sits z op c × Away u c) (Sits z (λ v. openingOf v h′)) sits-on (i .out)
+              (all-both (Sits z op) (Away u) (i .out) (i .sits-out) away-out);
+          sits-cal = alls-map (λ c. Sits z op c × Away u c) (Sits z (λ v. openingOf v h′)) sits-on (i .cal)
+              (alls-both (Sits z op) (Away u) (i .cal) (i .sits-cal) away-cal);
+          seen = same .departures ∙ i .seen;
+          in-time = i .in-time;
+          order = λ v. rw (same .cells) (i .order v);
+          delays = rw (same .cells) (i .delays);
+          left-rise = rw (same .slots) (i .left-rise);
+          cells-rise = rw (same .slots, same .cells) (i .cells-rise);
+        }
+
+  -- ── the refusals that open and close share ──
+  pub fits : (v : ℕ) → 1 ≤ v → v < z → vcFits N (vcAt (s .words) v) ≡ true
+  fits v h1 h2 =
+      vc-fits N z (i .stage .ranges .z-high) now v (vcAt (s .words) v) (waits v (i .out) (turn (i .cal))) (op v)
+      (waits-low v N (i .out) (turn (i .cal))
+      (omega (arith, turn-sums one (i .cal), i .good .room, i .stage .ranges .N-low))) (i .stage .table v h1 h2)
+
+  pub shared-in : (v : ℕ) → 1 ≤ v → v < z → sharedRefusal (s .ctl) (s .words) v ≡ 0
+  unfolding sharedRefusal
+  shared-in v h1 h2 =
+      rw (
+        i .stage .n-is,
+        i .stage .v-is,
+        ranges-hold N z (i .stage .ranges),
+        words-hold z (s .words) (i .stage .words-long),
+        le-leb 1 v h1,
+        lt-ltb v z h2,
+        fits v h1 h2,
+      )
+
+  pub shared-out : (v : ℕ) → 1 ≤? v && v <? z ≡ false → sharedRefusal (s .ctl) (s .words) v ≡ 4
+  unfolding sharedRefusal
+  shared-out v e =
+      rw (
+        i .stage .n-is,
+        i .stage .v-is,
+        ranges-hold N z (i .stage .ranges),
+        words-hold z (s .words) (i .stage .words-long),
+        e,
+      )

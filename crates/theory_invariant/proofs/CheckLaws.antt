@@ -1,0 +1,116 @@
+-- A slot with the header check in front: document 01's slot, in the mode that the check leads to, over what it lets
+-- through. So it keeps the invariant too; a dropped cell is told, and adds no cell.
+use Prim.Native.Nat.{ℕ, _≤_}
+use mathlib.Core.Path.{_≡_, refl, sym, ap, _∙_, subst}
+use mathlib.Core.Bool.{Bool, true, false, _||_}
+use mathlib.Core.List.{List, [], _∷_}
+use lib.ListN.{length}
+use Rattle.base_hec.specs.Modes.{Arriving}
+use Rattle.meaning.specs.Plain.{_=?_}
+use Rattle.meaning.specs.Numbers.{nothing, dropped}
+use Rattle.meaning.specs.State.{State, withRecord, recordInMode, withMode}
+use Rattle.meaning.specs.Work.{Work, workOf, bareAnswer}
+use Rattle.meaning.specs.Slot.{uncheckedSlot, told, slot}
+use Rattle.meaning.proofs.CheckedLaws.{unlent, through-lent, mode-low, dropped-none, fits-low, served-is}
+use Rattle.meaning_runs.specs.Run.{Event, shown, letIn, served}
+use Rattle.meaning_runs.specs.Leak.{accepts, openingOf}
+use Rattle.meaning_runs.specs.Seen.{cellsIn, departuresIn}
+use Rattle.meaning_runs.specs.Judged.{Judged, judgedOf, judgedBy, judged, judgedAs}
+use Rattle.theory_invariant.specs.Invariant.{Inv}
+use Rattle.theory_invariant.proofs.EndLaws.{eventOf}
+use Rattle.theory_invariant.proofs.SlotLaws.{Ran, unchecked-served, unchecked-refused}
+use Rattle.theory_invariant.proofs.CallLaws.{Still, unchanged}
+
+-- the invariant speaks of the mode's range alone
+pub inv-mode : (N z : ℕ) (h : List Event) (s : State) (mode : ℕ) → Inv N z h s → mode ≤ 1 → Inv N z h (withMode s mode)
+unfolding withMode withRecord recordInMode
+inv-mode N z h s mode i low =
+    record {
+      free = i .free;
+      out = i .out;
+      cal = i .cal;
+      left = i .left;
+      stage = record {
+        ranges = i .stage .ranges;
+        n-is = i .stage .n-is;
+        v-is = i .stage .v-is;
+        t-is = i .stage .t-is;
+        turn-low = i .stage .turn-low;
+        rotation-is = i .stage .rotation-is;
+        has = i .stage .has;
+        words-long = i .stage .words-long;
+        table = i .stage .table;
+      };
+      raw-low = i .raw-low;
+      mode-low = low;
+      good = i .good;
+      sits-out = i .sits-out;
+      sits-cal = i .sits-cal;
+      seen = i .seen;
+      in-time = i .in-time;
+      order = i .order;
+      delays = i .delays;
+      left-rise = i .left-rise;
+      cells-rise = i .cells-rise;
+    }
+
+-- what a slot leaves
+pub record Checked (N z : ℕ) (h : List Event) (a : Arriving) (w : Work) : Type 0 where
+  pub inv : Inv N z (eventOf (a .cell) w ∷ h) (w .state)
+  pub number : w .answer .number ≡ 0
+  pub says : judgedOf (w .answer .verdict) (w .answer .vci) (w .answer .d) ≡ judgedAs z h a
+
+-- verdict 4 in place of 0: no cell more, no opening moved, the same slots and departures
+still-dropped : (h : List Event) (cell : List ℕ) (w : Work) → w .answer .verdict ≡ nothing
+    → Still (eventOf cell w ∷ h) (eventOf cell (told true w) ∷ h)
+unfolding served cellsIn departuresIn shown
+still-dropped h cell w e = record { slots = refl; cells = rw e; departures = refl }
+
+opening-dropped : (h : List Event) (cell : List ℕ) (w : Work) → w .answer .verdict ≡ nothing → (v : ℕ)
+    → openingOf v (eventOf cell (told true w) ∷ h) ≡ openingOf v (eventOf cell w ∷ h)
+unfolding openingOf accepts
+opening-dropped h cell w e v = rw e
+
+-- nothing arrives: verdict 0
+judged-none : (z : ℕ) (h : List Event) → judged z h [] ≡ judgedOf nothing 0 0
+unfolding judgedBy
+judged-none z h = refl
+
+told-kept : (N z : ℕ) (h : List Event) (a : Arriving) (w : Work) → (a .dropped ≡ true → a .cell ≡ []) → Ran N z h (a .cell) w
+    → (drop : Bool) → a .dropped ≡ drop → Checked N z h a (told drop w)
+told-kept N z h a w none g false e = record { inv = g .inv; number = g .number; says = rw e (g .says) }
+told-kept N z h a w none g true e =
+    record {
+      inv = unchanged N z (eventOf (a .cell) w ∷ h) (w .state) (g .inv) (eventOf (a .cell) (told true w) ∷ h)
+          (still-dropped h (a .cell) w quiet) (opening-dropped h (a .cell) w quiet);
+      number = g .number;
+      says = rw e;
+    }
+  where
+    quiet : w .answer .verdict ≡ nothing
+    quiet = ap (λ (j : Judged). j .verdict) (g .says ∙ ap (judged z h) (none e) ∙ judged-none z h)
+
+module _ (N z : ℕ) (h : List Event) (s : State) (i : Inv N z h s) (cell : List ℕ) where
+  abbrev a : Arriving
+  a = letIn s cell
+
+  -- a slot that is served, and one that is refused, with 9
+  module _ (lent : length cell =? 0 || length cell =? 53 ≡ true) where
+    unchecked : Ran N z h (a .cell) (uncheckedSlot (withMode s (a .mode)) (a .cell))
+    unchecked =
+        unchecked-served N z h (withMode s (a .mode))
+        (inv-mode N z h s (a .mode) i (mode-low (s .ctl .raw) (s .ctl .mode) cell (i .mode-low)))
+        (a .cell) (through-lent (s .ctl .raw) (s .ctl .mode) cell lent)
+
+    pub slot-is : slot s cell ≡ told (letIn s cell .dropped) (uncheckedSlot (withMode s (letIn s cell .mode)) (letIn s cell .cell))
+    slot-is =
+        served-is s cell lent (fits-low (s .ctl .raw) (s .ctl .mode) cell (i .raw-low) (i .mode-low)) (unchecked .number)
+
+    pub slot-served : Checked N z h (letIn s cell) (slot s cell)
+    slot-served =
+        subst (Checked N z h a) (sym slot-is)
+        (told-kept N z h a (uncheckedSlot (withMode s (a .mode)) (a .cell)) (dropped-none (s .ctl .raw) (s .ctl .mode) cell)
+        unchecked (a .dropped) refl)
+
+  pub slot-refused : length cell =? 0 || length cell =? 53 ≡ false → slot s cell ≡ workOf s (bareAnswer 9)
+  slot-refused lent = unlent s cell lent ∙ unchecked-refused N z h s i cell lent

@@ -1,0 +1,207 @@
+-- Step 5 of a slot, from the invariant: the head of the Output List names an open VC with a cell waiting, so that no test
+-- of refusal 3 fails; it departs with the octets that were accepted.
+use Prim.Native.Nat.{ℕ, suc, _+_, _-_, _≤_, _<_}
+use mathlib.Core.Path.{_≡_, refl, sym, ap, _∙_, subst, subst₂}
+use mathlib.Core.Bool.{true}
+use mathlib.Core.List.{List, [], _∷_, _++_}
+use mathlib.Core.Option.{Option, none, some}
+use native.Mathlib.Decide.{ℕ-discrete}
+use native.Mathlib.Omega.{arith}
+use borrow.Author.Tests.{eq-eqb, le-leb}
+use lib.ListN.{getD}
+use Rattle.meaning.specs.Plain.{next}
+use Rattle.meaning.specs.Numbers.{empty, cellStart, openPlace}
+use Rattle.meaning.specs.State.{State, freeList, outputList, withRecord, recordWith, withLinks, withWords, withFreeList, withOutputList}
+use Rattle.meaning.specs.Header.{Header, headerAt, namesOpenVc}
+use Rattle.meaning.specs.Words.{Vc, vcAt, writeVc, withWaiting}
+use Rattle.meaning.specs.Lists.{Grown, addTail}
+use Rattle.meaning.specs.Work.{Work, answerOf, withState, withVc, withDeparture}
+use Rattle.meaning.specs.Slot.{step5, depart}
+use Rattle.meaning.proofs.WordsLaws.{write-length, write-read, write-read-other}
+use Rattle.meaning_runs.specs.Run.{idle}
+use Rattle.meaning_runs.specs.Leak.{Opening}
+use Rattle.theory_queues.specs.Queue.{sum, sums, one, All}
+use Rattle.theory_chains.proofs.CountLaws.{is-no, is-yes}
+use Rattle.theory_chains.proofs.StrungLaws.{TakenOff}
+use Rattle.theory_table.specs.Stored.{VcIs, OpenVc}
+use Rattle.theory_table.proofs.VcLaws.{left-open}
+use Rattle.theory_memory.specs.Held.{Queued, spaceOf, vciOf, octetsIn}
+use Rattle.theory_memory.proofs.ShownLaws.{header-in, line-cell}
+use Rattle.theory_memory.proofs.HasLaws.{free-fits}
+use Rattle.theory_memory.proofs.MoveLaws.{out-bare, out-marked, out-low, out-taken, departed}
+use Rattle.theory_invariant.specs.Invariant.{isOf, waits, Under, Sits, Stage}
+use Rattle.theory_invariant.specs.Gone.{Gone}
+use Rattle.theory_invariant.proofs.StepLaws.{Goes}
+use Rattle.theory_invariant.proofs.AfterLaws.{waits-low}
+use Rattle.theory_invariant.proofs.ArriveLaws.{names-facts}
+
+module _ (now : ℕ) (op : ℕ → Option Opening) (free : List ℕ) (r : List (List Queued)) where
+  module _ (w : Work) where
+    abbrev s : State
+    s = w .state
+
+    abbrev N : ℕ
+    N = s .ctl .n
+
+    abbrev z : ℕ
+    z = s .ctl .v
+
+    abbrev b : ℕ
+    b = s .ctl .turn + 1
+
+    -- nothing departs
+    idles : Stage N z (suc now) (suc now) b s op free [] r → Goes (step5 w) (Gone N z now op [] r w)
+    unfolding step5
+    idles st =
+        record {
+          work = w;
+          goes = rw (out-bare (omega (arith, st .ranges .N-high)) (st .has));
+          holds = record { free = free; stage = st; departs = refl };
+        }
+
+    module _ (c : Queued) (o : List Queued) (st : Stage N z (suc now) (suc now) b s op free (c ∷ o) r) (sits : Sits z op c)
+        (few : sums one r + sum one (c ∷ o) ≤ N) where
+      abbrev h : Header
+      h = headerAt (c .cell .octets) 0
+
+      abbrev u : ℕ
+      u = h .vci
+
+      abbrev x : ℕ
+      x = s .ctl .outhead
+
+      low : N ≤ empty
+      low = omega (arith, st .ranges .N-high)
+
+      octets-are : octetsIn (s .cells) x ≡ c .cell .octets
+      octets-are = ap (octetsIn (s .cells)) (st .has .out-is .0) ∙ st .has .held-out .0
+
+      header-is : headerAt (s .cells) (cellStart x) ≡ h
+      header-is = header-in (s .cells) x ∙ ap (λ l. headerAt l 0) octets-are
+
+      names : (1 ≤ u) × (u < z)
+      names = names-facts z h (sits .0)
+
+      abbrev vc : Vc
+      vc = vcAt (s .words) u
+
+      abbrev q : ℕ
+      q = sums (isOf u) r + sum (isOf u) o
+
+      one-more : waits u (c ∷ o) r ≡ suc q
+      one-more = omega (arith, is-yes u (vciOf c) (sits .1))
+
+      -- its VC is open, and has a cell waiting
+      pub record Opened : Type 0 where
+        pub opening : Opening
+        pub is : op u ≡ some opening
+        pub vc-open : OpenVc N z (suc now) u vc (suc q) opening
+
+      opened : Opened
+      opened =
+          go (op u) refl (subst (λ (i : ℕ). Under (op i) (c .cell)) (sym (sits .1)) (sits .2))
+          (st .table u (names .0) (names .1))
+        where
+          go : (a : Option Opening) → op u ≡ a → Under a (c .cell) → VcIs N z (suc now) u vc (waits u (c ∷ o) r) a → Opened
+          go none e p k = absurd p
+          go (some a) e p k =
+              record { opening = a; is = e; vc-open = subst (λ (i : ℕ). OpenVc N z (suc now) u vc i a) one-more k }
+
+      is-open : vc .opened ≡ 1
+      is-open = ap (λ (y : Vc). y .opened) (opened .vc-open .is)
+
+      waiting-is : vc .waiting ≡ suc q
+      waiting-is = ap (λ (y : Vc). y .waiting) (opened .vc-open .is)
+
+      names-open : namesOpenVc z (s .words) h ≡ true
+      unfolding namesOpenVc vcAt
+      names-open = rw (sits .0, eq-eqb (getD (s .words) (openPlace u) 0) 1 is-open)
+
+      few-wait : vc .waiting ≤ N
+      few-wait = omega (arith, waiting-is, one-more, waits-low u N (c ∷ o) r few)
+
+      taken : TakenOff spaceOf N low (s .links) (outputList s) o
+      taken = out-taken low (st .has)
+
+      abbrev grown : Grown
+      grown = addTail (s .links) (freeList s) x
+
+      abbrev less : Vc
+      less = withWaiting vc (vc .waiting - 1)
+
+      abbrev work : Work
+      work =
+          let s1 = withOutputList s (taken .left) in
+          let s2 = withLinks (withFreeList s1 (grown .ends)) (grown .links) in
+          withDeparture (withVc (withState w s2) u less) x u
+
+      goes : step5 w ≡ next work
+      unfolding step5 depart withOutputList withLinks withFreeList withWords withRecord recordWith
+      goes =
+          rw (
+            out-marked low (st .has),
+            taken .goes,
+            header-is,
+            names-open,
+            le-leb 1 (vc .waiting) (omega (arith, waiting-is)),
+            le-leb (vc .waiting) N few-wait,
+            free-fits low (st .has),
+          )
+
+      each : (v : ℕ) → 1 ≤ v → v < z → Dec (v ≡ u) → VcIs N z (suc now) v (vcAt (writeVc (s .words) u less) v) (waits v o r)
+          (op v)
+      each v h1 h2 (yes p) =
+          subst (λ (i : ℕ). VcIs N z (suc now) i (vcAt (writeVc (s .words) u less) i) (waits i o r) (op i)) (sym p)
+          (rw (write-read (s .words) u less (omega (arith, st .words-long, names .1)), opened .is)
+          (left-open N z (st .ranges .z-high) (suc now) u vc q (opened .opening) (opened .vc-open)))
+      each v h1 h2 (no p) =
+          rw (write-read-other (s .words) u less v p)
+          (subst (λ (i : ℕ). VcIs N z (suc now) v (vcAt (s .words) v) i (op v)) same (st .table v h1 h2))
+        where
+          same : waits v (c ∷ o) r ≡ waits v o r
+          same = omega (arith, is-no v (vciOf c) (λ e. p (e ∙ sym (sits .1))))
+
+      leaves : Goes (step5 w) (Gone N z now op (c ∷ o) r w)
+      unfolding withOutputList withLinks withFreeList withWords withRecord recordWith
+      leaves =
+          record {
+            work = work;
+            goes = goes;
+            holds = record {
+              free = free ++ c .space ∷ [];
+              stage = record {
+                ranges = st .ranges;
+                n-is = st .n-is;
+                v-is = st .v-is;
+                t-is = st .t-is;
+                turn-low = st .turn-low;
+                rotation-is = st .rotation-is;
+                has = departed low (st .has)
+                    (taken .left) (taken .rest);
+                words-long = write-length (s .words) u less ∙ st .words-long;
+                table = λ v h1 h2. each v h1 h2 (ℕ-discrete v u);
+              };
+              departs = (
+                x,
+                ap (answerOf (w .answer .number) (w .answer .verdict) (w .answer .vci) (w .answer .d) x) (sits .1),
+                out-low low (st .has),
+                line-cell N (st .ranges .N-low) (st .ranges .N-high) (s .cells) idle (st .has .cells-long) refl x
+                    (out-low low (st .has))
+                    ∙ octets-are,
+              );
+            };
+          }
+
+    step5-at : (o : List Queued) → Stage N z (suc now) (suc now) b s op free o r → All (Sits z op) o
+        → sums one r + sum one o ≤ N → Goes (step5 w) (Gone N z now op o r w)
+    step5-at [] st a few = idles st
+    step5-at (c ∷ o) st a few = leaves c o st (a .0) few
+
+  pub step5-goes : (N z : ℕ) (w : Work) (o : List Queued)
+      → Stage N z (suc now) (suc now) (w .state .ctl .turn + 1) (w .state) op free o r → All (Sits z op) o
+      → sums one r + sum one o ≤ N → Goes (step5 w) (Gone N z now op o r w)
+  step5-goes N z w o st =
+      subst₂ (λ (n v : ℕ). Stage n v (suc now) (suc now) (w .state .ctl .turn + 1) (w .state) op free o r
+      → All (Sits v op) o
+      → sums one r + sum one o ≤ n → Goes (step5 w) (Gone n v now op o r w))
+      (st .n-is) (st .v-is) (step5-at w o) st

@@ -1,0 +1,201 @@
+-- Document 01's slot keeps the invariant, is never refused with 3, and says of the arrival what the exact leak rule says.
+-- Steps 1 to 5 one after the other.
+use Prim.Native.Nat.{ℕ, suc, _+_, _-_}
+use mathlib.Core.Path.{_≡_, refl, sym, ap, _∙_, subst, subst₂}
+use mathlib.Core.Bool.{true, false, _||_}
+use mathlib.Core.List.{List, _∷_, _++_, map, tail}
+use mathlib.Core.Option.{Option}
+use native.Mathlib.Omega.{arith}
+use lib.ListN.{length}
+use Rattle.meaning.specs.declared.Answer.{Answer}
+use Rattle.meaning.specs.Plain.{_=?_, next}
+use Rattle.meaning.specs.Numbers.{rangesHold}
+use Rattle.meaning.specs.State.{State, lengthsHold}
+use Rattle.meaning.specs.Work.{Work, workOf, bareAnswer}
+use Rattle.meaning.specs.Slot.{step1, step2, step3, step4, step5, fiveSteps, finish, uncheckedSlot}
+use Rattle.meaning_runs.specs.Run.{Event, ran, shown, served}
+use Rattle.meaning_runs.specs.Leak.{Opening, openingOf}
+use Rattle.meaning_runs.specs.Seen.{Cell, cellsIn, ofVc}
+use Rattle.meaning_runs.specs.Judged.{judgedOf, judged}
+use Rattle.meaning_runs.proofs.OutLaws.{AllOut}
+use Rattle.meaning_runs.proofs.ModeLaws.{Moded, steps-moded}
+use Rattle.theory_queues.specs.Queue.{one, All, Alls, flat, first, turn, Rising, Good, Moved}
+use Rattle.theory_queues.proofs.QueueLaws.{map-append, all-append, all-tail, alls-first, alls-tail, turn-sums}
+use Rattle.theory_queues.proofs.LineLaws.{move, leave}
+use Rattle.theory_queues.proofs.OrderLaws.{ofVc-append}
+use Rattle.theory_memory.specs.Held.{Queued, dueOf}
+use Rattle.theory_invariant.specs.Invariant.{seenAs, cellLeft, cellIn, vciIn, Sits, Stage, InTime, Delayed, Inv}
+use Rattle.theory_invariant.specs.Came.{after, half, Came}
+use Rattle.theory_invariant.specs.Gone.{Departs, Gone}
+use Rattle.theory_invariant.proofs.StepLaws.{Goes, Ticked, step1-goes, step2-goes}
+use Rattle.theory_invariant.proofs.ArriveLaws.{step3-goes}
+use Rattle.theory_invariant.proofs.SendLaws.{Sent, step4-goes}
+use Rattle.theory_invariant.proofs.DepartLaws.{step5-goes}
+use Rattle.theory_invariant.proofs.KeptLaws.{leaving, left-rises, order-kept, cells-ran}
+use Rattle.theory_invariant.proofs.LengthLaws.{ranges-hold, lengths-hold}
+use Rattle.theory_invariant.proofs.EndLaws.{eventOf, Final, final, departs-seen, opened-after, slots-after, in-time-one}
+
+-- what a slot leaves
+pub record Ran (N z : ℕ) (h : List Event) (cell : List ℕ) (w : Work) : Type 0 where
+  pub inv : Inv N z (eventOf cell w ∷ h) (w .state)
+  pub number : w .answer .number ≡ 0
+  pub says : judgedOf (w .answer .verdict) (w .answer .vci) (w .answer .d) ≡ judged z h cell
+
+module _ (N z : ℕ) (h : List Event) (s : State) (i : Inv N z h s) where
+  abbrev now : ℕ
+  now = served h
+
+  abbrev op : ℕ → Option Opening
+  op v = openingOf v h
+
+  -- refusals 1 and 2 are not given
+  pub ranges-at : rangesHold (s .ctl .n) (s .ctl .v) ≡ true
+  ranges-at = rw (i .stage .n-is, i .stage .v-is) (ranges-hold N z (i .stage .ranges))
+
+  pub lengths-at : lengthsHold (s .ctl .n) (s .ctl .v) (s .cells) (s .links) (s .calendar) (s .words) ≡ true
+  lengths-at = rw (i .stage .n-is, i .stage .v-is)
+      (lengths-hold N z (s .cells) (s .links) (s .calendar) (s .words) (i .stage .has .cells-long)
+      (i .stage .has .links-long) (i .stage .has .calendar-long) (i .stage .words-long))
+
+  module _ (cell : List ℕ) where
+    -- from the arrival and the departure to the invariant after the slot
+    module _ (w3 w4 w5 : Work) (came : Came N z now cell op (i .out) (i .cal) w3) (kept : w4 .answer ≡ w3 .answer) where
+      abbrev o1 : List Queued
+      o1 = i .out ++ first (came .r)
+
+      abbrev op′ : ℕ → Option Opening
+      op′ v = after now (came .verdict) (came .vci) op v
+
+      module _ (gone : Gone N z now (λ v. op′ v) o1 (turn (tail (came .r))) w4 w5)
+          (moded : Moded (s .ctl .raw) (s .ctl .mode) w5) where
+        departs : Departs N o1 (half (came .verdict) (came .vci) (came .D)) w5
+        departs = subst (λ (a : Answer). Departs N o1 a w5) (kept ∙ came .says) (gone .departs)
+
+        fin : Final (came .verdict) (came .vci) (came .D) w5
+        fin = final N (came .verdict) (came .vci) (came .D) o1 w5 departs
+
+        abbrev h′ : List Event
+        h′ = eventOf cell w5 ∷ h
+
+        slots-are : served h′ ≡ suc now
+        slots-are = slots-after N (i .stage .ranges .N-high) h cell w5 (came .verdict) (came .vci) (came .D) fin
+
+        openings-are : _≡_ {A = ℕ → Option Opening} (λ v. openingOf v h′) (λ v. op′ v)
+        openings-are = opened-after N (i .stage .ranges .N-high) h cell w5 (came .verdict) (came .vci) (came .D) fin
+
+        cells-are : cellsIn h′ ≡ cellsIn h ++ map cellIn (came .new)
+        cells-are =
+            ap (λ (a : Answer). cellsIn (ran cell a (shown w5) ∷ h)) (fin .says)
+            ∙ cells-ran h cell (came .verdict) (came .vci) (came .D) (fin .x) (fin .dep) (shown w5)
+            ∙ ap (λ l. cellsIn h ++ l) (came .notes)
+
+        line-moved : Moved dueOf (N - 1) now (tail (came .r)) o1
+        line-moved = move dueOf (N - 1) now (came .r) (i .out) (came .arrived)
+
+        inv-after : Inv N z h′ (w5 .state)
+        inv-after =
+            record {
+              free = gone .free;
+              out = tail o1;
+              cal = tail (came .r);
+              left = i .left ++ leaving now o1;
+              stage = subst₂ (λ (k : ℕ) (f : ℕ → Option Opening). Stage N z k k (w5 .state .ctl .turn + 1) (w5 .state) f
+                  (gone .free) (tail o1) (turn (tail (came .r)))) (sym slots-are) (sym openings-are) (gone .stage);
+              raw-low = omega (arith, moded .raw-is, i .raw-low);
+              mode-low = omega (arith, moded .mode-is, i .mode-low);
+              good = subst (λ (k : ℕ). Good dueOf (N - 1) k (tail (came .r)) (tail o1)) (sym slots-are)
+                  (leave dueOf (N - 1) now (tail (came .r)) o1 line-moved);
+              sits-out = subst (λ (f : ℕ → Option Opening). All (Sits z f) (tail o1)) (sym openings-are)
+                  (all-tail (Sits z (λ v. op′ v)) o1
+                  (all-append (Sits z (λ v. op′ v)) (i .out) (first (came .r)) (came .sits-out)
+                  (alls-first (Sits z (λ v. op′ v)) (came .r) (came .sits-cal))));
+              sits-cal = subst (λ (f : ℕ → Option Opening). Alls (Sits z f) (tail (came .r))) (sym openings-are)
+                  (alls-tail (Sits z (λ v. op′ v)) (came .r) (came .sits-cal));
+              seen = departs-seen N (i .stage .ranges .N-high) h cell w5 (came .verdict) (came .vci) (came .D) o1 departs
+                  ∙ ap (λ l. l ++ map seenAs (leaving now o1)) (i .seen)
+                  ∙ sym (map-append seenAs (i .left) (leaving now o1));
+              in-time = all-append (InTime (N - 1)) (i .left) (leaving now o1) (i .in-time)
+                  (in-time-one (N - 1) now (tail (came .r)) o1 line-moved);
+              order = λ v. ap (ofVc vciIn v) cells-are ∙ ofVc-append vciIn v (cellsIn h) (map cellIn (came .new))
+                  ∙ ap (λ l. l ++ ofVc vciIn v (map cellIn (came .new))) (i .order v)
+                  ∙ sym (ofVc-append vciIn v (map cellLeft (i .left) ++ map cellIn (i .out ++ flat (i .cal)))
+                  (map cellIn (came .new)))
+                  ∙ order-kept now v (i .left) (i .out) (i .cal) (came .r) (came .new) (came .order v);
+              delays = rw cells-are
+                  (all-append (Delayed N) (cellsIn h) (map cellIn (came .new)) (i .delays) (came .delays));
+              left-rise = subst (λ (k : ℕ). Rising (λ p. p .slot) 0 k (i .left ++ leaving now o1)) (sym slots-are)
+                  (left-rises now (i .left) o1 (i .left-rise));
+              cells-rise = subst₂ (λ (k : ℕ) (l : List Cell). Rising (λ c. c .arrival) 0 k l) (sym slots-are)
+                  (sym cells-are) (came .rises (cellsIn h) (i .cells-rise));
+            }
+
+        ran-all : Ran N z h cell w5
+        ran-all =
+            record {
+              inv = inv-after;
+              number = ap (λ (a : Answer). a .number) (fin .says);
+              says = ap (λ (a : Answer). judgedOf (a .verdict) (a .vci) (a .d)) (fin .says) ∙ sym (came .judges);
+            }
+
+    -- the five steps, one after the other
+    pub five-steps : length cell =? 0 || length cell =? 53 ≡ true
+        → Goes (fiveSteps cell (workOf s (bareAnswer 0))) (Ran N z h cell)
+    unfolding fiveSteps
+    five-steps fits =
+        record {
+          work = g5 .work;
+          goes = through;
+          holds = ran-all (g3 .work) (g4 .work) (g5 .work) (g3 .holds) (g4 .holds .answer-kept) (g5 .holds) moded;
+        }
+      where
+        w0 : Work
+        w0 = workOf s (bareAnswer 0)
+
+        g1 : Goes (step1 w0) (Ticked op (i .free) (i .out) (turn (i .cal)) now N z now w0)
+        g1 = step1-goes op (i .free) (i .out) (turn (i .cal)) now N z w0 (i .stage)
+
+        g2 : Goes (step2 (g1 .work)) (Ticked op (i .free) (i .out) (turn (i .cal)) now N z (suc now) (g1 .work))
+        g2 = step2-goes op (i .free) (i .out) (turn (i .cal)) now N z (g1 .work) (g1 .holds .stage)
+
+        g3 : Goes (step3 cell (g2 .work)) (Came N z now cell op (i .out) (i .cal))
+        g3 =
+            step3-goes now cell op (i .free) (i .out) (i .cal) N z (g2 .work) (g2 .holds .stage) (i .good) (i .sits-out)
+            (i .sits-cal) (g2 .holds .answer-kept ∙ g1 .holds .answer-kept) fits
+
+        c : Came N z now cell op (i .out) (i .cal) (g3 .work)
+        c = g3 .holds
+
+        op3 : ℕ → Option Opening
+        op3 v = after now (c .verdict) (c .vci) op v
+
+        g4 : Goes (step4 (g3 .work)) (Sent now op3 (c .free) N z (i .out ++ first (c .r)) (turn (tail (c .r))) (g3 .work))
+        g4 = step4-goes now op3 (c .free) (i .out) N z (g3 .work) (c .r) (c .stage)
+
+        mv : Moved dueOf (N - 1) now (tail (c .r)) (i .out ++ first (c .r))
+        mv = move dueOf (N - 1) now (c .r) (i .out) (c .arrived)
+
+        g5 : Goes (step5 (g4 .work)) (Gone N z now op3 (i .out ++ first (c .r)) (turn (tail (c .r))) (g4 .work))
+        g5 = step5-goes now op3 (c .free) (turn (tail (c .r))) N z (g4 .work) (i .out ++ first (c .r)) (g4 .holds .stage)
+            (all-append (Sits z op3) (i .out) (first (c .r)) (c .sits-out) (alls-first (Sits z op3) (c .r) (c .sits-cal)))
+            (omega (arith, turn-sums one (tail (c .r)), mv .room, i .stage .ranges .N-low))
+
+        through : fiveSteps cell w0 ≡ next (g5 .work)
+        through = rw (g1 .goes, g2 .goes, g3 .goes, g4 .goes, g5 .goes)
+
+        moded : Moded (s .ctl .raw) (s .ctl .mode) (g5 .work)
+        moded =
+            subst (AllOut (Moded (s .ctl .raw) (s .ctl .mode))) through
+            (steps-moded (s .ctl .raw) (s .ctl .mode) cell w0 (record { raw-is = refl; mode-is = refl; done = refl }))
+
+    -- a slot that is served, and one that is refused, with 9
+    pub unchecked-served : length cell =? 0 || length cell =? 53 ≡ true → Ran N z h cell (uncheckedSlot s cell)
+    unfolding uncheckedSlot finish
+    unchecked-served fits = subst (Ran N z h cell) (sym is) (five-steps fits .holds)
+      where
+        is : uncheckedSlot s cell ≡ five-steps fits .work
+        is = rw (ranges-at, lengths-at, fits, five-steps fits .goes)
+
+    pub unchecked-refused : length cell =? 0 || length cell =? 53 ≡ false → uncheckedSlot s cell ≡ workOf s (bareAnswer 9)
+    unfolding uncheckedSlot
+    unchecked-refused fits =
+        rw (ranges-at, lengths-at, fits)

@@ -1,0 +1,212 @@
+-- Steps 1 and 2 of a slot, from the invariant: no test of refusal 3 fails, the clock moves on, and the VC that rotation
+-- names is brought up to date.
+use Prim.Native.Nat.{ℕ, suc, _+_, _-_, _*_, _%_, _≤_, _<_}
+use mathlib.Core.Path.{_≡_, refl, sym, ap, _∙_, subst₂}
+use mathlib.Core.Logic.{_≢_}
+use mathlib.Core.List.{List}
+use mathlib.Core.Option.{Option, none, some}
+use native.Mathlib.Nat.{mod-lt}
+use native.Mathlib.Decide.{ℕ-discrete}
+use native.Mathlib.Omega.{arith}
+use borrow.Author.Tests.{eq-eqb, ne-eqb, lt-ltb}
+use lib.ListN.{length}
+use Rattle.meaning.specs.Plain.{Out, next}
+use Rattle.meaning.specs.Numbers.{slotNumbers, wordsPerVc}
+use Rattle.meaning.specs.State.{State, withRecord, recordWith, withClock, withWords}
+use Rattle.meaning.specs.Words.{Vc, vcAt, writeVc, upToDate}
+use Rattle.meaning.specs.Work.{Work, withState, withVc}
+use Rattle.meaning.specs.Slot.{step1, step2}
+use Rattle.meaning.proofs.WordsLaws.{write-length, write-read, write-read-other}
+use Rattle.meaning_runs.specs.Leak.{Opening}
+use Rattle.theory_table.specs.Stored.{stored, VcIs}
+use Rattle.theory_table.proofs.ClockLaws.{slots-many, clock-next, count-next, count-now}
+use Rattle.theory_table.proofs.VcLaws.{pass, word-fits, up-to-date, now-open}
+use Rattle.theory_memory.specs.Held.{Queued}
+use Rattle.theory_memory.proofs.HasLaws.{tick}
+use Rattle.theory_invariant.specs.Invariant.{waits, Stage}
+
+-- a step that is not refused, and what holds then
+pub record Goes (f : Out Work) (P : Work → Type 0) : Type 0 where
+  pub work : Work
+  pub goes : f ≡ next work
+  pub holds : P work
+
+module _ (openings : ℕ → Option Opening) (free : List ℕ) (o : List Queued) (r : List (List Queued)) (now : ℕ) where
+  -- after step 1 the clock is that of the slot; after step 2 the words are too
+  pub record Ticked (N z j : ℕ) (w w′ : Work) : Type 0 where
+    pub answer-kept : w′ .answer ≡ w .answer
+    pub stage : Stage N z (suc now) j (w′ .state .ctl .turn) (w′ .state) openings free o r
+
+  step1-at : (w : Work) → Stage (w .state .ctl .n) (w .state .ctl .v) now now (w .state .ctl .turn + 1) (w .state) openings
+      free o r
+      → Goes (step1 w) (Ticked (w .state .ctl .n) (w .state .ctl .v) now w)
+  unfolding step1 withClock withRecord recordWith
+  step1-at w st =
+      record {
+        work = withState w (withClock s ((s .ctl .t + 1) % slotNumbers) ((s .ctl .turn + 1) % N)
+            ((s .ctl .rotation + 1) % z));
+        goes = rw (lt-ltb (s .ctl .turn) N (st .turn-low), lt-ltb (s .ctl .rotation) z low);
+        holds = record {
+          answer-kept = refl;
+          stage = record {
+            ranges = st .ranges;
+            n-is = refl;
+            v-is = refl;
+            t-is = count-next slotNumbers now (s .ctl .t) (omega (arith, slots-many)) (st .t-is) ∙ sym (clock-next now);
+            turn-low = mod-lt (s .ctl .turn + 1) (st .ranges .N-low);
+            rotation-is = count-next z now (s .ctl .rotation) (omega (arith, st .ranges .z-low)) (st .rotation-is)
+                ∙ count-now z now (omega (arith, st .ranges .z-low));
+            has = tick (omega (arith, st .ranges .N-high)) (st .has);
+            words-long = st .words-long;
+            table = st .table;
+          };
+        };
+      }
+    where
+      s : State
+      s = w .state
+
+      N : ℕ
+      N = s .ctl .n
+
+      z : ℕ
+      z = s .ctl .v
+
+      low : s .ctl .rotation < z
+      low = omega (arith, st .rotation-is, mod-lt (now + (z - 1)) {m = z} (omega (arith, st .ranges .z-low)))
+
+  pub step1-goes : (N z : ℕ) (w : Work) → Stage N z now now (w .state .ctl .turn + 1) (w .state) openings free o r
+      → Goes (step1 w) (Ticked N z now w)
+  step1-goes N z w st =
+      subst₂ (λ (n v : ℕ). Stage n v now now (w .state .ctl .turn + 1) (w .state) openings free o r
+      → Goes (step1 w) (Ticked n v now w))
+      (st .n-is) (st .v-is) (step1-at w) st
+
+  -- ── step 2 ──
+  module _ (w : Work) (st : Stage (w .state .ctl .n) (w .state .ctl .v) (suc now) now (w .state .ctl .turn) (w .state)
+      openings free o r) where
+    abbrev s : State
+    s = w .state
+
+    abbrev N : ℕ
+    N = s .ctl .n
+
+    abbrev z : ℕ
+    z = s .ctl .v
+
+    abbrev rot : ℕ
+    rot = s .ctl .rotation
+
+    at-now : rot ≡ now % z
+    at-now = st .rotation-is ∙ sym (count-now z now (omega (arith, st .ranges .z-low)))
+
+    rot-low : rot < z
+    rot-low = omega (arith, at-now, mod-lt now {m = z} (omega (arith, st .ranges .z-low)))
+
+    -- the words after step 2
+    again : (words : List ℕ) → length words ≡ wordsPerVc * z
+        → ((v : ℕ) → 1 ≤ v → v < z → VcIs N z (suc now) v (vcAt words v) (waits v o r) (openings v))
+        → Stage N z (suc now) (suc now) (s .ctl .turn) (withWords s words) openings free o r
+    unfolding withWords
+    again words len t =
+        record {
+          ranges = st .ranges;
+          n-is = st .n-is;
+          v-is = st .v-is;
+          t-is = st .t-is;
+          turn-low = st .turn-low;
+          rotation-is = st .rotation-is;
+          has = st .has;
+          words-long = len;
+          table = t;
+        }
+
+    passing : (v : ℕ) → 1 ≤ v → v < z → v ≢ rot → VcIs N z (suc now) v (vcAt (s .words) v) (waits v o r) (openings v)
+    passing v h1 h2 ne =
+        pass N z (st .ranges .z-high) now v (vcAt (s .words) v) (waits v o r) (openings v) h2 (λ e. ne (sym e ∙ sym at-now))
+        (st .table v h1 h2)
+
+    kept : ((v : ℕ) → 1 ≤ v → v < z → VcIs N z (suc now) v (vcAt (s .words) v) (waits v o r) (openings v))
+        → Ticked N z (suc now) w w
+    unfolding withWords
+    kept t = record { answer-kept = refl; stage = again (s .words) (st .words-long) t }
+
+    closed-kept : (v : ℕ) (q : ℕ) (a : Option Opening) → a ≡ none → VcIs N z now v (vcAt (s .words) v) q a
+        → VcIs N z (suc now) v (vcAt (s .words) v) q a
+    closed-kept v q none e k = k
+    closed-kept v q (some a) e k = absurd (let y : _≡_ {A = ℕ} 0 1 = cc in omega arith)
+
+    module _ (ne : rot ≢ 0) where
+      visit : (a : Option Opening) → openings rot ≡ a → VcIs N z now rot (vcAt (s .words) rot) (waits rot o r) a
+          → Goes (step2 w) (Ticked N z (suc now) w)
+      unfolding step2 withWords
+      visit none e k =
+          record {
+            work = w;
+            goes = rw (
+              ne-eqb rot 0 ne,
+              word-fits N z (st .ranges .z-high) now rot (vcAt (s .words) rot) (waits rot o r)
+                  none k,
+              eq-eqb (vcAt (s .words) rot .opened) 0 k,
+            );
+            holds = kept (λ v h1 h2. each v h1 h2 (ℕ-discrete v rot));
+          }
+        where
+          each : (v : ℕ) → 1 ≤ v → v < z → Dec (v ≡ rot)
+              → VcIs N z (suc now) v (vcAt (s .words) v) (waits v o r) (openings v)
+          each v h1 h2 (yes p) = closed-kept v (waits v o r) (openings v) (ap openings p ∙ e) (st .table v h1 h2)
+          each v h1 h2 (no p) = passing v h1 h2 p
+      visit (some a) e k =
+          record {
+            work = withVc w rot (stored a (suc now) (waits rot o r));
+            goes = rw (
+              ne-eqb rot 0 ne,
+              word-fits N z (st .ranges .z-high) now rot (vcAt (s .words) rot) (waits rot o r)
+                  (some a) k,
+              ne-eqb (vcAt (s .words) rot .opened) 0 is-open,
+              brought,
+            );
+            holds = record {
+              answer-kept = refl;
+              stage = again (writeVc (s .words) rot new) (write-length (s .words) rot new ∙ st .words-long)
+                  (λ v h1 h2. each v h1 h2 (ℕ-discrete v rot));
+            };
+          }
+        where
+          new : Vc
+          new = stored a (suc now) (waits rot o r)
+
+          brought : upToDate N (s .ctl .t) (vcAt (s .words) rot) ≡ next new
+          brought =
+              ap (λ (t : ℕ). upToDate N t (vcAt (s .words) rot)) (st .t-is ∙ clock-next now)
+              ∙ up-to-date N z (st .ranges .z-high) now now rot (vcAt (s .words) rot) (waits rot o r) a rot-low
+              (omega arith) (omega arith) k
+
+          is-open : vcAt (s .words) rot .opened ≢ 0
+          is-open y = omega (arith, ap (λ (c : Vc). c .opened) (k .is))
+
+          each : (v : ℕ) → 1 ≤ v → v < z → Dec (v ≡ rot)
+              → VcIs N z (suc now) v (vcAt (writeVc (s .words) rot new) v) (waits v o r) (openings v)
+          each v h1 h2 (yes p) =
+              rw (p, write-read (s .words) rot new (omega (arith, st .words-long, rot-low)), e)
+              (now-open N z (st .ranges .z-high) now now rot (vcAt (s .words) rot) (waits rot o r) a (omega arith)
+              (omega arith) k)
+          each v h1 h2 (no p) = rw (write-read-other (s .words) rot new v p) (passing v h1 h2 p)
+
+    stays : rot ≡ 0 → Goes (step2 w) (Ticked N z (suc now) w)
+    unfolding step2
+    stays e = record { work = w; goes = rw (eq-eqb rot 0 e); holds = kept (λ v h1 h2. passing v h1 h2 (omega (arith, e))) }
+
+    step2-at : Goes (step2 w) (Ticked N z (suc now) w)
+    step2-at = go (ℕ-discrete rot 0)
+      where
+        go : Dec (rot ≡ 0) → Goes (step2 w) (Ticked N z (suc now) w)
+        go (yes e) = stays e
+        go (no e) = visit e (openings rot) refl (st .table rot (omega arith) rot-low)
+
+  pub step2-goes : (N z : ℕ) (w : Work) → Stage N z (suc now) now (w .state .ctl .turn) (w .state) openings free o r
+      → Goes (step2 w) (Ticked N z (suc now) w)
+  step2-goes N z w st =
+      subst₂ (λ (n v : ℕ). Stage n v (suc now) now (w .state .ctl .turn) (w .state) openings free o r
+      → Goes (step2 w) (Ticked n v (suc now) w))
+      (st .n-is) (st .v-is) (step2-at w) st

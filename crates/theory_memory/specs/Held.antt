@@ -1,0 +1,50 @@
+-- The memory that holds the line: the Free List, the Output List and the time slot queues share out the N spaces, and
+-- each queued cell's space holds its octets. A proof device.
+--
+--   Queued   == an accepted cell, and the space that it was given
+--   Has      == the lists of spaces are free, o and r, where r is the calendar from the entry b on, modulo N
+use Prim.Native.Nat.{ℕ, _+_, _*_, _%_, _<_}
+use mathlib.Core.Path.{_≡_}
+use mathlib.Core.List.{List, []}
+use lib.ListN.{length, getD, take, drop}
+use Rattle.meaning.specs.State.{Ends}
+use Rattle.meaning.specs.Lists.{entryAt}
+use Rattle.meaning_runs.specs.Seen.{Cell}
+use Rattle.theory_queues.specs.Queue.{sum, sums, one, All, Alls}
+use Rattle.theory_chains.specs.Strung.{is, inside, self, cnt, Strung}
+
+pub record Queued : Type 0 where
+  pub cell : Cell
+  pub space : ℕ
+
+abbrev pub spaceOf : Queued → ℕ
+spaceOf c = c .space
+
+abbrev pub vciOf : Queued → ℕ
+vciOf c = c .cell .vci
+
+abbrev pub dueOf : Queued → ℕ
+dueOf c = c .cell .due
+
+abbrev pub octetsIn : List ℕ → ℕ → List ℕ
+octetsIn cells x = take 53 (drop (53 * x) cells)
+
+abbrev pub Held : List ℕ → Queued → Type 0
+Held cells c = octetsIn cells (c .space) ≡ c .cell .octets
+
+abbrev pub cnts : ℕ → List (List Queued) → ℕ
+cnts k r = sums (λ c. is k (c .space)) r
+
+pub record Has (N b : ℕ) (cells links calendar : List ℕ) (fr out : Ends) (free : List ℕ) (o : List Queued)
+    (r : List (List Queued)) : Type 0 where
+  pub cells-long : length cells ≡ 53 * N
+  pub links-long : length links ≡ N
+  pub calendar-long : length calendar ≡ 2 * N
+  pub wide : length r ≡ N
+  pub free-is : Strung self links fr free
+  pub out-is : Strung spaceOf links out o
+  pub queues-are : (j : ℕ) → j < N → Strung spaceOf links (entryAt calendar ((b + j) % N)) (getD r j [])
+  pub parted : (k : ℕ) → cnt self k free + cnt spaceOf k o + cnts k r ≡ inside k N
+  pub full : sum one free + sum one o + sums one r ≡ N
+  pub held-out : All (Held cells) o
+  pub held-cal : Alls (Held cells) r

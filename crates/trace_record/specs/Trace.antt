@@ -1,0 +1,141 @@
+-- Document 01, "Trace and listing": the records of a trace, and what stands at a place of it.
+--
+--   TraceRecord          == a record, by its mark, with its numbers in document 01's order
+--   Stands               == what stands at a place: a record and the next place, the end, or a refusal with its place
+--   standsAt trace at    == what stands at place at of a trace
+--   saidOf r             == document 01's number and values of the reader's answer r, by case
+use Prim.Native.Nat.{ℕ, _+_, _*_}
+use mathlib.Core.Bool.{Bool, true, false, _&&_}
+use mathlib.Core.List.{List}
+use lib.ListN.{length, getD}
+use Rattle.meaning.specs.Plain.{if_then_else_, _<?_, _≤?_, _=?_}
+use Rattle.meaning.specs.Numbers.{octets}
+use Rattle.trace_record.specs.declared.Event.{Event}
+use Rattle.trace_record.specs.declared.Event.the-variants.{Setup, Open, Close, Cell, Pause}
+use Rattle.trace_record.specs.declared.Found.{Found}
+use Rattle.trace_record.specs.declared.Found.the-variants.{Read, End, Unreadable}
+
+-- "GM: N, V .. VO: VCI, m, F, C. VX: VCI. CA: 53 octets, one slot. SL: a count of empty slots": a CA names the place
+-- where its 53 octets start. Document 02 (i): "a trace beginning GR instead of GM is raw": a GR is a GM that is raw
+pub data TraceRecord : Type 0 where
+  GM : (N z : ℕ) (raw : Bool) → TraceRecord
+  VO : (vci m F C : ℕ) → TraceRecord
+  VX : (vci : ℕ) → TraceRecord
+  CA : (start : ℕ) → TraceRecord
+  SL : (count : ℕ) → TraceRecord
+
+pub data Stands : Type 0 where
+  event : TraceRecord → (next : ℕ) → Stands
+  finish : Stands
+  refusal : (number place : ℕ) → Stands
+
+-- "10: trace: record unreadable, with its place"; "the place is the octet, from 0, where the record starts"
+abbrev pub unreadable : ℕ → Stands
+unreadable at = refusal 10 at
+
+-- "numbers are high octet first": of 16 bits, of 32 bits, from place i
+unfoldable pub be16 : List ℕ → ℕ → ℕ
+be16 trace i = getD trace i 0 * 256 + getD trace (i + 1) 0
+
+unfoldable pub be32 : List ℕ → ℕ → ℕ
+be32 trace i = be16 trace i * 65_536 + be16 trace (i + 2)
+
+-- "Every record begins with a two-octet mark in letters": the two letters' octets, as a number of 16 bits
+abbrev pub markOctets : ℕ
+markOctets = 2
+
+abbrev pub markGM : ℕ
+markGM = 0x474d
+
+abbrev pub markGR : ℕ
+markGR = 0x4752
+
+abbrev pub markVO : ℕ
+markVO = 0x564f
+
+abbrev pub markVX : ℕ
+markVX = 0x5658
+
+abbrev pub markCA : ℕ
+markCA = 0x4341
+
+abbrev pub markSL : ℕ
+markSL = 0x534c
+
+-- the octets of a record, mark included: GM and GR 16 and 16 bits; VO 16, 8, 32 and 32; VX 16; CA 53 octets; SL 16
+abbrev pub longGM : ℕ
+longGM = markOctets + 4
+
+abbrev pub longVO : ℕ
+longVO = markOctets + 11
+
+abbrev pub longVX : ℕ
+longVX = markOctets + 2
+
+abbrev pub longCA : ℕ
+longCA = markOctets + octets
+
+abbrev pub longSL : ℕ
+longSL = markOctets + 2
+
+-- "a short record .. is refused with 10": a record of so many octets that starts at place at
+unfoldable pub whole : List ℕ → ℕ → ℕ → TraceRecord → Stands
+whole trace at long r = if at + long ≤? length trace then event r (at + long) else unreadable at
+
+unfoldable pub setupAt : List ℕ → ℕ → Bool → Stands
+setupAt trace at raw = whole trace at longGM (GM (be16 trace (at + 2)) (be16 trace (at + 4)) raw)
+
+unfoldable pub openAt : List ℕ → ℕ → Stands
+openAt trace at =
+    whole trace at longVO
+    (VO (be16 trace (at + 2)) (getD trace (at + 4) 0) (be32 trace (at + 5)) (be32 trace (at + 9)))
+
+unfoldable pub closeAt : List ℕ → ℕ → Stands
+closeAt trace at = whole trace at longVX (VX (be16 trace (at + 2)))
+
+unfoldable pub cellAt : List ℕ → ℕ → Stands
+cellAt trace at = whole trace at longCA (CA (at + markOctets))
+
+-- "a count (16) of empty slots, at least 1 .. an SL of 0 .. is refused with 10"
+unfoldable pub pauseAt : List ℕ → ℕ → Stands
+pauseAt trace at =
+    if be16 trace (at + 2) =? 0 then unreadable at
+    else whole trace at longSL (SL (be16 trace (at + 2)))
+
+-- "GM .. first and only first .. An unknown mark .. a first record that isn't GM or a later GM is refused with 10"; so is
+-- a later GR
+unfoldable pub firstAt : List ℕ → ℕ → ℕ → Stands
+firstAt trace at mark =
+    if mark =? markGM then setupAt trace at false
+    else if mark =? markGR then setupAt trace at true
+    else unreadable at
+
+unfoldable pub laterAt : List ℕ → ℕ → ℕ → Stands
+laterAt trace at mark =
+    if mark =? markCA then cellAt trace at
+    else if mark =? markSL then pauseAt trace at
+    else if mark =? markVO then openAt trace at
+    else if mark =? markVX then closeAt trace at
+    else unreadable at
+
+-- What stands at a place. First is place 0. The place after the last octet of a trace that isn't empty is its end.
+-- "A place past the trace's end is refused with 10 and that place"; so is an empty trace, at place 0.
+unfoldable pub standsAt : List ℕ → ℕ → Stands
+standsAt trace at =
+    if 1 ≤? at && at =? length trace then finish
+    else if length trace <? at + markOctets then unreadable at
+    else if at =? 0 then firstAt trace at (be16 trace at)
+    else laterAt trace at (be16 trace at)
+
+-- "For any answer that is an enum, a definition gives this paper's number and values for each case."
+abbrev pub recordOf : Event → TraceRecord
+recordOf (Setup n v raw) = GM n v raw
+recordOf (Open vci m f c) = VO vci m f c
+recordOf (Close vci) = VX vci
+recordOf (Cell start) = CA start
+recordOf (Pause slots) = SL slots
+
+abbrev pub saidOf : Found → Stands
+saidOf (Read e next) = event (recordOf e) next
+saidOf End = finish
+saidOf (Unreadable place) = unreadable place
