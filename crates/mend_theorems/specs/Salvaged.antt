@@ -1,6 +1,6 @@
 -- REQUEST (xii) of document 02: mending a damaged trace. To be read first; proofs/Top.antt proves each line of it.
 --
--- crates/mend/specs/Salvage.antt says what is done with a trace: salvage trace, or, where `trace` is the front of an input
+-- crates/mend_step/specs/Salvage.antt says what is done with a trace: salvage trace, or, where `trace` is the front of an input
 -- of n octets, salvageFront trace n; salvageInput is the program's. It is the refusal 17, or pieces ps: kept records and
 -- skipped stretches by first octet and length, in order. writtenOf trace ps is what is written. Promises.antt has the words.
 use Prim.Native.Nat.{ℕ, _+_, _≤_, _<_}

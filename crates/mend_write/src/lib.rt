@@ -8,7 +8,7 @@ ghost use Rattle.mend_step.specs.Salvage.{readsTo};
 ghost use Rattle.mend_fill.specs.Fill.{recordRoom, lineRoom, begun};
 ghost use Rattle.mend_write.specs.Handed.{Handed, MendPromise};
 
-// As `mending` has them: the longest record, the longest line.
+// As `mend_fill` has them: the longest record, the longest line.
 const RECORD_ROOM: usize = 55;
 
 const LINE_ROOM: usize = 42;

@@ -1,4 +1,4 @@
--- The engine beside the policer on the starred cases (crate starred, specs/Table.antt), source 003's Tables I and II among
+-- The engine beside the policer on the starred cases (crate promise_starred, specs/Table.antt), source 003's Tables I and II among
 -- them: of each cell of a VC, the verdict and D that the row gives the policer are the engine's, D being its due time divided
 -- by L, rounded down, less the arrival slot.
 --

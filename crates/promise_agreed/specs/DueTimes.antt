@@ -1,5 +1,5 @@
 -- Document 01, "Due time", of the engine alone: from not started on, each conforming cell's due time is the one that document
--- 01 words, and the verdict is the leak rule's. Document 01's definitions (crate runs, specs/Leak.antt) are folded over what
+-- 01 words, and the verdict is the leak rule's. Document 01's definitions (crate meaning_runs, specs/Leak.antt) are folded over what
 -- the engine itself answered; refused calls move nothing. No policer here.
 --
 --   Timing            == the engine's state, and the opening with the last conforming cell's due time

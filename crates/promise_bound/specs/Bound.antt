@@ -16,7 +16,7 @@
 --   leaving x w ds        == how many of the departures ds are in the slots x to x + w - 1
 -- By demand 3 the k-th departure of a VC is its k-th accepted cell. `later` is part of h: a window that reaches beyond the
 -- close, or into a later opening, still has all cells of this opening. Which cells are accepted, when they are due and what
--- leaves is `runs/Seen`'s to say: a kind of cell or of connection that it counts is counted here, with no word more.
+-- leaves is `meaning_runs/Seen`'s to say: a kind of cell or of connection that it counts is counted here, with no word more.
 use Prim.Native.Nat.{ℕ, _+_, _-_, _*_, _/_, _^_, _≤_, _<_}
 use mathlib.Core.Path.{_≡_}
 use mathlib.Core.Bool.{Bool, _&&_}

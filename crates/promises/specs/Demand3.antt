@@ -2,7 +2,7 @@
 -- open, close and slot, with any arguments, refused ones among them. After every such run the clauses below hold, where h
 -- is what was called and said, the newest first, s the record and memory that the next call gets, and z is V.
 --
--- They speak of the calls and answers alone (crate runs, specs/):
+-- They speak of the calls and answers alone (crate meaning_runs, specs/):
 --   served h             how many slots were served: slot numbers that don't wrap
 --   cellAt v k h         the k-th accepted cell of the VC v, from 0: its arrival slot, the D answered, its octets, and,
 --                        by the leak rule in exact parts of 1/L slot, its due slot. There are `length (cellsOf v h)`

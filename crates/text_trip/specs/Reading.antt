@@ -1,4 +1,4 @@
--- What the reader reads in a whole trace: the events of its records up to its end, over the very reader of crate trace.
+-- What the reader reads in a whole trace: the events of its records up to its end, over the very reader of crate trace_record.
 --
 --   readFrom k trace at  == the events from place at on, of at most k records, or the place that can't be read
 --   read trace           == those of a whole trace

@@ -1,5 +1,5 @@
 // The trace reader: the lent trace together with its place in it. Each function is thin: it takes the reader apart, and
-// the crate trace does the work on a plain slice and a number.
+// the crate trace_record does the work on a plain slice and a number.
 ghost use Rattle.trace_reader.specs.Promises.{makePromise, nextPromise, onPromise, herePromise};
 ghost use Rattle.trace_record.specs.Promises.{eventPromise};
 use trace_record::Found;
