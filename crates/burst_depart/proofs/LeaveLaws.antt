@@ -7,7 +7,7 @@ use mathlib.Core.Bool.{Bool, true, false, not}
 use mathlib.Core.List.{List}
 use native.Mathlib.Omega.{arith}
 use native.Mathlib.Decide.{ℕ-discrete}
-use borrow.Author.Tests.{lt-ltb, eqb-true, eqb-false, ne-eqb, not-true}
+use borrow.Author.Tests.{lt-ltb, eqb-true, eqb-false, eq-eqb, ne-eqb, not-true}
 use lib.ListN.{length, getD}
 use Rattle.meaning.specs.declared.Record.{Record}
 use Rattle.meaning.specs.Plain.{if_then_else_, _<?_, _=?_}
@@ -18,11 +18,11 @@ use Rattle.meaning.specs.Lists.{endsFit}
 use Rattle.meaning.proofs.ListsLaws.{fit-marked, fit-empty}
 use Rattle.leaf_header.specs.Name.{nameOf}
 use Rattle.mem_lists.specs.declared.Off.{Off}
-use Rattle.mem_lists.specs.Spaces.{endsOf, linked, offAs, offOf, Stored, Counted}
-use Rattle.mem_lists.specs.Leaver.{mayGo, namedVc, leaverOf, offFrom}
-use Rattle.mem_lists.proofs.LeaverLaws.{leaver-named, after-same, after-other}
+use Rattle.mem_lists.specs.Spaces.{endsOf, linked, offAs, offOf}
+use Rattle.mem_lists.specs.Leaver.{mayGo, namedVc, leaverOf, offFrom, leaverAfter, offAfter}
+use Rattle.mem_lists.proofs.LeaverLaws.{leaver-named}
 use Rattle.mem_lists.proofs.LinkLaws.{linked-off, linked-own, linked-other, linked-length}
-use Rattle.mem_lists.proofs.OffLaws.{off-is}
+use Rattle.mem_lists.proofs.OffLaws.{off-is, from-same}
 use Rattle.slot_plan.specs.Plan.{joinedLinks, joinedHead}
 use Rattle.slot_plan.proofs.Found as found
 use Rattle.burst_arrive.specs.declared.Spot.{Spot}
@@ -44,6 +44,14 @@ module _ (N : ℕ) (links : List ℕ) (x tail next tail′ : ℕ) (l : Left N li
   left-off z cells words u is ne =
       (left-from u ne ∙ ap (λ (g : ℕ). offFrom N g x next tail) (sym is))
       ∙ off-is N z cells links words x tail next (λ far. l .more far .0)
+
+  -- the same once a cell has been accepted
+  pub left-after : (z : ℕ) (cells words : List ℕ) (own s u : ℕ) → leaverAfter N z cells words own s x ≡ u → u ≢ 0
+      → offAs true x u (endsOf next tail′) ≡ offAfter N z cells links words own s x tail
+  unfolding offAfter
+  left-after z cells words own s u is ne =
+      (left-from u ne ∙ ap (λ (g : ℕ). offFrom N g x next tail) (sym is))
+      ∙ from-same N (leaverAfter N z cells words own s x) x next (getD links x 0) tail (λ far. l .more far .0)
 
   -- other links, but this one
   pub left-links : (links′ : List ℕ) → getD links′ x 0 ≡ getD links x 0 → Left N links′ x tail next tail′
@@ -69,24 +77,27 @@ named-is N z words name = go (name =? 0) (name <? z) (mayGo N words name)
     go false true false ne = absurd (ne refl)
     go false false c ne = absurd (ne refl)
 
-module _ (N z own s : ℕ) (cells words cells′ words′ : List ℕ) (x : ℕ)
-    (few : z ≤ 65536) (some : 1 ≤ own) (below : own < z)
-    (stored : Stored own s cells cells′) (counted : Counted N own words words′)
-  where
-    abbrev name : ℕ
-    name = nameOf (headerAt cells (cellStart x))
+module _ (N z own s : ℕ) (cells words : List ℕ) (x : ℕ) where
+  abbrev name : ℕ
+  name = nameOf (headerAt cells (cellStart x))
 
-    leaver-then : x ≢ s → (u : ℕ) → leaverOf N z cells words x ≡ u → u ≢ 0 → leaverOf N z cells′ words′ x ≡ u
-    leaver-then ne u is ok = go (ℕ-discrete name own)
-      where
-        seen : namedVc N z words name ≡ u
-        seen = leaver-named N z cells words x few ∙ is
+  leaver-then : z ≤ 65536 → x ≢ s → (u : ℕ) → leaverOf N z cells words x ≡ u → u ≢ 0 → leaverAfter N z cells words own s x ≡ u
+  unfolding leaverAfter
+  leaver-then few ne u is ok = go (name =? own) refl
+    where
+      seen : namedVc N z words name ≡ u
+      seen = leaver-named N z cells words x few ∙ is
 
-        go : Dec (name ≡ own) → leaverOf N z cells′ words′ x ≡ u
-        go (yes e) =
-            sym (after-same N z own s cells words cells′ words′ x few some below stored counted ne e)
-            ∙ (sym e ∙ (sym (named-is N z words name (λ q. ok (sym seen ∙ q))) ∙ seen))
-        go (no e) = sym (after-other N z own s cells words cells′ words′ x few some below stored counted ne e) ∙ seen
+      go : (b : Bool) → name =? own ≡ b → leaverAfter N z cells words own s x ≡ u
+      go true e =
+          rw (ne-eqb x s ne, e)
+          (sym (eqb-true name own e) ∙ (sym (named-is N z words name (λ q. ok (sym seen ∙ q))) ∙ seen))
+      go false e = rw (ne-eqb x s ne, e) seen
+
+  -- the cell itself
+  pub leaver-own : x ≡ s → leaverAfter N z cells words own s x ≡ own
+  unfolding leaverAfter
+  leaver-own e = rw (eq-eqb x s e) refl
 
 -- ---- its link, once another has been written
 link-then : (joins : Bool) (i y : ℕ) (named : Bool) (s h : ℕ) (l : List ℕ) (x : ℕ) → x < length l → x ≢ s
@@ -124,18 +135,17 @@ module _ (k : Record) (cells links words : List ℕ) (joins : Bool) (entry : End
         left-off (k .n) joined x (entry .tail) next tail′ l (k .v) cells words u is ok
         ∙ ap (λ (y : ℕ). offOf (k .n) (k .v) cells joined words y (entry .tail)) head
 
-    module _ (p : Spot) (few : k .v ≤ 1024) (low : x < length links) (far : x ≢ p .x) (some : 1 ≤ p .vci) (below : p .vci < k .v) where
+    module _ (p : Spot) (few : k .v ≤ 1024) (low : x < length links) (far : x ≢ p .x) where
       abbrev stored : List ℕ
       stored = linked joins (k .outtail) (entry .head) (linked (not (p .head =? empty)) (p .x) (p .head) links)
 
       pub off-then : OffThen k p cells links words joins entry (offAs true x u (endsOf next tail′))
-      off-then cells′ words′ st ct =
-          left-off (k .n) stored x (entry .tail) next tail′
+      off-then =
+          left-after (k .n) stored x (entry .tail) next tail′
           (left-links (k .n) joined x (entry .tail) next tail′ l stored
           (link-then joins (k .outtail) (entry .head) (not (p .head =? empty)) (p .x) (p .head) links x low far))
-          (k .v) cells′ words′ u
-          (leaver-then (k .n) (k .v) (p .vci) (p .x) cells words cells′ words′ x (omega arith) some below st ct far u is ok) ok
-          ∙ ap (λ (y : ℕ). offOf (k .n) (k .v) cells′ stored words′ y (entry .tail)) head
+          (k .v) cells words (p .vci) (p .x) u (leaver-then (k .n) (k .v) (p .vci) (p .x) cells words x (omega arith) far u is ok) ok
+          ∙ ap (λ (y : ℕ). offAfter (k .n) (k .v) cells stored words (p .vci) (p .x) y (entry .tail)) head
 
 -- ---- a plan with its VC
 module _ (k : Record) (links : List ℕ) (entry : Ends) (o : Leave) (u : ℕ) (Is : Bool → Ends → Off → Type 0)
@@ -213,9 +223,9 @@ module _ (k : Record) (cells links words : List ℕ) (entry : Ends) (o : Leave) 
         (plan-leaves k links entry o u (OffHere k cells links words) plan some
         (λ joins f head l. off-here k cells links words joins f (o .space) (o .next) (o .tail) u is is-vci head l))
 
-    pub later-leaves : (p : Spot) → k .v ≤ 1024 → o .space < length links → o .space ≢ p .x → 1 ≤ p .vci → p .vci < k .v
+    pub later-leaves : (p : Spot) → k .v ≤ 1024 → o .space < length links → o .space ≢ p .x
         → Leaves k entry r (OffThen k p cells links words)
-    later-leaves p few low far one below =
+    later-leaves p few low far =
         subst (λ (q : Leave). Leaves k entry q (OffThen k p cells links words)) (sym e)
         (plan-leaves k links entry o u (OffThen k p cells links words) plan some
-        (λ joins f head l. off-then k cells links words joins f (o .space) (o .next) (o .tail) u is is-vci head l p few low far one below))
+        (λ joins f head l. off-then k cells links words joins f (o .space) (o .next) (o .tail) u is is-vci head l p few low far))

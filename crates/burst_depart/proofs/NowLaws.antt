@@ -15,9 +15,8 @@ use Rattle.meaning.specs.Numbers.{empty}
 use Rattle.meaning.specs.State.{Ends}
 use Rattle.meaning.specs.Lists.{endsFit, entryAt, writeEntry}
 use Rattle.meaning.proofs.ListsLaws.{fit-head, fit-tail, fit-marked, entry-read, entry-other}
-use Rattle.mem_lists.specs.Spaces.{endsOf, linked, offAs, offOf, entryOf}
-use Rattle.mem_lists.specs.Leaver.{leaverOf}
-use Rattle.mem_lists.proofs.LeaverLaws.{after-own}
+use Rattle.mem_lists.specs.Spaces.{endsOf, linked, offAs, entryOf}
+use Rattle.mem_lists.specs.Leaver.{leaverOf, offAfter}
 use Rattle.mem_lists.proofs.LinkLaws.{linked-off, linked-own}
 use Rattle.mem_lists.proofs.PairLaws.{pair-empty}
 use Rattle.slot_plan.specs.Plan.{seatEnds}
@@ -26,7 +25,7 @@ use Rattle.burst_arrive.specs.declared.Spot.{Spot}
 use Rattle.burst_arrive.specs.Arriving.{seatAt}
 use Rattle.burst_depart.specs.declared.Leave.{Leave}
 use Rattle.burst_depart.specs.Leaving.{Left, Planned, Leaves, OffThen}
-use Rattle.burst_depart.proofs.LeaveLaws.{left-off, left-fit, later-leaves}
+use Rattle.burst_depart.proofs.LeaveLaws.{left-after, left-fit, leaver-own, later-leaves}
 use Rattle.burst_depart.proofs.PlanLaws.{joined-alone, joined-some, rest-joins}
 
 fit-none : (N h t : ℕ) → N ≤ 1024 → endsFit N (endsOf h t) ≡ true → h ≡ empty → t ≡ empty
@@ -35,7 +34,7 @@ fit-none N h t few f e = eqb-true t empty (pair-empty N h t (omega arith) e ∙ 
 module _ (k : Record) (p : Spot) (cells links words : List ℕ)
     (n-high : k .n ≤ 1024) (v-high : k .v ≤ 1024) (long : length links ≡ k .n)
     (fits : endsFit (k .n) (endsOf (p .head) (p .tail)) ≡ true) (x-low : p .x < k .n)
-    (one : 1 ≤ p .vci) (below : p .vci < k .v)
+    (one : 1 ≤ p .vci)
   where
     abbrev entry : Ends
     entry = seatEnds (seatAt k p)
@@ -111,15 +110,13 @@ module _ (k : Record) (p : Spot) (cells links words : List ℕ)
 
     alone-off : k .outhead ≡ empty → not (p .tail =? p .x) ≡ true
         → OffThen k p cells links words (not (k .outhead =? empty)) entry (offAs true (p .x) (p .vci) (endsOf (p .head) (p .tail)))
-    alone-off q ok cells′ words′ st ct =
+    alone-off q ok =
         let joins = not (k .outhead =? empty) in
         let stored = linked joins (k .outtail) (entry .head) (linked (not (p .head =? empty)) (p .x) (p .head) links) in
-        left-off (k .n) stored (p .x) (entry .tail) (p .head) (p .tail)
+        left-after (k .n) stored (p .x) (entry .tail) (p .head) (p .tail)
         (left-own joins (k .outtail) (entry .head) (ap not (eq-eqb (k .outhead) empty q)) ok)
-        (k .v) cells′ words′ (p .vci)
-        (sym (after-own (k .n) (k .v) (p .vci) (p .x) cells words cells′ words′ (p .x) (omega arith) one below st ct refl))
-        (λ z. omega arith)
-        ∙ ap (λ (y : ℕ). offOf (k .n) (k .v) cells′ stored words′ y (entry .tail)) (sym head-is ∙ joined-alone k entry q)
+        (k .v) cells words (p .vci) (p .x) (p .vci) (leaver-own (k .n) (k .v) (p .vci) (p .x) cells words (p .x) refl) (λ z. omega arith)
+        ∙ ap (λ (y : ℕ). offAfter (k .n) (k .v) cells stored words (p .vci) (p .x) y (entry .tail)) (sym head-is ∙ joined-alone k entry q)
 
     pub alone-leaves : k .outhead ≡ empty → not (p .tail =? p .x) ≡ true → Leaves k entry alone (OffThen k p cells links words)
     alone-leaves q ok =
@@ -180,7 +177,7 @@ module _ (k : Record) (p : Spot) (cells links words : List ℕ)
 
         pub behind-leaves : not (u =? 0) ≡ true → Leaves k entry behind (OffThen k p cells links words)
         behind-leaves ok =
-            later-leaves k cells links words entry behind u behind planned refl is refl ok p v-high (omega (arith, long, out-low)) far one below
+            later-leaves k cells links words entry behind u behind planned refl is refl ok p v-high (omega (arith, long, out-low)) far
 
 -- ---- entry T once a cell has joined entry (T+D) modulo N
 module _ (N T D : ℕ) (low : T < N) where

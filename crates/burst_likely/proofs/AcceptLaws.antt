@@ -30,14 +30,14 @@ use Rattle.slot_plan.proofs.Steps.{arriving-accepted, seating-goes, seating-sho
 use Rattle.slot_plan.proofs.AcceptCases.{accept-marked-goes, accept-output-goes, accept-shows, seated-marked, seated-output, seated-none}
 use Rattle.slot_plan.proofs.Ends.{accept-served, accept-left}
 use Rattle.burst_out.specs.Handout.{writeAnswer}
-use Rattle.burst_out.proofs.ShowLaws.{shown-cell, shown-none}
+use Rattle.burst_out.proofs.ShowLaws.{shown-cell}
 use Rattle.burst_way.specs.declared.Way.{Way}
 use Rattle.burst_way.specs.Way.{wayWith, slotRecord}
 use Rattle.burst_arrive.specs.declared.Spot.{Spot}
 use Rattle.burst_arrive.specs.Arriving.{judgedAt, seatAt, Spotted}
 use Rattle.burst_depart.specs.declared.Leave.{Leave}
 use Rattle.burst_depart.specs.Leaving.{Goes, OffThen, offAt}
-use Rattle.burst_likely.specs.Served.{from2, Ready, Done}
+use Rattle.burst_likely.specs.Served.{from2, Ready, Done, Silent}
 use Rattle.burst_likely.proofs.EitherLaws.{allowed-long, linked-same, ends-with}
 
 module _ (w : Way) (p : Spot) (cell cells links calendar words : List ℕ) (ready : Ready w cells links calendar words)
@@ -108,15 +108,14 @@ module _ (w : Way) (p : Spot) (cell cells links calendar words : List ℕ) (read
         → calendar′ ≡ calendar₃
         → words′ ≡ words₃
         → answers′ ≡ writeAnswer answers i none-answer
-        → (departures : List ℕ)
-        → 53 * i + 53 ≤ length departures
-        → Done k (from2 k cell cells links calendar words) w′ cells′ links′ calendar′ words′ departures departures answers answers′ i
-    none-done w′ cells′ links′ calendar′ words′ answers answers′ i e o way c l d f told departures inside =
+        → Silent k (from2 k cell cells links calendar words) w′ cells′ links′ calendar′ words′ answers answers′ i
+    none-done w′ cells′ links′ calendar′ words′ answers answers′ i e o way c l d f told =
         record {
           answer = none-answer;
           number = refl;
+          none = refl;
+          allowed = cells-allowed cells′ c;
           is = none-goes e o ∙ ap next (sym (accept-served k b j a cell cells links calendar words served cells′ links′ calendar′ words′ (ends-with w w′ _ _ _ _ way) refl c l d f));
-          shown = sym (shown-none departures i inside cells′ (cells-allowed cells′ c) 65535 refl);
           told = told;
           free = endsOf (p .link) (w .freetail);
           output = outputEnds k;

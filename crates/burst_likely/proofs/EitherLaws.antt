@@ -1,12 +1,12 @@
 -- What a function of a likely way gives back: everything as it came, or a slot served; and laws that the cases of a
 -- served slot share.
-use Prim.Native.Nat.{ℕ, _*_, _/_, _%_, _≤_}
+use Prim.Native.Nat.{ℕ, _+_, _*_, _/_, _%_, _≤_}
 use mathlib.Core.Path.{_≡_, refl, sym, _∙_, ap}
 use mathlib.Core.Bool.{Bool, true, false}
 use mathlib.Core.List.{List}
 use native.Mathlib.Omega.{arith}
 use borrow.Author.Tests.{eq-eqb, le-leb}
-use lib.ListN.{set, take}
+use lib.ListN.{length, set, take}
 use Rattle.meaning.specs.declared.Record.{Record}
 use Rattle.meaning.specs.Plain.{Out}
 use Rattle.meaning.specs.State.{recordWith}
@@ -15,10 +15,11 @@ use Rattle.meaning.specs.Work.{Work}
 use Rattle.mem_lists.specs.Spaces.{endsOf, linked}
 use Rattle.slot_plan.specs.Plan.{withEnds}
 use Rattle.slot_plan.proofs.Found.{no}
+use Rattle.burst_out.proofs.ShowLaws.{shown-none}
 use Rattle.burst_way.specs.declared.Way.{Way}
 use Rattle.burst_way.specs.Way.{wayWith, slotRecord}
 use Rattle.burst_likely.specs.declared.Went.{Went}
-use Rattle.burst_likely.specs.Served.{from2, Done, Either}
+use Rattle.burst_likely.specs.Served.{from2, Done, Silent, Either}
 
 -- a cell memory of this length has an allowed N
 pub allowed-long : (N long : ℕ) → 1 ≤ N → N ≤ 1024 → long ≡ 53 * N → cellsAllowed long ≡ true
@@ -39,6 +40,26 @@ pub ends-with : (w w′ : Way) (freehead freetail outhead outtail : ℕ)
     → slotRecord w′ ≡ withEnds (slotRecord w) (endsOf freehead freetail) (endsOf outhead outtail)
 unfolding withEnds recordWith
 ends-with w w′ freehead freetail outhead outtail e = ap slotRecord e
+
+-- where nothing departs, whatever departures there are stay
+pub silent-done : (k : Record) (target : Out Work) (w′ : Way) (cells′ links′ calendar′ words′ answers answers′ : List ℕ) (i : ℕ)
+    → Silent k target w′ cells′ links′ calendar′ words′ answers answers′ i
+    → (departures : List ℕ)
+    → 53 * i + 53 ≤ length departures
+    → Done k target w′ cells′ links′ calendar′ words′ departures departures answers answers′ i
+silent-done k target w′ cells′ links′ calendar′ words′ answers answers′ i s departures inside =
+    record {
+      answer = s .answer;
+      number = s .number;
+      is = s .is;
+      shown = sym (shown-none departures i inside cells′ (s .allowed) (s .answer .space) (s .none));
+      told = s .told;
+      free = s .free;
+      output = s .output;
+      ends = s .ends;
+      free-fits = s .free-fits;
+      output-fits = s .output-fits;
+    }
 
 -- ---- what a function gives back
 module _ (k : Record) (target : Out Work) (cells links calendar words departures answers : List ℕ) (i : ℕ) (g : Went) where

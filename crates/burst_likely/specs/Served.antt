@@ -3,6 +3,7 @@
 --   from2 k cell ..   == steps 2 to 5, the clock having moved to k
 --   Ready w ..        == what is known where a slot of a run begins
 --   Done ..           == the slot is served: its answer, the memories, the departing cell and the six numbers
+--   Silent ..         == the same where nothing departs
 use Prim.Native.Nat.{ℕ, _+_, _*_, _≤_}
 use mathlib.Core.Path.{_≡_}
 use mathlib.Core.Bool.{true, false}
@@ -11,7 +12,8 @@ use lib.ListN.{length, getD, take, drop}
 use Rattle.meaning.specs.declared.Record.{Record}
 use Rattle.meaning.specs.declared.Answer.{Answer}
 use Rattle.meaning.specs.Plain.{Out, next, _andThen_}
-use Rattle.meaning.specs.Numbers.{octets, cellStart, fPlace, waitingPlace}
+use Rattle.meaning.specs.Numbers.{octets, cellStart, empty, fPlace, waitingPlace}
+use Rattle.meaning.specs.Line.{cellsAllowed}
 use Rattle.meaning.specs.State.{Ends, stateOf}
 use Rattle.meaning.specs.Lists.{endsFit}
 use Rattle.meaning.specs.Work.{Work, workOf, bareAnswer}
@@ -55,6 +57,20 @@ pub record Done (k : Record) (target : Out Work) (w′ : Way) (cells′ links′
   pub free-fits : endsFit (k .n) free ≡ true
   pub output-fits : endsFit (k .n) output ≡ true
 
+-- the same where nothing departs, so that no octet of departures is written
+pub record Silent (k : Record) (target : Out Work) (w′ : Way) (cells′ links′ calendar′ words′ answers answers′ : List ℕ) (i : ℕ) : Type 0 where
+  pub answer : Answer
+  pub number : answer .number ≡ 0
+  pub none : answer .space ≡ empty
+  pub allowed : cellsAllowed (length cells′) ≡ true
+  pub is : target ≡ next (workOf (stateOf (slotRecord w′) cells′ links′ calendar′ words′) answer)
+  pub told : answers′ ≡ writeAnswer answers i answer
+  pub free : Ends
+  pub output : Ends
+  pub ends : slotRecord w′ ≡ withEnds k free output
+  pub free-fits : endsFit (k .n) free ≡ true
+  pub output-fits : endsFit (k .n) output ≡ true
+
 pub record Either (k : Record) (target : Out Work) (g : Went) (cells links calendar words departures answers cells′ links′ calendar′ words′ departures′ answers′ : List ℕ) (i : ℕ) : Type 0 where
   pub went : g .ok ≡ true → Done k target (g .way) cells′ links′ calendar′ words′ departures departures′ answers answers′ i
   pub stayed : g .ok ≡ false
@@ -83,12 +99,11 @@ ServedBy w cell s cells links calendar words departures answers i =
     (cells .exit .now) (links .exit .now) (calendar .exit .now) (words .exit .now)
     (departures .entry .now) (departures .exit .now) (answers .entry .now) (answers .exit .now) i
 
--- served, and nothing departs: whatever departures there are, they stay
+-- served, and nothing departs
 abbrev pub ServedSilent : Way → List ℕ → Way → Lent → Lent → Lent → Lent → Lent → ℕ → Type 0
-ServedSilent w cell s cells links calendar words answers i = (departures : List ℕ) → cellStart i + octets ≤ length departures
-    → Done (slotRecord w) (fromHere w cell cells links calendar words) s
-    (cells .exit .now) (links .exit .now) (calendar .exit .now) (words .exit .now)
-    departures departures (answers .entry .now) (answers .exit .now) i
+ServedSilent w cell s cells links calendar words answers i =
+    Silent (slotRecord w) (fromHere w cell cells links calendar words) s
+    (cells .exit .now) (links .exit .now) (calendar .exit .now) (words .exit .now) (answers .entry .now) (answers .exit .now) i
 
 abbrev pub ServedOrLeft : Way → List ℕ → Went → Lent → Lent → Lent → Lent → Lent → Lent → ℕ → Type 0
 ServedOrLeft w cell g cells links calendar words departures answers i =

@@ -20,7 +20,9 @@ use Rattle.slot_arrive.specs.Arrival.{fallen, filled}
 use Rattle.mem_lists.specs.declared.Seat.{Seat}
 use Rattle.mem_lists.specs.declared.Off.{Off}
 use Rattle.mem_lists.specs.Spaces.{endsOf, linked, offOf, Stored, Counted}
+use Rattle.mem_lists.specs.Leaver.{offAfter}
 use Rattle.mem_lists.proofs.After.{stored, kept-fall, counted}
+use Rattle.mem_lists.proofs.OffLaws.{off-after-is}
 use Rattle.slot_plan.specs.Plan.{withEnds, rotated, acceptWork, seatEnds, leftBy, leaving, joinedLinks, joinedHead, offMarked, offUnmarked, leavingMarked, leavingOutput}
 use Rattle.slot_plan.specs.Facts.{Sized, Accepted, Seated, OffStored}
 use Rattle.slot_plan.proofs.Cases.{leaving-go, leaving-off, output-head, unfit-entry, marked, output, none}
@@ -55,6 +57,14 @@ module _ (k : Record) (b : Fall) (j : Judged) (a : Seat) (cell cells links calen
     unfolding acceptWork withEnds recordWith
     free-fits = seat .free-fits
 
+    -- what departs, judged in memory as it came, is what departs once the cell is stored and counted
+    then-is : (joins : Bool) (entry : Ends) (o : Off) → OffStored k j a cells links words joins entry o
+        → o ≡ offOf (k .n) (k .v) cells₃ (linked joins (k .outtail) (entry .head) links₃) words₃ (joinedHead k entry) (entry .tail)
+    then-is joins entry o is =
+        is
+        ∙ off-after-is (k .n) (k .v) (j .vci) (a .x) cells (linked joins (k .outtail) (entry .head) links₃) words cells₃ words₃
+        (joinedHead k entry) (entry .tail) (omega (arith, z .v-high)) (acc .vci-low) (acc .vci-high) is-stored is-counted
+
     -- entry T is then marked, and is as it joins the Output List
     module _ (entry : Ends) (o : Off) (is : OffStored k j a cells links words (not (k .outhead =? empty)) entry o) where
       abbrev links₄ : List ℕ
@@ -65,7 +75,7 @@ module _ (k : Record) (b : Fall) (j : Judged) (a : Seat) (cell cells links calen
 
       off-is : offMarked accept-work entry ≡ o
       unfolding offMarked acceptWork withEnds recordWith joinedLinks joinedHead
-      off-is = sym (is cells₃ words₃ is-stored is-counted)
+      off-is = sym (then-is (not (k .outhead =? empty)) entry o is)
 
       marked-is : leavingMarked accept-work entry ≡ leaving accept-work links₄ calendar₄ o
       unfolding leavingMarked joinedLinks acceptWork withEnds recordWith
@@ -86,7 +96,7 @@ module _ (k : Record) (b : Fall) (j : Judged) (a : Seat) (cell cells links calen
       unfolding offUnmarked acceptWork withEnds recordWith linked
       unmarked-is =
           ap (λ (x : ℕ). offOf (k .n) (k .v) cells₃ links₃ words₃ x (k .outtail)) (sym (output-head k (endsOf 0 (k .outtail)) (z .n-high) low))
-          ∙ sym (is cells₃ words₃ is-stored is-counted)
+          ∙ sym (then-is false (endsOf 0 (k .outtail)) o is)
 
       output-is : leavingOutput accept-work ≡ leaving accept-work links₃ calendar₃ o
       unfolding leavingOutput acceptWork withEnds recordWith
@@ -104,7 +114,7 @@ module _ (k : Record) (b : Fall) (j : Judged) (a : Seat) (cell cells links calen
     pub accept-shows : (joins : Bool) (entry : Ends) (o : Off) → OffStored k j a cells links words joins entry o → o .ok ≡ true
         → (o .vci < k .v) × (1 ≤ getD words₃ (waitingPlace (o .vci)) 0)
     accept-shows joins entry o is e =
-        let q = is cells₃ words₃ is-stored is-counted in
+        let q = then-is joins entry o is in
         rw q
         (off-shows (k .n) (k .v) cells₃ (linked joins (k .outtail) (entry .head) links₃) words₃ (joinedHead k entry) (entry .tail) (ap (λ (y : Off). y .ok) (sym q) ∙ e))
 
@@ -137,7 +147,7 @@ module _ (k : Record) (b : Fall) (j : Judged) (a : Seat) (cell cells links calen
 -- what departs, its list's head having been worked out
 pub off-first : (k : Record) (j : Judged) (a : Seat) (cells links words : List ℕ) (joins : Bool) (entry : Ends) (x : ℕ) (o : Off)
     → x ≡ joinedHead k entry
-    → ((cells′ words′ : List ℕ) → Stored (j .vci) (a .x) cells cells′ → Counted (k .n) (j .vci) words words′
-    → o ≡ offOf (k .n) (k .v) cells′ (linked joins (k .outtail) (entry .head) (linked (not (a .head =? empty)) (a .x) (a .head) links)) words′ x (entry .tail))
+    → o
+    ≡ offAfter (k .n) (k .v) cells (linked joins (k .outtail) (entry .head) (linked (not (a .head =? empty)) (a .x) (a .head) links)) words (j .vci) (a .x) x (entry .tail)
     → OffStored k j a cells links words joins entry o
-off-first k j a cells links words joins entry x o e f = λ cells′ words′ s n. rw (← e) (f cells′ words′ s n)
+off-first k j a cells links words joins entry x o e f = rw (← e) f

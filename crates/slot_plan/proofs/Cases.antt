@@ -6,16 +6,16 @@ use mathlib.Core.Logic.{_≢_}
 use mathlib.Core.Bool.{Bool, true, false, _&&_}
 use mathlib.Core.List.{List}
 use native.Mathlib.Omega.{arith}
-use borrow.Author.Tests.{eq-eqb, ne-eqb, eqb-false}
+use borrow.Author.Tests.{eq-eqb, ne-eqb, eqb-true, eqb-false}
 use lib.ListN.{length, getD}
 use Rattle.meaning.specs.declared.Record.{Record}
 use Rattle.meaning.specs.Plain.{if_then_else_, _=?_, Out, refused, next, _andThen_}
 use Rattle.meaning.specs.Numbers.{empty, excess}
 use Rattle.meaning.specs.State.{Ends, freeList, outputList}
-use Rattle.meaning.specs.Lists.{isEmpty, endsFit, entryAt, writeEntry}
+use Rattle.meaning.specs.Lists.{emptyList, isEmpty, endsFit, entryAt, writeEntry}
 use Rattle.meaning.specs.Work.{Work}
 use Rattle.meaning.specs.Slot.{step4, step5}
-use Rattle.meaning.proofs.ListsLaws.{fit-head, entry-read, entry-other}
+use Rattle.meaning.proofs.ListsLaws.{fit-head, fit-empty, entry-read, entry-other}
 use Rattle.slot_arrive.specs.declared.Fall.{Fall}
 use Rattle.slot_arrive.specs.declared.Judged.{Judged}
 use Rattle.slot_arrive.specs.Arrival.{fallen}
@@ -23,7 +23,7 @@ use Rattle.mem_lists.specs.declared.Seat.{Seat}
 use Rattle.mem_lists.specs.declared.Off.{Off}
 use Rattle.mem_lists.specs.Spaces.{endsOf, offOf}
 use Rattle.mem_lists.proofs.After.{Kept, kept-fall}
-use Rattle.slot_plan.specs.Plan.{rotated, quietWork, seatEnds, leftBy, leaving, joinedLinks, joinedHead, offMarked, offUnmarked, leavingMarked, leavingOutput}
+use Rattle.slot_plan.specs.Plan.{rotated, quietWork, seatEnds, leftBy, leaving, joinedLinks, joinedHead, offMarked, offUnmarked, leavingMarked, leavingOutput, leavingUnmarked}
 use Rattle.slot_plan.proofs.Leave.{leave-unfit, leave-marked, leave-output, leave-none}
 use Rattle.slot_plan.proofs.Off.{off-kept}
 
@@ -57,6 +57,32 @@ module _ (w : Work) (entry : Ends) (is : entryAt (w .state .calendar) (w .state 
 
     pub none : entry .head ≡ empty → w .state .ctl .outhead ≡ empty → (step4 w andThen step5) ≡ next w
     none e o = leave-none w fits (ap isEmpty is ∙ eq-eqb (entry .head) empty e) (eq-eqb _ _ o)
+
+-- ---- where entry T is empty: the Output List alone says which case it is
+module _ (w : Work) where
+  pub unmarked-unfit : endsFit (w .state .ctl .n) (outputList (w .state)) ≡ false → leavingUnmarked w ≡ refused
+  unfolding leavingUnmarked
+  unmarked-unfit e = rw e
+
+  module _ (fits : endsFit (w .state .ctl .n) (outputList (w .state)) ≡ true) where
+    pub unmarked-none : w .state .ctl .outhead ≡ empty → leavingUnmarked w ≡ next w
+    unfolding leavingUnmarked
+    unmarked-none e = rw (fits, eq-eqb _ _ e)
+
+    pub unmarked-output : w .state .ctl .outhead ≢ empty → leavingUnmarked w ≡ leavingOutput w
+    unfolding leavingUnmarked
+    unmarked-output ne = rw (fits, ne-eqb _ _ ne)
+
+  pub unmarked : entryAt (w .state .calendar) (w .state .ctl .turn) ≡ emptyList → (step4 w andThen step5) ≡ leavingUnmarked w
+  unmarked is = go (endsFit (w .state .ctl .n) (outputList (w .state))) (w .state .ctl .outhead =? empty) refl refl
+    where
+      go : (f e : Bool) → endsFit (w .state .ctl .n) (outputList (w .state)) ≡ f → w .state .ctl .outhead =? empty ≡ e
+          → (step4 w andThen step5) ≡ leavingUnmarked w
+      go false e p q = unfit-output w emptyList is p ∙ sym (unmarked-unfit p)
+      go true true p q =
+          none w emptyList is (fit-empty _) p refl (eqb-true _ _ q) ∙ sym (unmarked-none p (eqb-true _ _ q))
+      go true false p q =
+          output w emptyList is (fit-empty _) p refl (eqb-false _ _ q) ∙ sym (unmarked-output p (eqb-false _ _ q))
 
 -- ---- what departs, or not
 pub leaving-go : (w : Work) (links calendar : List ℕ) (o : Off) → o .ok ≡ true → endsFit (w .state .ctl .n) (freeList (w .state)) ≡ true

@@ -3,7 +3,7 @@
 --   Sized s          == refusals 1 and 2 are not given, and the clock has moved
 --   Accepted k j ..  == of an accepted cell: its VC, its D and its waiting
 --   Seated k a       == of an accepted cell: its space and entry, and the Free List without the space
---   OffStored k ..   == what departs, for every memory in which the cell is stored and counted
+--   OffStored k ..   == what departs once the cell is stored and counted, from memory as it came
 use Prim.Native.Nat.{ℕ, _*_, _≤_, _<_}
 use mathlib.Core.Path.{_≡_}
 use mathlib.Core.Bool.{Bool, true, not}
@@ -19,7 +19,8 @@ use Rattle.meaning.specs.Lists.{endsFit}
 use Rattle.slot_arrive.specs.declared.Judged.{Judged}
 use Rattle.mem_lists.specs.declared.Seat.{Seat}
 use Rattle.mem_lists.specs.declared.Off.{Off}
-use Rattle.mem_lists.specs.Spaces.{endsOf, linked, offOf, Stored, Counted}
+use Rattle.mem_lists.specs.Spaces.{endsOf, linked}
+use Rattle.mem_lists.specs.Leaver.{offAfter}
 use Rattle.slot_plan.specs.Plan.{joinedHead}
 
 pub record Sized (s : State) : Type 0 where
@@ -54,6 +55,6 @@ pub record Seated (k : Record) (a : Seat) : Type 0 where
 -- entry is what has joined the Output List, where joins: the cell's header and its VC's words need no second reading
 abbrev pub OffStored : Record → Judged → Seat → List ℕ → List ℕ → List ℕ → Bool → Ends → Off → Type 0
 OffStored k j a cells links words joins entry o =
-    (cells′ words′ : List ℕ) → Stored (j .vci) (a .x) cells cells′ → Counted (k .n) (j .vci) words words′
-    → o
-    ≡ offOf (k .n) (k .v) cells′ (linked joins (k .outtail) (entry .head) (linked (not (a .head =? empty)) (a .x) (a .head) links)) words′ (joinedHead k entry) (entry .tail)
+    o
+    ≡ offAfter (k .n) (k .v) cells (linked joins (k .outtail) (entry .head) (linked (not (a .head =? empty)) (a .x) (a .head) links)) words
+    (j .vci) (a .x) (joinedHead k entry) (entry .tail)

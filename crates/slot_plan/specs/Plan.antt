@@ -127,6 +127,12 @@ leavingMarked w entry =
 unfoldable pub leavingOutput : Work → Out Work
 leavingOutput w = leaving w (w .state .links) (w .state .calendar) (offUnmarked w)
 
+-- the same where entry T is not marked, whatever the Output List is
+unfoldable pub leavingUnmarked : Work → Out Work
+leavingUnmarked w =
+    let r = w .state .ctl in
+    if endsFit (r .n) (outputEnds r) then (if r .outhead =? empty then next w else leavingOutput w) else refused
+
 -- what a case of the code gives back, with the memories as it leaves them
 abbrev pub servedWork : Served → List ℕ → List ℕ → List ℕ → List ℕ → Work
 servedWork s cells links calendar words = workOf (stateOf (s .ctl) cells links calendar words) (s .answer)

@@ -7,11 +7,11 @@ ghost use lib.ListN.{length, getD};
 ghost use Rattle.meaning.specs.Plain.{_=?_};
 ghost use Rattle.meaning.specs.Numbers.{excess, waitingPlace, mostN, mostV, octets, wordsIn};
 ghost use Rattle.meaning.specs.State.{HasVc};
-ghost use Rattle.meaning.specs.Lists.{emptyList, endsFit, entryAt};
+ghost use Rattle.meaning.specs.Lists.{endsFit};
 ghost use Rattle.meaning.specs.Lent.{here, before, Gives};
 ghost use Rattle.slot_arrive.specs.Arrival.{fallen};
 ghost use Rattle.mem_lists.specs.Spaces.{endsOf, offOf};
-ghost use Rattle.slot_plan.specs.Plan.{rotated, joinedLinks, joinedHead, leavingMarked, leavingOutput};
+ghost use Rattle.slot_plan.specs.Plan.{rotated, joinedLinks, joinedHead, leavingMarked, leavingOutput, leavingUnmarked};
 ghost use Rattle.slot_plan.specs.Works.{quietOf, lastSteps};
 ghost use Rattle.slot_plan.specs.Facts.{Sized};
 ghost use Rattle.slot_quiet.specs.Quiet.{EndsWith, GivesWith, KeepsWith};
@@ -178,7 +178,7 @@ fn quiet_unmarked(
 ) -> Served
     requires { ⌜ (k .n ≤ mostN) × (k .v ≤ mostV) × (length (now cells) ≡ octets * k .n) × (length (now links) ≡ k .n) × (length (now words) ≡ wordsIn (k .v)) × (k .rotation < k .v) ⌝ }
     requires { ⌜ (j .verdict =? excess ≡ true → j .vci < k .v) ⌝ }
-    ensures { λ s. ⌜ ((calendar : List ℕ) → entryAt calendar (k .turn) ≡ emptyList → GivesWith calendar r k b j lastSteps s cells links words) ⌝ }
+    ensures { λ s. ⌜ ((calendar : List ℕ) → GivesWith calendar r k b j leavingUnmarked s cells links words) ⌝ }
 {
     if k.outhead == 65535 {
         if k.outtail != 65535 {

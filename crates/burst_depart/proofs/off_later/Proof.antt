@@ -59,8 +59,6 @@ returns-4 c =
     (from .pre .0 .v-high)
     (low-in _ (a .w .n) _ (plan-low k (a .links .now) entry o plan (c .before .before .before .before .before .if2 .left)) (from .pre .0 .links-long))
     (c .before .before .if3 .left)
-    (from .pre .1 .1)
-    (from .pre .1 .2)
 
 pub off-later-spec : {M : Type 1} → statement M
 off-later-spec =

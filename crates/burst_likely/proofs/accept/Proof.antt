@@ -1,7 +1,7 @@
 -- `burst_likely::accept` meets its contract: where something was left the likely way nothing is written, else one of the two cases is.
 use denote.Ref.{now}
 use borrow.Author.Tests.{not-false}
-use Rattle.burst_likely.proofs.EitherLaws.{either-odd, either-gone}
+use Rattle.burst_likely.proofs.EitherLaws.{silent-done, either-odd, either-gone}
 use borrow.Author.Needs.{needs}
 use Rattle.burst_likely.proofs.accept.Statement.{statement}
 use Rattle.burst_likely.proofs.accept.Tie as tie
@@ -39,7 +39,7 @@ returns-2 c =
     let start = case .before .before .before .before .before .before .before .before .before .before .before .before .before .before .before .before .before .before .before .before .before in
     let a = start .args in
     either-gone _ _ _ _ _ _ _ _ _ _ _ _ _ _ _ _ _ (c .gone .ensures)
-    (case .accept-none .ensures (now (a .departures)) (start .pre .1 .1 .1 .1 .departure))
+    (silent-done _ _ _ _ _ _ _ _ _ _ (case .accept-none .ensures) (now (a .departures)) (start .pre .1 .1 .1 .1 .departure))
 
 accept-leave-requires : tie.Need-accept-leave-requires
 accept-leave-requires c κs =

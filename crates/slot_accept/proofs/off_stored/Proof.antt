@@ -1,8 +1,5 @@
 -- `slot_accept::off_stored` meets its contract: it hands on what departs, the head of the joined list being worked out first.
-use mathlib.Core.Path.{_∙_}
-use native.Mathlib.Omega.{arith}
 use denote.Ref.{now}
-use Rattle.mem_lists.proofs.OffLaws.{off-after-is}
 use Rattle.mem_lists.specs.Spaces.{endsOf}
 use Rattle.slot_plan.specs.Plan.{joinedHead}
 use Rattle.slot_plan.proofs.AcceptCases.{off-first}
@@ -22,13 +19,9 @@ unfolding joinedHead
 returns c =
     let start = c .before .before .before .before .before .before in
     let a = start .args in
-    let p = start .pre .0 in
     off-first (a .k) (a .j) (a .a) (now (a .cells)) (now (a .links)) (now (a .words)) (a .joins) (endsOf (a .head) (a .tail))
     (c .before .before .first-of .result) (c .off-after .result) (c .before .before .first-of .ensures)
-    (λ cells′ words′ stored counted.
-    c .off-after .ensures
-    ∙ off-after-is (a .k .n) (a .k .v) (a .j .vci) (a .a .x) (now (a .cells)) _ (now (a .words)) cells′ words′ _ (a .tail)
-    (omega (arith, p .1)) (p .2) (p .3) stored counted)
+    (c .off-after .ensures)
 
 pub off-stored-spec : {M : Type 1} → statement M
 off-stored-spec = tie.close (tie.spec (λ c κs. search needs) off-after-requires returns)

@@ -6,7 +6,7 @@ use Rattle.meaning.specs.Lists.{entryAt}
 use Rattle.meaning.specs.Slot.{finish}
 use Rattle.mem_lists.proofs.PairLaws.{head-high, tail-high, both-low, tail-left}
 use Rattle.slot_plan.specs.Plan.{quietWork}
-use Rattle.slot_plan.proofs.Cases.{unfit-entry, unfit-output, marked}
+use Rattle.slot_plan.proofs.Cases.{unfit-entry, unfit-output, marked, unmarked}
 use Rattle.slot_plan.proofs.Ends.{as-came, shown, not-shown}
 use Rattle.slot_plan.proofs.QuietCases.{quiet-work, quiet-entry}
 use borrow.Author.Needs.{needs}
@@ -26,14 +26,17 @@ returns c =
     (tail-left _ _ _ (start .pre .0 .n-high) (at-if1 .if1 .taken) (at-if2 .if2 .taken)))
 
 returns-2 : tie.Need-returns-2
-unfolding entryAt
+unfolding quietWork entryAt
 returns-2 c =
     let at-quiet-unmarked = c .before .before .before .before in
     let at-if2 = at-quiet-unmarked .before .before .before in
     let at-if1 = at-if2 .before in
     let start = at-if1 .before .before .before .before .before .before .before .before in
-    at-quiet-unmarked .quiet-unmarked .ensures (now (start .args .calendar))
-    (λ i. record { head = at-if1 .if1 .taken i; tail = at-if2 .if2 .left i })
+    let a = start .args in
+    at-quiet-unmarked .quiet-unmarked .ensures (now (a .calendar))
+    ∙ ap (finish (stateOf (a .r) (now (a .cells)) (now (a .links)) (now (a .calendar)) (now (a .words))))
+    (sym (unmarked (quiet-work (a .k) (a .b) (a .j) (now (a .cells)) (now (a .links)) (now (a .calendar)) (now (a .words)))
+    (λ i. record { head = at-if1 .if1 .taken i; tail = at-if2 .if2 .left i })))
 
 returns-3 : tie.Need-returns-3
 unfolding quietWork

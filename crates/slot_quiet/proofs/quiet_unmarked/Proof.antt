@@ -1,13 +1,11 @@
--- `slot_quiet::quiet_unmarked` meets its contract: entry T is empty and fits, so the Output List's ends alone say which case it is.
-use mathlib.Core.Path.{refl, sym, _∙_, ap}
+-- `slot_quiet::quiet_unmarked` meets its contract: the Output List's ends alone say which case it is.
+use mathlib.Core.Path.{sym, _∙_, ap}
 use denote.Ref.{now}
 use Rattle.meaning.specs.State.{stateOf}
-use Rattle.meaning.specs.Lists.{emptyList}
 use Rattle.meaning.specs.Slot.{finish}
-use Rattle.meaning.proofs.ListsLaws.{fit-empty}
 use Rattle.mem_lists.proofs.PairLaws.{head-high, tail-high, both-low, tail-left, both-empty}
 use Rattle.slot_plan.specs.Plan.{quietWork}
-use Rattle.slot_plan.proofs.Cases.{unfit-output, output, none}
+use Rattle.slot_plan.proofs.Cases.{unmarked-unfit, unmarked-output, unmarked-none}
 use Rattle.slot_plan.proofs.Ends.{as-came, went}
 use Rattle.slot_plan.proofs.QuietCases.{quiet-work}
 use borrow.Author.Needs.{needs}
@@ -20,10 +18,10 @@ returns c =
     let at-if2 = c .before in
     let at-if1 = at-if2 .before .before in
     let start = at-if1 .before .before .before .before .before in
-    λ calendar clear.
+    λ calendar.
     let a = start .args in
     as-came (a .r) (now (a .cells)) (now (a .links)) calendar (now (a .words)) _ _ (c .refuse .ensures)
-    (unfit-output (quiet-work (a .k) (a .b) (a .j) (now (a .cells)) (now (a .links)) calendar (now (a .words))) emptyList clear
+    (unmarked-unfit (quiet-work (a .k) (a .b) (a .j) (now (a .cells)) (now (a .links)) calendar (now (a .words)))
     (tail-left _ _ _ (start .pre .0 .0) (at-if1 .if1 .taken) (at-if2 .if2 .taken)))
 
 returns-2 : tie.Need-returns-2
@@ -33,12 +31,11 @@ returns-2 c =
     let at-if2 = at-quiet-none .before .before in
     let at-if1 = at-if2 .before .before in
     let start = at-if1 .before .before .before .before .before in
-    λ calendar clear.
+    λ calendar.
     let a = start .args in
     went (a .r) (now (a .cells)) (now (a .links)) calendar (now (a .words)) _ _ _
-    (none (quiet-work (a .k) (a .b) (a .j) (now (a .cells)) (now (a .links)) calendar (now (a .words))) emptyList clear
-    (fit-empty (a .k .n)) (both-empty _ _ _ (start .pre .0 .0) (at-if1 .if1 .taken) (at-if2 .if2 .left)) refl
-    (at-if1 .if1 .taken))
+    (unmarked-none (quiet-work (a .k) (a .b) (a .j) (now (a .cells)) (now (a .links)) calendar (now (a .words)))
+    (both-empty _ _ _ (start .pre .0 .0) (at-if1 .if1 .taken) (at-if2 .if2 .left)) (at-if1 .if1 .taken))
     (at-quiet-none .quiet-none .ensures (now (a .cells)) (now (a .links)) calendar)
 
 returns-3 : tie.Need-returns-3
@@ -47,10 +44,10 @@ returns-3 c =
     let at-if3 = c .before in
     let at-if1 = at-if3 .before .before in
     let start = at-if1 .before .before .before .before .before in
-    λ calendar clear.
+    λ calendar.
     let a = start .args in
     as-came (a .r) (now (a .cells)) (now (a .links)) calendar (now (a .words)) _ _ (c .refuse2 .ensures)
-    (unfit-output (quiet-work (a .k) (a .b) (a .j) (now (a .cells)) (now (a .links)) calendar (now (a .words))) emptyList clear
+    (unmarked-unfit (quiet-work (a .k) (a .b) (a .j) (now (a .cells)) (now (a .links)) calendar (now (a .words)))
     (head-high _ _ (a .k .outtail) (at-if1 .if1 .left) (at-if3 .if3 .taken)))
 
 returns-4 : tie.Need-returns-4
@@ -59,10 +56,10 @@ returns-4 c =
     let at-if4 = c .before in
     let at-if3 = at-if4 .before .before in
     let start = at-if3 .before .before .before .before .before .before .before in
-    λ calendar clear.
+    λ calendar.
     let a = start .args in
     as-came (a .r) (now (a .cells)) (now (a .links)) calendar (now (a .words)) _ _ (c .refuse3 .ensures)
-    (unfit-output (quiet-work (a .k) (a .b) (a .j) (now (a .cells)) (now (a .links)) calendar (now (a .words))) emptyList clear
+    (unmarked-unfit (quiet-work (a .k) (a .b) (a .j) (now (a .cells)) (now (a .links)) calendar (now (a .words)))
     (tail-high _ _ _ (start .pre .0 .0) (at-if3 .if3 .left) (at-if4 .if4 .taken)))
 
 returns-5 : tie.Need-returns-5
@@ -73,12 +70,12 @@ returns-5 c =
     let at-if3 = at-if4 .before .before in
     let at-if1 = at-if3 .before .before in
     let start = at-if1 .before .before .before .before .before in
-    λ calendar clear.
+    λ calendar.
     let a = start .args in
     at-quiet-output .quiet-output .ensures calendar
     ∙ ap (finish (stateOf (a .r) (now (a .cells)) (now (a .links)) calendar (now (a .words))))
-    (sym (output (quiet-work (a .k) (a .b) (a .j) (now (a .cells)) (now (a .links)) calendar (now (a .words))) emptyList clear
-    (fit-empty (a .k .n)) (both-low _ _ _ (at-if3 .if3 .left) (at-if4 .if4 .left)) refl (at-if1 .if1 .left)))
+    (sym (unmarked-output (quiet-work (a .k) (a .b) (a .j) (now (a .cells)) (now (a .links)) calendar (now (a .words)))
+    (both-low _ _ _ (at-if3 .if3 .left) (at-if4 .if4 .left)) (at-if1 .if1 .left)))
 
 pub quiet-unmarked-spec : {M : Type 1} → statement M
 quiet-unmarked-spec =
