@@ -99,10 +99,11 @@ module _ (s : List ℕ) (n : ℕ) where
   -- ---- the fills so far
 
   pub record Sofar (out₀ text₀ : List ℕ) (at : ℕ) (out text : List ℕ) : Type 0 where
+    pub count : ℕ
     pub ps : List Piece
     pub w : List ℕ
     pub l : List ℕ
-    pub fills : Fills s n out₀ text₀ w l at out text
+    pub fills : Fills s n out₀ text₀ count w l at out text
     pub walked : walk s n ≡ ps ++ to at
     pub w-is : w ≡ writtenOf s ps
     pub l-is : l ≡ linesOf ps
@@ -111,7 +112,7 @@ module _ (s : List ℕ) (n : ℕ) where
   unfolding walk
   sofar-none out₀ text₀ =
       let z : n ≡ n - 0 = omega arith in
-      record { ps = []; w = []; l = []; fills = noFill; walked = ap (λ (k : ℕ). walkFrom s n k 0) z; w-is = refl; l-is = refl }
+      record { count = 0; ps = []; w = []; l = []; fills = noFill; walked = ap (λ (k : ℕ). walkFrom s n k 0) z; w-is = refl; l-is = refl }
 
   pub not-refused : (p : ℕ) → begun (readsTo s 0) ≡ true → refuses s p ≡ false
   unfolding refuses
@@ -128,16 +129,17 @@ module _ (s : List ℕ) (n : ℕ) where
   fill-leads {p} {out} {text} h f l a b = omega (arith, promised h f .at, fill-on p (length out) (length text) l a b)
 
   pub sofar-more : {out₀ text₀ out text out′ text′ : List ℕ} {at : ℕ} {r : Filled} → begun (readsTo s 0) ≡ true
-      → Sofar out₀ text₀ at out text → FillPromise s n at out text r out′ text′ → Sofar out₀ text₀ (r .at) out′ text′
+      → Sofar out₀ text₀ at out text → at < n → FillPromise s n at out text r out′ text′ → Sofar out₀ text₀ (r .at) out′ text′
   unfolding fillOf
-  sofar-more {out = out} {text} {out′} {text′} {at} {r} h d f =
+  sofar-more {out = out} {text} {out′} {text′} {at} {r} h d on f =
       let t = promised h f in
       let qs = fillOf s n at (length out) (length text) in
       record {
+        count = suc (d .count);
         ps = d .ps ++ qs;
         w = d .w ++ take (r .written) out′;
         l = d .l ++ take (r .listed) text′;
-        fills = thenFill r out′ text′ (d .fills) f;
+        fills = thenFill r out′ text′ (d .fills) on f;
         walked = d .walked
             ∙ ap (λ (xs : List Piece). d .ps ++ xs) (fill-walk (n - at) at (length out) (length text) (omega arith) ∙ ap (λ (e : ℕ). qs ++ to e) (sym (t .at)))
             ∙ sym (append-assoc (d .ps) qs (to (r .at)));
@@ -156,6 +158,7 @@ module _ (s : List ℕ) (n : ℕ) where
       let z : n - at ≡ 0 = omega arith in
       let all : walk s n ≡ d .ps = d .walked ∙ ap (λ (k : ℕ). d .ps ++ walkFrom s n k at) z ∙ append-nil (d .ps) in
       record {
+        count = d .count;
         w = d .w;
         l = d .l;
         at = at;
@@ -164,15 +167,20 @@ module _ (s : List ℕ) (n : ℕ) where
         some = λ e. absurd (let y : _≡_ {A = ℕ} 0 1 = cc in omega arith);
       }
 
+  fills-some : {k at : ℕ} {out₀ text₀ w l out text : List ℕ} → Fills s n out₀ text₀ k w l at out text → 0 < at → 0 < k
+  fills-some noFill h = absurd (omega arith)
+  fills-some (thenFill r out text f on p) h = omega arith
+
   pub sofar-some : {out₀ text₀ out text : List ℕ} {at : ℕ} → Sofar out₀ text₀ at out text → 0 < at → Handed s n out₀ text₀ false out text
   sofar-some {at = at} d h =
       record {
+        count = d .count;
         w = d .w;
         l = d .l;
         at = at;
         fills = d .fills;
         all = λ e. absurd (let y : _≡_ {A = ℕ} 0 1 = cc in omega arith);
-        some = λ _. h;
+        some = λ _. fills-some (d .fills) h;
       }
 
   -- ---- whether it is mended

@@ -7,6 +7,7 @@ ghost use lib.ListN.{length};
 ghost use Rattle.mend_step.specs.Salvage.{readsTo};
 ghost use Rattle.mend_fill.specs.Fill.{recordRoom, lineRoom, begun};
 ghost use Rattle.mend_write.specs.Handed.{Handed, MendPromise};
+ghost use Rattle.mend_write.specs.Reads.{Reads};
 
 // As `mend_fill` has them: the longest record, the longest line.
 const RECORD_ROOM: usize = 55;
@@ -66,6 +67,12 @@ pub fn mend(
     hand_over(mended, list, trace, total, out, text)
 }
 
+// One read brings this much at most.
+const CHUNK: usize = 65536;
+
+// Up to here a further read can be counted: 2^64 less a read, less 1.
+const MOST: usize = 18446744073709486079;
+
 // An input counted to its end; not good where a read failed.
 pub struct Counted {
     pub good: bool,
@@ -75,11 +82,11 @@ pub struct Counted {
 // Reads on to the input's end, and counts what it reads beside the octets that were read before. An input of 2^64 octets
 // would not be good either.
 pub fn count_on(fd: i32, before: usize) -> Counted
-    ensures { λ r. ⌜ before ≤ r .total ⌝ }
+    ensures { λ r. ⌜ Reads before r ⌝ }
 {
-    let mut chunk = [0u8; 65536];
+    let mut chunk = [0u8; CHUNK];
     let mut total = before;
-    while total < 18446744073709486079 {
+    while total < MOST {
         let got = libc::read(fd, &mut chunk);
         if got < 0 {
             return Counted { good: false, total };

@@ -56,8 +56,9 @@ returns c =
     let f = c .before .before .before .before .before .before .before .fill in
     let h = c .before .before .before .before .before .before .before .before .before .before .before .loop in
     let a = c .before .before .before .before .before .before .before .before .before .before .before .before .before .before .before .pre in
-    let on = fill-leads _ _ (a .0) (f .ensures) (c .before .before .before .before .before .before .before .before .before .before .loop-test .taken) (omega (arith, h .inv .1, a .1 .0)) (omega (arith, h .inv .2, a .1 .1)) in
-    sofar-some _ _ (sofar-more _ _ (a .0) (h .inv .0) (f .ensures)) (omega (arith, on))
+    let test = c .before .before .before .before .before .before .before .before .before .before .loop-test .taken in
+    let on = fill-leads _ _ (a .0) (f .ensures) test (omega (arith, h .inv .1, a .1 .0)) (omega (arith, h .inv .2, a .1 .1)) in
+    sofar-some _ _ (sofar-more _ _ (a .0) (h .inv .0) test (f .ensures)) (omega (arith, on))
 
 -- src/lib.rt:33:33
 slice-reshare-prefix-write-all-2 : tie.Need-slice-reshare-prefix-write-all-2 Inv-loop μ-loop
@@ -87,8 +88,9 @@ returns-2 c =
     let f = c .before .before .before .before .before .before .before .before .before .before .fill in
     let h = c .before .before .before .before .before .before .before .before .before .before .before .before .before .before .loop in
     let a = c .before .before .before .before .before .before .before .before .before .before .before .before .before .before .before .before .before .before .pre in
-    let on = fill-leads _ _ (a .0) (f .ensures) (c .before .before .before .before .before .before .before .before .before .before .before .before .before .loop-test .taken) (omega (arith, h .inv .1, a .1 .0)) (omega (arith, h .inv .2, a .1 .1)) in
-    sofar-some _ _ (sofar-more _ _ (a .0) (h .inv .0) (f .ensures)) (omega (arith, on))
+    let test = c .before .before .before .before .before .before .before .before .before .before .before .before .before .loop-test .taken in
+    let on = fill-leads _ _ (a .0) (f .ensures) test (omega (arith, h .inv .1, a .1 .0)) (omega (arith, h .inv .2, a .1 .1)) in
+    sofar-some _ _ (sofar-more _ _ (a .0) (h .inv .0) test (f .ensures)) (omega (arith, on))
 
 -- src/lib.rt:25:5
 loop-less : tie.Need-loop-less Inv-loop μ-loop
@@ -105,8 +107,7 @@ loop-again c =
     let f = c .before .before .before .before .before .before .before .before .before .before .fill in
     let h = c .before .before .before .before .before .before .before .before .before .before .before .before .before .before .loop in
     let a = c .before .before .before .before .before .before .before .before .before .before .before .before .before .before .before .before .before .before .pre in
-    let on = fill-leads _ _ (a .0) (f .ensures) (c .before .before .before .before .before .before .before .before .before .before .before .before .before .loop-test .taken) (omega (arith, h .inv .1, a .1 .0)) (omega (arith, h .inv .2, a .1 .1)) in
-    (sofar-more _ _ (a .0) (h .inv .0) (f .ensures), search needs, search needs)
+    (sofar-more _ _ (a .0) (h .inv .0) (c .before .before .before .before .before .before .before .before .before .before .before .before .before .loop-test .taken) (f .ensures), search needs, search needs)
 
 -- src/lib.rt:12:1
 same-length-5 : tie.Need-same-length-5 Inv-loop μ-loop
