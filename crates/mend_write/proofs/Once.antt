@@ -41,8 +41,7 @@ module _ (s : List ℕ) (n : ℕ) where
     fills-once (thenFill {w = w} {l = l} {out′ = o} {text′ = t} {at = p} q o₂ t₂ a a-on f) (thenFill {w = v} {l = m} {out′ = o′} {text′ = t′} {at = p′} r o₃ t₃ b b-on g) =
         let e = fills-once a b in
         let f′ = subst (λ (x : ℕ). FillPromise s n x o′ t′ q o₂ t₂) (e .2) (subst (λ (x : List ℕ). FillPromise s n p x t′ q o₂ t₂) (e .3) (subst (λ (x : List ℕ). FillPromise s n p o x q o₂ t₂) (e .4) f)) in
-        let h = fill-once f′ g in
-        (
+        let h = fill-once f′ g in (
           ap (λ (x : List ℕ). x ++ take (q .written) o₂) (e .0) ∙ ap (λ (x : Filled). v ++ take (x .written) o₂) (h .0) ∙ ap (λ (x : List ℕ). v ++ take (r .written) x) (h .1),
           ap (λ (x : List ℕ). x ++ take (q .listed) t₂) (e .1) ∙ ap (λ (x : Filled). m ++ take (x .listed) t₂) (h .0) ∙ ap (λ (x : List ℕ). m ++ take (r .listed) x) (h .2),
           ap (λ (x : Filled). x .at) (h .0),
