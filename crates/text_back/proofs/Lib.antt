@@ -1,2 +1,4 @@
 pub mod Cut
 pub mod ReadBack
+pub mod Says
+pub mod Texts
