@@ -108,11 +108,11 @@ final-text text out = ap (λ (x : Streamed). finalOf x out) (stream-merged text)
 said : Written → List ℕ → Wrote
 said w out = wrote (w .number) (w .place) out
 
-laid-short : (o out : List ℕ) → length out < length o → laid o out ≡ wrote 14 0 out
+pub laid-short : (o out : List ℕ) → length out < length o → laid o out ≡ wrote 14 0 out
 unfolding laid
 laid-short o out h = ap (λ (b : Bool). if b then wrote 14 0 out else wrote 0 (length o) (o ++ drop (length o) out)) (lt-ltb (length out) (length o) h)
 
-laid-fits : (o out : List ℕ) → length o ≤ length out → laid o out ≡ wrote 0 (length o) (o ++ drop (length o) out)
+pub laid-fits : (o out : List ℕ) → length o ≤ length out → laid o out ≡ wrote 0 (length o) (o ++ drop (length o) out)
 unfolding laid
 laid-fits o out h = ap (λ (b : Bool). if b then wrote 14 0 out else wrote 0 (length o) (o ++ drop (length o) out)) (le-ltb (length out) (length o) h)
 

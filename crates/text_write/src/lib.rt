@@ -74,8 +74,9 @@ fn leaves(rest: usize, count: usize, long: usize) -> usize
 }
 
 // What writing a text into an output of `most` octets answers.
-fn judge(text: &[u8], most: usize) -> Written
+pub fn judge(text: &[u8], most: usize) -> Written
     ensures { λ r. ⌜ r ≡ judged most (stream (now (text .entry))) ⌝ }
+    ensures { λ r. ⌜ (r .number ≡ 10 → r .place ≤ length (now (text .entry))) ⌝ }
 {
     let mut rec = [0u8; 55];
     let mut room = Room {
@@ -187,6 +188,7 @@ fn lay(text: &[u8], out: &mut [u8])
 // Writes a text as a trace. Nothing is written unless all of it is good and fits.
 pub fn write(text: &[u8], out: &mut [u8]) -> Written
     ensures { λ r. ⌜ wrote (r .number) (r .place) (now (out .exit)) ≡ writeText (now (text .entry)) (now (out .entry)) ⌝ }
+    ensures { λ r. ⌜ (r .number ≡ 10 → r .place ≤ length (now (text .entry))) ⌝ }
 {
     let w = judge(text, out.len());
     if w.number != 0 {

@@ -26,7 +26,8 @@ line-at-requires c κs = omega (arith, c .before .before .loop .inv .1)
 returns : tie.Need-returns Inv-loop μ-loop
 returns c =
     let l = c .before .before .line-at in let h = c .before .before .before .before .before .loop in
-    judging-stop (h .inv .0) (l .last .1 .1 .0) (l .result) (l .ensures .0) (c .before .before .before .before .loop-test .taken) (c .if1 .taken)
+    let t = c .before .before .before .before .loop-test .taken in
+    (judging-stop (h .inv .0) (l .last .1 .1 .0) (l .result) (l .ensures .0) t (c .if1 .taken), λ _. omega (arith, t))
 
 cast-count : tie.Need-cast-count Inv-loop μ-loop
 cast-count c = search needs
@@ -63,7 +64,7 @@ loop-again c =
     )
 
 returns-2 : tie.Need-returns-2 Inv-loop μ-loop
-returns-2 c = judging-none (c .before .before .loop .inv .0) (c .if2 .taken) (c .before .loop-test .left)
+returns-2 c = (judging-none (c .before .before .loop .inv .0) (c .if2 .taken) (c .before .loop-test .left), λ _. omega arith)
 
 rest-long-requires : tie.Need-rest-long-requires Inv-loop μ-loop
 rest-long-requires c κs = search needs
@@ -73,18 +74,22 @@ less-requires-2 c κs = search needs
 
 returns-3 : tie.Need-returns-3 Inv-loop μ-loop
 returns-3 c =
-    let h = c .before .before .before .before .before .loop in
-    judging-short (h .inv .0) (c .before .before .rest-long .ensures .0) (c .before .less2 .ensures) (c .before .before .before .if2 .left)
-    (c .before .before .before .before .loop-test .left) (c .if3 .taken)
+    let h = c .before .before .before .before .before .loop in (
+      judging-short (h .inv .0) (c .before .before .rest-long .ensures .0) (c .before .less2 .ensures) (c .before .before .before .if2 .left)
+          (c .before .before .before .before .loop-test .left) (c .if3 .taken),
+      λ z. absurd (omega (arith, z)),
+    )
 
 sub-t17 : tie.Need-sub-t17 Inv-loop μ-loop
 sub-t17 c = last-within (c .before .before .before .before .before .before .loop .inv .0) (c .before .before .before .rest-long .ensures .0) (c .before .before .less2 .ensures)
 
 returns-4 : tie.Need-returns-4 Inv-loop μ-loop
 returns-4 c =
-    let h = c .before .before .before .before .before .before .loop in
-    judging-fits (h .inv .0) (c .before .before .before .rest-long .ensures .0) (c .before .before .less2 .ensures)
-    (c .before .before .before .before .if2 .left) (c .before .before .before .before .before .loop-test .left) (c .before .if3 .left)
+    let h = c .before .before .before .before .before .before .loop in (
+      judging-fits (h .inv .0) (c .before .before .before .rest-long .ensures .0) (c .before .before .less2 .ensures)
+          (c .before .before .before .before .if2 .left) (c .before .before .before .before .before .loop-test .left) (c .before .if3 .left),
+      λ z. absurd (omega (arith, z)),
+    )
 
 pub judge-spec : {M : Type 1} → statement M
 judge-spec =
