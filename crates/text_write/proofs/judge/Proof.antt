@@ -35,7 +35,7 @@ cast-count c = search needs
 adds-long-requires : tie.Need-adds-long-requires Inv-loop μ-loop
 adds-long-requires c κs =
     let l = c .before .before .before .line-at in let h = c .before .before .before .before .before .before .loop in
-    (h .inv .0 .reached .below, search needs, l .ensures .1 .fits)
+    (h .inv .0 .reached .below, search needs, l .ensures .1 .0 .fits)
 
 less-requires : tie.Need-less-requires Inv-loop μ-loop
 less-requires c κs = search needs
@@ -48,7 +48,7 @@ leaves-requires c κs =
 loop-less : tie.Need-loop-less Inv-loop μ-loop
 loop-less c =
     let l = c .before .before .before .before .before .before .line-at in
-    omega (arith, l .ensures .1 .on (c .before .before .before .before .if1 .left), c .before .before .before .before .before .before .before .before .loop-test .taken)
+    omega (arith, l .ensures .1 .0 .on (c .before .before .before .before .if1 .left), c .before .before .before .before .before .before .before .before .loop-test .taken)
 
 loop-again : tie.Need-loop-again Inv-loop μ-loop
 loop-again c =
@@ -57,7 +57,7 @@ loop-again c =
     let v = c .leaves in
     let t = c .before .before .before .before .before .before .before .before .loop-test .taken in
     let some = c .before .before .before .before .if1 .left in (
-      judging-more (h .inv .0) (l .last .1 .1 .0) (l .result) (l .ensures .0) t (l .ensures .1) some (search needs) (v .ensures .0) (v .ensures .1)
+      judging-more (h .inv .0) (l .last .1 .1 .0) (l .result) (l .ensures .0) t (l .ensures .1 .0) some (search needs) (v .ensures .0) (v .ensures .1)
           (c .before .before .adds-long .ensures)
           (c .before .less .ensures),
       search needs,

@@ -29,13 +29,13 @@ cast-count : tie.Need-cast-count Inv-loop μ-loop
 cast-count c = search needs
 
 array-share-prefix-rec : tie.Need-array-share-prefix-rec Inv-loop μ-loop
-array-share-prefix-rec c = omega (arith, c .before .before .before .line-at .ensures .1 .fits)
+array-share-prefix-rec c = omega (arith, c .before .before .before .line-at .ensures .1 .0 .fits)
 
 slice-aggregate-put-line : tie.Need-slice-aggregate-put-line Inv-loop μ-loop
 slice-aggregate-put-line c =
     let l = c .before .before .before .before .line-at in
     let b : length (l .last .1 .1 .0) ≡ 55 = search needs in
-    sym (length-take-le (l .result .long) (l .last .1 .1 .0) (omega (arith, l .ensures .1 .fits, b)))
+    sym (length-take-le (l .result .long) (l .last .1 .1 .0) (omega (arith, l .ensures .1 .0 .fits, b)))
 
 put-line-requires : tie.Need-put-line-requires Inv-loop μ-loop
 put-line-requires c κs =
@@ -44,7 +44,7 @@ put-line-requires c κs =
     let s = c .before .before .before .before .before .before .before .before .before .before in
     let t = c .before .before .before .before .before .before .loop-test .taken in
     let below = h .inv .0 .reached .below in (
-      laying-room (h .inv .0) (s .pre) (l .last .1 .1 .0) (l .result) (l .ensures .0) t (l .ensures .1) (search needs) _ refl (leaves-less _ _ _ below),
+      laying-room (h .inv .0) (s .pre) (l .last .1 .1 .0) (l .result) (l .ensures .0) t (l .ensures .1 .0) (search needs) _ refl (leaves-less _ _ _ below),
       below,
       search needs,
     )
@@ -60,7 +60,7 @@ loop-less c =
     let h = c .before .before .before .before .before .before .before .before .before .before .before .loop in
     let s = c .before .before .before .before .before .before .before .before .before .before .before .before .before .before in
     let t = c .before .before .before .before .before .before .before .before .before .before .loop-test .taken in
-    omega (arith, l .ensures .1 .on (laying-line (h .inv .0) (s .pre) (l .last .1 .1 .0) (l .result) (l .ensures .0) t), t)
+    omega (arith, l .ensures .1 .0 .on (laying-line (h .inv .0) (s .pre) (l .last .1 .1 .0) (l .result) (l .ensures .0) t), t)
 
 loop-again : tie.Need-loop-again Inv-loop μ-loop
 loop-again c =
@@ -69,7 +69,7 @@ loop-again c =
     let s = c .before .before .before .before .before .before .before .before .before .before .before .before .before .before in
     let t = c .before .before .before .before .before .before .before .before .before .before .loop-test .taken in
     let v = c .leaves in (
-      laying-more (h .inv .0) (s .pre) (l .last .1 .1 .0) (l .result) (l .ensures .0) t (l .ensures .1) (search needs) (v .ensures .0) (v .ensures .1)
+      laying-more (h .inv .0) (s .pre) (l .last .1 .1 .0) (l .result) (l .ensures .0) t (l .ensures .1 .0) (search needs) (v .ensures .0) (v .ensures .1)
           (c .before .before .before .put-line .ensures)
           (search needs),
       search needs,
