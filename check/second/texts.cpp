@@ -307,9 +307,44 @@ void trace_text(Random &random, const std::string &scribe, const std::string &un
   compare(scribe, "the text of a trace", wanted.out, again);
 }
 
+// A trace with one record that can't be read, of each kind, in each place where it may stand.
+void bad_trace(Random &random, const std::string &unscribe, size_t index) {
+  std::vector<std::string> records;
+  for (const std::string &line : good(random, 2 + random.below(12), 65535)) {
+    const Said record = second::scribe((records.empty() ? "" : "GM 1 2\n") + line + "\n");
+    records.push_back(record.out.substr(records.empty() ? 0 : 6));
+  }
+  static const char *const kinds[] = {"no octet", "no GM first", "a later GM", "SL of 0", "unknown mark", "half a mark", "small letters", "short"};
+  const size_t kind = index % 8;
+  const size_t at = kind < 2 ? 0 : 1 + random.below(records.size() - 1);
+  size_t place = 0;
+  for (size_t k = 0; k < at; ++k) place += records[k].size();
+  switch (kind) {
+  case 0: records.clear(); break;
+  case 1: records.erase(records.begin()); break;
+  case 2: records.insert(records.begin() + static_cast<long>(at), random.once_in(2) ? records[0] : "GR" + std::string(4, '\1')); break;
+  case 3: records.insert(records.begin() + static_cast<long>(at), "SL" + std::string(2, '\0')); break;
+  case 4: records[at][random.below(2)] = random.pick<char>({'Q', '\0', '\xff'}); break;
+  case 5: records.resize(at), records.push_back(random.pick<const char *>({"C", "S", "V", "G"})); break;
+  case 6: records[at][random.below(2)] |= 32; break;
+  default: records.resize(at + 1), records[at].resize(1 + random.below(records[at].size() - 1)); break;
+  }
+  std::string trace;
+  for (const std::string &record : records) trace += record;
+  const Said wanted = second::unscribe(trace);
+  // the place is known from how the trace was made, whatever the second program says
+  if (wanted.err != "stop 10 " + std::to_string(place) + "\n") {
+    ++failed;
+    write_file(folder + "/misjudged", trace);
+    std::printf("FAILED: %s at %zu: the second printer says '%s'\n", kinds[kind], place, wanted.err.c_str());
+  }
+  met[std::string("unreadable: ") + kinds[kind]] += 1;
+  compare(unscribe, kinds[kind], trace, wanted);
+}
+
 // Texts and traces around the programs' limit of octets.
 void at_limit(Random &random, const std::string &scribe, const std::string &unscribe, size_t index) {
-  const size_t limit = second::text_limit, more = index / 4 % 3; // up to the limit, one octet more, a line more
+  const size_t limit = second::text_limit, more = index / 4 % 4; // up to the limit, one octet or record more, a line more
   std::string text = "GM 5 64\n", trace = "GM" + std::string("\0\5\0\x40", 4);
   if (index % 4 < 2) {
     const std::string line = index % 2 ? "CA " + cell(random) + "\n" : "VX 40\n";
@@ -317,7 +352,7 @@ void at_limit(Random &random, const std::string &scribe, const std::string &unsc
     while (text.size() + 11 < limit) text += "SL 1\n";
     text += "SL " + std::string(limit - text.size() - 4, '1') + "\n";
     if (more == 1) text.insert(text.size() - 2, "1");
-    if (more == 2) text += random.once_in(2) ? "SL 1\n" : "x";
+    if (more >= 2) text += random.once_in(2) ? "SL 1\n" : "x";
     const Said wanted = second::scribe(text);
     met[more == 0 ? "text: ends at the limit" : more == 1 ? "text: a line cut by the limit" : "text: goes on at the limit"] += 1;
     return compare(scribe, "a text at the limit", text, wanted);
@@ -328,8 +363,10 @@ void at_limit(Random &random, const std::string &scribe, const std::string &unsc
   while (trace.size() < limit) trace += "SL" + std::string(2, '\2');
   if (more == 1) trace.insert(6, "CA" + std::string(53, 'c'));
   if (more == 2) trace += random.once_in(2) ? "SL" + std::string(2, '\2') : "S";
+  // 13 octets for 12: the last record ends one octet beyond
+  if (more == 3) trace = trace.substr(0, limit - 16) + "VO" + std::string(11, '\3') + trace.substr(limit - 4);
   const Said wanted = second::unscribe(trace);
-  met[more == 0 ? "trace: ends at the limit" : more == 1 ? "trace: a record cut by the limit" : "trace: goes on at the limit"] += 1;
+  met[more == 0 ? "trace: ends at the limit" : more == 1 ? "trace: a record cut by the limit" : more == 2 ? "trace: goes on at the limit" : "trace: a record lacks one octet at the limit"] += 1;
   compare(unscribe, "a trace at the limit", trace, wanted);
 }
 
@@ -391,6 +428,9 @@ bool met_enough() {
                                      "trace: stop 10 behind lines", "trace: made again", "trace: made again, its pauses in fewer records",
                                      "text: ends at the limit", "text: a line cut by the limit", "text: goes on at the limit",
                                      "trace: ends at the limit", "trace: a record cut by the limit", "trace: goes on at the limit",
+                                     "trace: a record lacks one octet at the limit", "unreadable: no octet", "unreadable: no GM first",
+                                     "unreadable: a later GM", "unreadable: SL of 0", "unreadable: unknown mark", "unreadable: half a mark",
+                                     "unreadable: small letters", "unreadable: short",
                                      "room: filled", "room: a record too many, 14", "room: 10 before 14"};
   for (const Class &kind : classes())
     for (const char *where : {", first line", ", later line"}) needed.push_back(std::string(kind.name) + where);
@@ -417,8 +457,8 @@ int main(int count, char **arguments) {
   std::printf("texts: seed %llu\n", (unsigned long long)seed);
   for (uint64_t index = 0; index < texts && failed < 5; ++index) {
     Random random(seed * 1000003 + index);
-    const uint64_t round = index / 12;
-    switch (index % 12) {
+    const uint64_t round = index / 13;
+    switch (index % 13) {
     case 0: good_text(random, scribe, unscribe); break;
     case 1: trace_text(random, scribe, unscribe); break;
     case 2: cut_text(random, scribe); break;
@@ -427,7 +467,8 @@ int main(int count, char **arguments) {
       else if (round % 4 == 1) at_room(random, scribe, round / 4);
       else trace_text(random, scribe, unscribe);
       break;
-    default: bad_text(random, scribe, round * 8 + index % 12 - 4); break;
+    case 12: bad_trace(random, unscribe, round); break;
+    default: bad_text(random, scribe, round * 8 + index % 13 - 4); break;
     }
   }
   if (failed) return std::printf("texts: FAILED %llu times\n", (unsigned long long)failed), 1;
