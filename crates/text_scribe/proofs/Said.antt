@@ -1,13 +1,13 @@
 -- What a text comes to, by the number of the answer: the trace in its buffer, or one line in the other.
 use Prim.Native.Nat.{ℕ, _≤_, _<_}
 use mathlib.Core.Path.{_≡_, refl, sym, ap, _∙_}
-use mathlib.Core.Bool.{Bool, true, false}
+use mathlib.Core.Bool.{Bool}
 use mathlib.Core.List.{List, [], _∷_, _++_}
 use native.Mathlib.Decide.{decLt}
 use native.Mathlib.Omega.{arith}
 use borrow.Author.Tests.{lt-ltb, le-ltb}
 use lib.ListN.{length, take, drop}
-use Rattle.meaning.specs.Plain.{if_then_else_, _<?_}
+use Rattle.meaning.specs.Plain.{if_then_else_}
 use Rattle.list_lines.specs.Text.{line}
 use Rattle.list_lines.specs.Lines.{stopLine}
 use Rattle.list_lines.specs.Put.{Put, puts}
@@ -15,9 +15,10 @@ use Rattle.list_lines.proofs.Puts.{put-is, put-none, put-whole}
 use Rattle.text_meaning.specs.declared.Written.{Written}
 use Rattle.text_meaning.specs.Events.{Event, octetsAll, merge}
 use Rattle.text_meaning.specs.Writing.{Said, good, bad, events, Wrote, wrote, writeSaid, writeText}
-use Rattle.text_trip.specs.Flow.{Streamed, whole, stopped, stream, judged}
+use Rattle.text_trip.specs.Flow.{stream, judged}
 use Rattle.text_trip.proofs.Streams.{merged, stream-merged}
-use Rattle.text_write.proofs.Fit.{judged-short, judged-fits, judged-bad, laid-short, laid-fits}
+use Rattle.text_write.proofs.Fit.{judged-short, judged-fits, judged-bad}
+use Rattle.text_write.proofs.Answer.{laid-short, laid-fits}
 use Rattle.text_scribe.specs.Scribe.{limit, goesOn, saidOf, shortLine, traceOf, errorOf}
 
 -- ---- a text within the limit, and one that goes on

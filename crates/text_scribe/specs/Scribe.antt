@@ -12,7 +12,7 @@ use Rattle.list_lines.specs.Text.{line}
 use Rattle.list_lines.specs.Lines.{stopLine}
 use Rattle.list_lines.specs.Put.{Put}
 use Rattle.text_meaning.specs.Events.{octetsAll, merge}
-use Rattle.text_meaning.specs.Writing.{Said, good, bad, events, Wrote, writeSaid}
+use Rattle.text_meaning.specs.Writing.{Said, good, bad, events}
 use Rattle.text_scribe.specs.declared.Scribed.{Scribed}
 
 abbrev pub limit : ℕ

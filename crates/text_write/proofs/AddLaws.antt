@@ -1,16 +1,16 @@
 -- What a line adds: how many octets, and that it is the step of a text written line by line.
-use Prim.Native.Nat.{ℕ, zero, suc, _+_, _*_, _/_, _%_, _≤_, _<_}
+use Prim.Native.Nat.{ℕ, zero, suc, _+_, _*_, _/_, _%_, _<_}
 use mathlib.Core.Path.{_≡_, refl, sym, ap, _∙_}
-use mathlib.Core.Bool.{Bool, true, false}
-use mathlib.Core.List.{List, [], _∷_, _++_, append-assoc, append-nil}
+use mathlib.Core.Bool.{Bool}
+use mathlib.Core.List.{List, [], _++_, append-assoc, append-nil}
 use native.Mathlib.Decide.{ℕ-discrete}
 use native.Mathlib.Numerals.{add-one}
 use native.Mathlib.Omega.{arith}
 use borrow.Author.Tests.{eq-eqb, ne-eqb}
-use lib.ListN.{length, take, length-append}
+use lib.ListN.{length, length-append}
 use Rattle.meaning.specs.Plain.{if_then_else_, _=?_}
 use Rattle.text_meaning.specs.Events.{Event, told, pause, full, slOf, fulls, restOf}
-use Rattle.text_trip.specs.Flow.{Flow, flow, step}
+use Rattle.text_trip.specs.Flow.{flow, step}
 use Rattle.text_write.specs.Adds.{adds, restLong, addsLong, leaves}
 
 fulls-after : (k : ℕ) → fulls (suc k) ≡ fulls k ++ slOf full

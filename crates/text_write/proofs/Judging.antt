@@ -1,6 +1,6 @@
 -- The judge's way through a text: the room that is left is that of the octets so far.
 use Prim.Native.Nat.{ℕ, _+_, _-_, _≤_, _<_}
-use mathlib.Core.Path.{_≡_, refl, sym, ap, _∙_}
+use mathlib.Core.Path.{_≡_, sym, ap, _∙_}
 use mathlib.Core.Bool.{Bool, true, false}
 use mathlib.Core.List.{List, [], _++_}
 use native.Mathlib.Decide.{decLt}
@@ -8,13 +8,12 @@ use native.Mathlib.Omega.{arith}
 use borrow.Author.Tests.{eq-eqb, ne-eqb, lt-ltb, le-ltb}
 use lib.ListN.{length, take, length-append}
 use lib.Seq.{length-take-le}
-use Rattle.meaning.specs.Plain.{Out, refused, next, if_then_else_, _<?_, _=?_}
-use Rattle.text_meaning.specs.declared.Written.{Written}
+use Rattle.meaning.specs.Plain.{refused, next, if_then_else_, _<?_}
 use Rattle.text_meaning.specs.Events.{full, restOf}
-use Rattle.text_meaning.specs.Writing.{Placed, placed, lineAt}
+use Rattle.text_meaning.specs.Writing.{placed, lineAt}
 use Rattle.text_line.specs.declared.Line.{Line}
 use Rattle.text_line.specs.Found.{lineFound, LineWithin}
-use Rattle.text_trip.specs.Flow.{Streamed, whole, stopped, stream, judged}
+use Rattle.text_trip.specs.Flow.{stream, judged}
 use Rattle.text_write.specs.declared.Room.{Room}
 use Rattle.text_write.specs.Room.{roomOf, lessOf}
 use Rattle.text_write.specs.Adds.{adds, restLong, addsLong, leaves}

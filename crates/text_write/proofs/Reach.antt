@@ -1,16 +1,16 @@
 -- A text read up to place p: with the octets o before it and a pause of rest slots that may still grow, what is left comes to
 -- what the whole text comes to.
-use Prim.Native.Nat.{ℕ, zero, suc, _+_, _*_, _≤_, _<_}
-use mathlib.Core.Path.{_≡_, refl, sym, ap, _∙_}
+use Prim.Native.Nat.{ℕ, zero, suc, _+_, _≤_, _<_}
+use mathlib.Core.Path.{_≡_, refl, ap, _∙_}
 use mathlib.Core.Bool.{Bool, true, false, _&&_}
 use mathlib.Core.List.{List, [], _∷_, _++_}
 use native.Mathlib.Omega.{arith}
 use borrow.Author.Tests.{le-leb, lt-leb}
-use lib.ListN.{length, length-append}
-use Rattle.meaning.specs.Plain.{Out, refused, next, if_then_else_, _≤?_}
-use Rattle.text_meaning.specs.Events.{Event, told, pause, full, fulls, restOf}
+use lib.ListN.{length}
+use Rattle.meaning.specs.Plain.{refused, next, if_then_else_, _≤?_}
+use Rattle.text_meaning.specs.Events.{Event, full, restOf}
 use Rattle.text_meaning.specs.Grammar.{line}
-use Rattle.text_meaning.specs.Writing.{Placed, placed, behind, lineAt}
+use Rattle.text_meaning.specs.Writing.{placed, behind, lineAt}
 use Rattle.text_trip.specs.Flow.{Flow, flow, step, ending, Streamed, whole, stopped, streamAt, streamFrom, stream}
 
 pub record Reached (text : List ℕ) (p rest : ℕ) (o : List ℕ) : Type 0 where

@@ -5,7 +5,7 @@
 --   leaves rest n o    == the slots of the pause that is left
 --   laidBy s out       == the output with the octets of a text at its start
 use Prim.Native.Nat.{ℕ, _+_, _*_, _/_, _%_}
-use mathlib.Core.List.{List, [], _++_}
+use mathlib.Core.List.{List, _++_}
 use lib.ListN.{length, drop}
 use Rattle.meaning.specs.Plain.{if_then_else_, _=?_}
 use Rattle.text_meaning.specs.Events.{full, fulls, restOf}

@@ -1,8 +1,7 @@
 -- `text_scribe::hand` makes both parts, which lie within their buffers, and hands them over.
-use mathlib.Core.Path.{_≡_, refl, sym, _∙_}
+use mathlib.Core.Path.{sym}
 use native.Mathlib.Omega.{arith}
 use borrow.Author.Needs.{needs}
-use lib.ListN.{length}
 use lib.Seq.{length-take-le}
 use Rattle.text_scribe.proofs.hand.Statement.{statement}
 use Rattle.text_scribe.proofs.hand.Tie as tie

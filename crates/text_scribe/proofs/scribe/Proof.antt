@@ -1,6 +1,5 @@
 -- `text_scribe::scribe`: 0 is the trace alone, any other number one line alone.
-use mathlib.Core.Path.{_≡_, refl, sym, _∙_}
-use mathlib.Core.Bool.{true}
+use mathlib.Core.Path.{_∙_}
 use native.Mathlib.Omega.{arith}
 use borrow.Author.Needs.{needs}
 use Rattle.list_lines.proofs.Puts.{put-is, put-none}

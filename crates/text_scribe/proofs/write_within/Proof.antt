@@ -1,8 +1,7 @@
 -- `text_scribe::write_within`: a text within the limit is written; of one that goes on only the front is judged.
-use mathlib.Core.Path.{_≡_, refl, sym, _∙_}
+use mathlib.Core.Path.{sym, _∙_}
 use native.Mathlib.Omega.{arith}
 use borrow.Author.Needs.{needs}
-use lib.ListN.{length, take}
 use lib.Seq.{length-take-le}
 use Rattle.text_scribe.specs.Scribe.{limit}
 use Rattle.text_scribe.proofs.Said.{said-within, said-stop, said-beyond}

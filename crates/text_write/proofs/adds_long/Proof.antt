@@ -1,5 +1,5 @@
 -- `text_write::adds_long`: the octets of full records, or of the rest before a record and of the record.
-use mathlib.Core.Path.{_≡_, sym, ap, _∙_}
+use mathlib.Core.Path.{sym, ap, _∙_}
 use Prim.Native.Nat.{ℕ, _+_}
 use borrow.Author.Needs.{needs}
 use Rattle.text_write.proofs.AddLaws.{long-pause, long-told}

@@ -1,9 +1,9 @@
 -- `text_write::lay`: line by line, with the rest of a pause; every line stands and has room, since all was judged before.
-use Prim.Native.Nat.{ℕ, _-_, _≤_, _<_}
-use mathlib.Core.Path.{_≡_, refl, sym, ap, _∙_}
+use Prim.Native.Nat.{_-_}
+use mathlib.Core.Path.{_≡_, refl, sym}
 use native.Mathlib.Omega.{arith}
 use borrow.Author.Needs.{needs}
-use lib.ListN.{length, take}
+use lib.ListN.{length}
 use lib.Seq.{length-take-le}
 use Rattle.text_write.proofs.Laying.{Laying, laying-start, laying-line, laying-room, laying-more, ending-room, laying-end}
 use Rattle.text_write.proofs.AddLaws.{leaves-less}

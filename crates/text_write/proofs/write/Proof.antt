@@ -1,8 +1,8 @@
 -- `text_write::write`: what the judge answers; where that is 0, the octets are laid.
-use mathlib.Core.Path.{_≡_, refl, sym, ap, _∙_}
+use mathlib.Core.Path.{sym, ap, _∙_}
 use borrow.Author.Needs.{needs}
 use Rattle.text_meaning.specs.declared.Written.{Written}
-use Rattle.text_write.proofs.Fit.{text-refused, text-laid}
+use Rattle.text_write.proofs.Answer.{text-refused, text-laid}
 use Rattle.text_write.proofs.write.Statement.{statement}
 use Rattle.text_write.proofs.write.Tie as tie
 
