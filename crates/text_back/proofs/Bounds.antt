@@ -1,7 +1,7 @@
 -- The numbers of a record that the reader found fit their fields, since each is read from octets; a cell that it found has 53
 -- octets. So every record can be printed and its line is good.
-use Prim.Native.Nat.{ℕ, _+_, _-_, _*_, _≤_, _<_}
-use mathlib.Core.Path.{_≡_, refl, sym, ap, subst, _∙_}
+use Prim.Native.Nat.{ℕ, _+_, _≤_, _<_}
+use mathlib.Core.Path.{_≡_, ap, subst, _∙_}
 use mathlib.Core.Bool.{Bool, true, false, _&&_}
 use mathlib.Core.List.{List, _++_}
 use native.Mathlib.Omega.{arith}
@@ -10,10 +10,10 @@ use lib.ListN.{length, getD, take, drop, length-drop}
 use lib.Seq.{getD-take, getD-drop, length-take-le}
 use Rattle.meaning.specs.Plain.{next, if_then_else_, _<?_, _≤?_, _=?_}
 use Rattle.meaning.specs.Numbers.{octets}
-use Rattle.trace_record.specs.Trace.{TraceRecord, GM, VO, VX, CA, SL, Stands, event, finish, refusal, unreadable}
+use Rattle.trace_record.specs.Trace.{TraceRecord, GM, VO, VX, CA, SL, Stands, event, finish, refusal}
 use Rattle.trace_record.specs.Trace.{be16, be32, whole, setupAt, openAt, closeAt, cellAt, pauseAt, firstAt, laterAt, standsAt}
 use Rattle.trace_record.specs.Trace.{markOctets, markGM, markGR, markVO, markVX, markCA, markSL}
-use Rattle.trace_record.specs.Fits.{Fits, Allowed, stands-fits}
+use Rattle.trace_record.specs.Fits.{Fits, stands-fits}
 use Rattle.text_meaning.specs.Events.{eventOf}
 use Rattle.text_meaning.specs.Grammar.{tells, line}
 use Rattle.text_print.specs.Print.{lineOf}

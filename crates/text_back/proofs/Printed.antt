@@ -8,17 +8,17 @@ use native.Mathlib.Omega.{arith}
 use borrow.Author.Tests.{le-leb, lt-leb, le-ltb, eq-eqb, ne-eqb, eqb-true, eqb-false}
 use lib.ListN.{length, getD, take, drop, length-append, length-drop}
 use lib.Seq.{drop-drop, drop-append-seam, take-at}
-use Rattle.meaning.specs.Plain.{Out, refused, next, if_then_else_, _<?_, _≤?_, _=?_}
+use Rattle.meaning.specs.Plain.{next, if_then_else_, _<?_, _≤?_, _=?_}
 use Rattle.list_lines.specs.Text.{line as Text·line}
 use Rattle.trace_record.specs.Trace.{TraceRecord, GM, VO, VX, CA, SL, Stands, event, finish, refusal, standsAt}
 use Rattle.trace_record.specs.Fits.{Fits, stands-fits}
 use Rattle.text_meaning.specs.Events.{Event, octetsAll, merge, eventOf}
-use Rattle.text_meaning.specs.Grammar.{Told, tells, line}
-use Rattle.text_meaning.specs.Writing.{Placed, placed, behind, lineAt, Said, good, bad, onto, eventsAt, eventsFrom, events, Wrote, wrote, laid, writeSaid, writeText}
+use Rattle.text_meaning.specs.Grammar.{tells, line}
+use Rattle.text_meaning.specs.Writing.{placed, behind, lineAt, Said, good, bad, onto, eventsAt, eventsFrom, events, Wrote, wrote, laid, writeSaid, writeText}
 use Rattle.text_trip.specs.Settled.{Settled}
 use Rattle.text_trip.specs.Reading.{readAt, readFrom, read}
 use Rattle.text_trip.proofs.Trip.{trip}
-use Rattle.text_print.specs.Print.{lineOf, textAt, textFrom, textOf}
+use Rattle.text_print.specs.Print.{lineOf, textFrom, textOf}
 use Rattle.text_print.specs.Fill.{NoRecord}
 use Rattle.text_print.proofs.Whole.{text-step, text-over}
 use Rattle.text_print.proofs.Within.{read-within}

@@ -8,16 +8,15 @@ use native.Mathlib.Numerals.{add-one}
 use native.Mathlib.Omega.{arith}
 use borrow.Author.Tests.{eqb-false, leb-true, le-leb}
 use lib.ListN.{length, take, drop, length-append, length-drop, take-append-drop}
-use lib.Seq.{drop-drop, drop-append-seam, drop-length}
-use Rattle.meaning.specs.Plain.{if_then_else_, _≤?_, _=?_}
+use lib.Seq.{drop-drop, drop-append-seam}
+use Rattle.meaning.specs.Plain.{if_then_else_, _=?_}
 use Rattle.meaning.specs.Numbers.{octets}
-use Rattle.trace_record.specs.Trace.{Stands, event, finish, standsAt}
 use Rattle.trace_record.proofs.Cases.{stands-end}
 use Rattle.list_lines.specs.Put.{puts, Put}
 use Rattle.list_lines.proofs.Puts.{put-whole}
-use Rattle.text_meaning.specs.Events.{Event, told, pause, full, slOf, octetsOf, octetsAll, join, merge, eventOf}
-use Rattle.text_meaning.specs.Writing.{Said, good, bad, onto}
-use Rattle.text_record.specs.Record.{Given, GM, VO, VX, CA, SL, recordOctets, givenEvent, allowedAt, recordAt}
+use Rattle.text_meaning.specs.Events.{Event, told, pause, full, octetsOf, octetsAll, join, merge}
+use Rattle.text_meaning.specs.Writing.{good, onto}
+use Rattle.text_record.specs.Record.{Given, GM, VO, VX, CA, SL, recordOctets, givenEvent, allowedAt}
 use Rattle.text_record.specs.Back.{Reads}
 use Rattle.text_record.proofs.Top.{put-reads}
 use Rattle.text_trip.specs.Reading.{readAt, readFrom, read}
@@ -204,7 +203,8 @@ read-back (told o ∷ es) b =
     record {
       found = fs;
       reads = ap (λ (k : ℕ). readFrom k s 0) (add-one (length s))
-          ∙ read-event s (length s) 0 (told o) (cut (merge es)) (sym c) (omega arith) (omega arith) (told-single 0 o (b .0)) (read-singles s (cut (merge es)) (cut-singles (merge es) (merge-later es (b .1))) (length s));
+          ∙ read-event s (length s) 0 (told o) (cut (merge es)) (sym c) (omega arith) (omega arith) (told-single 0 o (b .0))
+          (read-singles s (cut (merge es)) (cut-singles (merge es) (merge-later es (b .1))) (length s));
       same = ap (λ (x : List Event). told o ∷ x) (cut-merge (merge es) (later-some (merge es) (merge-later es (b .1))) ∙ merge-twice es);
     }
 read-back (pause n ∷ es) b = absurd (pause-later n (b .0))

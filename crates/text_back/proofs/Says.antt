@@ -11,9 +11,9 @@ use Rattle.meaning.specs.Plain.{Out, refused, next, _andThen_, if_then_else_, _
 use Rattle.meaning.specs.Numbers.{octets}
 use Rattle.list_lines.specs.Text.{space, lineFeed}
 use Rattle.trace_record.specs.Trace.{markGM, markGR, markVO, markVX, markCA, markSL}
-use Rattle.text_meaning.specs.Shapes.{Field, n8, n16, n32, cell, top, of16, ofField, Shape, fields, slots, find, rowsOf}
-use Rattle.text_meaning.specs.Events.{Event, told, pause}
-use Rattle.text_meaning.specs.Grammar.{Number, number-of, Part, part, Told, tells, expect, digitOf, digits, within, number, nibbleOf, hexes}
+use Rattle.text_meaning.specs.Shapes.{Field, n8, n16, n32, cell, top, of16, ofField, Shape, fields, find, rowsOf}
+use Rattle.text_meaning.specs.Events.{told, pause}
+use Rattle.text_meaning.specs.Grammar.{Number, Part, part, Told, tells, expect, digitOf, digits, within, number, nibbleOf, hexes}
 use Rattle.text_meaning.specs.Grammar.{fieldAt, fieldsAt, slotsAt, shapedLine, line}
 use Rattle.text_record.specs.Record.{GM, VO, VX, CA, SL, recordOctets, allowedAt}
 use Rattle.text_back.specs.Back.{Sayable}

@@ -1,9 +1,9 @@
 -- Of a whole text: its events begin with a GM kind and have no other, line after line; so what was written of it is read back
 -- as its events, adjoining pauses added together.
-use Prim.Native.Nat.{ℕ, zero, suc, _+_, _-_, _≤_, _<_}
-use mathlib.Core.Path.{_≡_, refl, sym, ap, subst, _∙_}
+use Prim.Native.Nat.{ℕ, zero, suc, _+_, _≤_, _<_}
+use mathlib.Core.Path.{_≡_, refl, ap, subst, _∙_}
 use mathlib.Core.Bool.{Bool, true, false, _&&_}
-use mathlib.Core.List.{List, [], _∷_, _++_}
+use mathlib.Core.List.{List, [], _++_}
 use native.Mathlib.Omega.{arith}
 use borrow.Author.Tests.{leb-true, ne-eqb}
 use lib.ListN.{length, take, drop, length-drop}
@@ -13,7 +13,7 @@ use Rattle.text_meaning.specs.Events.{Event, octetsAll, merge}
 use Rattle.text_meaning.specs.Grammar.{Told, line}
 use Rattle.text_meaning.specs.Writing.{Placed, behind, lineAt, Said, good, bad, onto, eventsAt, eventsFrom, events, Wrote, wrote, laid, writeSaid, writeText}
 use Rattle.text_trip.specs.Reading.{read}
-use Rattle.text_back.specs.Back.{Sayable, Later, Begun, ReadBack, WrittenBack}
+use Rattle.text_back.specs.Back.{Sayable, Later, Begun, WrittenBack}
 use Rattle.text_back.proofs.ReadBack.{read-back}
 use Rattle.text_back.proofs.Says.{Holds, placeOf, LineSays, line-said}
 

@@ -14,7 +14,7 @@ use Rattle.list_lines.proofs.Puts.{put-front}
 use Rattle.text_meaning.specs.Events.{told, pause}
 use Rattle.text_meaning.specs.Writing.{Placed, placed}
 use Rattle.text_line.specs.declared.Line.{Line}
-use Rattle.text_line.specs.Found.{lineFound, LineWithin, recordIn}
+use Rattle.text_line.specs.Found.{lineFound, recordIn}
 
 module _ (own : List ℕ) (l : Line) where
   none-taken : l .long ≡ 0 → [] ≡ take (l .long) own

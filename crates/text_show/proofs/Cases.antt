@@ -1,13 +1,13 @@
 -- What the reader's answer says of a place, and what the tests of a place say of the input's end.
-use Prim.Native.Nat.{ℕ, _<_}
+use Prim.Native.Nat.{ℕ}
 use mathlib.Core.Path.{_≡_, refl, sym, ap, _∙_}
-use mathlib.Core.Bool.{Bool, true, false}
+use mathlib.Core.Bool.{true, false}
 use mathlib.Core.Logic.{_⊎_, ⊎-elim}
 use mathlib.Core.List.{List}
 use native.Mathlib.Omega.{arith}
 use denote.Enum.Declared.{tagOf}
 use borrow.Author.Tests.{lt-leb, le-leb}
-use Rattle.meaning.specs.Plain.{_≤?_, _=?_}
+use Rattle.meaning.specs.Plain.{_=?_}
 use Rattle.trace_record.specs.declared.Found.{Found}
 use Rattle.trace_record.specs.declared.Found.the-variants.{Read, End, Unreadable}
 use Rattle.trace_record.proofs.Found.{the-type}

@@ -1,10 +1,9 @@
 -- What a text handed over may leave: after so many fills one result only, and where all was handed over there is one number of
 -- fills. So two that say yes handed over the same octets, in the same order, and left the same buffer. What stays open is
 -- the writer's: at which write it says no.
-use Prim.Native.Nat.{ℕ, suc, _+_, _≤_, _<_}
+use Prim.Native.Nat.{ℕ, _<_}
 use mathlib.Core.Path.{_≡_, refl, sym, ap, subst, _∙_}
 use mathlib.Core.Bool.{Bool, true, false}
-use mathlib.Core.Logic.{_⊎_, inl, inr, ⊎-elim}
 use mathlib.Core.List.{List, _++_}
 use native.Mathlib.Decide.{decLt}
 use native.Mathlib.Omega.{arith}
@@ -14,7 +13,7 @@ use Rattle.list_lines.specs.Put.{Put}
 use Rattle.list_lines.proofs.Puts.{put-once}
 use Rattle.text_print.specs.Fill.{FillPromise}
 use Rattle.text_print.proofs.Once.{fill-once}
-use Rattle.text_show.specs.Shown.{standing, stopOf, Fills, noFill, thenFill, Handed, Shown}
+use Rattle.text_show.specs.Shown.{standing, Fills, noFill, thenFill, Handed, Shown}
 
 not-both : {b : Bool} → b ≡ true → b ≡ false → ⊥
 not-both h k = let x : true ≡ false = sym h ∙ k in let z : _≡_ {A = ℕ} 0 1 = cc in omega arith

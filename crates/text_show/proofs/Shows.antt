@@ -1,5 +1,5 @@
 -- What was handed over, with the refusal behind it: none where a write failed or the input ends, else the line of the place.
-use Prim.Native.Nat.{ℕ, _+_, _≤_, _<_}
+use Prim.Native.Nat.{ℕ, _≤_, _<_}
 use mathlib.Core.Path.{_≡_, refl, sym, ap, subst, _∙_}
 use mathlib.Core.Bool.{Bool, true, false, not}
 use mathlib.Core.List.{List, []}
@@ -11,7 +11,7 @@ use Rattle.list_lines.specs.Lines.{stopLine}
 use Rattle.list_lines.specs.Put.{Put}
 use Rattle.list_lines.proofs.Puts.{put-none}
 use Rattle.text_print.specs.Print.{lineRoom}
-use Rattle.text_show.specs.Shown.{limit, endOf, atEnd, stopOf, Handed, Shown, ShowPromise}
+use Rattle.text_show.specs.Shown.{limit, atEnd, stopOf, Handed, Shown, ShowPromise}
 
 never : {A : Type 0} → false ≡ true → A
 never e = let z : _≡_ {A = ℕ} 0 1 = cc in absurd (omega arith)

@@ -1,16 +1,15 @@
 -- Fill after fill is the text: what a fill puts is what the text has from there, and where no record stands the text ends.
 use Prim.Native.Nat.{ℕ, zero, suc, _+_, _≤_, _<_}
-use mathlib.Core.Path.{_≡_, refl, sym, ap, subst, _∙_}
-use mathlib.Core.Bool.{Bool, true, false}
+use mathlib.Core.Path.{_≡_, refl, sym, ap, _∙_}
+use mathlib.Core.Bool.{true, false}
 use mathlib.Core.Logic.{_⊎_, ⊎-elim}
-use mathlib.Core.List.{List, [], _++_, append-assoc, append-nil}
+use mathlib.Core.List.{List, [], _++_, append-assoc}
 use lib.ListN.{length, take}
 use native.Mathlib.Omega.{arith}
-use Rattle.trace_record.specs.Trace.{TraceRecord, Stands, event, finish, refusal, standsAt, saidOf}
-use Rattle.trace_record.specs.declared.Found.{Found}
+use Rattle.trace_record.specs.Trace.{TraceRecord, Stands, event, finish, refusal, standsAt}
 use Rattle.list_lines.proofs.Puts.{put-front}
 use Rattle.text_print.specs.declared.Printed.{Printed}
-use Rattle.text_print.specs.Print.{lineOf, lineRoom, textFrom, textOf}
+use Rattle.text_print.specs.Print.{lineRoom, textFrom, textOf}
 use Rattle.text_print.specs.Fill.{Lines, none, then as thenLine, NoRecord, FillPromise}
 use Rattle.text_print.proofs.Whole.{lines-then, text-over}
 use Rattle.text_print.proofs.Within.{read-within}

@@ -1,5 +1,5 @@
 -- `line_at`: the line as `line_into` reads it into octets of its own, which then are copied.
-use mathlib.Core.Path.{_≡_, sym, _∙_}
+use mathlib.Core.Path.{sym, _∙_}
 use Prim.Native.Nat.{_≤_}
 use native.Mathlib.Omega.{arith}
 use lib.ListN.{length}

@@ -1,6 +1,6 @@
 -- `text_show::hand_over` fills and writes until no record stands there: the invariant is the fills so far, the measure what is
 -- left of the trace.
-use Prim.Native.Nat.{ℕ, _-_, _≤_, _<_}
+use Prim.Native.Nat.{_-_}
 use mathlib.Core.Path.{_≡_, refl, sym, _∙_}
 use native.Mathlib.Omega.{arith}
 use borrow.Author.Needs.{needs}

@@ -1,5 +1,5 @@
 -- `text_show::show`: a buffer too short is left alone; of a longer input the front is read.
-use mathlib.Core.Path.{_≡_, sym}
+use mathlib.Core.Path.{sym}
 use borrow.Author.Needs.{needs}
 use Rattle.text_show.proofs.Shows.{front-long, front-within, too-short, show-front, show-all}
 use Rattle.text_show.proofs.show.Statement.{statement}

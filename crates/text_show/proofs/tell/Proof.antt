@@ -1,6 +1,5 @@
 -- `text_show::tell`: the lines, and behind them what is said of the place where they end.
-use mathlib.Core.Path.{_≡_, sym, subst, _∙_}
-use native.Mathlib.Omega.{arith}
+use mathlib.Core.Path.{sym, _∙_}
 use lib.Seq.{length-take-le}
 use borrow.Author.Needs.{needs}
 use Rattle.text_show.proofs.Shows.{shown-cut, shown-end, shown-stop}
