@@ -1,0 +1,7 @@
+pub mod RoomLaws
+pub mod AddLaws
+pub mod Reach
+pub mod Fit
+pub mod Answer
+pub mod Judging
+pub mod Laying
