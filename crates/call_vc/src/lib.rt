@@ -11,15 +11,15 @@ ghost use Rattle.meaning.specs.Promises.{openPromise, closePromise};
 ghost use Rattle.call_vc.specs.NotYet.{notYet};
 use leaf_bucket::fallen_to;
 use leaf_bucket::obeys_rules;
+use leaf_refusal::first;
+use leaf_refusal::ranges_hold;
+use leaf_refusal::refuse;
 use meaning::AT_LAST;
 use meaning::AT_M;
 use meaning::AT_S;
 use meaning::AT_WAITING;
 use meaning::Record;
 use meaning::WORDS_PER_VC;
-use leaf_refusal::first;
-use leaf_refusal::ranges_hold;
-use leaf_refusal::refuse;
 use mem_words::vc_fits;
 use mem_words::write_vc;
 

@@ -10,11 +10,11 @@ ghost use Rattle.call_time.specs.Schedule.{timed};
 ghost use Rattle.clurimoon.specs.Places.{placePromise};
 use call_burst::BurstEnd;
 use call_line::Place;
+use call_time::Tat;
+use call_time::Timed;
 use meaning::Fresh;
 use meaning::Record;
 use meaning::Served;
-use call_time::Tat;
-use call_time::Timed;
 
 #[no_mangle]
 pub extern "C" fn clurimoon_setup(

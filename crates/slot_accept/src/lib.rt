@@ -13,13 +13,13 @@ ghost use Rattle.mem_lists.specs.Spaces.{endsOf};
 ghost use Rattle.slot_plan.specs.Plan.{rotated, seatEnds, joinedHead, leavingMarked, leavingOutput};
 ghost use Rattle.slot_plan.specs.Works.{seatingOf, acceptOf, acceptLeft, lastSteps};
 ghost use Rattle.slot_plan.specs.Facts.{Sized, Accepted, Seated, OffStored};
-use slot_arrive::Fall;
-use slot_arrive::Judged;
 use meaning::Answer;
 use meaning::Record;
 use meaning::Served;
 use mem_lists::Off;
 use mem_lists::Seat;
+use slot_arrive::Fall;
+use slot_arrive::Judged;
 
 // An accepted cell, and a departure: all writes.
 fn accept_end(

@@ -15,12 +15,12 @@ ghost use Rattle.slot_plan.specs.Plan.{rotated, joinedLinks, joinedHead, leavin
 ghost use Rattle.slot_plan.specs.Works.{quietOf, lastSteps};
 ghost use Rattle.slot_plan.specs.Facts.{Sized};
 ghost use Rattle.slot_quiet.specs.Quiet.{EndsWith, GivesWith, KeepsWith};
-use slot_arrive::Fall;
-use slot_arrive::Judged;
 use meaning::Answer;
 use meaning::Record;
 use meaning::Served;
 use mem_lists::Off;
+use slot_arrive::Fall;
+use slot_arrive::Judged;
 
 // Steps 2 and 3 in the words where no cell is accepted.
 fn words_fall(k: Record, b: Fall, j: Judged, words: &mut [u32])

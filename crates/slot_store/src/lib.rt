@@ -12,10 +12,10 @@ ghost use Rattle.slot_arrive.specs.Arrival.{filled};
 ghost use Rattle.mem_lists.specs.Spaces.{endsOf, linked};
 ghost use Rattle.slot_plan.specs.Plan.{withEnds, rotated, seatEnds};
 ghost use Rattle.slot_plan.specs.Facts.{Sized, Accepted, Seated};
-use slot_arrive::Fall;
-use slot_arrive::Judged;
 use meaning::Record;
 use mem_lists::Seat;
+use slot_arrive::Fall;
+use slot_arrive::Judged;
 
 // Steps 2 and 3 in the words where a cell is accepted.
 fn words_fill(k: Record, b: Fall, j: Judged, words: &mut [u32])

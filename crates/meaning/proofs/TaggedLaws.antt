@@ -1,0 +1,66 @@
+-- A tagged cell (document 02 (iv)): as long as it was, with the same VPI and VCI, CLP 1, and an octet 5 that passes the check.
+use Prim.Native.Nat.{ℕ, _+_, _*_, _/_, _%_, _<_}
+use mathlib.Core.Path.{_≡_, sym, _∙_, ap}
+use mathlib.Core.List.{List}
+use native.Mathlib.Omega.{arith}
+use lib.ListN.{length, getD, set, length-set}
+use lib.Seq.{getD-set-same, getD-set-other}
+use lib.Bits.{bitXor, xor-self}
+use Rattle.base_hec.specs.Check.{checkOf, headOf, hecOf, syndromeOf}
+use Rattle.meaning.specs.Header.{headerOf, headerAt, withClp, taggedCell}
+
+pub tagged-length : (cell : List ℕ) → length (taggedCell cell) ≡ length cell
+unfolding taggedCell withClp
+tagged-length cell = simp length-set
+
+module _ (cell : List ℕ) (long : 4 < length cell) where
+  -- octets 1 to 3 and those after the header
+  pub tagged-same : (k : ℕ) → (k ≡ 3 → ⊥) → (k ≡ 4 → ⊥) → getD (taggedCell cell) k 0 ≡ getD cell k 0
+  unfolding taggedCell withClp
+  tagged-same k three four =
+      getD-set-other (withClp cell) 4 k (hecOf (withClp cell)) 0 four
+      ∙ getD-set-other cell 3 k (getD cell 3 0 / 2 * 2 + 1) 0 three
+
+  pub tagged-four : getD (taggedCell cell) 3 0 ≡ getD cell 3 0 / 2 * 2 + 1
+  unfolding taggedCell withClp
+  tagged-four =
+      getD-set-other (withClp cell) 4 3 (hecOf (withClp cell)) 0 (λ e. omega arith)
+      ∙ getD-set-same cell 3 (getD cell 3 0 / 2 * 2 + 1) 0 (omega arith)
+
+  pub tagged-five : getD (taggedCell cell) 4 0 ≡ hecOf (withClp cell)
+  unfolding taggedCell withClp
+  tagged-five = getD-set-same (withClp cell) 4 (hecOf (withClp cell)) 0 (simp length-set long)
+
+  -- it names what it named
+  pub tagged-vpi : headerAt (taggedCell cell) 0 .vpi ≡ headerAt cell 0 .vpi
+  unfolding headerAt headerOf
+  tagged-vpi = rw (tagged-same 0 (λ e. omega arith) (λ e. omega arith), tagged-same 1 (λ e. omega arith) (λ e. omega arith))
+
+  pub tagged-vci : headerAt (taggedCell cell) 0 .vci ≡ headerAt cell 0 .vci
+  unfolding headerAt headerOf
+  tagged-vci =
+      rw (tagged-same 1 (λ e. omega arith) (λ e. omega arith), tagged-same 2 (λ e. omega arith) (λ e. omega arith), tagged-four)
+      (omega arith)
+
+  pub tagged-clp : headerAt (taggedCell cell) 0 .clp ≡ 1
+  unfolding headerAt headerOf
+  tagged-clp = rw tagged-four (omega arith)
+
+  -- octet 5 belongs to the four octets before it
+  same-head : headOf (taggedCell cell) ≡ headOf (withClp cell)
+  unfolding headOf taggedCell withClp
+  same-head =
+      simp (
+        getD-set-other (withClp cell) 4 0 (hecOf (withClp cell)) 0 (λ e. omega arith),
+        getD-set-other (withClp cell) 4 1 (hecOf (withClp cell)) 0 (λ e. omega arith),
+        getD-set-other (withClp cell) 4 2 (hecOf (withClp cell)) 0 (λ e. omega arith),
+        getD-set-other (withClp cell) 4 3 (hecOf (withClp cell)) 0 (λ e. omega arith),
+      )
+
+  pub tagged-checks : getD (taggedCell cell) 4 0 ≡ hecOf (taggedCell cell)
+  unfolding hecOf
+  tagged-checks = tagged-five ∙ ap checkOf (sym same-head)
+
+  pub tagged-passes : syndromeOf (taggedCell cell) ≡ 0
+  unfolding syndromeOf
+  tagged-passes = ap (bitXor (hecOf (taggedCell cell))) tagged-checks ∙ xor-self (hecOf (taggedCell cell))
