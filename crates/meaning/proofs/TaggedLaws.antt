@@ -1,6 +1,6 @@
 -- A tagged cell (document 02 (iv)): as long as it was, with the same VPI and VCI, CLP 1, and an octet 5 that passes the check.
 use Prim.Native.Nat.{ℕ, _+_, _*_, _/_, _%_, _<_}
-use mathlib.Core.Path.{_≡_, sym, _∙_, ap}
+use mathlib.Core.Path.{_≡_, refl, sym, _∙_, ap}
 use mathlib.Core.List.{List}
 use native.Mathlib.Omega.{arith}
 use lib.ListN.{length, getD, set, length-set}
@@ -46,6 +46,18 @@ module _ (cell : List ℕ) (long : 4 < length cell) where
   unfolding headerAt headerOf
   tagged-clp = rw tagged-four (omega arith)
 
+  -- the four octets as one number: octet 4 is its low octet
+  pub tagged-head : headOf (withClp cell) ≡ headOf cell / 2 * 2 + 1
+  unfolding headOf withClp
+  tagged-head =
+      rw (
+        getD-set-other cell 3 0 (getD cell 3 0 / 2 * 2 + 1) 0 (λ e. omega arith),
+        getD-set-other cell 3 1 (getD cell 3 0 / 2 * 2 + 1) 0 (λ e. omega arith),
+        getD-set-other cell 3 2 (getD cell 3 0 / 2 * 2 + 1) 0 (λ e. omega arith),
+        getD-set-same cell 3 (getD cell 3 0 / 2 * 2 + 1) 0 (omega arith),
+      )
+      (omega arith)
+
   -- octet 5 belongs to the four octets before it
   same-head : headOf (taggedCell cell) ≡ headOf (withClp cell)
   unfolding headOf taggedCell withClp
@@ -64,3 +76,15 @@ module _ (cell : List ℕ) (long : 4 < length cell) where
   pub tagged-passes : syndromeOf (taggedCell cell) ≡ 0
   unfolding syndromeOf
   tagged-passes = ap (bitXor (hecOf (taggedCell cell))) tagged-checks ∙ xor-self (hecOf (taggedCell cell))
+
+  -- octet 4 and octet 5 stored over a copy
+  pub tagged-stored : (copy : List ℕ) (four head five : ℕ) → copy ≡ cell → four ≡ getD cell 3 0 / 2 * 2 + 1 → head ≡ headOf cell
+      → five ≡ checkOf (head / 2 * 2 + 1)
+      → set (set copy 3 four) 4 five ≡ taggedCell cell
+  unfolding taggedCell hecOf withClp
+  tagged-stored copy four head five same o4 h o5 =
+      rw (same, o4, o5, h) (stored ∙ ap (λ (k : ℕ). set (withClp cell) 4 (checkOf k)) (sym tagged-head))
+    where
+      stored : set (set cell 3 (getD cell 3 0 / 2 * 2 + 1)) 4 (checkOf (headOf cell / 2 * 2 + 1))
+          ≡ set (withClp cell) 4 (checkOf (headOf cell / 2 * 2 + 1))
+      stored = refl

@@ -8,8 +8,8 @@ use borrow.Author.Tests.{lt-leb, eq-eqb, ne-eqb, leb-true}
 use lib.ListN.{getD}
 use Rattle.meaning.specs.Plain.{_≤?_}
 use Rattle.meaning.specs.Numbers.{wordsPerVc}
-use Rattle.meaning.specs.Bucket.{Bucket, bucketOf, obeysRules}
-use Rattle.meaning.specs.Words.{Vc, vcAt, bucketFits, openWordFits, vcFits}
+use Rattle.meaning.specs.Bucket.{Bucket, bucketOf, obeysRules, obeysSecond, isNone}
+use Rattle.meaning.specs.Words.{Vc, vcAt, bucketFits, secondObeys, secondFits, bucketsFit, openWordFits, vcFits}
 pub use Rattle.meaning.proofs.WordsLaws.{opened-at}
 use Rattle.leaf_bucket.proofs.Rules.{Obeys, rules-any-S, rules-facts, both}
 
@@ -35,6 +35,16 @@ bucket-facts N b e =
     let p = both (obeysRules N b) (b .S ≤? b .C) e in
     record { rules = rules-facts N b (p .0); S-most = leb-true _ _ (p .1) }
 
+-- ---- a second bucket, of which the limits of m, F, C and flag are tested first
+pub second-breaks : (b : Bucket) (tag : ℕ) → secondObeys (bucketOf (b .m) (b .F) (b .C) 0) tag ≡ false → false ≡ secondFits b tag
+unfolding secondFits secondObeys isNone obeysSecond
+second-breaks b tag e = rw e
+
+pub second-obeys : (b : Bucket) (tag : ℕ) → secondObeys (bucketOf (b .m) (b .F) (b .C) 0) tag ≡ true
+    → (b .S ≤? b .C) ≡ secondFits b tag
+unfolding secondFits secondObeys isNone obeysSecond
+second-obeys b tag e = rw e
+
 -- ---- a VC, of which the open word is tested first
 pub vc-closed : (N : ℕ) (vc : Vc) → vc .opened ≡ 0 → true ≡ vcFits N vc
 unfolding vcFits
@@ -45,12 +55,21 @@ unfolding vcFits openWordFits
 vc-open-breaks N vc h = simp (ne-eqb (vc .opened) 0 (λ e. omega arith), lt-leb _ _ h)
 
 pub vc-bucket-breaks : (N : ℕ) (vc : Vc) → vc .opened ≡ 1 → bucketFits N (vc .bucket) ≡ false → false ≡ vcFits N vc
-unfolding vcFits openWordFits
+unfolding vcFits openWordFits bucketsFit
 vc-bucket-breaks N vc h e = simp (h, e)
+
+pub vc-second-breaks : (N : ℕ) (vc : Vc)
+    → vc .opened ≡ 1
+    → bucketFits N (vc .bucket) ≡ true
+    → secondFits (vc .second) (vc .tag) ≡ false
+    → false ≡ vcFits N vc
+unfolding vcFits openWordFits bucketsFit
+vc-second-breaks N vc h e f = simp (h, e, f)
 
 pub vc-open-fits : (N : ℕ) (vc : Vc)
     → vc .opened ≡ 1
     → bucketFits N (vc .bucket) ≡ true
+    → secondFits (vc .second) (vc .tag) ≡ true
     → (vc .waiting ≤? N) ≡ vcFits N vc
-unfolding vcFits openWordFits
-vc-open-fits N vc h e = simp (h, e)
+unfolding vcFits openWordFits bucketsFit
+vc-open-fits N vc h e f = simp (h, e, f)
