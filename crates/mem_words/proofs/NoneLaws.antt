@@ -4,10 +4,12 @@ use mathlib.Core.Path.{_≡_, refl}
 use mathlib.Core.Bool.{Bool, true, false, _&&_}
 use native.Mathlib.Omega.{arith}
 use native.Mathlib.Decide.{ℕ-discrete}
-use borrow.Author.Tests.{eq-eqb, ne-eqb}
+use borrow.Author.Tests.{eq-eqb, ne-eqb, eqb-true, le-leb}
 use lib.Bits.{bitOr, bitAnd, or-add-and, and-le-l, and-le-r}
 use Rattle.meaning.specs.Plain.{_=?_}
-use Rattle.meaning.specs.Words.{Vc}
+use Rattle.meaning.specs.Bucket.{isNone}
+use Rattle.meaning.specs.Words.{Vc, secondObeys, secondFits}
+use Rattle.leaf_bucket.proofs.Rules.{both}
 use Rattle.mem_words.specs.Vcs.{hasNone}
 
 pub or-none : (a b : ℕ) → (bitOr a b =? 0) ≡ (a =? 0 && b =? 0)
@@ -34,4 +36,39 @@ none-is vc =
       or-none (bitOr (bitOr m (b .F)) (b .C)) (b .S),
       or-none (bitOr m (b .F)) (b .C),
       or-none m (b .F),
+    )
+
+-- what is known of a VC without a second bucket
+pub record None (vc : Vc) : Type 0 where
+  pub m-is : vc .second .m ≡ 0
+  pub F-is : vc .second .F ≡ 0
+  pub C-is : vc .second .C ≡ 0
+  pub S-is : vc .second .S ≡ 0
+  pub tag-is : vc .tag ≡ 0
+
+pub none-facts : (vc : Vc) → hasNone vc ≡ true → None vc
+unfolding hasNone
+none-facts vc e =
+    let b = vc .second in
+    let e4 = both (b .m =? 0 && b .F =? 0 && b .C =? 0 && b .S =? 0) (vc .tag =? 0) e in
+    let e3 = both (b .m =? 0 && b .F =? 0 && b .C =? 0) (b .S =? 0) (e4 .0) in
+    let e2 = both (b .m =? 0 && b .F =? 0) (b .C =? 0) (e3 .0) in
+    let e1 = both (b .m =? 0) (b .F =? 0) (e2 .0) in
+    record {
+      m-is = eqb-true _ _ (e1 .0);
+      F-is = eqb-true _ _ (e1 .1);
+      C-is = eqb-true _ _ (e2 .1);
+      S-is = eqb-true _ _ (e3 .1);
+      tag-is = eqb-true _ _ (e4 .1);
+    }
+
+pub none-fits : (vc : Vc) → None vc → secondFits (vc .second) (vc .tag) ≡ true
+unfolding secondFits secondObeys isNone
+none-fits vc n =
+    simp (
+      eq-eqb _ _ (n .m-is),
+      eq-eqb _ _ (n .F-is),
+      eq-eqb _ _ (n .C-is),
+      eq-eqb _ _ (n .tag-is),
+      le-leb (vc .second .S) (vc .second .C) (omega (arith, n .S-is)),
     )

@@ -1,6 +1,6 @@
 // Steps 2 and 3 of a slot, up to the VC words: what is read and decided, before anything is written.
 ghost use mathlib.Core.Path.{_≡_};
-ghost use mathlib.Core.Bool.{true};
+ghost use mathlib.Core.Bool.{true, false};
 ghost use Prim.Native.Nat.{_%_, _≤_, _<_};
 ghost use lib.ListN.{length, getD};
 ghost use Rattle.meaning.specs.Numbers.{nothing, excess, unknown, waitingPlace, mostV, wordsIn};
