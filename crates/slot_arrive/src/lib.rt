@@ -69,7 +69,12 @@ fn second_now(words: &[u32], vci: u16, t: u32) -> u32
     ensures { λ r. ⌜ r ≡ vcNow t (vcAt (now (words .entry)) vci) .second .S ⌝ }
 {
     let b = WORDS_PER_VC * (vci as usize);
-    leaf_bucket::fallen_to(words[b + AT_SECOND_S], words[b + AT_SECOND_M], words[b + AT_LAST], t)
+    leaf_bucket::fallen_to(
+        words[b + AT_SECOND_S],
+        words[b + AT_SECOND_M],
+        words[b + AT_LAST],
+        t,
+    )
 }
 
 // Step 2 of an open VC that has a second bucket.
