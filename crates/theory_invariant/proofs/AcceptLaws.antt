@@ -37,7 +37,7 @@ use Rattle.theory_table.proofs.VcLaws.{delay-due, delay-low, moved, filled, fil
 use Rattle.theory_memory.specs.Held.{Queued, dueOf, vciOf, Has}
 use Rattle.theory_memory.proofs.HasLaws.{free-fits, entry-fits, SomeFree, some-free, free-marked, free-taken, placed}
 use Rattle.theory_invariant.specs.Invariant.{isOf, waits, Under, Sits, Stage}
-use Rattle.theory_invariant.specs.Came.{after, onward, Came}
+use Rattle.theory_invariant.specs.Came.{onward, Came}
 use Rattle.theory_invariant.proofs.StepLaws.{Goes}
 use Rattle.theory_invariant.proofs.SentLaws.{sent-length, sent-vci, sent-names}
 use Rattle.theory_invariant.proofs.AfterLaws.{after-own, after-other, sits-after, waits-low}

@@ -11,7 +11,7 @@ use native.Mathlib.Omega.{arith}
 use borrow.Author.Tests.{eq-eqb, ne-eqb, leb-true, ltb-true, eqb-true}
 use lib.ListN.{length}
 use Rattle.meaning.specs.Plain.{if_then_else_, _<?_, _≤?_, _=?_, next}
-use Rattle.meaning.specs.Numbers.{accepted, excess, tagged, unknown, nothing, letsIn}
+use Rattle.meaning.specs.Numbers.{excess, unknown, nothing, letsIn}
 use Rattle.meaning.specs.State.{State, withWords}
 use Rattle.meaning.specs.Header.{Header, headerAt, noUserCell, namesVc}
 use Rattle.meaning.specs.Words.{Vc, vcAt, writeVc, upToDate}
@@ -33,7 +33,7 @@ use Rattle.theory_table.proofs.VerdictLaws.{verdict-is, verdict-says}
 use Rattle.theory_table.proofs.VcLaws.{word-fits, up-to-date, now-open}
 use Rattle.theory_memory.specs.Held.{Queued, dueOf, vciOf}
 use Rattle.theory_invariant.specs.Invariant.{waits, Sits, Stage}
-use Rattle.theory_invariant.specs.Came.{after, onward, half, Came}
+use Rattle.theory_invariant.specs.Came.{after, half, Came}
 use Rattle.theory_invariant.proofs.StepLaws.{Goes}
 use Rattle.theory_invariant.proofs.AcceptLaws.{accept-goes}
 

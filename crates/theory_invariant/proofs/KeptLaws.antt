@@ -9,7 +9,7 @@ use mathlib.Core.Option.{Option, none, some}
 use native.Mathlib.Omega.{arith}
 use borrow.Author.Tests.{eq-eqb, ne-eqb}
 use Rattle.meaning.specs.declared.Answer.{Answer}
-use Rattle.meaning.specs.Plain.{if_then_else_, _=?_}
+use Rattle.meaning.specs.Plain.{if_then_else_}
 use Rattle.meaning.specs.Numbers.{empty, letsIn}
 use Rattle.meaning.specs.Work.{answerOf}
 use Rattle.meaning.specs.Arrival.{sentAs}
