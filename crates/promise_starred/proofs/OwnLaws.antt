@@ -2,7 +2,6 @@
 -- after enough slots the cell should have left. One that discards everything meets the clauses on events.
 use Prim.Native.Nat.{ℕ, zero, suc, _+_, _-_, _≤_, _<_}
 use mathlib.Core.Path.{_≡_, refl, sym, ap, _∙_, subst}
-use mathlib.Core.Logic.{_≢_}
 use mathlib.Core.Bool.{Bool, true, false}
 use mathlib.Core.List.{List, [], _∷_, _++_, append-assoc, append-nil}
 use native.Mathlib.Omega.{arith}
@@ -10,7 +9,7 @@ use native.Mathlib.Nat.{zero-add}
 use borrow.Author.Tests.{eq-eqb}
 use lib.Dec.{lit<}
 use lib.ListN.{length, getD, replicate, length-append, List·getD-append}
-use Rattle.meaning.specs.Plain.{if_then_else_, _=?_}
+use Rattle.meaning.specs.Plain.{if_then_else_}
 use Rattle.meaning.specs.Numbers.{rangesHold, empty, letsIn}
 use Rattle.meaning.specs.State.{State}
 use Rattle.meaning.specs.Arrival.{sentAs}
