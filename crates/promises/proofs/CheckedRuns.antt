@@ -196,8 +196,8 @@ plain-call r (onSlot cell) e =
     (arriving-plain (r .state .ctl .raw) (r .state .ctl .mode) cell e)
     ∙ ap (λ (w : Work). runOf (w .state) (ran cell (w .answer) (shown w) ∷ r .events)) (not-raw (r .state) cell e)
 
-pub as-before : (r : Run) (cs : List Call) → r .state .ctl .raw ≡ 0 → calls r cs ≡ plainCalls r cs
+pub plain-before : (r : Run) (cs : List Call) → r .state .ctl .raw ≡ 0 → calls r cs ≡ plainCalls r cs
 unfolding calls plainCalls
-as-before r [] e = refl
-as-before r (c ∷ cs) e =
-    as-before (call r c) cs (call-raw r c ∙ e) ∙ ap (λ (r′ : Run). plainCalls r′ cs) (plain-call r c e)
+plain-before r [] e = refl
+plain-before r (c ∷ cs) e =
+    plain-before (call r c) cs (call-raw r c ∙ e) ∙ ap (λ (r′ : Run). plainCalls r′ cs) (plain-call r c e)

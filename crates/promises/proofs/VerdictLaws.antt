@@ -17,7 +17,7 @@ use Rattle.meaning.specs.Slot.{slot}
 use Rattle.meaning.proofs.CheckedLaws.{dropped-none}
 use Rattle.meaning_runs.specs.Run.{Event, letIn, served}
 use Rattle.meaning_runs.specs.Leak.{Opening, leakAccepts, sustains, verdictBy, openingOf}
-use Rattle.meaning_runs.specs.Judged.{Judged, judgedOf, judgedBy, judged, judgedAs}
+use Rattle.meaning_runs.specs.Judged.{Judged, judgedOf, judgedUnder, judgedBy, judged, judgedAs}
 use Rattle.theory_invariant.specs.Invariant.{Inv}
 use Rattle.theory_invariant.proofs.ArriveLaws.{names-facts}
 use Rattle.theory_invariant.proofs.CheckLaws.{slot-served}
@@ -80,15 +80,21 @@ module _ (N z : ℕ) (h : List Event) (s : State) (i : Inv N z h s) where
 
   judged-is : (cell : List ℕ) (o : Opening) → namesVc z (headerAt cell 0) ≡ true
       → openingOf (headerAt cell 0 .vci) h ≡ some o
-      → judged z h cell .verdict ≡ verdictBy o (headerAt cell 0 .clp) (served h)
+      → judged z h cell ≡ judgedUnder (served h) (headerAt cell 0 .vci) (headerAt cell 0 .clp) (some o)
   unfolding judgedBy
   judged-is cell o n q = rw (user cell n, n, q)
 
-  pub verdict-is : (cell : List ℕ) (o : Opening) → length cell ≡ 53 → namesVc z (headerAt (letIn s cell .cell) 0) ≡ true
+  -- of a cell of an open VC: what the leak rules say under its opening
+  pub judged-open : (cell : List ℕ) (o : Opening) → length cell ≡ 53 → namesVc z (headerAt (letIn s cell .cell) 0) ≡ true
+      → openingOf (headerAt (letIn s cell .cell) 0 .vci) h ≡ some o
+      → judgedOf (slot s cell .answer .verdict) (slot s cell .answer .vci) (slot s cell .answer .d)
+      ≡ judgedUnder (served h) (headerAt (letIn s cell .cell) 0 .vci) (headerAt (letIn s cell .cell) 0 .clp) (some o)
+  judged-open cell o e n q = through cell e (let-in cell n) ∙ judged-is (letIn s cell .cell) o n q
+
+  verdict-is : (cell : List ℕ) (o : Opening) → length cell ≡ 53 → namesVc z (headerAt (letIn s cell .cell) 0) ≡ true
       → openingOf (headerAt (letIn s cell .cell) 0 .vci) h ≡ some o
       → slot s cell .answer .verdict ≡ verdictBy o (headerAt (letIn s cell .cell) 0 .clp) (served h)
-  verdict-is cell o e n q =
-      ap (λ (j : Judged). j .verdict) (through cell e (let-in cell n)) ∙ judged-is (letIn s cell .cell) o n q
+  verdict-is cell o e n q = ap (λ (j : Judged). j .verdict) (judged-open cell o e n q)
 
   pub accepts : (cell : List ℕ) (o : Opening) → length cell ≡ 53 → namesVc z (headerAt (letIn s cell .cell) 0) ≡ true
       → openingOf (headerAt (letIn s cell .cell) 0 .vci) h ≡ some o
