@@ -1,0 +1,5 @@
+pub mod RuleLaws
+pub mod SaidLaws
+pub mod PassLaws
+pub mod SourceLaws
+pub mod Top
