@@ -3,3 +3,4 @@ pub mod SaidLaws
 pub mod PassLaws
 pub mod SourceLaws
 pub mod Top
+pub mod WorkedLaws

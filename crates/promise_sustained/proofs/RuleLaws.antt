@@ -18,7 +18,7 @@ use Rattle.meaning_runs.specs.Leak.{dueAfter, leakAfter}
 use Rattle.theory_table.specs.Stored.{earliestAfter}
 use Rattle.theory_table.proofs.LeakLaws.{due-after, leak-after, and-left, and-right}
 use Rattle.promise_bound.proofs.CountLaws.{count, close-few}
-use Rattle.promise_sustained.specs.Sustained.{Keeps, inSlots, most}
+use Rattle.promise_sustained.specs.Sustained.{Spans, Keeps, inSlots, most}
 
 sub-mul : (a b L : ℕ) → (a - b) * L ≡ a * L - b * L
 sub-mul a b L = mul-comm (a - b) L ∙ mul-sub L a b ∙ omega (arith, mul-comm L a, mul-comm L b)
@@ -65,48 +65,41 @@ module _ (L F t : ℕ) (l : List ℕ) (p : Option ℕ) (r : Reckoned L F l p) wh
         some-one = rw grows (next-one (decLe (earliestAfter F p) (t * L)) (r .some-one));
       }
 
-  -- ── a cell that the rule takes ──
-  taken-by : (m C : ℕ) → 2 ^ m ≡ L → Keeps m F C l → leakAfter L F C t p ≡ true → Keeps m F C (t ∷ l)
-  taken-by m C e k q i n low = go i n low
+module _ (m F C t : ℕ) (l : List ℕ) (p : Option ℕ) (r : Reckoned (2 ^ m) F l p) where
+  abbrev L : ℕ
+  L = 2 ^ m
+
+  -- a cell that the rule takes
+  pub keeps-more : Keeps m F C l → leakAfter (2 ^ m) F C t p ≡ true → Keeps m F C (t ∷ l)
+  keeps-more k q = go
     where
       within : earliestAfter F p - t * L ≤ C - F
       within = leb-true (earliestAfter F p - t * L) (C - F) (sym (leak-after L F C t p) ∙ q)
 
-      go : (i n : ℕ) → i + n < length (t ∷ l)
-          → n * F ≤ (getD (t ∷ l) i 0 - getD (t ∷ l) (i + n) 0) * 2 ^ m + (C - F)
+      go : (i n : ℕ) → i + n < length (t ∷ l) → Spans m F C n (getD (t ∷ l) (i + n) 0) (getD (t ∷ l) i 0)
       go zero zero low = omega (arith, zero-mul F)
       go zero (suc j) low =
-          rw (zero-add (suc j), e)
-          (omega (arith, within, sub-mul t (getD l j 0) L, r .each j (omega (arith, low))))
+          rw (zero-add (suc j)) (omega (arith, within, sub-mul t (getD l j 0) L, r .each j (omega (arith, low))))
       go (suc i) n low = rw (suc-add i n) (k i n (omega (arith, low)))
 
-  -- ── a cell that keeps to it, none of the others being after it ──
-  takes : (m C : ℕ) → 2 ^ m ≡ L → Keeps m F C (t ∷ l) → ((j : ℕ) → j < length l → getD l j 0 ≤ t) → leakAfter L F C t p ≡ true
-  takes m C e k low = leak-after L F C t p ∙ le-leb (earliestAfter F p - t * L) (C - F) (go (r .some-one))
+  -- a cell that keeps to it, none of the others being after it
+  pub keeps-takes : Keeps m F C (t ∷ l) → ((j : ℕ) → j < length l → getD l j 0 ≤ t) → leakAfter (2 ^ m) F C t p ≡ true
+  keeps-takes k low = leak-after L F C t p ∙ le-leb (earliestAfter F p - t * L) (C - F) (go (r .some-one))
     where
-      go : Found l (earliestAfter F p) → earliestAfter F p - t * L ≤ C - F
+      kept : (j : ℕ) → j < length l → Spans m F C (suc j) (getD l j 0) t
+      kept j h = rw (zero-add (suc j)) at (k 0 (suc j) (omega (arith, h)))
+
+      go : (earliestAfter F p ≡ 0) ⊎ ((j : ℕ) × (j < length l) × (earliestAfter F p ≡ asks L F (getD l j 0) (suc j)))
+          → earliestAfter F p - t * L ≤ C - F
       go (inl z) = omega (arith, z)
       go (inr f) =
-          let j = f .0 in
-          let a = getD l j 0 in
           omega (
             arith,
             f .2,
-            kept j (f .1),
-            sub-mul t a L,
-            mul-le-mul-right L (low j (f .1)),
+            kept (f .0) (f .1),
+            sub-mul t (getD l (f .0) 0) L,
+            mul-le-mul-right L (low (f .0) (f .1)),
           )
-        where
-          kept : (j : ℕ) → j < length l → suc j * F ≤ (t - getD l j 0) * L + (C - F)
-          kept j h = rw (zero-add (suc j), e) at (k 0 (suc j) (omega (arith, h)))
-
-pub keeps-more : (m F C t : ℕ) (l : List ℕ) (p : Option ℕ) → Reckoned (2 ^ m) F l p → Keeps m F C l
-    → leakAfter (2 ^ m) F C t p ≡ true → Keeps m F C (t ∷ l)
-keeps-more m F C t l p r k q = taken-by (2 ^ m) F t l p r m C refl k q
-
-pub keeps-takes : (m F C t : ℕ) (l : List ℕ) (p : Option ℕ) → Reckoned (2 ^ m) F l p → Keeps m F C (t ∷ l)
-    → ((j : ℕ) → j < length l → getD l j 0 ≤ t) → leakAfter (2 ^ m) F C t p ≡ true
-keeps-takes m F C t l p r k low = takes (2 ^ m) F t l p r m C refl k low
 
 pub keeps-none : (m F C : ℕ) → Keeps m F C []
 keeps-none m F C i n low = absurd (not-suc-le-zero low)

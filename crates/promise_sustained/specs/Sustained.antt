@@ -8,8 +8,9 @@
 --   untouched   a source that keeps to both rules, of its arrival slots alone, has no cell tagged or excess: to the peak bucket's
 --               with all its cells, to the second bucket's with those of CLP 0. Without a second bucket nothing is asked of these
 --
---   Keeps m F C l   == the slots l, the newest first, keep to the rule of a bucket with this m, F and C: any n + 1 of them in a
---                      row span at least (n × F - (C - F)) / L slots
+--   Spans m F C n a b  == n + 1 cells in a row, the first in slot a and the last in slot b, span at least (n × F - (C - F)) / L
+--                      slots, for the m, F and C of a bucket
+--   Keeps m F C l   == the slots l, the newest first, keep to the bucket's rule: any n + 1 of them in a row span so many
 --   comes z v       == a cell of the VC v came, as it leaves the header check, in a slot that was served
 --   passes v        == a CLP 0 cell of it was accepted, and so not tagged
 --   slotsOf p b d   == the slots of the events d, which followed the events b, of which p says yes; the newest first
@@ -30,9 +31,11 @@ use Rattle.meaning.specs.Calls.{setup}
 use Rattle.meaning_runs.specs.Run.{Call, Event, opened, closed, ran, runOf, calls, served}
 use Rattle.promise_bound.specs.Bound.{OneOpening}
 
+abbrev pub Spans : ℕ → ℕ → ℕ → ℕ → ℕ → ℕ → Type 0
+Spans m F C n a b = n * F ≤ (b - a) * 2 ^ m + (C - F)
+
 abbrev pub Keeps : ℕ → ℕ → ℕ → List ℕ → Type 0
-Keeps m F C l = (i n : ℕ) → i + n < length l
-    → n * F ≤ (getD l i 0 - getD l (i + n) 0) * 2 ^ m + (C - F)
+Keeps m F C l = (i n : ℕ) → i + n < length l → Spans m F C n (getD l (i + n) 0) (getD l i 0)
 
 -- ── which cells ──
 unfoldable pub comes : ℕ → ℕ → List ℕ → Answer → Bool
