@@ -11,10 +11,10 @@ ghost use Rattle.meaning.specs.Lists.{endsFit};
 ghost use Rattle.mem_lists.specs.Spaces.{endsOf};
 ghost use Rattle.burst_way.specs.Way.{slotRecord};
 ghost use Rattle.burst_arrive.specs.Arriving.{Judges, Arrives, Seats, Spotted, MaySeat, MayArrive};
+use burst_way::Way;
 use meaning::AT_M;
 use meaning::AT_WAITING;
 use meaning::WORDS_PER_VC;
-use burst_way::Way;
 
 // An arrival: ok where its VC is open and in range and the cell is accepted; its VC, D, and S before the cell.
 pub struct Judgement {

@@ -16,9 +16,9 @@ ghost use Rattle.burst_way.specs.Way.{slotRecord};
 ghost use Rattle.burst_arrive.specs.Arriving.{seatAt, Seats};
 ghost use Rattle.burst_depart.specs.Leaving.{Left, PlannedUnmarked, PlannedMarked, Planned, Leaves, leaveWith, OffHereIn, OffThenIn, entryThen, MayRead};
 use burst_arrive::Spot;
+use burst_way::Way;
 use meaning::AT_WAITING;
 use meaning::WORDS_PER_VC;
-use burst_way::Way;
 
 // What departs: nothing, or the space and its VC, and what is left of the Output List; whether entry T is marked, whether its
 // chain follows the old tail, and the chain's head then.

@@ -22,14 +22,14 @@ ghost use Rattle.burst_depart.specs.Leaving.{Leaves, OffHere, OffThen, entryThe
 ghost use Rattle.burst_likely.specs.Served.{HandedTo, cellBefore, ReadyIn, SpottedIn, ServedBy, ServedSilent, ServedOrLeft, wordsFilled};
 use burst_arrive::Spot;
 use burst_depart::Leave;
+use burst_rotate::Turn;
+use burst_way::Way;
 use meaning::AT_F;
 use meaning::AT_LAST;
 use meaning::AT_S;
 use meaning::AT_WAITING;
 use meaning::Answer;
 use meaning::WORDS_PER_VC;
-use burst_rotate::Turn;
-use burst_way::Way;
 
 // A slot on a likely way: served, or left as it came.
 pub struct Went {

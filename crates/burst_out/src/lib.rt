@@ -6,8 +6,8 @@ ghost use lib.ListN.{length, take, drop};
 ghost use Rattle.meaning.specs.Numbers.{octets, cellStart};
 ghost use Rattle.meaning.specs.State.{writeCell};
 ghost use Rattle.burst_out.specs.Handout.{shownInto, writeAnswer, Shows};
-use mem_cell::copy_cell;
 use meaning::Answer;
+use mem_cell::copy_cell;
 
 // The cell in this space, copied into slot i's own 53 octets.
 pub fn copy_departure(departures: &mut [u8], i: usize, cells: &[u8], space: usize)

@@ -9,13 +9,13 @@ ghost use Rattle.meaning.specs.Numbers.{mostN};
 ghost use Rattle.meaning.specs.State.{HasVc};
 ghost use Rattle.burst_way.specs.Way.{slotRecord};
 ghost use Rattle.burst_rotate.specs.Turning.{Met, Turned};
+use burst_way::Way;
 use meaning::AT_C;
 use meaning::AT_F;
 use meaning::AT_LAST;
 use meaning::AT_M;
 use meaning::AT_S;
 use meaning::WORDS_PER_VC;
-use burst_way::Way;
 
 // An open VC's bucket: ok where its words but waiting are in range; S as it has fallen, and C-F.
 pub struct Bucketed {

@@ -12,11 +12,11 @@ ghost use Rattle.meaning.specs.Lent.{before};
 ghost use Rattle.mem_walks.specs.Budget.{Gone};
 ghost use Rattle.call_audit.specs.Budgets.{inside, waitsOf, waitsAt, AllFit};
 ghost use Rattle.call_audit.specs.Shape.{recordFits, shapeHolds};
+use leaf_refusal::lengths_hold;
+use leaf_refusal::ranges_hold;
 use meaning::AT_WAITING;
 use meaning::Record;
 use meaning::WORDS_PER_VC;
-use leaf_refusal::lengths_hold;
-use leaf_refusal::ranges_hold;
 use mem_walks::stored;
 use mem_words::vc_fits;
 

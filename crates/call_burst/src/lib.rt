@@ -12,15 +12,15 @@ ghost use Rattle.burst_way.specs.Way.{lastRecord};
 ghost use Rattle.call_burst.specs.Burst.{sizeFits, oneSlot, slots, lengthsFit};
 ghost use Rattle.call_burst.specs.Promise.{burstPromise, SlotLent, BurstLent};
 ghost use Rattle.call_burst.specs.Way.{Shaped, Tries, Room, HeldIn, HeldAfter, stretchBefore, stretchAfter, slotsFrom};
-use meaning::Answer;
-use meaning::Record;
-use meaning::Served;
+use burst_way::Way;
 use leaf_refusal::first;
 use leaf_refusal::lengths_hold;
 use leaf_refusal::ranges_hold;
 use leaf_refusal::refuse;
+use meaning::Answer;
+use meaning::Record;
+use meaning::Served;
 use mem_lists::pair;
-use burst_way::Way;
 
 // What a burst gives back: the record, the number that ended it (0 for none), and how many slots were served.
 #[repr(C)]

@@ -10,13 +10,13 @@ ghost use Rattle.meaning.specs.Calls.{zeros, countUp};
 ghost use Rattle.meaning.specs.Promises.{setupPromise};
 ghost use Rattle.meaning.specs.Lent.{before, setUpAfter};
 ghost use Rattle.leaf_refusal.specs.Order.{refuseOf, firstOf};
-use meaning::Fresh;
-use meaning::fresh_record;
-use meaning::no_record;
 use leaf_refusal::first;
 use leaf_refusal::lengths_hold;
 use leaf_refusal::ranges_hold;
 use leaf_refusal::refuse;
+use meaning::Fresh;
+use meaning::fresh_record;
+use meaning::no_record;
 
 // All octets of the cell memory 0.
 fn clear_cells(cells: &mut [u8])

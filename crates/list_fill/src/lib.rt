@@ -9,10 +9,10 @@ ghost use Rattle.list_meaning.specs.Trace.{limit};
 ghost use Rattle.list_whole.specs.Fill.{room, FillPromise, startRun, sizesAt, sizesOf};
 ghost use Rattle.list_whole.specs.Lent.{worldBefore, worldAfter, RanLent, AdvancedLent, FillLent};
 use list_meaning::Tally;
-use meaning::Record;
 use list_whole::Filled;
 use list_whole::Run;
 use list_whole::Sizes;
+use meaning::Record;
 use trace_record::Event;
 use trace_record::Found;
 

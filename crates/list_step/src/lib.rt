@@ -16,10 +16,10 @@ ghost use Rattle.list_whole.specs.Run.{counted as Run·counted};
 ghost use Rattle.list_whole.specs.Fill.{room, CellWithin};
 ghost use Rattle.list_whole.specs.Lent.{worldBefore, DidLent, DidWords, DidAlone};
 use list_meaning::Tally;
-use meaning::Answer;
-use meaning::Record;
 use list_whole::Filled;
 use list_whole::Run;
+use meaning::Answer;
+use meaning::Record;
 use trace_record::Event;
 use trace_record::Found;
 

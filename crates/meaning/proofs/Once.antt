@@ -6,6 +6,7 @@ use mathlib.Core.Bool.{Bool, true, false}
 use mathlib.Core.List.{List}
 use Rattle.meaning.specs.declared.Record.{Record}
 use Rattle.meaning.specs.State.{State}
+use Rattle.meaning.specs.Words.{Second}
 use Rattle.meaning.specs.Calls.{SetUp, Called}
 use Rattle.meaning.specs.Work.{Work}
 use Rattle.meaning.specs.Promises.{setupPromise, openPromise, closePromise, slotPromise, LinePromise, AuditPromise}
@@ -14,11 +15,11 @@ pub setup-once : (N z : ℕ) (raw : Bool) (s : State) (a b : SetUp) → setupPro
     → a ≡ b
 setup-once N z raw s a b p q = p ∙ sym q
 
-pub open-once : (r : Record) (words : List ℕ) (vci m F C : ℕ) (a b : Called)
-    → openPromise r words vci m F C (a .number) (a .words)
-    → openPromise r words vci m F C (b .number) (b .words)
+pub open-once : (r : Record) (words : List ℕ) (vci m F C : ℕ) (x : Second) (a b : Called)
+    → openPromise r words vci m F C x (a .number) (a .words)
+    → openPromise r words vci m F C x (b .number) (b .words)
     → a ≡ b
-open-once r words vci m F C a b p q = p ∙ sym q
+open-once r words vci m F C x a b p q = p ∙ sym q
 
 pub close-once : (r : Record) (words : List ℕ) (vci : ℕ) (a b : Called)
     → closePromise r words vci (a .number) (a .words)

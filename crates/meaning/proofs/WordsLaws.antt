@@ -1,5 +1,5 @@
 -- The words of a VC, read and written: what is written is read again, words of other VCs stay, a second write wins,
--- storing what is stored changes nothing; and a write of two or three words as a write of seven.
+-- storing what is stored changes nothing; and a write of three or four words as a write of all twelve.
 use Prim.Native.Nat.{ℕ, _+_, _*_, _≤_, _<_}
 use mathlib.Core.Path.{_≡_, refl, sym, _∙_, ap}
 use mathlib.Core.Logic.{_≢_}
@@ -9,8 +9,9 @@ use native.Mathlib.Omega.{arith}
 use lib.ListN.{length, getD, set, length-set}
 use lib.Seq.{getD-set-same, getD-set-other, set-getD, set-set, set-comm}
 use Rattle.meaning.specs.Numbers.{openPlace, mPlace, fPlace, cPlace, sPlace, lastPlace, waitingPlace, wordsPerVc, vcPlace}
+use Rattle.meaning.specs.Numbers.{secondMPlace, secondFPlace, secondCPlace, secondSPlace, tagPlace}
 use Rattle.meaning.specs.Bucket.{Bucket, bucketOf, withS}
-use Rattle.meaning.specs.Words.{Vc, vcAt, writeVc, withWaiting, withBucket}
+use Rattle.meaning.specs.Words.{Vc, vcAt, writeVc, withWaiting}
 
 -- a write at another place is not seen
 past : (l : List ℕ) (i j a r : ℕ) → j ≢ i → getD l j 0 ≡ r → getD (set l i a) j 0 ≡ r
@@ -44,77 +45,138 @@ module _ (l : List ℕ) (v : ℕ) (vc : Vc) where
   abbrev l6 : List ℕ
   l6 = set l5 (lastPlace v) (vc .last)
 
+  abbrev l7 : List ℕ
+  l7 = set l6 (waitingPlace v) (vc .waiting)
+
+  abbrev l8 : List ℕ
+  l8 = set l7 (secondMPlace v) (vc .second .m)
+
+  abbrev l9 : List ℕ
+  l9 = set l8 (secondFPlace v) (vc .second .F)
+
+  abbrev l10 : List ℕ
+  l10 = set l9 (secondCPlace v) (vc .second .C)
+
+  abbrev l11 : List ℕ
+  l11 = set l10 (secondSPlace v) (vc .second .S)
+
   pub write-length : length (writeVc l v vc) ≡ length l
   unfolding writeVc
   write-length = simp length-set
 
-  -- a place outside the VC's seven words keeps its word
-  pub write-other : (j : ℕ) → (wordsPerVc * v ≤ j → j < wordsPerVc * v + wordsPerVc → ⊥) → getD (writeVc l v vc) j 0 ≡ getD l j 0
+  -- the second bucket's words are written last, and not seen at the other places
+  past-second : (j : ℕ) (r : ℕ) → (secondMPlace v ≤ j → j < secondMPlace v + 5 → ⊥) → getD l7 j 0 ≡ r
+      → getD (writeVc l v vc) j 0 ≡ r
   unfolding writeVc
+  past-second j r out e =
+      past l11 (tagPlace v) j (vc .tag) _ (λ e. out (omega arith) (omega arith))
+      (past l10 (secondSPlace v) j (vc .second .S) _ (λ e. out (omega arith) (omega arith))
+      (past l9 (secondCPlace v) j (vc .second .C) _ (λ e. out (omega arith) (omega arith))
+      (past l8 (secondFPlace v) j (vc .second .F) _ (λ e. out (omega arith) (omega arith))
+      (past l7 (secondMPlace v) j (vc .second .m) _ (λ e. out (omega arith) (omega arith)) e))))
+
+  -- a place outside the VC's words keeps its word
+  pub write-other : (j : ℕ) → (wordsPerVc * v ≤ j → j < wordsPerVc * v + wordsPerVc → ⊥) → getD (writeVc l v vc) j 0 ≡ getD l j 0
   write-other j out =
-      past l6 (waitingPlace v) j (vc .waiting) _ (λ e. out (omega arith) (omega arith))
+      past-second j _ (λ a b. out (omega arith) (omega arith))
+      (past l6 (waitingPlace v) j (vc .waiting) _ (λ e. out (omega arith) (omega arith))
       (past l5 (lastPlace v) j (vc .last) _ (λ e. out (omega arith) (omega arith))
       (past l4 (sPlace v) j (vc .bucket .S) _ (λ e. out (omega arith) (omega arith))
       (past l3 (cPlace v) j (vc .bucket .C) _ (λ e. out (omega arith) (omega arith))
       (past l2 (fPlace v) j (vc .bucket .F) _ (λ e. out (omega arith) (omega arith))
       (past l1 (mPlace v) j (vc .bucket .m) _ (λ e. out (omega arith) (omega arith))
-      (past l (openPlace v) j (vc .opened) _ (λ e. out (omega arith) (omega arith)) refl))))))
+      (past l (openPlace v) j (vc .opened) _ (λ e. out (omega arith) (omega arith)) refl)))))))
 
   module _ (inside : vcPlace v + wordsPerVc ≤ length l) where
     at-waiting : getD (writeVc l v vc) (waitingPlace v) 0 ≡ vc .waiting
-    unfolding writeVc
-    at-waiting = getD-set-same l6 (waitingPlace v) (vc .waiting) 0 (simp length-set (omega arith))
+    at-waiting =
+        past-second (waitingPlace v) _ (λ a b. omega arith)
+        (getD-set-same l6 (waitingPlace v) (vc .waiting) 0 (simp length-set (omega arith)))
 
     at-last : getD (writeVc l v vc) (lastPlace v) 0 ≡ vc .last
-    unfolding writeVc
     at-last =
-        past l6 (waitingPlace v) (lastPlace v) (vc .waiting) _ (λ e. omega arith)
-        (getD-set-same l5 (lastPlace v) (vc .last) 0 (simp length-set (omega arith)))
+        past-second (lastPlace v) _ (λ a b. omega arith)
+        (past l6 (waitingPlace v) (lastPlace v) (vc .waiting) _ (λ e. omega arith)
+        (getD-set-same l5 (lastPlace v) (vc .last) 0 (simp length-set (omega arith))))
 
     at-S : getD (writeVc l v vc) (sPlace v) 0 ≡ vc .bucket .S
-    unfolding writeVc
     at-S =
-        past l6 (waitingPlace v) (sPlace v) (vc .waiting) _ (λ e. omega arith)
+        past-second (sPlace v) _ (λ a b. omega arith)
+        (past l6 (waitingPlace v) (sPlace v) (vc .waiting) _ (λ e. omega arith)
         (past l5 (lastPlace v) (sPlace v) (vc .last) _ (λ e. omega arith)
-        (getD-set-same l4 (sPlace v) (vc .bucket .S) 0 (simp length-set (omega arith))))
+        (getD-set-same l4 (sPlace v) (vc .bucket .S) 0 (simp length-set (omega arith)))))
 
     at-C : getD (writeVc l v vc) (cPlace v) 0 ≡ vc .bucket .C
-    unfolding writeVc
     at-C =
-        past l6 (waitingPlace v) (cPlace v) (vc .waiting) _ (λ e. omega arith)
+        past-second (cPlace v) _ (λ a b. omega arith)
+        (past l6 (waitingPlace v) (cPlace v) (vc .waiting) _ (λ e. omega arith)
         (past l5 (lastPlace v) (cPlace v) (vc .last) _ (λ e. omega arith)
         (past l4 (sPlace v) (cPlace v) (vc .bucket .S) _ (λ e. omega arith)
-        (getD-set-same l3 (cPlace v) (vc .bucket .C) 0 (simp length-set (omega arith)))))
+        (getD-set-same l3 (cPlace v) (vc .bucket .C) 0 (simp length-set (omega arith))))))
 
     at-F : getD (writeVc l v vc) (fPlace v) 0 ≡ vc .bucket .F
-    unfolding writeVc
     at-F =
-        past l6 (waitingPlace v) (fPlace v) (vc .waiting) _ (λ e. omega arith)
+        past-second (fPlace v) _ (λ a b. omega arith)
+        (past l6 (waitingPlace v) (fPlace v) (vc .waiting) _ (λ e. omega arith)
         (past l5 (lastPlace v) (fPlace v) (vc .last) _ (λ e. omega arith)
         (past l4 (sPlace v) (fPlace v) (vc .bucket .S) _ (λ e. omega arith)
         (past l3 (cPlace v) (fPlace v) (vc .bucket .C) _ (λ e. omega arith)
-        (getD-set-same l2 (fPlace v) (vc .bucket .F) 0 (simp length-set (omega arith))))))
+        (getD-set-same l2 (fPlace v) (vc .bucket .F) 0 (simp length-set (omega arith)))))))
 
     at-m : getD (writeVc l v vc) (mPlace v) 0 ≡ vc .bucket .m
-    unfolding writeVc
     at-m =
-        past l6 (waitingPlace v) (mPlace v) (vc .waiting) _ (λ e. omega arith)
+        past-second (mPlace v) _ (λ a b. omega arith)
+        (past l6 (waitingPlace v) (mPlace v) (vc .waiting) _ (λ e. omega arith)
         (past l5 (lastPlace v) (mPlace v) (vc .last) _ (λ e. omega arith)
         (past l4 (sPlace v) (mPlace v) (vc .bucket .S) _ (λ e. omega arith)
         (past l3 (cPlace v) (mPlace v) (vc .bucket .C) _ (λ e. omega arith)
         (past l2 (fPlace v) (mPlace v) (vc .bucket .F) _ (λ e. omega arith)
-        (getD-set-same l1 (mPlace v) (vc .bucket .m) 0 (simp length-set (omega arith)))))))
+        (getD-set-same l1 (mPlace v) (vc .bucket .m) 0 (simp length-set (omega arith))))))))
 
     at-open : getD (writeVc l v vc) (openPlace v) 0 ≡ vc .opened
-    unfolding writeVc
     at-open =
-        past l6 (waitingPlace v) (openPlace v) (vc .waiting) _ (λ e. omega arith)
+        past-second (openPlace v) _ (λ a b. omega arith)
+        (past l6 (waitingPlace v) (openPlace v) (vc .waiting) _ (λ e. omega arith)
         (past l5 (lastPlace v) (openPlace v) (vc .last) _ (λ e. omega arith)
         (past l4 (sPlace v) (openPlace v) (vc .bucket .S) _ (λ e. omega arith)
         (past l3 (cPlace v) (openPlace v) (vc .bucket .C) _ (λ e. omega arith)
         (past l2 (fPlace v) (openPlace v) (vc .bucket .F) _ (λ e. omega arith)
         (past l1 (mPlace v) (openPlace v) (vc .bucket .m) _ (λ e. omega arith)
-        (getD-set-same l (openPlace v) (vc .opened) 0 (omega arith)))))))
+        (getD-set-same l (openPlace v) (vc .opened) 0 (omega arith))))))))
+
+    at-tag : getD (writeVc l v vc) (tagPlace v) 0 ≡ vc .tag
+    unfolding writeVc
+    at-tag = getD-set-same l11 (tagPlace v) (vc .tag) 0 (simp length-set (omega arith))
+
+    at-second-S : getD (writeVc l v vc) (secondSPlace v) 0 ≡ vc .second .S
+    unfolding writeVc
+    at-second-S =
+        past l11 (tagPlace v) (secondSPlace v) (vc .tag) _ (λ e. omega arith)
+        (getD-set-same l10 (secondSPlace v) (vc .second .S) 0 (simp length-set (omega arith)))
+
+    at-second-C : getD (writeVc l v vc) (secondCPlace v) 0 ≡ vc .second .C
+    unfolding writeVc
+    at-second-C =
+        past l11 (tagPlace v) (secondCPlace v) (vc .tag) _ (λ e. omega arith)
+        (past l10 (secondSPlace v) (secondCPlace v) (vc .second .S) _ (λ e. omega arith)
+        (getD-set-same l9 (secondCPlace v) (vc .second .C) 0 (simp length-set (omega arith))))
+
+    at-second-F : getD (writeVc l v vc) (secondFPlace v) 0 ≡ vc .second .F
+    unfolding writeVc
+    at-second-F =
+        past l11 (tagPlace v) (secondFPlace v) (vc .tag) _ (λ e. omega arith)
+        (past l10 (secondSPlace v) (secondFPlace v) (vc .second .S) _ (λ e. omega arith)
+        (past l9 (secondCPlace v) (secondFPlace v) (vc .second .C) _ (λ e. omega arith)
+        (getD-set-same l8 (secondFPlace v) (vc .second .F) 0 (simp length-set (omega arith)))))
+
+    at-second-m : getD (writeVc l v vc) (secondMPlace v) 0 ≡ vc .second .m
+    unfolding writeVc
+    at-second-m =
+        past l11 (tagPlace v) (secondMPlace v) (vc .tag) _ (λ e. omega arith)
+        (past l10 (secondSPlace v) (secondMPlace v) (vc .second .S) _ (λ e. omega arith)
+        (past l9 (secondCPlace v) (secondMPlace v) (vc .second .C) _ (λ e. omega arith)
+        (past l8 (secondFPlace v) (secondMPlace v) (vc .second .F) _ (λ e. omega arith)
+        (getD-set-same l7 (secondMPlace v) (vc .second .m) 0 (simp length-set (omega arith))))))
 
     -- what is written is read again
     pub write-read : vcAt (writeVc l v vc) v ≡ vc
@@ -125,6 +187,8 @@ module _ (l : List ℕ) (v : ℕ) (vc : Vc) where
           bucket = record { m = at-m i; F = at-F i; C = at-C i; S = at-S i };
           last = at-last i;
           waiting = at-waiting i;
+          second = record { m = at-second-m i; F = at-second-F i; C = at-second-C i; S = at-second-S i };
+          tag = at-tag i;
         }
 
 -- the words of other VCs stay
@@ -136,45 +200,84 @@ write-read-other l v vc u ne = λ i.
       bucket = record { m = same 1 (omega arith) i; F = same 2 (omega arith) i; C = same 3 (omega arith) i; S = same 4 (omega arith) i };
       last = same 5 (omega arith) i;
       waiting = same 6 (omega arith) i;
+      second = record { m = same 7 (omega arith) i; F = same 8 (omega arith) i; C = same 9 (omega arith) i; S = same 10 (omega arith) i };
+      tag = same 11 (omega arith) i;
     }
   where
-    same : (k : ℕ) → k < 7 → getD (writeVc l v vc) (wordsPerVc * u + k) 0 ≡ getD l (wordsPerVc * u + k) 0
+    same : (k : ℕ) → k < wordsPerVc → getD (writeVc l v vc) (wordsPerVc * u + k) 0 ≡ getD l (wordsPerVc * u + k) 0
     same k h = write-other l v vc (wordsPerVc * u + k) (λ a b. ne (omega arith))
 
+-- a word stored again
+kept : (l : List ℕ) (q a : ℕ) → getD l q 0 ≡ a → set l q a ≡ l
+kept l q a e = ap (λ (k : ℕ). set l q k) (sym e) ∙ set-getD l q 0
+
+-- the second bucket's words stored again, but for its S: l₀ is as they were read
+second-kept : (l₀ l : List ℕ) (v S : ℕ) → ((k : ℕ) → 7 ≤ k → getD l (vcPlace v + k) 0 ≡ getD l₀ (vcPlace v + k) 0)
+    → set (set (set (set (set l (secondMPlace v) (getD l₀ (secondMPlace v) 0)) (secondFPlace v) (getD l₀ (secondFPlace v) 0)) (secondCPlace v) (getD l₀ (secondCPlace v) 0)) (secondSPlace v) S) (tagPlace v) (getD l₀ (tagPlace v) 0)
+    ≡ set l (secondSPlace v) S
+second-kept l₀ l v S same =
+    rw (
+      kept l (secondMPlace v) _ (same 7 (omega arith)),
+      kept l (secondFPlace v) _ (same 8 (omega arith)),
+      kept l (secondCPlace v) _ (same 9 (omega arith)),
+      kept (set l (secondSPlace v) S) (tagPlace v) _
+          (past l (secondSPlace v) (tagPlace v) S _ (λ e. omega arith) (same 11 (omega arith))),
+    )
+
 -- a write of what changes, where the other words are stored again
-pub write-fall : (l : List ℕ) (v S t : ℕ)
+pub write-fall : (l : List ℕ) (v S t S₂ : ℕ)
     → writeVc l v (record {
       opened = vcAt l v .opened;
       bucket = withS (vcAt l v .bucket) S;
       last = t;
       waiting = vcAt l v .waiting;
+      second = withS (vcAt l v .second) S₂;
+      tag = vcAt l v .tag;
     })
-    ≡ set (set l (sPlace v) S) (lastPlace v) t
+    ≡ set (set (set l (sPlace v) S) (lastPlace v) t) (secondSPlace v) S₂
 unfolding writeVc vcAt
-write-fall l v S t =
+write-fall l v S t S₂ =
     simp set-getD
-    (ap (λ (k : ℕ). set (set (set l (sPlace v) S) (lastPlace v) t) (waitingPlace v) k) (sym kept)
-    ∙ set-getD (set (set l (sPlace v) S) (lastPlace v) t) (waitingPlace v) 0)
+    (rw (kept fallen (waitingPlace v) _ (same 6 (omega arith))) (second-kept l fallen v S₂ (λ k h. same k (omega arith))))
   where
-    kept : getD (set (set l (sPlace v) S) (lastPlace v) t) (waitingPlace v) 0 ≡ getD l (waitingPlace v) 0
-    kept =
-        past (set l (sPlace v) S) (lastPlace v) (waitingPlace v) t _ (λ e. omega arith)
-        (past l (sPlace v) (waitingPlace v) S _ (λ e. omega arith) refl)
+    fallen : List ℕ
+    fallen = set (set l (sPlace v) S) (lastPlace v) t
 
-pub write-fill : (l : List ℕ) (v S t k : ℕ)
+    same : (k : ℕ) → 6 ≤ k → getD (set (set l (sPlace v) S) (lastPlace v) t) (vcPlace v + k) 0 ≡ getD l (vcPlace v + k) 0
+    same k h =
+        past (set l (sPlace v) S) (lastPlace v) (vcPlace v + k) t _ (λ e. omega arith)
+        (past l (sPlace v) (vcPlace v + k) S _ (λ e. omega arith) refl)
+
+pub write-fill : (l : List ℕ) (v S t k S₂ : ℕ)
     → writeVc l v (record {
       opened = vcAt l v .opened;
       bucket = withS (vcAt l v .bucket) S;
       last = t;
       waiting = k;
+      second = withS (vcAt l v .second) S₂;
+      tag = vcAt l v .tag;
     })
-    ≡ set (set (set l (sPlace v) S) (lastPlace v) t) (waitingPlace v) k
+    ≡ set (set (set (set l (sPlace v) S) (lastPlace v) t) (waitingPlace v) k) (secondSPlace v) S₂
 unfolding writeVc vcAt
-write-fill l v S t k = simp set-getD
+write-fill l v S t k S₂ =
+    simp set-getD (second-kept l (set (set (set l (sPlace v) S) (lastPlace v) t) (waitingPlace v) k) v S₂ same)
+  where
+    same : (q : ℕ) → 7 ≤ q
+        → getD (set (set (set l (sPlace v) S) (lastPlace v) t) (waitingPlace v) k) (vcPlace v + q) 0 ≡ getD l (vcPlace v + q) 0
+    same q h =
+        past (set (set l (sPlace v) S) (lastPlace v) t) (waitingPlace v) (vcPlace v + q) k _ (λ e. omega arith)
+        (past (set l (sPlace v) S) (lastPlace v) (vcPlace v + q) t _ (λ e. omega arith)
+        (past l (sPlace v) (vcPlace v + q) S _ (λ e. omega arith) refl))
 
 pub write-waiting : (l : List ℕ) (v k : ℕ) → writeVc l v (withWaiting (vcAt l v) k) ≡ set l (waitingPlace v) k
 unfolding writeVc vcAt
-write-waiting l v k = simp set-getD
+write-waiting l v k =
+    simp set-getD
+    (second-kept l (set l (waitingPlace v) k) v (getD l (secondSPlace v) 0) (λ q h. same q h)
+    ∙ kept (set l (waitingPlace v) k) (secondSPlace v) _ (same 10 (omega arith)))
+  where
+    same : (q : ℕ) → 7 ≤ q → getD (set l (waitingPlace v) k) (vcPlace v + q) 0 ≡ getD l (vcPlace v + q) 0
+    same q h = past l (waitingPlace v) (vcPlace v + q) k _ (λ e. omega arith) refl
 
 pub write-stored : (l : List ℕ) (v : ℕ) → writeVc l v (vcAt l v) ≡ l
 unfolding writeVc vcAt

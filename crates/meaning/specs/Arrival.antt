@@ -2,11 +2,12 @@
 use Prim.Native.Nat.{ℕ, _+_, _%_}
 use mathlib.Core.Bool.{not, _&&_}
 use mathlib.Core.List.{List}
-use Rattle.meaning.specs.Plain.{if_then_else_, _<?_, Out, next, needs, _andThen_}
-use Rattle.meaning.specs.Numbers.{accepted, excess}
+use Rattle.meaning.specs.Plain.{if_then_else_, _<?_, _=?_, Out, next, needs, _andThen_}
+use Rattle.meaning.specs.Numbers.{accepted, excess, tagged}
 use Rattle.meaning.specs.State.{freeList, withCells, withLinks, withCalendar, withFreeList, writeCell}
-use Rattle.meaning.specs.Bucket.{isExcess, delay, fill}
-use Rattle.meaning.specs.Words.{Vc, withWaiting, withBucket}
+use Rattle.meaning.specs.Bucket.{Bucket, isExcess, delay, fill}
+use Rattle.meaning.specs.Words.{Vc, withWaiting, withBuckets}
+use Rattle.meaning.specs.Header.{headerAt, taggedCell}
 use Rattle.meaning.specs.Lists.{isEmpty, endsFit, entryAt, writeEntry, Taken, takeHead, joinHead}
 use Rattle.meaning.specs.Work.{Work, withState, withVc, withArrival}
 
@@ -25,21 +26,39 @@ place cell D w taken =
     let s4 = withCalendar s3 (writeEntry (s .calendar) e (grown .ends)) in
     needs (endsFit (s .ctl .n) entry) (next (withState w s4))
 
+-- Document 02 (iv): "A cell above the peak is excess. A CLP 0 cell within the peak but above the sustainable rate is tagged if
+-- the flag is set .. and otherwise excess." Both buckets are judged before either is filled.
+unfoldable pub verdictOn : ℕ → Vc → ℕ
+verdictOn clp vc =
+    if isExcess (vc .bucket) then excess
+    else if clp =? 0 && isExcess (vc .second) then (if vc .tag =? 0 then excess else tagged)
+    else accepted
+
+-- "An excess cell fills neither bucket, a tagged one only the peak bucket": the second bucket after a cell that is let in
+unfoldable pub secondAfter : ℕ → ℕ → Bucket → Bucket
+secondAfter clp verdict b = if clp =? 0 && verdict =? accepted then fill b else b
+
+-- the octets that are stored, sent and shown
+unfoldable pub sentAs : ℕ → List ℕ → List ℕ
+sentAs verdict cell = if verdict =? tagged then taggedCell cell else cell
+
 -- 3, not excess: "D = floor(S/L), S grows by F, waiting by one. The head of the Free List is taken." "waiting .. below
--- N when a cell is accepted"; "the Free List isn't empty when a space is taken"
-unfoldable pub accept : List ℕ → ℕ → Work → Vc → Out Work
-accept cell vci w vc =
+-- N when a cell is accepted"; "the Free List isn't empty when a space is taken". Document 02 (iv): "D from the peak bucket"
+unfoldable pub accept : List ℕ → ℕ → ℕ → Work → Vc → Out Work
+accept cell verdict vci w vc =
     let s = w .state in
     let N = s .ctl .n in
     let D = delay (vc .bucket) in
-    let filled = withWaiting (withBucket vc (fill (vc .bucket))) (vc .waiting + 1) in
-    let w1 = withArrival (withVc w vci filled) accepted vci D in
+    let second = secondAfter (headerAt cell 0 .clp) verdict (vc .second) in
+    let filled = withWaiting (withBuckets vc (fill (vc .bucket)) second) (vc .waiting + 1) in
+    let w1 = withArrival (withVc w vci filled) verdict vci D in
     needs (vc .waiting <? N)
     (needs (endsFit N (freeList s) && not (isEmpty (freeList s)))
-    (takeHead N (s .links) (freeList s) andThen place cell D w1))
+    (takeHead N (s .links) (freeList s) andThen place (sentAs verdict cell) D w1))
 
 -- 3, the VC being up to date: "If S is above C-F the cell is excess and this step changes no more."
 unfoldable pub judge : List ℕ → ℕ → Work → Vc → Out Work
 judge cell vci w vc =
-    if isExcess (vc .bucket) then next (withArrival (withVc w vci vc) excess vci 0)
-    else accept cell vci w vc
+    let verdict = verdictOn (headerAt cell 0 .clp) vc in
+    if verdict =? excess then next (withArrival (withVc w vci vc) excess vci 0)
+    else accept cell verdict vci w vc

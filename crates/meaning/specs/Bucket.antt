@@ -1,8 +1,8 @@
--- Document 01: a VC's bucket, which counts in parts of 1/L slot.
+-- Document 01: a VC's bucket, which counts in parts of 1/L slot; document 02 (iv) has two of them, run by the same rules.
 use Prim.Native.Nat.{ℕ, _+_, _-_, _*_, _/_, _%_, _^_}
 use mathlib.Core.Bool.{Bool, _&&_}
-use Rattle.meaning.specs.Plain.{_<?_, _≤?_}
-use Rattle.meaning.specs.Numbers.{mostM, mostF, slotNumbers}
+use Rattle.meaning.specs.Plain.{_<?_, _≤?_, _=?_}
+use Rattle.meaning.specs.Numbers.{mostM, mostF, mostSecondC, slotNumbers}
 
 pub record Bucket : Type 0 where
   pub m : ℕ
@@ -25,6 +25,14 @@ withS b S = bucketOf (b .m) (b .F) (b .C) S
 unfoldable pub obeysRules : ℕ → Bucket → Bool
 obeysRules N b =
     b .m ≤? mostM && L b ≤? b .F && b .F ≤? mostF && b .F ≤? b .C && (b .C - b .F) / L b <? N
+
+-- Document 02 (iv), a second bucket: "m (0 to 15), F (1 to 2^24), C (F to 2^30)": F may be below L, and N does not matter
+unfoldable pub obeysSecond : Bucket → Bool
+obeysSecond b = b .m ≤? mostM && 1 ≤? b .F && b .F ≤? mostF && b .F ≤? b .C && b .C ≤? mostSecondC
+
+-- "m, F, C and flag all 0 mean none": nothing is ever above such a bucket, and nothing fills it
+unfoldable pub isNone : Bucket → Bool
+isNone b = b .m =? 0 && b .F =? 0 && b .C =? 0
 
 -- "elapsed is t minus last modulo 2^32"
 unfoldable pub elapsed : ℕ → ℕ → ℕ

@@ -1,5 +1,5 @@
 -- Document 01: setup, open and close. "Order: setup 1, 2; open 1, 2, 4, 3, 5, 6; close 1, 2, 4, 3, 7, 8. Each leaves
--- everything as it came." Close as request (ii) of document 02 has it.
+-- everything as it came." Close as request (ii) of document 02 has it; open with a second bucket, or none, as (iv) has it.
 use Prim.Native.Nat.{ℕ, zero, suc, _+_, _-_, _*_}
 use mathlib.Core.Bool.{Bool, not, _&&_}
 use mathlib.Core.List.{List, [], _∷_, _++_}
@@ -10,7 +10,7 @@ use Rattle.meaning.specs.Plain.{if_then_else_, _<?_, _≤?_, _=?_}
 use Rattle.meaning.specs.Numbers.{rangesHold, octets, perEntry, wordsIn, empty, slotNumbers}
 use Rattle.meaning.specs.State.{State, stateOf, wordsLong, lengthsHold}
 use Rattle.meaning.specs.Bucket.{Bucket, bucketOf, obeysRules}
-use Rattle.meaning.specs.Words.{Vc, vcAt, writeVc, vcFits, openedVc, closedVc, debt}
+use Rattle.meaning.specs.Words.{Vc, Second, vcAt, writeVc, vcFits, secondObeys, openedVc, closedVc, debt}
 
 -- what setup gives back: the refusal number, and the record and memories afterwards
 pub record SetUp : Type 0 where
@@ -101,15 +101,17 @@ sharedRefusal r words vci =
     else if not (vcFits (r .n) (vcAt words vci)) then 3
     else 0
 
--- open: then "5 already open", "6 m, F or C against the rules above"
-unfoldable pub openCall : Record → List ℕ → ℕ → ℕ → ℕ → ℕ → Called
-openCall r words vci m F C =
+-- open: then "5 already open", "6 m, F or C against the rules above", and document 02 (iv): "11, second bucket against its
+-- limits, after 6"
+unfoldable pub openCall : Record → List ℕ → ℕ → ℕ → ℕ → ℕ → Second → Called
+openCall r words vci m F C x =
     let b = bucketOf m F C 0 in
     let k = sharedRefusal r words vci in
     if not (k =? 0) then calledOf k words
     else if vcAt words vci .opened =? 1 then calledOf 5 words
     else if not (obeysRules (r .n) b) then calledOf 6 words
-    else calledOf 0 (writeVc words vci (openedVc (r .t) b))
+    else if not (secondObeys (bucketOf (x .m) (x .F) (x .C) 0) (x .tag)) then calledOf 11 words
+    else calledOf 0 (writeVc words vci (openedVc (r .t) b x))
 
 -- close: then "7 not open", and document 02 (ii): "8 is given when waiting or the updated S isn't 0". S is brought up to
 -- date in thought alone: nothing is stored where close is refused.

@@ -1,8 +1,10 @@
--- Document 01, "Header": "UNI form, ITU-T I.361".
+-- Document 01, "Header": "UNI form, ITU-T I.361". "GFC, PTI, CLP and HEC don't matter here": HEC does by document 02 (i), CLP
+-- by (iv).
 use Prim.Native.Nat.{ℕ, _+_, _*_, _/_, _%_}
 use mathlib.Core.Bool.{Bool, _&&_}
 use mathlib.Core.List.{List}
-use lib.ListN.{getD}
+use lib.ListN.{getD, set}
+use Rattle.base_hec.specs.Check.{hecOf}
 use Rattle.meaning.specs.Plain.{_<?_, _≤?_, _=?_}
 use Rattle.meaning.specs.Numbers.{openPlace}
 
@@ -30,6 +32,14 @@ headerOf o1 o2 o3 o4 o5 =
 -- the header whose octet 1 stands at place i
 unfoldable pub headerAt : List ℕ → ℕ → Header
 headerAt l i = headerOf (getD l i 0) (getD l (i + 1) 0) (getD l (i + 2) 0) (getD l (i + 3) 0) (getD l (i + 4) 0)
+
+-- Document 02 (iv): "CLP becomes 1, octet 5 is recomputed", by ITU-T I.432 over the four octets before it; every other octet
+-- is as it was
+unfoldable pub withClp : List ℕ → List ℕ
+withClp cell = set cell 3 (getD cell 3 0 / 2 * 2 + 1)
+
+unfoldable pub taggedCell : List ℕ → List ℕ
+taggedCell cell = set (withClp cell) 4 (hecOf (withClp cell))
 
 -- "VPI 0 with VCI 0 is no user cell: the slot counts as empty."
 unfoldable pub noUserCell : Header → Bool

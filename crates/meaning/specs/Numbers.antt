@@ -1,8 +1,8 @@
 -- Document 01, "Numbers": each number of the paper has its name here, and only here.
 -- Letters: N, T, t, m, F, C, S, L and D as in document 01; z is V (a reserved letter of antt); x a space, e an entry.
 use Prim.Native.Nat.{ℕ, _+_, _*_, _^_}
-use mathlib.Core.Bool.{Bool, _&&_}
-use Rattle.meaning.specs.Plain.{_≤?_}
+use mathlib.Core.Bool.{Bool, _&&_, _||_}
+use Rattle.meaning.specs.Plain.{_≤?_, _=?_}
 
 -- "N cell spaces, 1 to 1,024."
 abbrev pub mostN : ℕ
@@ -26,6 +26,10 @@ mostM = 15
 abbrev pub mostF : ℕ
 mostF = 16_777_216
 
+-- document 02 (iv), of a second bucket: "C (F to 2^30)"
+abbrev pub mostSecondC : ℕ
+mostSecondC = 1_073_741_824
+
 -- "53 × N octets of cells": space x starts at octet 53 × x
 abbrev pub octets : ℕ
 octets = 53
@@ -43,10 +47,11 @@ headPlace e = perEntry * e
 abbrev pub tailPlace : ℕ → ℕ
 tailPlace e = perEntry * e + 1
 
--- "7 × V words (per VC: open 0 or 1, m, F, C, S, last, waiting)": how many words a VC has, where its words begin, and how
--- many there are for V VCs
+-- "(per VC: open 0 or 1, m, F, C, S, last, waiting)", and document 02 (iv): "The VC's stored record grows by its m .. F ..
+-- C .., S and a tagging flag". So 7 × V words are 12 × V: how many words a VC has, where its words begin, and how many there
+-- are for V VCs
 abbrev pub wordsPerVc : ℕ
-wordsPerVc = 7
+wordsPerVc = 12
 
 abbrev pub vcPlace : ℕ → ℕ
 vcPlace vci = wordsPerVc * vci
@@ -75,6 +80,22 @@ lastPlace vci = vcPlace vci + 5
 abbrev pub waitingPlace : ℕ → ℕ
 waitingPlace vci = vcPlace vci + 6
 
+-- the second bucket's m, F, C and S, and the tagging flag
+abbrev pub secondMPlace : ℕ → ℕ
+secondMPlace vci = vcPlace vci + 7
+
+abbrev pub secondFPlace : ℕ → ℕ
+secondFPlace vci = vcPlace vci + 8
+
+abbrev pub secondCPlace : ℕ → ℕ
+secondCPlace vci = vcPlace vci + 9
+
+abbrev pub secondSPlace : ℕ → ℕ
+secondSPlace vci = vcPlace vci + 10
+
+abbrev pub tagPlace : ℕ → ℕ
+tagPlace vci = vcPlace vci + 11
+
 -- "65,535 marks an empty head or tail"; also "departing space (65,535 for none)"
 abbrev pub empty : ℕ
 empty = 65_535
@@ -99,3 +120,11 @@ unknown = 3
 -- document 02 (i): "A dropped cell (verdict 4, H)"
 abbrev pub dropped : ℕ
 dropped = 4
+
+-- document 02 (iv): "tagged .. (.. verdict 5, T ..)"
+abbrev pub tagged : ℕ
+tagged = 5
+
+-- document 02 (iv): "Demand 3 and the end line count tagged cells as accepted": these verdicts let a cell in
+unfoldable pub letsIn : ℕ → Bool
+letsIn verdict = verdict =? accepted || verdict =? tagged

@@ -9,6 +9,7 @@ use lib.ListN.{length}
 use Rattle.meaning.specs.declared.Record.{Record}
 use Rattle.meaning.specs.State.{State}
 use Rattle.meaning.specs.Calls.{SetUp, setup, Called, calledOf, openCall, closeCall}
+use Rattle.meaning.specs.Words.{Second}
 use Rattle.meaning.specs.Work.{Work}
 use Rattle.meaning.specs.Slot.{slot}
 use Rattle.meaning.specs.Line.{Slice, cellMemory, idleCell, linePart, lineCell}
@@ -18,8 +19,8 @@ use Rattle.meaning.specs.Audit.{AuditHolds}
 abbrev pub setupPromise : ℕ → ℕ → Bool → State → SetUp → Type 0
 setupPromise N z raw s r = r ≡ setup N z raw (s .cells) (s .links) (s .calendar) (s .words)
 
-abbrev pub openPromise : Record → List ℕ → ℕ → ℕ → ℕ → ℕ → ℕ → List ℕ → Type 0
-openPromise r words vci m F C number words′ = calledOf number words′ ≡ openCall r words vci m F C
+abbrev pub openPromise : Record → List ℕ → ℕ → ℕ → ℕ → ℕ → Second → ℕ → List ℕ → Type 0
+openPromise r words vci m F C x number words′ = calledOf number words′ ≡ openCall r words vci m F C x
 
 abbrev pub closePromise : Record → List ℕ → ℕ → ℕ → List ℕ → Type 0
 closePromise r words vci number words′ = calledOf number words′ ≡ closeCall r words vci

@@ -1,18 +1,36 @@
--- Document 01: a VC's seven words as one record, read and written in one place, and their ranges for refusal 3.
+-- Document 01: a VC's words as one record, read and written in one place, and their ranges for refusal 3. Document 02 (iv)
+-- made of its seven words twelve: its two buckets, one `last`, waiting, flag.
 use Prim.Native.Nat.{ℕ, _+_}
-use mathlib.Core.Bool.{Bool, true, _&&_}
+use mathlib.Core.Bool.{Bool, true, _&&_, _||_}
 use mathlib.Core.List.{List}
 use lib.ListN.{getD, set}
 use Rattle.meaning.specs.Plain.{if_then_else_, _≤?_, _=?_, Out, refused, next, needs}
 use Rattle.meaning.specs.Numbers.{openPlace, mPlace, fPlace, cPlace, sPlace, lastPlace, waitingPlace}
-use Rattle.meaning.specs.Bucket.{Bucket, obeysRules, elapsed, fall}
+use Rattle.meaning.specs.Numbers.{secondMPlace, secondFPlace, secondCPlace, secondSPlace, tagPlace}
+use Rattle.meaning.specs.Bucket.{Bucket, bucketOf, obeysRules, obeysSecond, isNone, elapsed, fall}
 
--- "per VC: open 0 or 1, m, F, C, S, last, waiting"
+-- "per VC: open 0 or 1, m, F, C, S, last, waiting"; document 02 (iv): "grows by its m .., F .., C .., S and a tagging flag"
 pub record Vc : Type 0 where
   pub opened : ℕ
   pub bucket : Bucket
   pub last : ℕ
   pub waiting : ℕ
+  pub second : Bucket
+  pub tag : ℕ
+
+-- what a second bucket is opened with: m, F, C and the tagging flag
+pub record Second : Type 0 where
+  pub m : ℕ
+  pub F : ℕ
+  pub C : ℕ
+  pub tag : ℕ
+
+abbrev pub secondOf : ℕ → ℕ → ℕ → ℕ → Second
+secondOf m F C tag = record { m = m; F = F; C = C; tag = tag }
+
+-- "m, F, C and flag all 0 mean none"
+abbrev pub noSecond : Second
+noSecond = secondOf 0 0 0 0
 
 -- the words of a VC, as they stand
 unfoldable pub vcAt : List ℕ → ℕ → Vc
@@ -27,6 +45,13 @@ vcAt words vci =
       };
       last = getD words (lastPlace vci) 0;
       waiting = getD words (waitingPlace vci) 0;
+      second = record {
+        m = getD words (secondMPlace vci) 0;
+        F = getD words (secondFPlace vci) 0;
+        C = getD words (secondCPlace vci) 0;
+        S = getD words (secondSPlace vci) 0;
+      };
+      tag = getD words (tagPlace vci) 0;
     }
 
 -- the words of a VC set, those of every other VC kept
@@ -38,21 +63,58 @@ writeVc words vci vc =
     let w4 = set w3 (cPlace vci) (vc .bucket .C) in
     let w5 = set w4 (sPlace vci) (vc .bucket .S) in
     let w6 = set w5 (lastPlace vci) (vc .last) in
-    set w6 (waitingPlace vci) (vc .waiting)
+    let w7 = set w6 (waitingPlace vci) (vc .waiting) in
+    let w8 = set w7 (secondMPlace vci) (vc .second .m) in
+    let w9 = set w8 (secondFPlace vci) (vc .second .F) in
+    let w10 = set w9 (secondCPlace vci) (vc .second .C) in
+    let w11 = set w10 (secondSPlace vci) (vc .second .S) in
+    set w11 (tagPlace vci) (vc .tag)
 
 abbrev pub withWaiting : Vc → ℕ → Vc
-withWaiting vc k = record { opened = vc .opened; bucket = vc .bucket; last = vc .last; waiting = k }
+withWaiting vc k =
+    record {
+      opened = vc .opened;
+      bucket = vc .bucket;
+      last = vc .last;
+      waiting = k;
+      second = vc .second;
+      tag = vc .tag;
+    }
 
-abbrev pub withBucket : Vc → Bucket → Vc
-withBucket vc b = record { opened = vc .opened; bucket = b; last = vc .last; waiting = vc .waiting }
+abbrev pub withBuckets : Vc → Bucket → Bucket → Vc
+withBuckets vc b second =
+    record {
+      opened = vc .opened;
+      bucket = b;
+      last = vc .last;
+      waiting = vc .waiting;
+      second = second;
+      tag = vc .tag;
+    }
 
--- "Opening sets open 1, the given m, F and C, S 0, last t, waiting 0."
-unfoldable pub openedVc : ℕ → Bucket → Vc
-openedVc t b = record { opened = 1; bucket = b; last = t; waiting = 0 }
+-- "Opening sets open 1, the given m, F and C, S 0, last t, waiting 0.", and so for the second bucket
+unfoldable pub openedVc : ℕ → Bucket → Second → Vc
+openedVc t b x =
+    record {
+      opened = 1;
+      bucket = b;
+      last = t;
+      waiting = 0;
+      second = bucketOf (x .m) (x .F) (x .C) 0;
+      tag = x .tag;
+    }
 
--- "Closing clears all seven words."
+-- "Closing clears all seven words.", and the five of document 02 (iv)
 unfoldable pub closedVc : Vc
-closedVc = record { opened = 0; bucket = record { m = 0; F = 0; C = 0; S = 0 }; last = 0; waiting = 0 }
+closedVc =
+    record {
+      opened = 0;
+      bucket = bucketOf 0 0 0 0;
+      last = 0;
+      waiting = 0;
+      second = bucketOf 0 0 0 0;
+      tag = 0;
+    }
 
 -- "an open word is 0 or 1"
 unfoldable pub openWordFits : Vc → Bool
@@ -62,24 +124,42 @@ openWordFits vc = vc .opened ≤? 1
 unfoldable pub bucketFits : ℕ → Bucket → Bool
 bucketFits N b = obeysRules N b && b .S ≤? b .C
 
+-- document 02 (iv): "a tagging flag (0 or 1); m, F, C and flag all 0 mean none"
+unfoldable pub secondObeys : Bucket → ℕ → Bool
+secondObeys b tag = (isNone b && tag =? 0) || (obeysSecond b && tag ≤? 1)
+
+-- "3 covers the new words": as of the first bucket, the stored S is at most C
+unfoldable pub secondFits : Bucket → ℕ → Bool
+secondFits b tag = secondObeys b tag && b .S ≤? b .C
+
+-- both buckets, which are read together
+unfoldable pub bucketsFit : ℕ → Vc → Bool
+bucketsFit N vc = bucketFits N (vc .bucket) && secondFits (vc .second) (vc .tag)
+
 -- "Open and close read only that VC's words (of a closed one, only the open word)."
 unfoldable pub vcFits : ℕ → Vc → Bool
 vcFits N vc =
     if vc .opened =? 0 then true
-    else (openWordFits vc && bucketFits N (vc .bucket) && vc .waiting ≤? N)
+    else (openWordFits vc && bucketsFit N vc && vc .waiting ≤? N)
+
+-- both buckets as they have fallen in so many slots, up to slot t: document 02 (iv), "run in lockstep with the peak bucket"
+unfoldable pub fallenTo : ℕ → ℕ → Vc → Vc
+fallenTo slots t vc =
+    record {
+      opened = vc .opened;
+      bucket = fall slots (vc .bucket);
+      last = t;
+      waiting = vc .waiting;
+      second = fall slots (vc .second);
+      tag = vc .tag;
+    }
 
 -- "it is brought up to date: S falls by elapsed × L .. last becomes t"; "Bringing a VC up to date reads all its
 -- words but waiting"
 unfoldable pub upToDate : ℕ → ℕ → Vc → Out Vc
-upToDate N t vc =
-    needs (bucketFits N (vc .bucket))
-    (next (record {
-      opened = vc .opened;
-      bucket = fall (elapsed t (vc .last)) (vc .bucket);
-      last = t;
-      waiting = vc .waiting;
-    }))
+upToDate N t vc = needs (bucketsFit N vc) (next (fallenTo (elapsed t (vc .last)) t vc))
 
--- Document 02 (ii): "bring the VC up to date as of t": what is then left in its bucket, the stored S having been judged
+-- Document 02 (ii): "bring the VC up to date as of t": what is then left in its bucket, the stored S having been judged.
+-- Document 02 (iv): "Closing looks at the peak bucket only."
 unfoldable pub debt : ℕ → Vc → ℕ
 debt t vc = fall (elapsed t (vc .last)) (vc .bucket) .S

@@ -6,7 +6,7 @@ ghost use Rattle.meaning.specs.State.{endsOf, recordWith, recordInMode};
 ghost use Rattle.meaning.specs.Calls.{zeros, freshRecord};
 
 // How many words a VC has in the lent memory, and where among them each but the first stands (the first is the open word).
-pub const WORDS_PER_VC: usize = 7;
+pub const WORDS_PER_VC: usize = 12;
 
 pub const AT_M: usize = 1;
 
@@ -19,6 +19,17 @@ pub const AT_S: usize = 4;
 pub const AT_LAST: usize = 5;
 
 pub const AT_WAITING: usize = 6;
+
+// The second bucket's m, F, C and S, and the tagging flag.
+pub const AT_SECOND_M: usize = 7;
+
+pub const AT_SECOND_F: usize = 8;
+
+pub const AT_SECOND_C: usize = 9;
+
+pub const AT_SECOND_S: usize = 10;
+
+pub const AT_TAG: usize = 11;
 
 // The mode of the header check in which a single wrong bit is mended.
 const CORRECTION: u16 = 0;

@@ -9,15 +9,15 @@ use native.Mathlib.Omega.{arith}
 use lib.ListN.{length}
 use Rattle.base_hec.specs.Modes.{arrivingFits}
 use Rattle.meaning.specs.Plain.{_<?_, _≤?_, _=?_, Out, refused, next, _andThen_}
-use Rattle.meaning.specs.Numbers.{rangesHold, octets, cellStart}
+use Rattle.meaning.specs.Numbers.{rangesHold, octets, cellStart, excess}
 use Rattle.meaning.specs.State.{State, lengthsHold, freeList, outputList, withRecord, withCells, withLinks, withCalendar, withWords}
 use Rattle.meaning.specs.State.{recordWith, withClock, withFreeList, withOutputList, recordInMode, withMode}
 use Rattle.meaning.specs.Header.{headerAt, noUserCell, namesVc, namesOpenVc}
-use Rattle.meaning.specs.Bucket.{isExcess, delay}
+use Rattle.meaning.specs.Bucket.{delay}
 use Rattle.meaning.specs.Words.{Vc, vcAt, openWordFits, upToDate}
 use Rattle.meaning.specs.Lists.{isEmpty, endsFit, entryAt, takeHead}
 use Rattle.meaning.specs.Work.{Work, workOf, bareAnswer}
-use Rattle.meaning.specs.Arrival.{place, accept, judge}
+use Rattle.meaning.specs.Arrival.{place, verdictOn, accept, judge}
 use Rattle.meaning.specs.Slot.{step1, step2, step3, step4, step5, depart, fiveSteps, finish, told, slot}
 use Rattle.meaning_runs.specs.Run.{letIn}
 use Rattle.meaning_runs.proofs.OutLaws.{AllOut, if-holds, needs-all, if-all, then-all, any-all}
@@ -55,7 +55,7 @@ module _ (raw mode : ℕ) where
   unfolding judge accept place withWords withCells withLinks withCalendar withFreeList withRecord recordWith
   judge-moded cell v w vc h =
       let s = w .state in
-      if-all Q (isExcess (vc .bucket)) _ _ (λ _. record { raw-is = h .raw-is; mode-is = h .mode-is; done = h .done })
+      if-all Q (verdictOn (headerAt cell 0 .clp) vc =? excess) _ _ (λ _. record { raw-is = h .raw-is; mode-is = h .mode-is; done = h .done })
       (λ _. needs-all Q (vc .waiting <? s .ctl .n) _
       (λ _. needs-all Q (endsFit (s .ctl .n) (freeList s) && not (isEmpty (freeList s))) _
       (λ _. any-all Q (takeHead (s .ctl .n) (s .links) (freeList s)) _

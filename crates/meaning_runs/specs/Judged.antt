@@ -11,10 +11,10 @@ use mathlib.Core.Option.{Option, none, some}
 use lib.ListN.{length}
 use Rattle.base_hec.specs.Modes.{Arriving}
 use Rattle.meaning.specs.Plain.{if_then_else_, _=?_}
-use Rattle.meaning.specs.Numbers.{nothing, accepted, excess, unknown, dropped}
+use Rattle.meaning.specs.Numbers.{nothing, unknown, dropped, letsIn}
 use Rattle.meaning.specs.Header.{headerAt, noUserCell, namesVc}
 use Rattle.meaning_runs.specs.Run.{Event, served}
-use Rattle.meaning_runs.specs.Leak.{Opening, dueSlot, leakAccepts, openingOf}
+use Rattle.meaning_runs.specs.Leak.{Opening, dueSlot, verdictBy, openingOf}
 
 pub record Judged : Type 0 where
   pub verdict : ℕ
@@ -24,11 +24,13 @@ pub record Judged : Type 0 where
 abbrev pub judgedOf : ℕ → ℕ → ℕ → Judged
 judgedOf verdict vci D = record { verdict = verdict; vci = vci; D = D }
 
--- In slot t, of a VC with this opening. "a VC not open: unknown"; D is the due slot less the arrival slot.
-abbrev pub judgedUnder : ℕ → ℕ → Option Opening → Judged
-judgedUnder t vci none = judgedOf unknown vci 0
-judgedUnder t vci (some o) =
-    if leakAccepts o t then judgedOf accepted vci (dueSlot o t - t) else judgedOf excess vci 0
+-- In slot t, of a cell with this CLP, of a VC with this opening. "a VC not open: unknown"; D is the due slot less the arrival
+-- slot, by the peak bucket's rule.
+abbrev pub judgedUnder : ℕ → ℕ → ℕ → Option Opening → Judged
+judgedUnder t vci clp none = judgedOf unknown vci 0
+judgedUnder t vci clp (some o) =
+    let verdict = verdictBy o clp t in
+    judgedOf verdict vci (if letsIn verdict then dueSlot o t - t else 0)
 
 -- "VPI 0 with VCI 0 is no user cell: the slot counts as empty. VPI not 0, VCI of V or more, or a VC not open: unknown."
 unfoldable pub judgedBy : ℕ → ℕ → (ℕ → Option Opening) → List ℕ → Judged
@@ -36,7 +38,7 @@ judgedBy z t openings cell =
     let h = headerAt cell 0 in
     if length cell =? 0 || noUserCell h then judgedOf nothing 0 0
     else if not (namesVc z h) then judgedOf unknown (h .vci) 0
-    else judgedUnder t (h .vci) (openings (h .vci))
+    else judgedUnder t (h .vci) (h .clp) (openings (h .vci))
 
 abbrev pub judged : ℕ → List Event → List ℕ → Judged
 judged z h cell = judgedBy z (served h) (λ v. openingOf v h) cell

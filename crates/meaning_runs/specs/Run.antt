@@ -19,29 +19,34 @@ use Rattle.meaning.specs.declared.Answer.{Answer}
 use Rattle.meaning.specs.Plain.{if_then_else_, _=?_}
 use Rattle.meaning.specs.Numbers.{octets, empty}
 use Rattle.meaning.specs.State.{State, withWords}
+use Rattle.meaning.specs.Words.{Second, noSecond}
 use Rattle.meaning.specs.Calls.{freshState, openCall, closeCall}
 use Rattle.meaning.specs.Work.{Work}
 use Rattle.meaning.specs.Slot.{slot}
 use Rattle.meaning.specs.Line.{lineCell}
 
 pub data Call : Type 0 where
-  -- VCI, m, F, C
-  onOpen : ℕ → ℕ → ℕ → ℕ → Call
+  -- VCI, m, F, C, and the second bucket, if any: document 02 (iv)
+  onOpenWith : ℕ → ℕ → ℕ → ℕ → Second → Call
   -- VCI
   onClose : ℕ → Call
   -- the octets lent: any list
   onSlot : List ℕ → Call
 
+-- an opening without a second bucket
+abbrev pub onOpen : ℕ → ℕ → ℕ → ℕ → Call
+onOpen vci m F C = onOpenWith vci m F C noSecond
+
 pub data Event : Type 0 where
-  -- VCI, m, F, C, and the number answered
-  opened : ℕ → ℕ → ℕ → ℕ → ℕ → Event
+  -- VCI, m, F, C, the second bucket, if any, and the number answered
+  opened : ℕ → ℕ → ℕ → ℕ → Second → ℕ → Event
   -- VCI, and the number answered
   closed : ℕ → ℕ → Event
   -- the octets that the header check let through, the answer, and the octets of the line cell shown after it
   ran : List ℕ → Answer → List ℕ → Event
 
 abbrev pub numberOf : Event → ℕ
-numberOf (opened vci m F C number) = number
+numberOf (opened vci m F C x number) = number
 numberOf (closed vci number) = number
 numberOf (ran cell a out) = a .number
 
@@ -66,10 +71,10 @@ abbrev pub letIn : State → List ℕ → Arriving
 letIn s cell = arriving (s .ctl .raw) (s .ctl .mode) cell
 
 unfoldable pub call : Run → Call → Run
-call r (onOpen vci m F C) =
+call r (onOpenWith vci m F C x) =
     let s = r .state in
-    let c = openCall (s .ctl) (s .words) vci m F C in
-    runOf (withWords s (c .words)) (opened vci m F C (c .number) ∷ r .events)
+    let c = openCall (s .ctl) (s .words) vci m F C x in
+    runOf (withWords s (c .words)) (opened vci m F C x (c .number) ∷ r .events)
 call r (onClose vci) =
     let s = r .state in
     let c = closeCall (s .ctl) (s .words) vci in
@@ -89,6 +94,6 @@ freshRun N z raw = runOf (freshState N z raw) []
 -- A refused slot is not served. "The first slot after setup is slot 0."
 unfoldable pub served : List Event → ℕ
 served [] = 0
-served (opened vci m F C number ∷ h) = served h
+served (opened vci m F C x number ∷ h) = served h
 served (closed vci number ∷ h) = served h
 served (ran cell a out ∷ h) = (if a .number =? 0 then 1 else 0) + served h

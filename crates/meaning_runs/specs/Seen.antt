@@ -1,6 +1,7 @@
 -- What the calls and answers of a run say of its cells: which were accepted, when each is due, and what left.
 --
---   Cell            == an accepted cell: VCI, arrival slot, the D answered, due time, due slot, octets
+--   Cell            == an accepted cell: VCI, arrival slot, the D answered, due time, due slot, octets. Document 02 (iv): tagged
+--                      ones count as accepted, and their octets are those with CLP 1
 --   Departure       == slot, VCI answered, and the octets of the line cell
 --   cellsIn h       == the accepted cells of the events h, in order of arrival
 --   departuresIn h  == the departures, in order
@@ -13,7 +14,8 @@ use mathlib.Core.Option.{Option, none, some}
 use lib.ListN.{getD}
 use Rattle.meaning.specs.declared.Answer.{Answer}
 use Rattle.meaning.specs.Plain.{if_then_else_, _=?_}
-use Rattle.meaning.specs.Numbers.{empty, accepted}
+use Rattle.meaning.specs.Numbers.{empty, letsIn}
+use Rattle.meaning.specs.Arrival.{sentAs}
 use Rattle.meaning_runs.specs.Run.{Event, opened, closed, ran, served}
 use Rattle.meaning_runs.specs.Leak.{Opening, dueTime, dueSlot, openingOf}
 
@@ -41,16 +43,16 @@ cellUnder t a octets (some o) = cellWith t a octets (dueTime o t) (dueSlot o t)
 
 unfoldable pub cellsIn : List Event → List Cell
 cellsIn [] = []
-cellsIn (opened vci m F C number ∷ h) = cellsIn h
+cellsIn (opened vci m F C x number ∷ h) = cellsIn h
 cellsIn (closed vci number ∷ h) = cellsIn h
 cellsIn (ran octets a out ∷ h) =
-    if a .verdict =? accepted then cellsIn h ++ (cellUnder (served h) a octets (openingOf (a .vci) h) ∷ [])
+    if letsIn (a .verdict) then cellsIn h ++ (cellUnder (served h) a (sentAs (a .verdict) octets) (openingOf (a .vci) h) ∷ [])
     else cellsIn h
 
 -- "departing space (65,535 for none)"
 unfoldable pub departuresIn : List Event → List Departure
 departuresIn [] = []
-departuresIn (opened vci m F C number ∷ h) = departuresIn h
+departuresIn (opened vci m F C x number ∷ h) = departuresIn h
 departuresIn (closed vci number ∷ h) = departuresIn h
 departuresIn (ran octets a out ∷ h) =
     if a .space =? empty then departuresIn h

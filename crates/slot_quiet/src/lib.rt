@@ -15,21 +15,21 @@ ghost use Rattle.slot_plan.specs.Plan.{rotated, joinedLinks, joinedHead, leavin
 ghost use Rattle.slot_plan.specs.Works.{quietOf, lastSteps};
 ghost use Rattle.slot_plan.specs.Facts.{Sized};
 ghost use Rattle.slot_quiet.specs.Quiet.{EndsWith, GivesWith, KeepsWith};
-use slot_arrive::Fall;
-use slot_arrive::Judged;
 use meaning::Answer;
 use meaning::Record;
 use meaning::Served;
 use mem_lists::Off;
+use slot_arrive::Fall;
+use slot_arrive::Judged;
 
 // Steps 2 and 3 in the words where no cell is accepted.
 fn words_fall(k: Record, b: Fall, j: Judged, words: &mut [u32])
     requires { ⌜ (b .on ≡ true → HasVc (k .rotation) (now words)) ⌝ }
     requires { ⌜ (j .verdict =? excess ≡ true → HasVc (j .vci) (now words)) ⌝ }
-    ensures { λ r. ⌜ now (words .exit) ≡ fallen (j .verdict =? excess) (j .vci) (j .s) (k .t) (rotated k b (now (words .entry))) ⌝ }
+    ensures { λ r. ⌜ now (words .exit) ≡ fallen (j .verdict =? excess) (j .vci) (j .s) (j .second) (k .t) (rotated k b (now (words .entry))) ⌝ }
 {
-    slot_arrive::put_fall(words, b.on, k.rotation, b.s, k.t);
-    slot_arrive::put_fall(words, j.verdict == 2, j.vci, j.s, k.t);
+    slot_arrive::put_fall(words, b.on, k.rotation, b.s, b.second, k.t);
+    slot_arrive::put_fall(words, j.verdict == 2, j.vci, j.s, j.second, k.t);
 }
 
 // A departure where no cell was accepted: all writes but the entry's.
