@@ -2,7 +2,7 @@
 -- never that something else is refused: each test that fails leaves the likely way, and the slot is served as the call has it.
 -- k is the record in the slot, its clock moved.
 --
---   Judges k words vci D S == an open VC accepts a cell
+--   Judges k words vci D S == an open VC without a second bucket accepts a cell
 --   Arrives k words cell.. == the VC that the cell names accepts it
 --   Seats k .. p           == the cell has its space, its entry and the Free List without it
 --   Spotted k .. p         == all of these
@@ -13,11 +13,14 @@ use mathlib.Core.List.{List}
 use lib.ListN.{length, getD}
 use Rattle.meaning.specs.declared.Record.{Record}
 use Rattle.meaning.specs.Numbers.{mostN, mostV, octets, cellStart, perEntry, wordsIn, accepted, fPlace, waitingPlace}
+use Rattle.meaning.specs.Bucket.{withS}
 use Rattle.meaning.specs.Words.{vcAt, bucketFits}
 use Rattle.meaning.specs.Lists.{endsFit}
 use Rattle.meaning.specs.Lent.{Slice}
+use Rattle.mem_words.specs.Vcs.{hasNone}
 use Rattle.slot_arrive.specs.declared.Judged.{Judged}
-use Rattle.slot_arrive.specs.Arrival.{bucketNow, judgedAs, judgedBucket, judgedOf}
+use Rattle.slot_arrive.specs.Arrival.{vcNow, judgedAs, judgedOf}
+use Rattle.slot_arrive.specs.Both.{judgedPeak}
 use Rattle.mem_lists.specs.declared.Seat.{Seat}
 use Rattle.mem_lists.specs.Spaces.{endsOf, seatAs, entryOf, seatOf}
 use Rattle.slot_plan.specs.Plan.{freeEnds}
@@ -28,7 +31,7 @@ use Rattle.burst_arrive.specs.declared.Spot.{Spot}
 -- the accepted cell's judgement and seat, from what was found
 abbrev pub judgedAt : List ℕ → Spot → Judged
 judgedAt words p =
-    judgedAs true accepted (p .vci) (p .d) (p .s + getD words (fPlace (p .vci)) 0) (getD words (waitingPlace (p .vci)) 0 + 1)
+    judgedAs true accepted (p .vci) (p .d) (p .s + getD words (fPlace (p .vci)) 0) (getD words (waitingPlace (p .vci)) 0 + 1) 0
 
 abbrev pub seatAt : Record → Spot → Seat
 seatAt k p = seatAs true (p .x) (endsOf (p .link) (k .freetail)) (p .e) (endsOf (p .head) (p .tail))
@@ -41,23 +44,28 @@ pub record Seats (k : Record) (links calendar : List ℕ) (p : Spot) : Type 0 wh
   pub tail-low : k .freetail < k .n
   pub entry-fits : endsFit (k .n) (endsOf (p .head) (p .tail)) ≡ true
 
--- an open VC that accepts a cell with this D, its S being s before the cell
+-- an open VC without a second bucket that accepts a cell with this D, its S being S before the cell
 pub record Judges (k : Record) (words : List ℕ) (vci D S : ℕ) : Type 0 where
-  pub judged : judgedAs true accepted vci D (S + getD words (fPlace vci) 0) (getD words (waitingPlace vci) 0 + 1)
-      ≡ judgedBucket (k .n) vci (bucketNow (k .t) (vcAt words vci)) (vcAt words vci .waiting)
+  pub judged : judgedAs true accepted vci D (S + getD words (fPlace vci) 0) (getD words (waitingPlace vci) 0 + 1) 0
+      ≡ judgedPeak (k .n) vci (withS (vcAt words vci .bucket) S) (vcAt words vci .waiting)
   pub fits : bucketFits (k .n) (vcAt words vci .bucket) ≡ true
+  pub single : hasNone (vcAt words vci) ≡ true
+  pub s-is : S ≡ vcNow (k .t) (vcAt words vci) .bucket .S
+  pub full-low : S + getD words (fPlace vci) 0 < 4294967296
   pub near : D < k .n
   pub waiting-high : getD words (waitingPlace vci) 0 < k .n
 
 -- the same of the VC that a cell names
 pub record Arrives (k : Record) (words cell : List ℕ) (vci D S : ℕ) : Type 0 where
-  pub judged : judgedAs true accepted vci D (S + getD words (fPlace vci) 0) (getD words (waitingPlace vci) 0 + 1)
+  pub judged : judgedAs true accepted vci D (S + getD words (fPlace vci) 0) (getD words (waitingPlace vci) 0 + 1) 0
       ≡ judgedOf (k .n) (k .v) (k .t) words cell
-  pub is-accepted : Accepted k (judgedAs true accepted vci D (S + getD words (fPlace vci) 0) (getD words (waitingPlace vci) 0 + 1)) cell words
+  pub is-accepted : Accepted k (judgedAs true accepted vci D (S + getD words (fPlace vci) 0) (getD words (waitingPlace vci) 0 + 1) 0) cell words
+  pub at-vc : Judges k words vci D S
 
 pub record Spotted (k : Record) (links calendar words cell : List ℕ) (p : Spot) : Type 0 where
   pub judged : judgedAt words p ≡ judgedOf (k .n) (k .v) (k .t) words cell
   pub is-accepted : Accepted k (judgedAt words p) cell words
+  pub at-vc : Judges k words (p .vci) (p .d) (p .s)
   pub seats : Seats k links calendar p
 
 -- ---- what is asked of lent memories, for contracts: w is the policer in the slot to come

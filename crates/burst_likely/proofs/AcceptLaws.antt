@@ -10,14 +10,13 @@ use Rattle.meaning.specs.declared.Record.{Record}
 use Rattle.meaning.specs.declared.Answer.{Answer}
 use Rattle.meaning.specs.declared.Served.{Served}
 use Rattle.meaning.specs.Plain.{if_then_else_, _=?_, next, _andThen_}
-use Rattle.meaning.specs.Numbers.{empty, fPlace, waitingPlace}
+use Rattle.meaning.specs.Numbers.{empty, letsIn, fPlace, waitingPlace}
 use Rattle.meaning.specs.State.{Ends, recordWith, writeCell}
 use Rattle.meaning.specs.Lists.{emptyList, endsFit, entryAt, writeEntry}
 use Rattle.meaning.specs.Line.{cellsAllowed}
 use Rattle.meaning.specs.Work.{Work, answerOf}
 use Rattle.meaning.specs.Slot.{step4, step5}
 use Rattle.meaning.proofs.ListsLaws.{fit-head, fit-tail, fit-marked}
-use Rattle.meaning.proofs.CellsLaws.{cell-length}
 use Rattle.slot_arrive.specs.declared.Fall.{Fall}
 use Rattle.slot_arrive.specs.declared.Judged.{Judged}
 use Rattle.slot_arrive.specs.Arrival.{broughtOf, filled, oneLess}
@@ -38,6 +37,7 @@ use Rattle.burst_arrive.specs.Arriving.{judgedAt, seatAt, Spotted}
 use Rattle.burst_depart.specs.declared.Leave.{Leave}
 use Rattle.burst_depart.specs.Leaving.{Goes, OffThen, offAt}
 use Rattle.burst_likely.specs.Served.{from2, Ready, Done, Silent}
+use Rattle.burst_likely.proofs.StoreLaws.{stored-long, sent-is}
 use Rattle.burst_likely.proofs.EitherLaws.{allowed-long, linked-same, ends-with}
 
 module _ (w : Way) (p : Spot) (cell cells links calendar words : List ℕ) (ready : Ready w cells links calendar words)
@@ -63,7 +63,7 @@ module _ (w : Way) (p : Spot) (cell cells links calendar words : List ℕ) (read
   calendar₃ = writeEntry calendar (p .e) (seatEnds a)
 
   abbrev words₃ : List ℕ
-  words₃ = filled (p .vci) (p .s + getD words (fPlace (p .vci)) 0) (w .t) (getD words (waitingPlace (p .vci)) 0 + 1) (rotated k b words)
+  words₃ = filled (p .vci) (p .s + getD words (fPlace (p .vci)) 0) 0 (w .t) (getD words (waitingPlace (p .vci)) 0 + 1) (rotated k b words)
 
   abbrev entry : Ends
   entry = entryAt calendar₃ (w .turn)
@@ -76,6 +76,7 @@ module _ (w : Way) (p : Spot) (cell cells links calendar words : List ℕ) (read
       seating-shows k j cell cells links calendar (rotated k b words) (ready .sized .n-high) (ready .sized .turn-low) (spot .is-accepted .near) a (spot .seats .seat) refl
 
   steps-3 : from2 k cell cells links calendar words ≡ (step4 work andThen step5)
+  unfolding letsIn
   steps-3 =
       arriving-accepted k cell cells links calendar words b refl j (spot .judged)
       (let long = ready .sized .words-long in let low = ready .sized .rotation-low in omega (arith, long, low)) brought refl refl
@@ -83,10 +84,7 @@ module _ (w : Way) (p : Spot) (cell cells links calendar words : List ℕ) (read
 
   -- the cell memory keeps its length
   cells-long : (cells′ : List ℕ) → cells′ ≡ writeCell cells (p .x) cell → length cells′ ≡ 53 * w .n
-  cells-long cells′ e =
-      let long = ready .sized .cells-long in
-      let low = spot .seats .x-low in
-      ap length e ∙ cell-length cells (p .x) cell (omega (arith, long, low)) (spot .is-accepted .cell-long) ∙ long
+  cells-long = stored-long (w .n) (p .x) cells cell (ready .sized .cells-long) (spot .seats .x-low) (spot .is-accepted .cell-long)
 
   cells-allowed : (cells′ : List ℕ) → cells′ ≡ writeCell cells (p .x) cell → cellsAllowed (length cells′) ≡ true
   cells-allowed cells′ e = allowed-long (w .n) (length cells′) (ready .sized .n-low) (ready .sized .n-high) (cells-long cells′ e)
@@ -115,7 +113,7 @@ module _ (w : Way) (p : Spot) (cell cells links calendar words : List ℕ) (read
           number = refl;
           none = refl;
           allowed = cells-allowed cells′ c;
-          is = none-goes e o ∙ ap next (sym (accept-served k b j a cell cells links calendar words served cells′ links′ calendar′ words′ (ends-with w w′ _ _ _ _ way) refl c l d f));
+          is = none-goes e o ∙ ap next (sym (accept-served k b j a cell cells links calendar words served cells′ links′ calendar′ words′ (ends-with w w′ _ _ _ _ way) refl (c ∙ sent-is cells (p .x) cell) l d f));
           told = told;
           free = endsOf (p .link) (w .freetail);
           output = outputEnds k;
@@ -230,7 +228,7 @@ module _ (w : Way) (p : Spot) (cell cells links calendar words : List ℕ) (read
                 (sym
                 (accept-left k b j a (offAt o) cell cells links calendar words served taken cells′
                 (linked (o .follows) (w .outtail) (o .head) links₁) links₄ links′ calendar₄ calendar′ words₁ words′ refl
-                (ends-with w w′ _ _ _ _ way ∙ taken-ends, refl) c (l ∙ freed-link _)
+                (ends-with w w′ _ _ _ _ way ∙ taken-ends, refl) (c ∙ sent-is cells (p .x) cell) (l ∙ freed-link _)
                 (ap (λ (x : List ℕ). linked (o .follows) (w .outtail) (o .head) x) l₁)
                 (d ∙ ap (λ (x : List ℕ). if o .marked then writeEntry x (w .turn) emptyList else x) d₁) f₁ f));
             shown = shown ∙ sym (shown-cell departures i inside cells′ (cells-allowed cells′ c) (o .space) low);

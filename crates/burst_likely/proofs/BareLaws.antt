@@ -6,12 +6,12 @@ use mathlib.Core.Logic.{_≢_}
 use mathlib.Core.Bool.{Bool, true, false, not}
 use mathlib.Core.List.{List, []}
 use native.Mathlib.Omega.{arith}
-use borrow.Author.Tests.{eq-eqb, ne-eqb, eqb-false, not-true}
+use borrow.Author.Tests.{ne-eqb, eqb-false, not-true}
 use lib.ListN.{length, getD, set, take, drop}
 use Rattle.meaning.specs.declared.Record.{Record}
 use Rattle.meaning.specs.declared.Served.{Served}
 use Rattle.meaning.specs.Plain.{if_then_else_, _=?_, next, _andThen_}
-use Rattle.meaning.specs.Numbers.{empty, nothing, excess, sPlace, lastPlace, waitingPlace}
+use Rattle.meaning.specs.Numbers.{empty, nothing, excess, letsIn, sPlace, lastPlace, waitingPlace}
 use Rattle.meaning.specs.State.{Ends, stateOf, recordWith, writeCell}
 use Rattle.meaning.specs.Lists.{emptyList, endsFit, entryAt, writeEntry}
 use Rattle.meaning.specs.Work.{Work, workOf, answerOf}
@@ -24,7 +24,6 @@ use Rattle.slot_arrive.specs.Arrival.{broughtOf, judgedAs, fallen, oneLess}
 use Rattle.slot_arrive.proofs.JudgedLaws.{judged-absent}
 use Rattle.mem_lists.specs.declared.Off.{Off}
 use Rattle.mem_lists.specs.Spaces.{endsOf, linked, offOf}
-use Rattle.mem_lists.proofs.After.{kept-fall}
 use Rattle.slot_plan.specs.Plan.{withEnds, freeEnds, outputEnds, freed, rotated, quietWork, joinedLinks, joinedHead}
 use Rattle.slot_plan.proofs.Steps.{arriving-quiet}
 use Rattle.slot_plan.proofs.Cases.{marked, output, none}
@@ -41,18 +40,12 @@ use Rattle.burst_rotate.specs.Turning.{Turned}
 use Rattle.burst_depart.specs.declared.Leave.{Leave}
 use Rattle.burst_depart.specs.Leaving.{Goes, offAt, OffHere}
 use Rattle.burst_likely.specs.Served.{from2, Ready, HandedTo, Done}
+use Rattle.burst_likely.proofs.WriteLaws.{waiting-kept}
 use Rattle.burst_likely.proofs.EitherLaws.{allowed-long, linked-same}
 
 -- a departing space is below N
 pub below-long : (N long x : ℕ) → long ≡ 53 * N → x < N → x < long / 53
 below-long N long x e low = omega (arith, e, low)
-
--- the Free List's head, once the space has been given back
-pub head-empty : (h x f : ℕ) → h ≡ 65535 → f ≡ x → f ≡ (if h =? empty then x else h)
-head-empty h x f e q = simp (eq-eqb h 65535 e) q
-
-pub head-there : (h x f : ℕ) → h ≢ 65535 → f ≡ h → f ≡ (if h =? empty then x else h)
-head-there h x f ne q = simp (ne-eqb h 65535 ne) q
 
 -- the departing VC
 pub off-facts : (N z : ℕ) (cells links words : List ℕ) (x tail : ℕ) (o : Off) → o ≡ offOf N z cells links words x tail
@@ -70,7 +63,7 @@ module _ (w : Way) (r : Turn) (cells links calendar words departures answers : L
   b = broughtOf (k .n) (k .t) words (k .rotation)
 
   abbrev j : Judged
-  j = judgedAs true nothing 0 0 0 0
+  j = judgedAs true nothing 0 0 0 0 0
 
   abbrev entry : Ends
   entry = entryAt calendar (w .turn)
@@ -82,14 +75,15 @@ module _ (w : Way) (r : Turn) (cells links calendar words departures answers : L
   work = quietWork k j cells links calendar (rotated k b words)
 
   bare-is : from2 k [] cells links calendar words ≡ (step4 work andThen step5)
+  unfolding letsIn
   bare-is =
       arriving-quiet k [] cells links calendar words b refl j (judged-absent (k .n) (k .v) (k .t) words [] refl)
       (let s = ready .sized in omega (arith, s .words-long, s .rotation-low))
       (turned .brought)
       refl
-      (λ q. absurd (omega (arith, q)))
+      refl
 
-  turning-is : turning ≡ fallen (j .verdict =? excess) (j .vci) (j .s) (k .t) (rotated k b words)
+  turning-is : turning ≡ fallen (j .verdict =? excess) (j .vci) (j .s) (j .second) (k .t) (rotated k b words)
   unfolding fallen
   turning-is = turned .writes
 
@@ -152,7 +146,7 @@ module _ (w : Way) (r : Turn) (cells links calendar words departures answers : L
         go false e = off-facts (k .n) (k .v) cells _ words _ _ (offAt o) (goes .unmarked e .3) refl
 
     pub less-waits : 1 ≤ getD turning (waitingPlace (o .vci)) 0
-    less-waits = rw (kept-fall true (w .rotation) (r .s) (r .last) words .waiting (o .vci)) (off-low .1)
+    less-waits = rw (waiting-kept words (w .rotation) (r .s) (r .last) (o .vci)) (off-low .1)
 
     -- the links that are written are there
     pub follow-low : o .follows ≡ true → (w .outtail < w .n) × (o .head < w .n)

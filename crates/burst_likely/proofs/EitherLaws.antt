@@ -2,13 +2,15 @@
 -- served slot share.
 use Prim.Native.Nat.{ℕ, _+_, _*_, _/_, _%_, _≤_}
 use mathlib.Core.Path.{_≡_, refl, sym, _∙_, ap}
+use mathlib.Core.Logic.{_≢_}
 use mathlib.Core.Bool.{Bool, true, false}
 use mathlib.Core.List.{List}
 use native.Mathlib.Omega.{arith}
-use borrow.Author.Tests.{eq-eqb, le-leb}
+use borrow.Author.Tests.{eq-eqb, ne-eqb, le-leb}
 use lib.ListN.{length, set, take}
 use Rattle.meaning.specs.declared.Record.{Record}
-use Rattle.meaning.specs.Plain.{Out}
+use Rattle.meaning.specs.Plain.{if_then_else_, _=?_, Out}
+use Rattle.meaning.specs.Numbers.{empty}
 use Rattle.meaning.specs.State.{recordWith}
 use Rattle.meaning.specs.Line.{cellsAllowed}
 use Rattle.meaning.specs.Work.{Work}
@@ -33,6 +35,13 @@ pub linked-same : (on on′ : Bool) (i x x′ : ℕ) (l : List ℕ) → on ≡ o
 unfolding linked
 linked-same true on′ i x x′ l e same = rw (sym e) (ap (set l i) (same refl))
 linked-same false on′ i x x′ l e same = rw (sym e)
+
+-- the Free List's head, once the space has been given back
+pub head-empty : (h x f : ℕ) → h ≡ 65535 → f ≡ x → f ≡ (if h =? empty then x else h)
+head-empty h x f e q = simp (eq-eqb h 65535 e) q
+
+pub head-there : (h x f : ℕ) → h ≢ 65535 → f ≡ h → f ≡ (if h =? empty then x else h)
+head-there h x f ne q = simp (ne-eqb h 65535 ne) q
 
 -- the record of a way with other ends
 pub ends-with : (w w′ : Way) (freehead freetail outhead outtail : ℕ)

@@ -8,25 +8,39 @@ use borrow.Author.Tests.{eq-eqb, ne-eqb}
 use lib.ListN.{getD, set}
 use lib.Seq.{getD-set-other, set-getD}
 use Rattle.meaning.specs.Plain.{if_then_else_, _=?_}
-use Rattle.meaning.specs.Numbers.{empty, waitingPlace, wordsPerVc}
+use Rattle.meaning.specs.Numbers.{empty, sPlace, lastPlace, waitingPlace, secondSPlace}
 use Rattle.meaning.specs.Lists.{writeEntry}
 use Rattle.slot_arrive.specs.Arrival.{filled}
 use Rattle.mem_lists.specs.Spaces.{endsOf}
+use Rattle.burst_rotate.proofs.TurnLaws.{second-kept, zero-again}
 
--- waiting, once S and last of its VC are written
-pub waiting-kept : (words : List ℕ) (vci S t : ℕ)
-    → getD (set (set words (wordsPerVc * vci + 4) S) (wordsPerVc * vci + 5) t) (wordsPerVc * vci + 6) 0 ≡ getD words (wordsPerVc * vci + 6) 0
-waiting-kept words vci S t =
-    getD-set-other (set words (wordsPerVc * vci + 4) S) (wordsPerVc * vci + 5) (wordsPerVc * vci + 6) t 0 (λ q. omega arith)
-    ∙ getD-set-other words (wordsPerVc * vci + 4) (wordsPerVc * vci + 6) S 0 (λ q. omega arith)
+-- waiting of any VC, once S and last of one are written
+pub waiting-kept : (words : List ℕ) (r S t vci : ℕ)
+    → getD (set (set words (sPlace r) S) (lastPlace r) t) (waitingPlace vci) 0 ≡ getD words (waitingPlace vci) 0
+waiting-kept words r S t vci =
+    getD-set-other (set words (sPlace r) S) (lastPlace r) (waitingPlace vci) t 0 (λ q. omega arith)
+    ∙ getD-set-other words (sPlace r) (waitingPlace vci) S 0 (λ q. omega arith)
 
-pub fill-is : (words : List ℕ) (vci S t : ℕ)
-    → set (set (set words (wordsPerVc * vci + 4) S) (wordsPerVc * vci + 5) t) (wordsPerVc * vci + 6)
-    (getD (set (set words (wordsPerVc * vci + 4) S) (wordsPerVc * vci + 5) t) (wordsPerVc * vci + 6) 0 + 1)
-    ≡ filled vci S t (getD words (waitingPlace vci) 0 + 1) words
+pub fill-is : (words : List ℕ) (vci S t : ℕ) → getD words (secondSPlace vci) 0 ≡ 0
+    → set (set (set words (sPlace vci) S) (lastPlace vci) t) (waitingPlace vci)
+    (getD (set (set words (sPlace vci) S) (lastPlace vci) t) (waitingPlace vci) 0 + 1)
+    ≡ filled vci S 0 t (getD words (waitingPlace vci) 0 + 1) words
 unfolding filled
-fill-is words vci S t =
-    ap (λ (x : ℕ). set (set (set words (wordsPerVc * vci + 4) S) (wordsPerVc * vci + 5) t) (wordsPerVc * vci + 6) (x + 1)) (waiting-kept words vci S t)
+fill-is words vci S t zero =
+    ap (λ (x : ℕ). set was (waitingPlace vci) (x + 1)) (waiting-kept words vci S t vci)
+    ∙ sym (zero-again (set was (waitingPlace vci) waits) (secondSPlace vci) still)
+  where
+    was : List ℕ
+    was = set (set words (sPlace vci) S) (lastPlace vci) t
+
+    waits : ℕ
+    waits = getD words (waitingPlace vci) 0 + 1
+
+    still : getD (set was (waitingPlace vci) waits) (secondSPlace vci) 0 ≡ 0
+    still =
+        getD-set-other was (waitingPlace vci) (secondSPlace vci) waits 0 (λ q. omega arith)
+        ∙ second-kept words vci S t vci
+        ∙ zero
 
 -- an entry's head is written, and its tail where it was empty
 module _ (calendar : List ℕ) (e x head : ℕ) where

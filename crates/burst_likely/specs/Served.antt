@@ -114,5 +114,5 @@ ServedOrLeft w cell g cells links calendar words departures answers i =
 -- the words once steps 2 and 3 have written what they found
 abbrev pub wordsFilled : Way → Spot → List ℕ → List ℕ
 wordsFilled w p words =
-    filled (p .vci) (p .s + getD words (fPlace (p .vci)) 0) (w .t) (getD words (waitingPlace (p .vci)) 0 + 1)
+    filled (p .vci) (p .s + getD words (fPlace (p .vci)) 0) 0 (w .t) (getD words (waitingPlace (p .vci)) 0 + 1)
     (rotated (slotRecord w) (broughtOf (w .n) (w .t) words (w .rotation)) words)

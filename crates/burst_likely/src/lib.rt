@@ -7,7 +7,7 @@ ghost use mathlib.Core.List.{List, []};
 ghost use Prim.Native.Nat.{ℕ, _+_, _*_, _≤_, _<_};
 ghost use lib.ListN.{length, getD, set, take, drop};
 ghost use Rattle.meaning.specs.Plain.{if_then_else_, _=?_};
-ghost use Rattle.meaning.specs.Numbers.{empty, fPlace, sPlace, lastPlace, waitingPlace, octets, cellStart};
+ghost use Rattle.meaning.specs.Numbers.{empty, fPlace, sPlace, lastPlace, waitingPlace, secondSPlace, octets, cellStart};
 ghost use Rattle.meaning.specs.State.{writeCell, HasVc};
 ghost use Rattle.meaning.specs.Lists.{emptyList, endsFit, entryAt, writeEntry};
 ghost use Rattle.meaning.specs.Work.{answerOf};
@@ -47,11 +47,12 @@ fn put_turn(words: &mut [u32], rotation: usize, s: u32, last: u32)
     words[b + AT_LAST] = last;
 }
 
-// The words of an accepted cell's VC: S grows by F, and one more waits.
+// The words of an accepted cell's VC: S grows by F, and one more waits. It has no second bucket, so that one's S is 0 and stays.
 fn put_fill(words: &mut [u32], vci: usize, s: u32, t: u32)
-    requires { ⌜ (HasVc vci (now words)) × (s + getD (now words) (fPlace vci) 0 < 4294967296) × (getD (now words) (waitingPlace vci) 0 + 1 < 4294967296) ⌝ }
+    requires { ⌜ (HasVc vci (now words)) × (s + getD (now words) (fPlace vci) 0 < 4294967296) × (getD (now words) (waitingPlace vci) 0 + 1 < 4294967296)
+        × (getD (now words) (secondSPlace vci) 0 ≡ 0) ⌝ }
     ensures { λ r. ⌜ now (words .exit)
-        ≡ filled vci (s + getD (now (words .entry)) (fPlace vci) 0) t (getD (now (words .entry)) (waitingPlace vci) 0 + 1) (now (words .entry)) ⌝ }
+        ≡ filled vci (s + getD (now (words .entry)) (fPlace vci) 0) 0 t (getD (now (words .entry)) (waitingPlace vci) 0 + 1) (now (words .entry)) ⌝ }
 {
     let b = WORDS_PER_VC * vci;
     words[b + AT_S] = s + words[b + AT_F];

@@ -15,6 +15,7 @@ use Rattle.meaning.specs.Numbers.{mPlace, fPlace, cPlace, sPlace, lastPlace}
 use Rattle.meaning.specs.Bucket.{elapsed}
 use Rattle.meaning.specs.Words.{vcAt, bucketFits}
 use Rattle.leaf_bucket.proofs.Rules.{facts-rules}
+use Rattle.mem_words.specs.Vcs.{hasNone}
 use Rattle.burst_rotate.specs.Turning.{Met}
 
 -- F is at least L
@@ -54,13 +55,15 @@ module _ (n t : ℕ) (words : List ℕ) (vci : ℕ) where
       (le-leb s c under)
 
   pub met-is : (room S : ℕ) → n ≤ 1024 → m ≤ 15 → f ≤ 16777216 → f / 2 ^ m ≢ 0 → (room + f) % 4294967296 ≡ c → room / 2 ^ m < n → s ≤ c
+      → hasNone (vcAt words vci) ≡ true
       → S ≡ s - elapsed t (getD words (lastPlace vci) 0) * 2 ^ m
       → Met n t words vci (record { ok = true; s = S; room = room })
-  met-is room S few low high some wraps near under is =
+  met-is room S few low high some wraps near under none is =
       let e = room-is n m f c room few low high wraps near in
       let r : room ≡ c - f = omega (arith, e) in
       record {
         fits = fits-is low (f-least f m some) high (omega (arith, e)) (rw (← r) near) under;
+        single = none;
         m-low = low;
         full-low = omega (arith, e);
         s-is = is;

@@ -1,21 +1,41 @@
--- Step 2 as the likely way has it: S and last are written whether rotation's VC is open or not, a closed one's as they were.
+-- Step 2 as the likely way has it: S and last are written whether rotation's VC is open or not, a closed one's as they were; and
+-- S of a second bucket that is none stays 0 unwritten.
 use Prim.Native.Nat.{ℕ, _*_}
-use mathlib.Core.Path.{_≡_, sym, ap}
+use mathlib.Core.Path.{_≡_, sym, _∙_, ap}
 use mathlib.Core.Logic.{_≢_}
 use mathlib.Core.Bool.{true, false}
 use mathlib.Core.List.{List}
 use native.Mathlib.Omega.{arith}
 use native.Mathlib.Decide.{ℕ-discrete}
 use lib.ListN.{getD, set}
-use lib.Seq.{set-getD}
+use lib.Seq.{set-getD, getD-set-other}
 use Rattle.meaning.specs.declared.Record.{Record}
-use Rattle.meaning.specs.Numbers.{sPlace, lastPlace, wordsPerVc}
+use Rattle.meaning.specs.Numbers.{sPlace, lastPlace, secondSPlace, wordsPerVc}
+use Rattle.meaning.specs.Words.{vcAt, fallenTo}
+use Rattle.meaning.specs.Bucket.{fall}
+use Rattle.mem_words.specs.Vcs.{hasNone}
+use Rattle.mem_words.proofs.NoneLaws.{none-facts}
 use Rattle.slot_arrive.specs.declared.Fall.{Fall}
-use Rattle.slot_arrive.specs.Arrival.{fallOf, broughtOf, fallen}
-use Rattle.slot_arrive.proofs.BroughtLaws.{brought-zero, brought-closed, brought-open}
+use Rattle.slot_arrive.specs.Arrival.{fallOf, vcNow, broughtOf, fallen}
+use Rattle.slot_arrive.proofs.BroughtLaws.{brought-zero, brought-closed, brought-both, brought-none}
 use Rattle.slot_plan.specs.Plan.{rotated}
 use Rattle.burst_rotate.specs.declared.Bucketed.{Bucketed}
 use Rattle.burst_rotate.specs.Turning.{Met, Turned}
+
+-- S and last of a VC written, its second bucket's S is as it was
+pub second-kept : (words : List ℕ) (r S t vci : ℕ)
+    → getD (set (set words (sPlace r) S) (lastPlace r) t) (secondSPlace vci) 0 ≡ getD words (secondSPlace vci) 0
+second-kept words r S t vci =
+    getD-set-other (set words (sPlace r) S) (lastPlace r) (secondSPlace vci) t 0 (λ q. omega arith)
+    ∙ getD-set-other words (sPlace r) (secondSPlace vci) S 0 (λ q. omega arith)
+
+pub none-second : (words : List ℕ) (vci : ℕ) → hasNone (vcAt words vci) ≡ true → getD words (secondSPlace vci) 0 ≡ 0
+unfolding vcAt
+none-second words vci e = none-facts (vcAt words vci) e .S-is
+
+-- a 0 that stands there is written again
+pub zero-again : (words : List ℕ) (i : ℕ) → getD words i 0 ≡ 0 → set words i 0 ≡ words
+zero-again words i e = ap (set words i) (sym e) ∙ set-getD words i 0
 
 module _ (k : Record) (words : List ℕ) where
   abbrev z : ℕ
@@ -34,10 +54,10 @@ module _ (k : Record) (words : List ℕ) where
       let y = none e in
       absurd (omega (arith, o, q, y))
 
-  closed : getD words (wordsPerVc * z) 0 ≡ 0 → fallOf true false 0 ≡ brought
+  closed : getD words (wordsPerVc * z) 0 ≡ 0 → fallOf true false 0 0 ≡ brought
   closed o = go (ℕ-discrete z 0)
     where
-      go : Dec (z ≡ 0) → fallOf true false 0 ≡ brought
+      go : Dec (z ≡ 0) → fallOf true false 0 0 ≡ brought
       go (yes e) = brought-zero (k .n) (k .t) words z e
       go (no ne) = brought-closed (k .n) (k .t) words z ne o
 
@@ -50,12 +70,23 @@ module _ (k : Record) (words : List ℕ) where
         writes = rw (← closed o) stored;
       }
 
+  fallen-is : (r : Bucketed) → Met (k .n) (k .t) words z r → r .s ≡ vcNow (k .t) (vcAt words z) .bucket .S
+  unfolding vcNow fallenTo fall vcAt
+  fallen-is r met = met .s-is
+
+  opened : (r : Bucketed) → z ≢ 0 → getD words (wordsPerVc * z) 0 ≡ 1 → Met (k .n) (k .t) words z r
+      → fallOf true true (r .s) 0 ≡ brought
+  opened r some o met =
+      brought-none (k .n) (k .t) words z (r .s) (met .single)
+      ∙ brought-both (k .n) (k .t) words z (r .s) some o (met .fits) (fallen-is r met)
+
   pub turned-open : (r : Bucketed) → (z ≡ 0 → getD words 0 0 ≡ 0) → getD words (wordsPerVc * z) 0 ≡ 1 → Met (k .n) (k .t) words z r
       → Turned k words (record { ok = r .ok; s = r .s; last = k .t })
   unfolding rotated fallen
   turned-open r none o met =
-      let e = brought-open (k .n) (k .t) words z (r .s) (not-zero none o) o (met .fits) (met .s-is) in
+      let e = opened r (not-zero none o) o met in
+      let zero = second-kept words z (r .s) (k .t) z ∙ none-second words z (met .single) in
       record {
         brought = ap (λ (b : Fall). b .ok) (sym e);
-        writes = rw (← e);
+        writes = rw (← e) (sym (zero-again (set (set words (sPlace z) (r .s)) (lastPlace z) (k .t)) (secondSPlace z) zero));
       }

@@ -7,6 +7,8 @@ ghost use Prim.Native.Nat.{_+_, _*_, _≤_};
 ghost use lib.ListN.{length, getD};
 ghost use Rattle.meaning.specs.Numbers.{mostN};
 ghost use Rattle.meaning.specs.State.{HasVc};
+ghost use Rattle.meaning.specs.Words.{vcAt};
+ghost use Rattle.mem_words.specs.Vcs.{hasNone};
 ghost use Rattle.burst_way.specs.Way.{slotRecord};
 ghost use Rattle.burst_rotate.specs.Turning.{Met, Turned};
 use burst_way::Way;
@@ -15,9 +17,14 @@ use meaning::AT_F;
 use meaning::AT_LAST;
 use meaning::AT_M;
 use meaning::AT_S;
+use meaning::AT_SECOND_C;
+use meaning::AT_SECOND_F;
+use meaning::AT_SECOND_M;
+use meaning::AT_SECOND_S;
+use meaning::AT_TAG;
 use meaning::WORDS_PER_VC;
 
-// An open VC's bucket: ok where its words but waiting are in range; S as it has fallen, and C-F.
+// An open VC's bucket: ok where its words but waiting are in range and it has no second bucket; S as it has fallen, and C-F.
 pub struct Bucketed {
     pub ok: bool,
     pub s: u32,
@@ -39,6 +46,20 @@ fn unmet() -> Bucketed
         s: 0,
         room: 0,
     }
+}
+
+// Whether a VC has no second bucket, told by one test. One that has is left to the long way.
+fn single(words: &[u32], vci: usize) -> bool
+    requires { ⌜ HasVc vci (now words) ⌝ }
+    ensures { λ r. ⌜ r ≡ hasNone (vcAt (now (words .entry)) vci) ⌝ }
+{
+    let b = WORDS_PER_VC * vci;
+    let some = words[b + AT_SECOND_M]
+        | words[b + AT_SECOND_F]
+        | words[b + AT_SECOND_C]
+        | words[b + AT_SECOND_S]
+        | words[b + AT_TAG];
+    some == 0
 }
 
 // That C is at least F needs no test: if not, C-F on 32 bits is above 2^31, and (C-F)/L far above N.
@@ -65,6 +86,9 @@ pub fn met(n: usize, words: &[u32], vci: usize, t: u32) -> Bucketed
     }
     let s = words[b + AT_S];
     if s > c {
+        return unmet();
+    }
+    if !single(words, vci) {
         return unmet();
     }
     let now = leaf_bucket::fallen_to(s, m, words[b + AT_LAST], t);

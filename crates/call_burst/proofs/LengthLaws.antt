@@ -8,19 +8,20 @@ use native.Mathlib.Omega.{arith}
 use borrow.Author.Tests.{eqb-false, not-true}
 use lib.ListN.{length, set, length-set}
 use Rattle.meaning.specs.Plain.{if_then_else_, _<?_, _≤?_, _=?_, refused, _andThen_}
-use Rattle.meaning.specs.Numbers.{cellStart, empty, unknown, wordsPerVc}
+use Rattle.meaning.specs.Numbers.{cellStart, empty, excess, unknown, wordsPerVc}
 use Rattle.meaning.specs.State.{Ends, freeList, outputList, withRecord, withCells, withLinks, withCalendar, withWords}
 use Rattle.meaning.specs.State.{recordWith, withClock, withFreeList, withOutputList}
 use Rattle.meaning.specs.Header.{headerAt, noUserCell, namesVc, namesOpenVc}
-use Rattle.meaning.specs.Bucket.{isExcess, delay}
+use Rattle.meaning.specs.Bucket.{delay}
 use Rattle.meaning.specs.Words.{Vc, vcAt, openWordFits, upToDate}
 use Rattle.meaning.specs.Lists.{isEmpty, endsFit, entryAt, Taken, takeHead, Grown, joinHead, joinTail, addTail}
 use Rattle.meaning.specs.Work.{Work, withArrival}
-use Rattle.meaning.specs.Arrival.{place, accept, judge}
+use Rattle.meaning.specs.Arrival.{place, verdictOn, sentAs, accept, judge}
 use Rattle.meaning.specs.Slot.{step1, step2, step3, step4, depart, step5, fiveSteps, slot}
 use Rattle.meaning.proofs.ListsLaws.{fit-head, entry-length}
 use Rattle.meaning.proofs.WordsLaws.{write-length}
 use Rattle.meaning.proofs.CellsLaws.{cell-length}
+use Rattle.meaning.proofs.TaggedLaws.{sent-length}
 use Rattle.slot_steps.proofs.EndLaws.{AllOut, needs-all, if-all, then-all, any-all, both-true, taken-head}
 
 -- links that a list has grown into
@@ -85,7 +86,8 @@ module _ (N z : ℕ) where
   unfolding judge accept place withWords withCells withLinks withCalendar withFreeList withRecord recordWith
   judge-long cell v w h c vc =
       let s = w .state in
-      if-all Long (isExcess (vc .bucket)) _ _
+      let verdict = verdictOn (headerAt cell 0 .clp) vc in
+      if-all Long (verdict =? excess) _ _
       (λ _. record { n-is = h .n-is; v-is = h .v-is; cells-long = h .cells-long; links-long = h .links-long; calendar-long = h .calendar-long; words-long = write-length (s .words) v _ ∙ h .words-long })
       (λ _. needs-all Long (vc .waiting <? s .ctl .n) _
       (λ _. needs-all Long (endsFit (s .ctl .n) (freeList s) && not (isEmpty (freeList s))) _
@@ -98,7 +100,7 @@ module _ (N z : ℕ) where
       (λ _. record {
         n-is = h .n-is;
         v-is = h .v-is;
-        cells-long = cell-length (s .cells) (taken .space) cell (omega (arith, is, low, h .n-is, h .cells-long)) c ∙ h .cells-long;
+        cells-long = cell-length (s .cells) (taken .space) (sentAs verdict cell) (omega (arith, is, low, h .n-is, h .cells-long)) (sent-length verdict cell ∙ c) ∙ h .cells-long;
         links-long = head-links (s .links) (entryAt (s .calendar) e) (taken .space) ∙ h .links-long;
         calendar-long = entry-length (s .calendar) e (joinHead (s .links) (entryAt (s .calendar) e) (taken .space) .ends) ∙ h .calendar-long;
         words-long = write-length (s .words) v _ ∙ h .words-long;

@@ -27,9 +27,10 @@ returns-4 c =
     λ ok. let at2 = c .before .before .before .before .before in
     let at1 = at2 .before .before in
     let at-met = at1 .before .before in
-    let a = at-met .before .before .args in (
+    let start = at-met .before .before in
+    let a = start .args in (
       judges-is (slotRecord (a .w)) (a .words .now) (a .u) (at-met .met .result) (at-met .met .ensures (not-false _ (at1 .if1 .left)))
-          (c .delay-of .result) (at2 .if2 .left) (c .before .before .if3 .left) (c .delay-of .ensures),
+          (c .delay-of .result) (start .pre .0) (at2 .if2 .left) (c .before .before .if3 .left) (c .delay-of .ensures),
       refl,
     )
 

@@ -5,7 +5,8 @@ use native.Mathlib.Omega.{arith}
 use borrow.Author.Tests.{eqb-false, not-true}
 use Rattle.slot_arrive.specs.Arrival.{oneLess}
 use Rattle.slot_plan.proofs.Ends.{read-same}
-use Rattle.burst_likely.proofs.BareLaws.{head-empty, head-there, off-low, less-waits, follow-low, free-low, leave-done}
+use Rattle.burst_likely.proofs.EitherLaws.{head-empty, head-there}
+use Rattle.burst_likely.proofs.BareLaws.{off-low, less-waits, follow-low, free-low, leave-done}
 use borrow.Author.Needs.{needs}
 use Rattle.burst_likely.proofs.bare_leave.Statement.{statement}
 use Rattle.burst_likely.proofs.bare_leave.Tie as tie

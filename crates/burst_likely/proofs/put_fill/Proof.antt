@@ -13,13 +13,13 @@ slice-read-words-2 : tie.Need-slice-read-words-2
 slice-read-words-2 c = simp length-set (omega arith)
 
 add-words-6 : tie.Need-add-words-6
-add-words-6 c = rw (waiting-kept _ _ _ _) (omega arith)
+add-words-6 c = rw (waiting-kept _ _ _ _ _) (omega arith)
 
 slice-write-words-3 : tie.Need-slice-write-words-3
 slice-write-words-3 c = simp length-set (omega arith)
 
 returns : tie.Need-returns
-returns c = fill-is (c .before .before .args .words .now) _ _ _
+returns c = let start = c .before .before in fill-is (start .args .words .now) _ _ _ (start .pre .3)
 
 pub put-fill-spec : {M : Type 1} → statement M
 put-fill-spec =

@@ -16,7 +16,7 @@ put-fill-requires c κs =
     let sized = pre .0 .sized in
     let spotted = pre .1 .1 .0 in
     let fits = fill-fits (slotRecord (a .w)) (a .links .now) (a .calendar .now) (a .words .now) _ (sized .n-high) (a .r) (pre .1 .0) (a .p) spotted _ (at-put-turn .put-turn .ensures) in
-    (omega (arith, spotted .is-accepted .vci-high, sized .words-long, at-put-turn .put-turn .kept), fits .0, fits .1)
+    (omega (arith, spotted .is-accepted .vci-high, sized .words-long, at-put-turn .put-turn .kept), fits .0, fits .1, fits .2)
 
 put-link-requires : tie.Need-put-link-requires
 put-link-requires c κs =

@@ -1,5 +1,6 @@
 -- `burst_rotate::met` meets its contract: each test that passes gives a rule of the bucket, and C-F did not wrap.
 use mathlib.Core.Path.{sym, _∙_}
+use borrow.Author.Tests.{not-false}
 use Rattle.slot_plan.proofs.Found.{no}
 use Rattle.burst_rotate.proofs.MetLaws.{met-is}
 use borrow.Author.Needs.{needs}
@@ -22,8 +23,13 @@ returns-5 : tie.Need-returns-5
 returns-5 c = λ e. no (sym (c .unmet5 .ensures) ∙ e)
 
 returns-6 : tie.Need-returns-6
-returns-6 c =
-    λ ok. let at5 = c .before .before in
+returns-6 c = λ e. no (sym (c .unmet6 .ensures) ∙ e)
+
+returns-7 : tie.Need-returns-7
+returns-7 c =
+    λ ok. let at6 = c .before .before in
+    let at-single = at6 .before in
+    let at5 = at-single .before in
     let at4 = at5 .before .before in
     let at-room = at4 .before in
     let at3 = at-room .before .before in
@@ -32,7 +38,8 @@ returns-6 c =
     let start = at1 .before .before .before in
     let a = start .args in
     met-is (a .n) (a .t) (a .words .now) (a .vci) (at-room .wrapping-sub-u32 .result) (c .fallen-to .result) (start .pre .0) (at1 .if1 .left) (at2 .if2 .left)
-    (at3 .if3 .left) (at-room .wrapping-sub-u32 .ensures) (at4 .if4 .left) (at5 .if5 .left) (c .fallen-to .ensures)
+    (at3 .if3 .left) (at-room .wrapping-sub-u32 .ensures) (at4 .if4 .left) (at5 .if5 .left)
+    (sym (at-single .single .ensures) ∙ not-false _ (at6 .if6 .left)) (c .fallen-to .ensures)
 
 pub met-spec : {M : Type 1} → statement M
 met-spec =
@@ -65,8 +72,11 @@ met-spec =
     (λ c. search needs)
     (λ c κs. search needs)
     returns-5
+    (λ c κs. search needs)
+    (λ c κs. search needs)
+    returns-6
     (λ c. search needs)
     (λ c. search needs)
     (λ c. search needs)
     (λ c κs. search needs)
-    returns-6)
+    returns-7)
