@@ -130,8 +130,8 @@ fn letter(verdict: u16) -> u8
     }
 }
 
-// A D is shown of a cell that is let in: accepted or tagged.
-fn shows_d(verdict: u16) -> bool
+// A cell that is accepted or tagged is let in: its D is shown, and it counts as accepted.
+pub fn lets_in(verdict: u16) -> bool
     ensures { λ r. ⌜ r ≡ letsIn verdict ⌝ }
 {
     if verdict == 1 {
@@ -167,11 +167,11 @@ fn served_line(
 {
     let l = letter(verdict);
     let shows = shows_vci(verdict);
-    let lets_in = shows_d(verdict);
+    let shows_d = lets_in(verdict);
     let b = number(out, at, t, 32);
     let e = pair(out, b, l, 32);
     let f = word(out, e, shows, vci as u32, 32);
-    let g = word(out, f, lets_in, d as u32, 32);
+    let g = word(out, f, shows_d, d as u32, 32);
     word(out, g, space != 65535, departing as u32, 10)
 }
 

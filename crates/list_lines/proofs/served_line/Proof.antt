@@ -22,7 +22,7 @@ returns c =
     let s = d .before in
     let l = s .before in (
       put-is (slot-words _ _ _ _ _)
-          (put-then (put-then (put-then (put-then (n .number .ensures .0) (put-is (ap (λ (x : ℕ). x ∷ 32 ∷ []) (sym (l .letter .ensures))) (p .pair .ensures))) (put-is (shown-same _ _ (s .shows-vci .ensures)) (w1 .word .ensures .0))) (put-is (shown-same _ _ (d .shows-d .ensures)) (w2 .word2 .ensures .0))) (w3 .word3 .ensures .0)),
+          (put-then (put-then (put-then (put-then (n .number .ensures .0) (put-is (ap (λ (x : ℕ). x ∷ 32 ∷ []) (sym (l .letter .ensures))) (p .pair .ensures))) (put-is (shown-same _ _ (s .shows-vci .ensures)) (w1 .word .ensures .0))) (put-is (shown-same _ _ (d .lets-in .ensures)) (w2 .word2 .ensures .0))) (w3 .word3 .ensures .0)),
       omega (arith, n .number .ensures .1, p .pair .ensures .next, w1 .word .ensures .1, w2 .word2 .ensures .1, w3 .word3 .ensures .1),
     )
 
