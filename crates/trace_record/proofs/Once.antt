@@ -30,7 +30,7 @@ found-of-said (Read (Open vci m f c) next) = refl
 found-of-said (Read (Close vci) next) = refl
 found-of-said (Read (Cell start) next) = refl
 found-of-said (Read (Pause slots) next) = refl
-found-of-said (Read (Sustain vci m f c second-m second-f second-c tag) next) = refl
+found-of-said (Read (Sustain vci m f c m2 f2 c2 tag) next) = refl
 found-of-said End = refl
 found-of-said (Unreadable place) = refl
 

@@ -107,7 +107,7 @@ recordOf (Open vci m f c) = VO vci m f c
 recordOf (Close vci) = VX vci
 recordOf (Cell start) = CA start
 recordOf (Pause slots) = SL slots
-recordOf (Sustain vci m f c second-m second-f second-c tag) = VS vci m f c (secondOf second-m second-f second-c tag)
+recordOf (Sustain vci m f c m2 f2 c2 tag) = VS vci m f c (secondOf m2 f2 c2 tag)
 
 abbrev pub saidOf : Found → Stands
 saidOf (Read e next) = event (recordOf e) next

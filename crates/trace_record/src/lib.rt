@@ -33,9 +33,9 @@ pub enum Event {
         m: u8,
         f: u32,
         c: u32,
-        second_m: u8,
-        second_f: u32,
-        second_c: u32,
+        m2: u8,
+        f2: u32,
+        c2: u32,
         tag: u8,
     },
 }
@@ -148,9 +148,9 @@ fn sustain_at(s: &[u8], at: usize) -> Found
     let m = s[at + 4];
     let f = u32_at(s, at + 5);
     let c = u32_at(s, at + 9);
-    let second_m = s[at + 13];
-    let second_f = u32_at(s, at + 14);
-    let second_c = u32_at(s, at + 18);
+    let m2 = s[at + 13];
+    let f2 = u32_at(s, at + 14);
+    let c2 = u32_at(s, at + 18);
     let tag = s[at + 22];
     Found::Read {
         event: Event::Sustain {
@@ -158,9 +158,9 @@ fn sustain_at(s: &[u8], at: usize) -> Found
             m,
             f,
             c,
-            second_m,
-            second_f,
-            second_c,
+            m2,
+            f2,
+            c2,
             tag,
         },
         next: at + VS_LONG,

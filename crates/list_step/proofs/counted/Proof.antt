@@ -1,4 +1,4 @@
--- `list_step::counted` counts an answer: four counts, each by `counted_if`.
+-- `list_step::counted` counts an answer: four counts, each by `counted_if`; an accepted or tagged cell is counted as accepted.
 use Rattle.list_whole.specs.Run.{counted}
 use borrow.Author.Needs.{needs}
 use Rattle.list_step.proofs.counted.Statement.{statement}
