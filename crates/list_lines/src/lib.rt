@@ -176,7 +176,7 @@ fn served_line(
 }
 
 // All of a text.
-fn text(out: &mut [u8], at: usize, s: &[u8]) -> usize
+pub fn text(out: &mut [u8], at: usize, s: &[u8]) -> usize
     requires { ⌜ at + length (now s) ≤ length (now out) ⌝ }
     ensures { λ r. ⌜ Put (now (out .entry)) at (now (s .entry)) (now (out .exit)) r ⌝ }
 {

@@ -3,3 +3,5 @@ pub mod HexLaws
 pub mod ShapeLaws
 pub mod FieldLaws
 pub mod LineLaws
+pub mod Copied
+pub mod Once

@@ -5,13 +5,14 @@
 --   fieldNamed k           == the field of the code's number k
 --   decode k code          == k fields, by the digits of a number to the base 16, the lowest first
 --   lineFound rec r        == what the line r means, where rec holds its octets
+--   recordIn l             == the octets of the record that a line says
 use Prim.Native.Nat.{ℕ, zero, suc, _+_, _*_, _/_, _%_, _≤_, _<_}
 use mathlib.Core.Path.{_≡_}
 use mathlib.Core.List.{List, [], _∷_}
 use lib.ListN.{take, drop}
 use Rattle.meaning.specs.Plain.{Out, refused, next, if_then_else_, _=?_}
 use Rattle.text_meaning.specs.Shapes.{Field, n8, n16, n32, cell, wide, Shape, fields, slots}
-use Rattle.text_meaning.specs.Events.{told, pause}
+use Rattle.text_meaning.specs.Events.{Event, told, pause}
 use Rattle.text_meaning.specs.Grammar.{Number, number-of, Part, part, Told, tells, digitOf, nibbleOf}
 use Rattle.text_meaning.specs.Writing.{Placed, placed}
 use Rattle.text_line.specs.declared.Line.{Line}
@@ -63,6 +64,15 @@ lineFound rec r =
     if r .next =? 0 then refused
     else next (placed (if r .long =? 0 then pause (r .count) else told (take (r .long) rec)) (r .next))
 
+-- the octets of the record that a line says: a pause has none here, and a line that isn't good has none
+abbrev octetsIn : Event → List ℕ
+octetsIn (told o) = o
+octetsIn (pause n) = []
+
+unfoldable pub recordIn : Out Placed → List ℕ
+recordIn refused = []
+recordIn (next l) = octetsIn (l .event)
+
 -- where fields end: within the text, behind its place p, and within the room for a record
 pub record FieldsWithin (p text room end next : ℕ) : Type 0 where
   pub within : next ≤ text
@@ -70,9 +80,11 @@ pub record FieldsWithin (p text room end next : ℕ) : Type 0 where
   pub on : (next ≡ 0 → ⊥) → (p < next) × (0 < end)
   pub none : next ≡ 0 → end ≡ 0
 
--- where a line lies: behind its place, within the text; its record fits the room; a line that isn't there is all zeros
+-- where a line lies: behind its place, within the text; its record fits the room; a line that isn't there is all zeros, and
+-- a record has no count
 pub record LineWithin (p text : ℕ) (r : Line) : Type 0 where
   pub within : r .next ≤ text
   pub fits : r .long ≤ 55
   pub on : (r .next ≡ 0 → ⊥) → p < r .next
   pub none : r .next ≡ 0 → (r .long ≡ 0) × (r .count ≡ 0)
+  pub plain : (r .long ≡ 0 → ⊥) → r .count ≡ 0

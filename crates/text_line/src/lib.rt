@@ -7,8 +7,9 @@ ghost use Rattle.text_meaning.specs.Shapes.{n8, n16, n32, of16, of32, shapeOf, 
 ghost use Rattle.text_meaning.specs.Grammar.{digitOf, digits, within, number as Grammar·number, nibbleOf, hexes as Grammar·hexes};
 ghost use Rattle.text_meaning.specs.Grammar.{expect as Grammar·expect, fieldAt, fieldsAt, slotsAt};
 ghost use Rattle.text_meaning.specs.Writing.{lineAt};
+ghost use Rattle.list_lines.specs.Put.{puts};
 ghost use Rattle.text_line.specs.Found.{digitAt, nibbleAt, restFound, numberFound, partFound, slotsFound};
-ghost use Rattle.text_line.specs.Found.{fieldNamed, decode, span, shapeNamed, FieldsWithin, markOf, lineFound, LineWithin};
+ghost use Rattle.text_line.specs.Found.{fieldNamed, decode, span, shapeNamed, FieldsWithin, markOf, lineFound, LineWithin, recordIn};
 
 // A line: a record of `long` octets, or where `long` is 0 a pause of `count` slots; and the place behind it, which is 0
 // where no line stands.
@@ -398,8 +399,8 @@ fn mark_at(text: &[u8], p: usize) -> u16
     high * 256 + low
 }
 
-// The line that starts at a place. Its record's octets are put at the start of `rec`, which has room for the longest.
-pub fn line_at(text: &[u8], p: usize, rec: &mut [u8]) -> Line
+// The line that starts at a place, its record's octets at the start of `rec`. Of a line that isn't good some may stand there.
+fn line_into(text: &[u8], p: usize, rec: &mut [u8]) -> Line
     requires { ⌜ 55 ≤ length (now rec) ⌝ }
     ensures { λ r. ⌜ lineFound (now (rec .exit)) r ≡ lineAt (now (text .entry)) p ⌝ }
     ensures { λ r. ⌜ LineWithin p (length (now (text .entry))) r ⌝ }
@@ -429,4 +430,19 @@ pub fn line_at(text: &[u8], p: usize, rec: &mut [u8]) -> Line
         count: 0,
         next: f.next,
     }
+}
+
+// The line that starts at a place. Its record's octets are put at the start of `rec`, which has room for the longest; a pause,
+// or a line that isn't good, changes no octet of it.
+pub fn line_at(text: &[u8], p: usize, rec: &mut [u8]) -> Line
+    requires { ⌜ 55 ≤ length (now rec) ⌝ }
+    ensures { λ r. ⌜ lineFound (now (rec .exit)) r ≡ lineAt (now (text .entry)) p ⌝ }
+    ensures { λ r. ⌜ LineWithin p (length (now (text .entry))) r ⌝ }
+    ensures { λ r. ⌜ now (rec .exit) ≡ puts (now (rec .entry)) 0 (recordIn (lineAt (now (text .entry)) p)) ⌝ }
+{
+    let mut own = [0u8; 55];
+    let l = line_into(text, p, &mut own);
+    let long = l.long;
+    list_lines::text(rec, 0, &own[..long]);
+    l
 }

@@ -4,3 +4,4 @@ pub mod Whole
 pub mod Parse
 pub mod Back
 pub mod Made
+pub mod Once

@@ -37,7 +37,7 @@ fn one(out: &mut [u8], at: usize, x: u8) -> usize
 }
 
 // A number of 16 bits, high octet first.
-fn two(out: &mut [u8], at: usize, x: u16) -> usize
+pub fn two(out: &mut [u8], at: usize, x: u16) -> usize
     requires { ⌜ at + 2 ≤ length (now out) ⌝ }
     ensures { λ r. ⌜ Put (now (out .entry)) at (of16 x) (now (out .exit)) r ⌝ }
 {

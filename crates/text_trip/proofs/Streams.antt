@@ -64,7 +64,7 @@ ending-flowed o r (pause n ∷ es) h =
     ∙ ap (λ (k : ℕ). octetsAll (join k (merge es))) e
     ∙ ap octetsAll (sym (join-join r n (merge es))))
 
-abbrev merged : Said → Streamed
+abbrev pub merged : Said → Streamed
 merged (good es) = whole (octetsAll (merge es))
 merged (bad p) = stopped p
 

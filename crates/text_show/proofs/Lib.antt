@@ -1,0 +1,4 @@
+pub mod Cases
+pub mod Whole
+pub mod Shows
+pub mod Once
