@@ -209,7 +209,8 @@ protected:
     else if (kind == 2) fill = random.between(1, (uint64_t{1} << m) + 1);
     else fill += random.below((uint64_t{1} << m) + 1);
     fill = std::min<uint64_t>(std::max<uint64_t>(fill, 1), 16777216);
-    uint64_t most = fill + fill * random.below(5) + random.below(fill);
+    uint64_t most = fill * random.between(1, 5);
+    most += random.below(fill);
     if (random.once_in(4)) most = fill;
     if (random.once_in(10)) most = random.pick<uint64_t>({1073741824, 1073741823});
     f = static_cast<uint32_t>(fill), c = static_cast<uint32_t>(std::min<uint64_t>(most, 1073741824));
