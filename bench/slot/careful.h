@@ -13,18 +13,18 @@ static inline bool bad_second(const u32 *vc) {
   const u32 f = vc[w_F2], c = vc[w_C2];
   return vc[w_m2] > 15 || f - 1 >= CLURIMOON_F_MAX || c < f || c > CLURIMOON_C2_MAX || vc[w_S2] > c || vc[w_tag] > 1;
 }
-/* Whether all five words of it are 0. */
-static inline bool no_second(const u32 *vc) {
+/* All its five words as one number, which is 0 where there is none. */
+static inline u64 second_of(const u32 *vc) {
   u64 f_and_c, s_and_tag;
   memcpy(&f_and_c, vc + w_F2, 8), memcpy(&s_and_tag, vc + w_S2, 8);
-  return (f_and_c | s_and_tag | vc[w_m2]) == 0;
+  return f_and_c | s_and_tag | vc[w_m2];
 }
 
 /* Whether an open VC's m, F, C or S, or a word of its second bucket, is out of range. */
 static inline bool bad_buckets(const u32 *vc, u32 n) {
   const u32 m = vc[w_m], f = vc[w_F], c = vc[w_C];
   if (m > 15 || f >> m == 0 || f > CLURIMOON_F_MAX || c < f || (c - f) >> m >= n || vc[w_S] > c) return true;
-  return !no_second(vc) && bad_second(vc);
+  return second_of(vc) != 0 && bad_second(vc);
 }
 
 /* False, and nothing is written, for refusal 3. N, V and all lengths are fit. */
@@ -60,11 +60,9 @@ static bool careful(clurimoon_record *r, uint8_t *cells, u16 *links, u16 *calend
         if (vc[w_open] != 1 || bad_buckets(vc, n)) return false;
         met = vc;
         met_s = fallen(vc, t), met_second = fallen_second(vc, t);
-        verdict = met_s > vc[w_C] - vc[w_F]                         ? CLURIMOON_EXCESS
-                  : !clp_0(cell)                                    ? CLURIMOON_ACCEPTED
-                  : met_second <= vc[w_C2] - vc[w_F2]               ? CLURIMOON_ACCEPTED
-                  : vc[w_tag] == 1                                  ? CLURIMOON_TAGGED
-                                                                    : CLURIMOON_EXCESS;
+        const bool above = clp_0(cell) && met_second > vc[w_C2] - vc[w_F2];
+        verdict = CLURIMOON_EXCESS;
+        if (met_s <= vc[w_C] - vc[w_F]) verdict = !above ? CLURIMOON_ACCEPTED : vc[w_tag] ? CLURIMOON_TAGGED : CLURIMOON_EXCESS;
         if (verdict == CLURIMOON_ACCEPTED && clp_0(cell)) met_second += vc[w_F2];
         if (verdict != CLURIMOON_EXCESS) {
           d = met_s >> vc[w_m];

@@ -28,7 +28,7 @@ inlined bool brought(const u32 *vc, index_t n, u32 t, u32 *s, u32 *second, u32 *
   *room = c - f;
   if (unlikely(*room >> m >= n) || unlikely(vc[w_S] > c)) return false;
   *s = fallen(vc, t), *second = 0;
-  if (no_second(vc)) return true;
+  if (second_of(vc) == 0) return true;
   if (unlikely(bad_second(vc))) return false;
   *second = fallen_second(vc, t);
   return true;
