@@ -28,7 +28,7 @@ inlined bool brought(const u32 *vc, index_t n, u32 t, u32 *s, u32 *second, u32 *
   *room = c - f;
   if (unlikely(*room >> m >= n) || unlikely(vc[w_S] > c)) return false;
   *s = fallen(vc, t), *second = 0;
-  if (second_of(vc) == 0) return true;
+  if (likely(second_of(vc) == 0)) return true;
   if (unlikely(bad_second(vc))) return false;
   *second = fallen_second(vc, t);
   return true;
@@ -170,7 +170,7 @@ inlined bool arrive(policer *p, plan *a, size_t size, given to) {
   a->verdict = CLURIMOON_EXCESS;
   if (unlikely(a->s > room)) return finish(p, a, to);
   const u32 c_second = vc[w_C2], f_second = vc[w_F2];
-  if (c_second != 0 && clp_0(a->cell)) {
+  if (unlikely(c_second != 0) && clp_0(a->cell)) {
     if (a->second <= c_second - f_second) a->second += f_second, a->verdict = CLURIMOON_ACCEPTED;
     else if (vc[w_tag] == 0) return finish(p, a, to);
     else a->verdict = CLURIMOON_TAGGED;
