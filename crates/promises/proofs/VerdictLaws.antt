@@ -64,7 +64,7 @@ module _ (N z : ℕ) (h : List Event) (s : State) (i : Inv N z h s) where
           last false = refl
 
   -- so it is not dropped
-  let-in : (cell : List ℕ) → namesVc z (headerAt (letIn s cell .cell) 0) ≡ true → letIn s cell .dropped ≡ false
+  pub let-in : (cell : List ℕ) → namesVc z (headerAt (letIn s cell .cell) 0) ≡ true → letIn s cell .dropped ≡ false
   let-in cell n = go (letIn s cell .dropped) refl
     where
       go : (b : Bool) → letIn s cell .dropped ≡ b → b ≡ false
@@ -78,7 +78,7 @@ module _ (N z : ℕ) (h : List Event) (s : State) (i : Inv N z h s) where
       → judgedOf (slot s cell .answer .verdict) (slot s cell .answer .vci) (slot s cell .answer .d) ≡ judged z h (letIn s cell .cell)
   through cell e d = says cell (lent cell e) ∙ rw d
 
-  judged-is : (cell : List ℕ) (o : Opening) → namesVc z (headerAt cell 0) ≡ true
+  pub judged-is : (cell : List ℕ) (o : Opening) → namesVc z (headerAt cell 0) ≡ true
       → openingOf (headerAt cell 0 .vci) h ≡ some o
       → judged z h cell ≡ judgedUnder (served h) (headerAt cell 0 .vci) (headerAt cell 0 .clp) (some o)
   unfolding judgedBy

@@ -18,6 +18,7 @@ use Rattle.meaning.specs.Words.{Vc, vcAt, writeVc, withWaiting, withBuckets}
 use Rattle.meaning.specs.Lists.{entryAt, writeEntry, Grown, joinHead}
 use Rattle.meaning.specs.Work.{Work, bareAnswer, withState, withVc, withArrival}
 use Rattle.meaning.specs.Arrival.{secondAfter, sentAs, place, accept}
+use Rattle.meaning.proofs.TaggedLaws.{sent-length, sent-vci}
 use Rattle.meaning.proofs.WordsLaws.{write-length, write-read, write-read-other}
 use Rattle.meaning_runs.specs.Leak.{Opening, dueTime, dueSlot, leakAccepts, sustains, verdictBy}
 use Rattle.meaning_runs.specs.Seen.{ofVc}
@@ -39,7 +40,7 @@ use Rattle.theory_memory.proofs.HasLaws.{free-fits, entry-fits, SomeFree, some-
 use Rattle.theory_invariant.specs.Invariant.{isOf, waits, Under, Sits, Stage}
 use Rattle.theory_invariant.specs.Came.{onward, Came}
 use Rattle.theory_invariant.proofs.StepLaws.{Goes}
-use Rattle.theory_invariant.proofs.SentLaws.{sent-length, sent-vci, sent-names}
+use Rattle.theory_invariant.proofs.SentLaws.{sent-names}
 use Rattle.theory_invariant.proofs.AfterLaws.{after-own, after-other, sits-after, waits-low}
 
 module _ (now : ℕ) (cell : List ℕ) (op : ℕ → Option Opening) (free : List ℕ) (out : List Queued) (cal : List (List Queued))
@@ -183,8 +184,8 @@ module _ (now : ℕ) (cell : List ℕ) (op : ℕ → Option Opening) (free : Lis
     sits-new : Sits z (λ v. onward now cell verdict u op v) new
     unfolding dueSlot
     sits-new = (
-      sent-names verdict cell long z ∙ named,
-      sent-vci verdict cell long ∙ u-is,
+      sent-names verdict cell (omega (arith, long)) z ∙ named,
+      sent-vci verdict cell (omega (arith, long)) ∙ u-is,
       rw (after-own now clp verdict u lets op u refl, o-is)
           (refl, omega arith, rules-are N (bucketOf (o .m) (o .F) (o .C) 0) (opn .rules) .F-low),
     )
@@ -214,7 +215,7 @@ module _ (now : ℕ) (cell : List ℕ) (op : ℕ → Option Opening) (free : Lis
               t-is = st .t-is;
               turn-low = st .turn-low;
               rotation-is = st .rotation-is;
-              has = placed low has D new D-low refl (sent-length verdict cell long) (taken .left) (taken .rest);
+              has = placed low has D new D-low refl (sent-length verdict cell ∙ long) (taken .left) (taken .rest);
               words-long = write-length (s .words) u full ∙ st .words-long;
               table = λ v h1 h2. each v h1 h2 (ℕ-discrete v u);
             };
