@@ -48,7 +48,7 @@ returns-2 c =
 judge-requires : tie.Need-judge-requires
 unfolding cellName
 judge-requires c κs =
-    let start = c .before .before .before .before .before .before .before .before .before .before .before .before in
+    let start = c .before .before .before .before .before .before .before .before .before .before .before in
     let pre = start .pre in
     (omega (arith, pre .0 .words-long), pre .0 .v-high, λ ne. pre .1 (λ z. ne (c .before .name-of .ensures .0 ∙ simp (eq-eqb _ _ z))))
 
@@ -140,6 +140,7 @@ steps-spec =
     (λ c κs. search needs)
     (λ c. search needs)
     returns-2
+    (λ c κs. search needs)
     accept-requires
     (λ c. search needs)
     (λ c. search needs)
