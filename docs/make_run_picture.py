@@ -1,6 +1,6 @@
 #!/usr/bin/env python3
 """The numbers of PLANNERS.md: the picture of the eight slots, the delays at usual line rates, and the worked example; of the
-burst behind the policer a picture, two tables and a worked example.
+burst behind the policer a picture, two tables and a worked example; of a second bucket a worked example and a picture.
 
 Computed from due times and queues alone, by the few lines below, not by the library.
   python3 docs/make_run_picture.py           print the blocks
@@ -160,9 +160,67 @@ def burst_example():
     )
 
 
+def sustained_bucket():
+    """Source document 003's example: a sustainable rate of 35 % of the line, bursts of 3 cells, a peak of the line's rate, no
+    delay variation. The tolerance is (3 - 1) × (the sustainable interval less the peak's), as for each burst of 3. With m 7."""
+    parts, interval = 2**7, 100 / 35
+    f = math.floor(parts * interval)
+    return f, f + math.ceil(parts * (3 - 1) * (interval - 1)), parts
+
+
+def letters(slots):
+    """A where a CLP 0 cell in one of these slots is within the sustainable rate, T where it is tagged."""
+    f, c, parts = sustained_bucket()
+    due, said = None, []
+    for slot in slots:
+        behind = 0 if due is None else max(due + f - slot * parts, 0)
+        said.append("T" if behind > c - f else "A")
+        if said[-1] == "A":
+            due = slot * parts + behind
+    return said
+
+
+def untagged(w):
+    """The most CLP 0 cells that pass untagged in w slots."""
+    f, c, parts = sustained_bucket()
+    return 1 + ((w - 1) * parts + c - f) // f
+
+
+def sustained_example():
+    f, c, parts = sustained_bucket()
+    bursts = {gap: letters([k * (3 + gap) + j for k in range(1_000) for j in range(3)]) for gap in (6, 5)}
+    assert "T" not in bursts[6]
+    steady = letters(range(100_000))
+    for w in (1, 3, 4, 10, 100, 1_000):
+        most = max(steady[x : x + w].count("A") for x in range(5_000))
+        assert most == min(w, untagged(w)), "the run at the line's rate does not meet the bound"
+    second = math.ceil(149_760_000 / 424)
+    return "\n".join(
+        [
+            f"L = {parts}, F = {f}, C = {c}",
+            f"sustainable rate: one CLP 0 cell in {f / parts:.4f} slots, {100 * parts / f:.2f} % of the line",
+            f"bursts of 3 cells at the line's rate, 6 slots between two: none of 3,000 cells tagged",
+            f"the same with 5 slots between: {bursts[5].count('T'):,} of 3,000 cells tagged",
+            f"untagged in 3 slots: 1 + floor((2 × 128 + 476) / 365) = {untagged(3)}; in 4 slots {untagged(4)}; in 100 slots {untagged(100)}",
+            f"untagged in a second ({second:,} slots): {untagged(second):,}; the rate alone would be {math.ceil(second * parts / f):,}",
+        ]
+    )
+
+
+def sustained_picture():
+    slots = 16
+    rows = ["slot                  " + "".join(f"{t:<4}" for t in range(slots))]
+    for name, gap in (("at the line's rate", 0), ("3 cells, then 5 slots", 5), ("3 cells, then 6 slots", 6)):
+        sends = [t for t in range(slots) if t % (3 + gap) < 3]
+        said = dict(zip(sends, letters(sends)))
+        rows.append(f"{name:<22}" + "".join(f"{said.get(t, '.'):<4}" for t in range(slots)))
+    return "\n".join(row.rstrip() for row in rows)
+
+
 def main():
     blocks = [f"```\n{picture()}\n```", delays(76), f"```\n{example()}\n```"]
     blocks += [f"```\n{burst_picture()}\n```", burst_table(), f"```\n{burst_example()}\n```", buffer_table()]
+    blocks += [f"```\n{sustained_example()}\n```", f"```\n{sustained_picture()}\n```"]
     if "--check" not in sys.argv[1:]:
         print("\n\n".join(blocks))
         return 0

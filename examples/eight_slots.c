@@ -24,7 +24,7 @@ static void put_vci(uint8_t *cell, unsigned vci) {
 }
 
 static void print_slot(uint32_t t, clurimoon_answer a) {
-  printf("%" PRIu32 " %c ", t, ".AXUH"[a.verdict]);
+  printf("%" PRIu32 " %c ", t, ".AXUHT"[a.verdict]);
   if (a.verdict == CLURIMOON_NOTHING || a.verdict == CLURIMOON_DROPPED) printf("- ");
   else printf("%u ", (unsigned)a.vci);
   if (a.verdict == CLURIMOON_ACCEPTED) printf("%u ", (unsigned)a.d);

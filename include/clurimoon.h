@@ -41,14 +41,18 @@
 #define CLURIMOON_M_MAX 15
 #define CLURIMOON_F_MAX 16777216
 
+/* The second bucket's ranges, where there is one: m as above, F from 1 to
+   CLURIMOON_F_MAX, whatever L is, and C from F to this. */
+#define CLURIMOON_C2_MAX 1073741824
+
 /* How much to lend, in elements: octets, 16-bit, 16-bit and 32-bit numbers. */
 #define CLURIMOON_CELLS(n) ((size_t)53 * (size_t)(n))
 #define CLURIMOON_LINKS(n) ((size_t)(n))
 #define CLURIMOON_CALENDAR(n) ((size_t)2 * (size_t)(n))
-#define CLURIMOON_VCS(v) ((size_t)7 * (size_t)(v))
+#define CLURIMOON_VCS(v) ((size_t)12 * (size_t)(v))
 
 /* The octets of all four memories together; the record is kept apart. */
-#define CLURIMOON_OCTETS(n, v) ((size_t)59 * (size_t)(n) + (size_t)28 * (size_t)(v))
+#define CLURIMOON_OCTETS(n, v) ((size_t)59 * (size_t)(n) + (size_t)48 * (size_t)(v))
 
 /* What a burst of k slots takes, in elements: octets, octets, 16-bit numbers. */
 #define CLURIMOON_ARRIVALS(k) ((size_t)53 * (size_t)(k))
@@ -68,6 +72,7 @@ enum clurimoon_number {
   CLURIMOON_WAITING = 8,      /* close: a cell of it waits, or it has a debt: not yet */
   CLURIMOON_CELL_LENGTH = 9,  /* slot: cell length neither 0 nor 53 */
   CLURIMOON_UNREADABLE = 10,  /* trace: record unreadable */
+  CLURIMOON_SECOND = 11,      /* open_sustained: second bucket against its limits */
   CLURIMOON_NOT_AFTER = 12    /* time: arrival not after the previous one, or outside the run */
 };
 
@@ -75,20 +80,27 @@ enum clurimoon_number {
 enum clurimoon_verdict {
   CLURIMOON_NOTHING = 0,  /* no cell, or VPI 0 with VCI 0: the slot counts as empty */
   CLURIMOON_ACCEPTED = 1, /* accepted; it is due D slots from now */
-  CLURIMOON_EXCESS = 2,   /* beyond the VC's peak rate and tolerance; not stored */
+  CLURIMOON_EXCESS = 2,   /* above the VC's peak, or above its sustainable rate and not tagged; not stored */
   CLURIMOON_UNKNOWN = 3,  /* VPI not 0, VCI of V or more, or a VC not open; not stored */
-  CLURIMOON_DROPPED = 4   /* the header check dropped it: its slot counts as empty */
+  CLURIMOON_DROPPED = 4,  /* the header check dropped it: its slot counts as empty */
+  CLURIMOON_TAGGED = 5    /* above the sustainable rate: let in with CLP 1; it is due D slots from now */
 };
 
-/* The seven words of VC number x, from word 7 * x of the VC words on. */
+/* The twelve words of VC number x, from word 12 * x of the VC words on. A VC
+   without a second bucket has 0 in the last five. */
 enum clurimoon_word {
-  CLURIMOON_WORD_OPEN = 0,   /* 0 or 1 */
-  CLURIMOON_WORD_M = 1,      /* L = 2^m */
-  CLURIMOON_WORD_F = 2,      /* what a cell fills in */
-  CLURIMOON_WORD_C = 3,      /* what the bucket holds */
-  CLURIMOON_WORD_S = 4,      /* what is in it */
-  CLURIMOON_WORD_LAST = 5,   /* the slot in which S was last brought up to date */
-  CLURIMOON_WORD_WAITING = 6 /* accepted cells that have not left */
+  CLURIMOON_WORD_OPEN = 0,    /* 0 or 1 */
+  CLURIMOON_WORD_M = 1,       /* the peak bucket: L = 2^m */
+  CLURIMOON_WORD_F = 2,       /* what a cell fills in */
+  CLURIMOON_WORD_C = 3,       /* what the bucket holds */
+  CLURIMOON_WORD_S = 4,       /* what is in it */
+  CLURIMOON_WORD_LAST = 5,    /* the slot in which both S were last brought up to date */
+  CLURIMOON_WORD_WAITING = 6, /* accepted and tagged cells that have not left */
+  CLURIMOON_WORD_M2 = 7,      /* the second bucket: its own L = 2^m */
+  CLURIMOON_WORD_F2 = 8,      /* what a CLP 0 cell fills in */
+  CLURIMOON_WORD_C2 = 9,      /* what it holds */
+  CLURIMOON_WORD_S2 = 10,     /* what is in it */
+  CLURIMOON_WORD_TAG = 11     /* 1: what is above it is tagged; 0: it is excess */
 };
 
 /* The six numbers of slot k in a burst's answers, from number 6 * k on. */
@@ -119,7 +131,7 @@ typedef struct {
 
 /* What a slot did: refusal number; verdict; VCI as read, or as mended where the
    header check mended it (0 for nothing and for a dropped cell); D (0 unless
-   accepted); the departing space (65,535 for none); the departing VCI (0 for
+   accepted or tagged); the departing space (65,535 for none); the departing VCI (0 for
    none). In a refusal all but the number are 0, and the space is 65,535. */
 typedef struct {
   uint16_t number, verdict, vci, d, space, out_vci;
@@ -199,32 +211,57 @@ clurimoon_set clurimoon_setup(uint16_t n, uint16_t v, bool raw,
 
 /*
  * Opens VC vci with L = 2^m, fill F and capacity C: a peak rate of L/F cells a
- * slot, and a tolerance of (C-F)/L slots.
+ * slot, and a tolerance of (C-F)/L slots. It has no second bucket.
  *
  * Refusals, in this order: 1 if the record's N or V is outside its range; 2 if
- * the VC words are not 7 V; 4 if vci is not 1 to V-1; 3 if the VC's open word is
+ * the VC words are not 12 V; 4 if vci is not 1 to V-1; 3 if the VC's open word is
  * neither 0 nor 1, or it is open and its m, F and C break the rules, or S is
- * above C, or waiting above N; 5 if it is open; 6 unless m is at most 15, F from
- * L to 16,777,216, C at least F and floor((C-F)/L) at most N-1.
+ * above C, or waiting above N, or the second bucket's m, F, C and flag are against
+ * their limits, or its S is above its C; 5 if it is open; 6 unless m is at most
+ * 15, F from L to 16,777,216, C at least F and floor((C-F)/L) at most N-1.
  *
- * Done: the VC's seven words are 1, m, F, C, 0, the record's t, 0. No other word
- * changes. The record does not change and so isn't handed back.
+ * Done: the VC's twelve words are 1, m, F, C, 0, the record's t, 0 and five times
+ * 0. No other word changes. The record does not change and so isn't handed back.
  */
 uint16_t clurimoon_open(clurimoon_record record, uint32_t *vcs, size_t vcs_length,
                         uint16_t vci, uint8_t m, uint32_t f, uint32_t c);
 
 /*
+ * Opens VC vci as clurimoon_open does, with a second bucket for its CLP 0 cells:
+ * m2, f2 and c2, with L2 = 2^m2, are a sustainable rate of L2/F2 cells a slot and
+ * a burst tolerance of (C2-F2)/L2 slots. tag is 1 where CLP 0 cells above that
+ * rate are to be tagged, 0 where they are to be excess. m2, f2, c2 and tag all 0
+ * are no second bucket: then it is clurimoon_open.
+ *
+ * Refusals, in this order: 1, 2, 4, 3, 5 and 6 as for clurimoon_open; 11 unless
+ * m2, f2, c2 and tag are all 0, or m2 is at most 15, F2 from 1 to 16,777,216, C2
+ * from F2 to 1,073,741,824 and tag 0 or 1. F2 may be below L2, and C2 has no rule
+ * of N: the second bucket delays no cell.
+ *
+ * Done: the VC's twelve words are 1, m, F, C, 0, the record's t, 0, m2, F2, C2, 0,
+ * tag. No other word changes. The record does not change and so isn't handed back.
+ */
+uint16_t clurimoon_open_sustained(clurimoon_record record,
+                                  uint32_t *vcs, size_t vcs_length,
+                                  uint16_t vci, uint8_t m, uint32_t f, uint32_t c,
+                                  uint8_t m2, uint32_t f2, uint32_t c2, uint8_t tag);
+
+/*
  * Closes VC vci, unless cells of it wait or it has a debt. A debt is what is left
- * of S when the VC is brought up to date as of the record's t, the last slot that
- * was served: without it a VC closed and reopened at once could send twice its
- * peak.
+ * of the peak bucket's S when the VC is brought up to date as of the record's t,
+ * the last slot that was served: without it a VC closed and reopened at once could
+ * send twice its peak.
  *
  * Refusals, in this order: 1, 2, 4 and 3 as for open, 3 on the words as they are
  * stored; 7 if it is not open; 8 if waiting is not 0, or S brought up to date is
  * not 0. A refusal writes nothing: neither S nor `last` moves.
  *
- * Done: the VC's seven words are 0. No other word changes. The record does not
+ * Done: the VC's twelve words are 0. No other word changes. The record does not
  * change and so isn't handed back.
+ *
+ * Closing looks at the peak bucket only: what is in the second bucket keeps nobody
+ * from closing, and is gone with the close. A VC that is closed and reopened starts
+ * with an empty second bucket.
  *
  * After an 8 ask again later. Once no further cell of the VC is accepted, the
  * debt is gone after exactly ceil(S/L) more slots, S as of t; the last cell
@@ -256,12 +293,26 @@ uint16_t clurimoon_close(clurimoon_record record, uint32_t *vcs, size_t vcs_leng
  * cell. Mended to VPI 0 and VCI 0 it makes the slot empty, verdict 0. A slot that
  * is lent no cell keeps the mode.
  *
+ * A cell of an open VC is judged by both its buckets, before either is filled:
+ *  - above the peak (S above C-F): excess;
+ *  - CLP 0, within the peak and above the sustainable rate (the second S above the
+ *    second C-F): tagged where the flag is 1, otherwise excess;
+ *  - else accepted. A CLP 1 cell does not look at the second bucket.
+ * An accepted CLP 0 cell fills both buckets; an accepted CLP 1 cell and a tagged
+ * one only the peak bucket; an excess one neither. A tagged cell is stored, sent
+ * and shown with CLP 1 and with octet 5 computed anew, also where the policer is
+ * not raw; nothing else of it changes, and D is the peak bucket's. Of a cell that
+ * isn't tagged octet 5 leaves as it came or was mended. Both buckets of a VC are
+ * brought up to date together; that reads the VC's words but waiting, so that 3
+ * covers the second bucket's words too: m, F, C and flag by the limits of
+ * clurimoon_open_sustained, and S at most C.
+ *
  * Done: the clock, T and rotation grow by one; the VC that rotation names, if
- * open, is brought up to date; the arriving cell is judged and, if accepted,
- * stored in the head of the Free List and joined to the head of calendar entry
- * T+D; entry T goes to the end of the Output List; the head of the Output List
- * departs, and its space goes to the tail of the Free List. No octet and no word
- * changes but those that these steps name.
+ * open, is brought up to date; the arriving cell is judged and, if accepted or
+ * tagged, stored in the head of the Free List and joined to the head of calendar
+ * entry T+D; entry T goes to the end of the Output List; the head of the Output
+ * List departs, and its space goes to the tail of the Free List. No octet and no
+ * word changes but those that these steps name.
  *
  * The departing cell stays in its space, `answer.space`, until a later slot
  * stores another there: show it with clurimoon_line before the next slot.
@@ -293,9 +344,10 @@ clurimoon_part clurimoon_line(const uint8_t *cells, size_t cells_length,
  * one of the Free List, the Output List and the time slot queues, each chain
  * ends at its tail, entry T is empty, each queued header names an open VC, and
  * each open VC's waiting is the number of its queued cells; raw and mode are among
- * the ranges, each 0 or 1 whatever the other is. VC 0's words don't matter. It is
- * true after every call since a setup that answered 0, where each call got record
- * and memories as the call before left them.
+ * the ranges, each 0 or 1 whatever the other is, and so are the words of an open
+ * VC's second bucket. VC 0's words don't matter. It is true after every call since
+ * a setup that answered 0, where each call got record and memories as the call
+ * before left them.
  */
 bool clurimoon_audit(clurimoon_record record,
                      const uint8_t *cells, size_t cells_length,
@@ -352,10 +404,11 @@ clurimoon_burst_end clurimoon_burst(clurimoon_record record,
  * the later of its arrival and TAT, and TAT becomes its due time plus F; of a
  * nonconforming one TAT stays. The arrival is stored for both.
  *
- * On a VC that clurimoon_open opened before the first slot with this m, F and C, in
- * a policer with this N, and that nobody closes: called for each of its cells, with
- * the slot that it arrives in, the verdict is that of clurimoon_slot, and of a
- * conforming cell D is due / L, rounded down, less the arrival.
+ * On a VC that clurimoon_open opened before the first slot with this m, F and C, so
+ * without a second bucket, in a policer with this N, and that nobody closes: called
+ * for each of its cells, with the slot that it arrives in, the verdict is that of
+ * clurimoon_slot, and of a conforming cell D is due / L, rounded down, less the
+ * arrival.
  */
 clurimoon_timed clurimoon_time(clurimoon_tat state, uint16_t n, uint8_t m,
                                uint32_t f, uint32_t c, uint64_t arrival);

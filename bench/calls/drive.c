@@ -16,13 +16,13 @@
 enum { slots = 4096, most_repeats = 1001, calls = 64 };
 static uint8_t cells[53 * 1024], sizes[slots], arrivals[53 * slots], departures[53 * slots];
 static uint16_t links[1024], calendar[2048], answers[6 * slots];
-static uint32_t vcs[7 * 1024];
+static uint32_t vcs[CLURIMOON_VCS(1024)];
 static clurimoon_record record;
 static unsigned n, v;
 
 static void fail(const char *what) { fprintf(stderr, "bench: FAILED, %s\n", what), exit(1); }
 
-#define MEMORY cells, 53 * n, links, n, calendar, 2 * n, vcs, 7 * v
+#define MEMORY cells, 53 * n, links, n, calendar, 2 * n, vcs, CLURIMOON_VCS(v)
 
 static void set_up(void) {
   const clurimoon_set set = clurimoon_setup((uint16_t)n, (uint16_t)v, false, MEMORY);
@@ -37,10 +37,10 @@ static void audit(void) {
 static void work(void) {
   set_up();
   for (unsigned vci = 1; vci < v; ++vci) {
-    const contract k = contract_of(vci, v);
-    if (k.open && clurimoon_open(record, vcs, 7 * v, (uint16_t)vci, k.m, k.f, k.c) != 0) fail("open");
+    const contract k = contract_of(vci, v, 0);
+    if (k.open && clurimoon_open(record, vcs, CLURIMOON_VCS(v), (uint16_t)vci, k.m, k.f, k.c) != 0) fail("open");
   }
-  make_traffic(v, 80, slots, sizes, arrivals);
+  make_traffic(v, 80, 0, slots, sizes, arrivals);
   const clurimoon_burst_end end = clurimoon_burst(record, MEMORY, arrivals, sizeof arrivals, sizes, sizeof sizes,
                                                   departures, sizeof departures, answers, 6 * slots);
   if (end.number != 0) fail("a burst was refused");

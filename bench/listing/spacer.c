@@ -9,7 +9,7 @@
 static uint8_t input[65537], out[65536];
 static uint8_t cells[53 * 1024];
 static uint16_t links[1024], calendar[2048];
-static uint32_t vcs[7 * 1024];
+static uint32_t vcs[12 * 1024];
 static size_t used;
 
 static void flush(void) {
@@ -50,9 +50,9 @@ static inline uint8_t *field(uint8_t *p, bool shown, uint32_t n, uint8_t after) 
 
 static inline void slot_line(uint32_t t, clurimoon_answer a) {
   uint8_t *p = number(out + used, t, ' ');
-  *p++ = (uint8_t)(".AXU"[a.verdict & 3]), *p++ = ' ';
+  *p++ = (uint8_t)(".AXUHT"[a.verdict]), *p++ = ' ';
   p = field(p, a.verdict != 0, a.vci, ' ');
-  p = field(p, a.verdict == 1, a.d, ' ');
+  p = field(p, a.verdict == 1 || a.verdict == 5, a.d, ' ');
   p = field(p, a.space != 65535, a.out_vci, '\n');
   used = (size_t)(p - out);
 }
@@ -75,7 +75,7 @@ int main(void) {
   clurimoon_record r = {.n = (uint16_t)n, .v = (uint16_t)v, .t = UINT32_MAX, .T = (uint16_t)(n - 1),
                         .rotation = (uint16_t)(v - 1), .free_head = 0, .free_tail = (uint16_t)(n - 1),
                         .out_head = 65535, .out_tail = 65535};
-  const lent_memory lent = {cells, links, calendar, vcs, 53 * n, n, 2 * n, 7 * v};
+  const lent_memory lent = {cells, links, calendar, vcs, 53 * n, n, 2 * n, 12 * v};
   memset(calendar, 255, sizeof calendar);
   for (uint32_t i = 0; i + 1 < n; i++) links[i] = (uint16_t)(i + 1);
   text_line("setup ", (uint32_t[]){n, v, 0}, 3);
@@ -84,12 +84,13 @@ int main(void) {
     uint32_t slots = 0;
     size_t cell_long = 0;
     if (sizeof out - used < 160) flush();
-    if (p[0] == 'V' && p[1] == 'O') {
-      uint32_t *vc = vcs + 7 * be16(p + 2);
+    if (p[0] == 'V' && p[1] != 'X') {
+      uint32_t *vc = vcs + 12 * be16(p + 2);
       vc[0] = 1, vc[1] = p[4], vc[2] = be32(p + 5), vc[3] = be32(p + 9), vc[4] = 0, vc[5] = r.t, vc[6] = 0;
-      text_line("open ", (uint32_t[]){be16(p + 2), 0}, 2), at += 13;
+      if (p[1] == 'S') vc[7] = p[13], vc[8] = be32(p + 14), vc[9] = be32(p + 18), vc[11] = p[22];
+      text_line("open ", (uint32_t[]){be16(p + 2), 0}, 2), at += p[1] == 'S' ? 23 : 13;
     } else if (p[0] == 'V') {
-      memset(vcs + 7 * be16(p + 2), 0, 28);
+      memset(vcs + 12 * be16(p + 2), 0, 48);
       text_line("close ", (uint32_t[]){be16(p + 2), 0}, 2), at += 4;
     } else if (p[0] == 'C') slots = 1, cell_long = 53, at += 55;
     else slots = be16(p + 2), at += 4;
@@ -98,7 +99,7 @@ int main(void) {
       clurimoon_answer a;
       checking_slot(&r, &lent, cell, cell_long, &a);
       slot_line(r.t, a);
-      tally[0] += a.verdict == 1, tally[1] += a.verdict == 2, tally[2] += a.verdict == 3;
+      tally[0] += a.verdict == 1 || a.verdict == 5, tally[1] += a.verdict == 2, tally[2] += a.verdict == 3;
       tally[3] += a.space != 65535;
     }
   }

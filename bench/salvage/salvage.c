@@ -15,6 +15,7 @@ static size_t size_of(unsigned m) {
   case 0x4341: return 55;
   case 0x534c: return 4;
   case 0x564f: return 13;
+  case 0x5653: return 23;
   case 0x5658: return 4;
   case 0x474d: case 0x4752: return 6;
   default: return 0;

@@ -8,10 +8,23 @@ static inline bool bad_pair(u32 head, u32 tail, u32 n) {
   return (head >= n || tail >= n) && (head & tail) != none;
 }
 
-/* Whether an open VC's m, F, C or S is out of range. */
-static inline bool bad_bucket(const u32 *vc, u32 n) {
+/* Whether m, F, C, S or the flag of a second bucket is out of range, one that isn't all 0. */
+static inline bool bad_second(const u32 *vc) {
+  const u32 f = vc[w_F2], c = vc[w_C2];
+  return vc[w_m2] > 15 || f - 1 >= CLURIMOON_F_MAX || c < f || c > CLURIMOON_C2_MAX || vc[w_S2] > c || vc[w_tag] > 1;
+}
+/* All its five words as one number, which is 0 where there is none. */
+static inline u64 second_of(const u32 *vc) {
+  u64 f_and_c, s_and_tag;
+  memcpy(&f_and_c, vc + w_F2, 8), memcpy(&s_and_tag, vc + w_S2, 8);
+  return f_and_c | s_and_tag | vc[w_m2];
+}
+
+/* Whether an open VC's m, F, C or S, or a word of its second bucket, is out of range. */
+static inline bool bad_buckets(const u32 *vc, u32 n) {
   const u32 m = vc[w_m], f = vc[w_F], c = vc[w_C];
-  return m > 15 || f >> m == 0 || f > CLURIMOON_F_MAX || c < f || (c - f) >> m >= n || vc[w_S] > c;
+  if (m > 15 || f >> m == 0 || f > CLURIMOON_F_MAX || c < f || (c - f) >> m >= n || vc[w_S] > c) return true;
+  return second_of(vc) != 0 && bad_second(vc);
 }
 
 /* False, and nothing is written, for refusal 3. N, V and all lengths are fit. */
@@ -24,19 +37,19 @@ static bool careful(clurimoon_record *r, uint8_t *cells, u16 *links, u16 *calend
   u32 verdict = CLURIMOON_NOTHING, d = 0, seen = 0, sent = 0;
 
   /* Step 2: the VC whose turn it is, and its S afterwards. */
-  u32 *turn = NULL, turn_s = 0;
+  u32 *turn = NULL, turn_s = 0, turn_second = 0;
   if (rotation != 0) {
     u32 *vc = vcs + words * rotation;
     if (vc[w_open] > 1) return false;
     if (vc[w_open] == 1) {
-      if (bad_bucket(vc, n)) return false;
+      if (bad_buckets(vc, n)) return false;
       turn = vc;
-      turn_s = fallen(vc, t);
+      turn_s = fallen(vc, t), turn_second = fallen_second(vc, t);
     }
   }
 
   /* Step 3: the VC met, the space x taken, entry e with its old head and new tail. */
-  u32 *met = NULL, met_s = 0, x = none, e = none, joined = none, e_tail = none;
+  u32 *met = NULL, met_s = 0, met_second = 0, x = none, e = none, joined = none, e_tail = none;
   if (cell_length != 0) {
     const u32 name = name_of(cell); /* VPI, then VCI */
     if (name != 0) {
@@ -44,12 +57,14 @@ static bool careful(clurimoon_record *r, uint8_t *cells, u16 *links, u16 *calend
       verdict = CLURIMOON_UNKNOWN;
       u32 *vc = vcs + words * name;
       if (name < v && vc[w_open] != 0) {
-        if (vc[w_open] != 1 || bad_bucket(vc, n)) return false;
+        if (vc[w_open] != 1 || bad_buckets(vc, n)) return false;
         met = vc;
-        met_s = vc == turn ? turn_s : fallen(vc, t);
+        met_s = fallen(vc, t), met_second = fallen_second(vc, t);
+        const bool above = clp_0(cell) && met_second > vc[w_C2] - vc[w_F2];
         verdict = CLURIMOON_EXCESS;
-        if (met_s <= vc[w_C] - vc[w_F]) {
-          verdict = CLURIMOON_ACCEPTED;
+        if (met_s <= vc[w_C] - vc[w_F]) verdict = !above ? CLURIMOON_ACCEPTED : vc[w_tag] ? CLURIMOON_TAGGED : CLURIMOON_EXCESS;
+        if (verdict == CLURIMOON_ACCEPTED && clp_0(cell)) met_second += vc[w_F2];
+        if (verdict != CLURIMOON_EXCESS) {
           d = met_s >> vc[w_m];
           met_s += vc[w_F];
           if (vc[w_waiting] >= n || free_head >= n || free_tail >= n) return false;
@@ -100,11 +115,12 @@ static bool careful(clurimoon_record *r, uint8_t *cells, u16 *links, u16 *calend
   }
 
   /* All is fit: write, in the order of the steps. */
-  if (turn) turn[w_S] = turn_s, turn[w_last] = t;
-  if (met) met[w_S] = met_s, met[w_last] = t;
+  if (turn) turn[w_S] = turn_s, turn[w_S2] = turn_second, turn[w_last] = t;
+  if (met) met[w_S] = met_s, met[w_S2] = met_second, met[w_last] = t;
   if (x != none) {
     met[w_waiting] += 1;
     copy_cell(cells + 53 * x, cell);
+    if (verdict == CLURIMOON_TAGGED) tag(cells + 53 * x, cell);
     if (joined != none) links[x] = (uint16_t)joined;
     calendar[2 * e] = (uint16_t)x, calendar[2 * e + 1] = (uint16_t)e_tail;
   }

@@ -7,33 +7,36 @@
 #include "careful.h"
 
 /* What arrived, and what rotation names. */
-enum kind { nothing, away /* excess, unknown or idle */, later, now /* accepted, D above 0 or 0 */ };
+enum kind { nothing, away /* excess, unknown or idle */, later, now /* let in, D above 0 or 0 */ };
 typedef struct {
   enum kind kind;
   const uint8_t *cell;
-  u32 verdict, s;
+  u32 verdict, s, second; /* what its buckets hold afterwards, S without the cell's F */
   index_t name, d;
   u32 *met;        /* the VC brought up to date, or NULL */
   index_t x, link; /* the space taken, and the Free List's next one */
   u32 e_pair;      /* what the entry held that it joins, and the entry, unless that is T */
   u16 *e;
-  u32 *turn, turn_s; /* rotation's VC if that is open, or what takes its place, and its new S */
+  u32 *turn, turn_s, turn_second; /* rotation's VC if that is open, or what takes its place, and what its buckets hold */
 } plan;
 
-/* Tests all words of an open VC but waiting, and works out S as it will be. That C is at least F needs no test of its own:
-   otherwise C-F is above 2^31, which is far more than N leaks. */
-inlined bool brought(const u32 *vc, index_t n, u32 t, u32 *s, u32 *room) {
+/* Tests all words of an open VC but waiting, and works out S of both buckets as it will be. That C is at least F needs no
+   test of its own: otherwise C-F is above 2^31, which is far more than N leaks. */
+inlined bool brought(const u32 *vc, index_t n, u32 t, u32 *s, u32 *second, u32 *room) {
   const u32 m = vc[w_m], f = vc[w_F], c = vc[w_C];
   if (unlikely(m > 15) || unlikely(f > CLURIMOON_F_MAX) || unlikely(f >> m == 0)) return false;
   *room = c - f;
   if (unlikely(*room >> m >= n) || unlikely(vc[w_S] > c)) return false;
-  *s = fallen(vc, t);
+  *s = fallen(vc, t), *second = 0;
+  if (likely(second_of(vc) == 0)) return true;
+  if (unlikely(bad_second(vc))) return false;
+  *second = fallen_second(vc, t);
   return true;
 }
 
 /* The writes of steps 1 to 3, and the first four numbers of the answer. */
 inlined void write_arrival(policer *p, const plan *a, bool stays, u16 *answer) {
-  a->turn[w_S] = a->turn_s, a->turn[w_last] = p->t;
+  a->turn[w_S] = a->turn_s, a->turn[w_last] = p->t, a->turn[w_S2] = a->turn_second;
   if (p->record) {
     p->record->t = p->t;
     p->record->T = (u16)p->T, p->record->rotation = (u16)p->rotation;
@@ -45,12 +48,13 @@ inlined void write_arrival(policer *p, const plan *a, bool stays, u16 *answer) {
   put_pair(answer, a->verdict << 16);
   answer[2] = (u16)a->name, answer[3] = (u16)a->d;
   if (a->kind == away) {
-    if (a->met) a->met[w_S] = a->s, a->met[w_last] = p->t;
+    if (a->met) a->met[w_S] = a->s, a->met[w_last] = p->t, a->met[w_S2] = a->second;
     return;
   }
-  a->met[w_S] = a->s + a->met[w_F], a->met[w_last] = p->t;
+  a->met[w_S] = a->s + a->met[w_F], a->met[w_last] = p->t, a->met[w_S2] = a->second;
   if (stays) a->met[w_waiting] += 1;
   copy_cell(cells(p) + 53 * a->x, a->cell);
+  if (unlikely(a->verdict == CLURIMOON_TAGGED)) tag(cells(p) + 53 * a->x, a->cell);
   /* entry T is emptied again in step 4 */
   if (a->e_pair != no_pair) {
     links(p)[a->x] = (u16)a->e_pair;
@@ -100,7 +104,10 @@ inlined bool leave_at_once(policer *p, const plan *a, given to) {
   const index_t head = a->e_pair & 0xffff, tail = a->e_pair >> 16, free_last = free_tail(p);
   if (a->e_pair != no_pair && unlikely(head >= p->n || tail >= p->n || tail == a->x)) return false;
   write_arrival(p, a, false, to.answer);
-  if (to.copied) copy_cell(to.departure, a->cell);
+  if (to.copied) {
+    copy_cell(to.departure, a->cell);
+    if (unlikely(a->verdict == CLURIMOON_TAGGED)) tag(to.departure, a->cell);
+  }
   if (a->e_pair != no_pair) put_pair(p->entry, no_pair), set_out_head(p, head), set_out_tail(p, tail);
   links(p)[free_last] = (u16)a->x;
   set_free_head(p, a->link), set_free_tail(p, a->x);
@@ -158,13 +165,17 @@ inlined bool arrive(policer *p, plan *a, size_t size, given to) {
     a->verdict = a->name == 0 ? CLURIMOON_NOTHING : CLURIMOON_UNKNOWN;
     return finish(p, a, to);
   }
-  if (!brought(vc, p->n, p->t, &a->s, &room)) return false;
+  if (!brought(vc, p->n, p->t, &a->s, &a->second, &room)) return false;
   a->met = vc;
-  if (unlikely(a->s > room)) {
-    a->verdict = CLURIMOON_EXCESS;
-    return finish(p, a, to);
-  }
-  a->verdict = CLURIMOON_ACCEPTED, a->d = a->s >> vc[w_m];
+  a->verdict = CLURIMOON_EXCESS;
+  if (unlikely(a->s > room)) return finish(p, a, to);
+  const u32 c_second = vc[w_C2], f_second = vc[w_F2];
+  if (unlikely(c_second != 0) && clp_0(a->cell)) {
+    if (a->second <= c_second - f_second) a->second += f_second, a->verdict = CLURIMOON_ACCEPTED;
+    else if (vc[w_tag] == 0) return finish(p, a, to);
+    else a->verdict = CLURIMOON_TAGGED;
+  } else a->verdict = CLURIMOON_ACCEPTED;
+  a->d = a->s >> vc[w_m];
   if (unlikely(vc[w_waiting] >= p->n)) return false;
   /* an empty Free List, or one of a single space, is left to `careful` */
   a->x = free_head(p);
@@ -187,10 +198,10 @@ inlined bool arrive(policer *p, plan *a, size_t size, given to) {
 /* Steps 2 to 5. False, and nothing is written, for `careful`. */
 inlined bool serve(policer *p, const uint8_t *cell, size_t size, given to) {
   u32 unused[words];
-  plan a = {.cell = cell, .turn = unused, .turn_s = 0};
+  plan a = {.cell = cell, .turn = unused, .turn_s = 0, .turn_second = 0};
   if (likely(p->turn[w_open] == 1)) {
     u32 room;
-    if (!brought(p->turn, p->n, p->t, &a.turn_s, &room)) return false;
+    if (!brought(p->turn, p->n, p->t, &a.turn_s, &a.turn_second, &room)) return false;
     a.turn = p->turn;
   } else if (unlikely(p->turn[w_open] != 0)) return false;
   return arrive(p, &a, size, to);
@@ -198,7 +209,7 @@ inlined bool serve(policer *p, const uint8_t *cell, size_t size, given to) {
 
 static u16 refusal_of(u32 n, u32 v, const lent_memory *lent) {
   if (n - 1 >= 1024 || v - 2 >= 1023) return 1;
-  if (lent->cells_length != 53 * n || lent->links_length != n || lent->calendar_length != 2 * n || lent->vcs_length != 7 * v)
+  if (lent->cells_length != 53 * n || lent->links_length != n || lent->calendar_length != 2 * n || lent->vcs_length != words * v)
     return 2;
   return 0;
 }
@@ -222,7 +233,7 @@ exported void checking_slot(clurimoon_record *restrict r, const lent_memory *len
   policer p = {.n = r->n, .v = r->v, .lent = lent, .t = r->t + 1, .T = r->T + 1u, .rotation = r->rotation + 1u, .record = r};
   if (unlikely(p.n - 1 >= 1024) || unlikely(p.v - 2 >= 1023) || unlikely(lent->cells_length != 53 * p.n) ||
       unlikely(lent->links_length != p.n) || unlikely(lent->calendar_length != 2 * p.n) ||
-      unlikely(lent->vcs_length != 7 * p.v))
+      unlikely(lent->vcs_length != words * p.v))
     goto odd;
   /* one comparison for the range and for the step round */
   if (unlikely(p.T >= p.n)) {

@@ -1,12 +1,14 @@
 /*
  * Drives the forms of the slot path through the same traffic.
  *
- *   drive count FORM N V LOAD SLOTS      one form, for callgrind; prints a sum over answers, departures and memory
- *   drive time N V LOAD SLOTS REPEATS    all forms in turns; fails where the sums differ before or after; prints for each
+ *   drive count FORM N V LOAD SLOTS [sustained]
+ *                                        one form, for callgrind; prints a sum over answers, departures and memory
+ *   drive time N V LOAD SLOTS REPEATS [sustained]
+ *                                        all forms in turns; fails where the sums differ before or after; prints for each
  *                                        form the median, the least and the quartiles of nanoseconds a slot, and the
  *                                        median over the rounds of the archive's time to the C's
  *
- * LOAD is in percent. SLOTS is a multiple of 64, the length of a burst.
+ * LOAD is in percent. SLOTS is a multiple of 64, the length of a burst. With `sustained` every second VC has a second bucket.
  */
 #define _POSIX_C_SOURCE 199309L
 #include <stdio.h>
@@ -27,12 +29,13 @@ typedef struct {
   lent_memory lent;
   uint8_t cells[53 * 1024], *departures;
   uint16_t links[1024], calendar[2048], *answers;
-  uint32_t vcs[7 * 1024];
+  uint32_t vcs[CLURIMOON_VCS(1024)];
 } policer;
 static policer policers[forms];
 static uint8_t *arrivals, *sizes;
 static size_t slots;
 static unsigned n, v, load;
+static int sustained;
 static int show_cells; /* whether the departing cells of slots by themselves are taken down, too */
 
 static void fail(const char *what) { fprintf(stderr, "bench: FAILED, %s\n", what), exit(1); }
@@ -44,14 +47,15 @@ static void *room(size_t octets) {
 }
 
 static void begin(policer *p) {
-  p->lent = (lent_memory){p->cells, p->links, p->calendar, p->vcs, 53 * n, n, 2 * n, 7 * v};
+  p->lent = (lent_memory){p->cells, p->links, p->calendar, p->vcs, 53 * n, n, 2 * n, CLURIMOON_VCS(v)};
   const clurimoon_set set =
-      clurimoon_setup((uint16_t)n, (uint16_t)v, false, p->cells, 53 * n, p->links, n, p->calendar, 2 * n, p->vcs, 7 * v);
+      clurimoon_setup((uint16_t)n, (uint16_t)v, false, p->cells, 53 * n, p->links, n, p->calendar, 2 * n, p->vcs, CLURIMOON_VCS(v));
   if (set.number != 0) fail("setup");
   p->record = set.record;
   for (unsigned vci = 1; vci < v; ++vci) {
-    const contract k = contract_of(vci, v);
-    if (k.open && clurimoon_open(p->record, p->vcs, 7 * v, (uint16_t)vci, k.m, k.f, k.c) != 0) fail("open");
+    const contract k = contract_of(vci, v, sustained);
+    if (k.open && clurimoon_open_sustained(p->record, p->vcs, CLURIMOON_VCS(v), (uint16_t)vci, k.m, k.f, k.c, k.m2, k.f2, k.c2, k.tag) != 0)
+      fail("open");
   }
   p->departures = room(53 * slots), p->answers = room(6 * sizeof(uint16_t) * slots);
 }
@@ -83,7 +87,7 @@ SLOTS_BY(by_checking_slot, checking_slot)
 BURSTS_BY(by_trusting_burst, trusting_burst)
 BURSTS_BY(by_checking_burst, checking_burst)
 
-#define MEMORY p->cells, 53 * n, p->links, n, p->calendar, 2 * n, p->vcs, 7 * v
+#define MEMORY p->cells, 53 * n, p->links, n, p->calendar, 2 * n, p->vcs, CLURIMOON_VCS(v)
 static void by_clurimoon_slot(policer *p) {
   for (size_t k = 0; k < slots; ++k) {
     const clurimoon_served s = clurimoon_slot(p->record, MEMORY, arrivals + 53 * k, sizes[k]);
@@ -113,22 +117,23 @@ static uint64_t sum_of(const policer *p) {
   sum = 14695981039346656037u;
   add(p->answers, 12 * slots), add(p->departures, 53 * slots);
   add(&p->record, sizeof p->record), add(p->cells, 53 * n), add(p->links, 2 * n), add(p->calendar, 4 * n);
-  add(p->vcs, 28 * v);
+  add(p->vcs, 4 * CLURIMOON_VCS(v));
   return sum;
 }
 
 /* What the traffic was like; no slot of it may be refused. */
 static void tally(const policer *p) {
-  unsigned long verdicts[4] = {0}, sent = 0, busy = 0, delayed = 0, worst = 0;
+  unsigned long verdicts[8] = {0}, sent = 0, busy = 0, delayed = 0, worst = 0;
   for (size_t k = 0; k < slots; ++k) {
     const uint16_t *a = p->answers + 6 * k;
     if (a[0] != 0) fail("a slot was refused");
-    verdicts[a[1] & 3] += 1, sent += a[4] != CLURIMOON_NONE, busy += sizes[k] != 0, delayed += a[3] != 0;
+    verdicts[a[1] & 7] += 1, sent += a[4] != CLURIMOON_NONE, busy += sizes[k] != 0, delayed += a[3] != 0;
     if (a[3] > worst) worst = a[3];
   }
   const double part = 100.0 / (double)slots;
-  printf("of 100 slots: cells %.1f, accepted %.1f (D above 0: %.1f, greatest %lu), excess %.1f, unknown %.1f, sent %.1f\n",
-         busy * part, verdicts[1] * part, delayed * part, worst, verdicts[2] * part, verdicts[3] * part, sent * part);
+  printf("of 100 slots: cells %.1f, accepted %.1f and tagged %.1f (D above 0: %.1f, greatest %lu), excess %.1f, unknown %.1f, sent %.1f\n",
+         busy * part, verdicts[1] * part, verdicts[5] * part, delayed * part, worst, verdicts[2] * part, verdicts[3] * part,
+         sent * part);
 }
 
 static int form_of(const char *name) {
@@ -188,15 +193,17 @@ static void time_all(unsigned repeats) {
 }
 
 int main(int count, char **arguments) {
+  sustained = count == 8 && strcmp(arguments[7], "sustained") == 0;
+  count -= sustained;
   const int counting = count == 7 && strcmp(arguments[1], "count") == 0;
   if (!counting && !(count == 7 && strcmp(arguments[1], "time") == 0))
-    return fprintf(stderr, "drive count FORM N V LOAD SLOTS | drive time N V LOAD SLOTS REPEATS\n"), 2;
+    return fprintf(stderr, "drive count FORM N V LOAD SLOTS [sustained] | drive time N V LOAD SLOTS REPEATS [sustained]\n"), 2;
   char **sizes_of = arguments + (counting ? 3 : 2);
   n = (unsigned)atoi(sizes_of[0]), v = (unsigned)atoi(sizes_of[1]), load = (unsigned)atoi(sizes_of[2]);
   slots = (size_t)atol(sizes_of[3]);
   if (slots == 0 || slots % block != 0) fail("SLOTS is not a multiple of 64");
   sizes = room(slots), arrivals = room(53 * slots);
-  make_traffic(v, load, slots, sizes, arrivals);
+  make_traffic(v, load, sustained, slots, sizes, arrivals);
   if (counting) {
     const int form = form_of(arguments[2]);
     policer *p = policers + form;

@@ -14,7 +14,7 @@
 typedef uint16_t u16;
 typedef uint32_t u32;
 typedef uint64_t u64;
-enum { w_open, w_m, w_F, w_C, w_S, w_last, w_waiting, words };
+enum { w_open, w_m, w_F, w_C, w_S, w_last, w_waiting, w_m2, w_F2, w_C2, w_S2, w_tag, words };
 static const u32 none = CLURIMOON_NONE, no_pair = 0xffffffff;
 
 #define likely(x) __builtin_expect(!!(x), 1)
@@ -39,10 +39,16 @@ inlined u32 pair_at(const u16 *at) {
 }
 inlined void put_pair(u16 *at, u32 pair) { memcpy(at, &pair, sizeof pair); }
 
-/* S brought up to date. */
-inlined u32 fallen(const u32 *vc, u32 t) {
+/* S of a bucket brought up to date. */
+inlined u32 fallen_by(u32 stored, u32 elapsed, u32 m) {
   u64 s;
-  return __builtin_sub_overflow((u64)vc[w_S], (u64)(t - vc[w_last]) << vc[w_m], &s) ? 0 : (u32)s;
+  return __builtin_sub_overflow((u64)stored, (u64)elapsed << m, &s) ? 0 : (u32)s;
+}
+inlined u32 fallen(const u32 *vc, u32 t) { return fallen_by(vc[w_S], t - vc[w_last], vc[w_m]); }
+/* An empty one stays so: of a VC without a second bucket neither is read. */
+inlined u32 fallen_second(const u32 *vc, u32 t) {
+  const u32 stored = vc[w_S2];
+  return stored == 0 ? 0 : fallen_by(stored, t - vc[w_last], vc[w_m2]);
 }
 
 /* 53 octets: three moves of 16 and one of 8, which overlaps. */
@@ -53,6 +59,26 @@ inlined void copy_cell(uint8_t *to, const uint8_t *from) {
   memcpy(&last, from + 45, 8);
   *(wide *)to = a, *(wide *)(to + 16) = b, *(wide *)(to + 32) = c;
   memcpy(to + 45, &last, 8);
+}
+
+/* Octet 5 of a tagged cell. VPI is 0 and VCI below 1,024: the GFC, octet 3 and octet 4 say all. Each table has what its
+   bits leave, added up; the first has 01010101 besides. */
+#define BIT(b, k, rest) ((b) >> (k)&1 ? (rest) : 0)
+#define OF_1(g) (uint8_t)(0x55 ^ BIT(g, 0, 0x67) ^ BIT(g, 1, 0xce) ^ BIT(g, 2, 0x9b) ^ BIT(g, 3, 0x31))
+#define OF_3(b) (uint8_t)(BIT(b, 0, 0x15) ^ BIT(b, 1, 0x2a) ^ BIT(b, 2, 0x54) ^ BIT(b, 3, 0xa8) ^ BIT(b, 4, 0x57) ^ BIT(b, 5, 0xae))
+#define OF_4(b)                                                                                                        \
+  (uint8_t)(BIT(b, 0, 0x07) ^ BIT(b, 1, 0x0e) ^ BIT(b, 2, 0x1c) ^ BIT(b, 3, 0x38) ^ BIT(b, 4, 0x70) ^ BIT(b, 5, 0xe0) ^   \
+            BIT(b, 6, 0xc7) ^ BIT(b, 7, 0x89))
+#define FOUR(of, b) of(b), of((b) + 1), of((b) + 2), of((b) + 3)
+#define ROW(of, b) FOUR(of, b), FOUR(of, (b) + 4), FOUR(of, (b) + 8), FOUR(of, (b) + 12)
+#define ROWS(of, b) ROW(of, b), ROW(of, (b) + 16), ROW(of, (b) + 32), ROW(of, (b) + 48)
+static const uint8_t of_1[16] = {ROW(OF_1, 0)}, of_3[64] = {ROWS(OF_3, 0)},
+                     of_4[256] = {ROWS(OF_4, 0), ROWS(OF_4, 64), ROWS(OF_4, 128), ROWS(OF_4, 192)};
+inlined bool clp_0(const uint8_t *cell) { return (cell[3] & 1) == 0; }
+/* Tags what was copied from `cell`. */
+inlined void tag(uint8_t *to, const uint8_t *cell) {
+  const uint8_t octet_4 = cell[3] | 1;
+  to[3] = octet_4, to[4] = of_1[cell[0] >> 4] ^ of_3[cell[2]] ^ of_4[octet_4];
 }
 
 /* A policer. Through a burst its numbers and the places of its memories are kept in locals; for one slot they stay where

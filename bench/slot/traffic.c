@@ -6,6 +6,9 @@
  * LOAD cells a slot. One source in 13 sends 1.25 times as fast as agreed. The cells queue for the line in the order of
  * their times, one a slot; at load 1.0 a slot that would stay empty takes the next cell early. One cell in 100 is
  * replaced by an idle cell, one by a cell that names no open VC.
+ *
+ * Sustained: every second VC may send CLP 0 cells at half its peak rate, and some cells of a spurt more; what is above is
+ * tagged, about one cell in ten of all.
  */
 #include "traffic.h"
 
@@ -16,7 +19,7 @@ static const struct {
   unsigned m, weight, tolerance;
 } classes[8] = {{0, 1, 75}, {2, 2, 40}, {4, 4, 75}, {6, 1, 20}, {8, 8, 60}, {3, 2, 75}, {5, 1, 10}, {12, 3, 50}};
 
-enum { closed_each = 16, greedy_each = 13, booked = 2, part = 1024, longest = 32, patience = 256 };
+enum { closed_each = 16, greedy_each = 13, booked = 2, part = 1024, longest = 32, patience = 256, slower = 2, burst = 3 };
 
 static int is_open(unsigned vci) { return vci != 0 && vci % closed_each != closed_each - 1; }
 
@@ -33,11 +36,15 @@ static uint64_t interval_of(unsigned vci, unsigned sum) {
   return interval < part ? part : interval;
 }
 
-contract contract_of(unsigned vci, unsigned v) {
-  contract k = {is_open(vci), (uint8_t)classes[vci % 8].m, 0, 0};
+contract contract_of(unsigned vci, unsigned v, int sustained) {
+  contract k = {is_open(vci), (uint8_t)classes[vci % 8].m, 0, 0, 0, 0, 0, 0};
   if (!k.open) return k;
   k.f = (uint32_t)((interval_of(vci, weights(v)) << k.m) / part);
   k.c = k.f + (classes[vci % 8].tolerance << k.m);
+  if (!sustained || vci / 8 % 2 == 0) return k;
+  k.m2 = (uint8_t)classes[(vci + 3) % 8].m, k.tag = 1;
+  k.f2 = (uint32_t)((slower * interval_of(vci, weights(v)) << k.m2) / part);
+  k.c2 = k.f2 * burst;
   return k;
 }
 
@@ -109,7 +116,7 @@ static void make_cell(uint8_t *cell, unsigned vci, unsigned v) {
   else put_header(cell, 0, drawn(v / closed_each) * closed_each + closed_each - 1);
 }
 
-void make_traffic(unsigned v, unsigned load, size_t slots, uint8_t *sizes, uint8_t *arrivals) {
+void make_traffic(unsigned v, unsigned load, int sustained, size_t slots, uint8_t *sizes, uint8_t *arrivals) {
   const unsigned sum = weights(v);
   state = 1992, sources = 0;
   for (unsigned vci = 1; vci < v; ++vci) {
@@ -127,6 +134,7 @@ void make_traffic(unsigned v, unsigned load, size_t slots, uint8_t *sizes, uint8
     for (unsigned octet = 0; octet < 53; ++octet) arrivals[53 * k + octet] = 0;
     if (sizes[k] == 0) continue;
     make_cell(arrivals + 53 * k, heap[0].vci, v);
+    if (sustained) arrivals[53 * k + 3] = (uint8_t)((arrivals[53 * k + 3] & 254) | (arrivals[53 * k + 52] < 26));
     advance(heap, load, sum), sink(0);
   }
 }

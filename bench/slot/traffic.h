@@ -9,10 +9,13 @@ typedef struct {
   int open;
   uint8_t m;
   uint32_t f, c;
+  uint8_t m2, tag;
+  uint32_t f2, c2; /* all 0 for no second bucket */
 } contract;
-contract contract_of(unsigned vci, unsigned v);
+contract contract_of(unsigned vci, unsigned v, int sustained);
 
-/* Fills in `slots` slots: sizes 0 or 53, arrivals 53 octets a slot. LOAD in percent. */
-void make_traffic(unsigned v, unsigned load, size_t slots, uint8_t *sizes, uint8_t *arrivals);
+/* Fills in `slots` slots: sizes 0 or 53, arrivals 53 octets a slot. LOAD in percent. Where `sustained` is not 0, every
+   second VC has a second bucket, and all cells but one in ten have CLP 0. */
+void make_traffic(unsigned v, unsigned load, int sustained, size_t slots, uint8_t *sizes, uint8_t *arrivals);
 
 #endif

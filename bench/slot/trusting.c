@@ -22,19 +22,32 @@ inlined bool arrive(policer *p, const uint8_t *cell, given to) {
     put_pair(to.answer, (name == 0 ? CLURIMOON_NOTHING : CLURIMOON_UNKNOWN) << 16), to.answer[3] = 0;
     return false;
   }
-  const u32 s = fallen(vc, p->t), f = vc[w_F];
+  const u32 s = fallen(vc, p->t), f = vc[w_F], c_second = vc[w_C2];
+  bool tagged = false, above = s > vc[w_C] - f;
+  if (c_second != 0) {
+    const u32 s_second = fallen_second(vc, p->t), f_second = vc[w_F2];
+    vc[w_S2] = s_second;
+    if (clp_0(cell) && !above) {
+      if (s_second <= c_second - f_second) vc[w_S2] = s_second + f_second;
+      else tagged = vc[w_tag] != 0, above = !tagged;
+    }
+  }
   vc[w_last] = p->t;
-  if (unlikely(s > vc[w_C] - f)) {
+  if (unlikely(above)) {
     put_pair(to.answer, CLURIMOON_EXCESS << 16), to.answer[3] = 0;
     vc[w_S] = s;
     return false;
   }
   const index_t d = s >> vc[w_m], x = free_head(p);
-  put_pair(to.answer, CLURIMOON_ACCEPTED << 16), to.answer[3] = (u16)d;
+  put_pair(to.answer, (tagged ? CLURIMOON_TAGGED : CLURIMOON_ACCEPTED) << 16), to.answer[3] = (u16)d;
   vc[w_S] = s + f;
   copy_cell(cells(p) + 53 * x, cell);
+  if (unlikely(tagged)) tag(cells(p) + 53 * x, cell);
   if (d == 0 && out_head(p) == none && pair_at(p->entry) == no_pair) {
-    if (to.copied) copy_cell(to.departure, cell);
+    if (to.copied) {
+      copy_cell(to.departure, cell);
+      if (unlikely(tagged)) tag(to.departure, cell);
+    }
     to.answer[4] = (u16)x, to.answer[5] = (u16)name;
     const index_t tail = free_tail(p);
     if (unlikely(x == tail)) return true;
@@ -78,7 +91,11 @@ inlined void leave(policer *p, given to) {
 
 /* Steps 2 to 5. */
 inlined void serve(policer *p, const uint8_t *cell, size_t size, given to) {
-  if (likely(p->turn[w_open] != 0)) p->turn[w_S] = fallen(p->turn, p->t), p->turn[w_last] = p->t;
+  u32 *turn = p->turn;
+  if (likely(turn[w_open] != 0)) {
+    if (turn[w_S2] != 0) turn[w_S2] = fallen_second(turn, p->t);
+    turn[w_S] = fallen(turn, p->t), turn[w_last] = p->t;
+  }
   if (size == 0) memset(to.answer, 0, 8);
   else if (arrive(p, cell, to)) return;
   leave(p, to);

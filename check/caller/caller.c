@@ -74,24 +74,26 @@ static void structs(void) {
 
 static void macros(void) {
   CHECK(CLURIMOON_CELLS(1024) == 54272 && CLURIMOON_LINKS(76) == 76);
-  CHECK(CLURIMOON_CALENDAR(76) == 152 && CLURIMOON_VCS(64) == 448);
-  CHECK(CLURIMOON_OCTETS(76, 64) == 6276);
+  CHECK(CLURIMOON_CALENDAR(76) == 152 && CLURIMOON_VCS(64) == 768);
+  CHECK(CLURIMOON_OCTETS(76, 64) == 7556);
   CHECK(CLURIMOON_OCTETS(76, 64) ==
         CLURIMOON_CELLS(76) + 2 * CLURIMOON_LINKS(76) + 2 * CLURIMOON_CALENDAR(76) + 4 * CLURIMOON_VCS(64));
   CHECK(CLURIMOON_DONE == 0 && CLURIMOON_RANGE == 1 && CLURIMOON_LENGTH == 2 && CLURIMOON_STORED == 3);
   CHECK(CLURIMOON_VCI == 4 && CLURIMOON_ALREADY_OPEN == 5 && CLURIMOON_RULES == 6 && CLURIMOON_NOT_OPEN == 7);
   CHECK(CLURIMOON_WAITING == 8 && CLURIMOON_CELL_LENGTH == 9 && CLURIMOON_UNREADABLE == 10);
-  CHECK(CLURIMOON_NOT_AFTER == 12);
+  CHECK(CLURIMOON_SECOND == 11 && CLURIMOON_NOT_AFTER == 12 && CLURIMOON_C2_MAX == 1073741824);
   CHECK(CLURIMOON_NOTHING == 0 && CLURIMOON_ACCEPTED == 1 && CLURIMOON_EXCESS == 2 && CLURIMOON_UNKNOWN == 3);
+  CHECK(CLURIMOON_WORD_M2 == 7 && CLURIMOON_WORD_F2 == 8 && CLURIMOON_WORD_C2 == 9 && CLURIMOON_WORD_S2 == 10);
+  CHECK(CLURIMOON_WORD_TAG == 11 && CLURIMOON_TAGGED == 5);
   CHECK(CLURIMOON_DROPPED == 4 && CLURIMOON_CORRECTION == 0 && CLURIMOON_DETECTION == 1);
 }
 
 enum { N = 5, V = 8 };
 static uint8_t cells[53 * N], idle[53];
 static uint16_t links[N], calendar[2 * N];
-static uint32_t vcs[7 * V];
+static uint32_t vcs[12 * V];
 
-#define MEMORY cells, sizeof cells, links, N, calendar, 2 * N, vcs, 7 * V
+#define MEMORY cells, sizeof cells, links, N, calendar, 2 * N, vcs, 12 * V
 
 static int same_record(clurimoon_record a, clurimoon_record b) { return memcmp(&a, &b, sizeof a) == 0; }
 
@@ -121,7 +123,7 @@ static void setup_fields(bool raw) {
   for (k = 0; k < sizeof cells; ++k) CHECK(cells[k] == 0);
   for (k = 0; k < N; ++k) CHECK(links[k] == (k + 1 < N ? k + 1 : 0));
   for (k = 0; k < 2 * N; ++k) CHECK(calendar[k] == CLURIMOON_NONE);
-  for (k = 0; k < 7 * V; ++k) CHECK(vcs[k] == 0);
+  for (k = 0; k < 12 * V; ++k) CHECK(vcs[k] == 0);
 }
 
 /* Each field of a record by value must arrive in its own place and come back so. */
@@ -158,21 +160,21 @@ static void every_number(void) {
   clurimoon_served s;
   memset(&zeros, 0, sizeof zeros), memset(cell, 0, sizeof cell);
   CHECK(set.number == CLURIMOON_RANGE && same_record(set.record, zeros));
-  set = clurimoon_setup(N, V, true, cells, sizeof cells - 1, links, N, calendar, 2 * N, vcs, 7 * V);
+  set = clurimoon_setup(N, V, true, cells, sizeof cells - 1, links, N, calendar, 2 * N, vcs, 12 * V);
   CHECK(set.number == CLURIMOON_LENGTH && same_record(set.record, zeros));
   set = clurimoon_setup(N, V, false, MEMORY);
   r = set.record;
-  CHECK(clurimoon_open(r, vcs, 7 * V - 1, 1, 2, 10, 26) == CLURIMOON_LENGTH);
-  CHECK(clurimoon_open(r, vcs, 7 * V, V, 2, 10, 26) == CLURIMOON_VCI);
-  CHECK(clurimoon_open(r, vcs, 7 * V, 1, 2, 10, 30) == CLURIMOON_RULES);
-  CHECK(clurimoon_open(r, vcs, 7 * V, 1, 2, 10, 29) == CLURIMOON_DONE);
-  CHECK(vcs[7 + CLURIMOON_WORD_OPEN] == 1 && vcs[7 + CLURIMOON_WORD_M] == 2 &&
-        vcs[7 + CLURIMOON_WORD_F] == 10);
-  CHECK(vcs[7 + CLURIMOON_WORD_C] == 29 && vcs[7 + CLURIMOON_WORD_S] == 0);
-  CHECK(vcs[7 + CLURIMOON_WORD_LAST] == 4294967295u && vcs[7 + CLURIMOON_WORD_WAITING] == 0);
-  CHECK(clurimoon_open(r, vcs, 7 * V, 1, 2, 10, 26) == CLURIMOON_ALREADY_OPEN);
-  CHECK(clurimoon_close(r, vcs, 7 * V, 2) == CLURIMOON_NOT_OPEN);
-  CHECK(clurimoon_close(r, vcs, 7 * V, 0) == CLURIMOON_VCI);
+  CHECK(clurimoon_open(r, vcs, 12 * V - 1, 1, 2, 10, 26) == CLURIMOON_LENGTH);
+  CHECK(clurimoon_open(r, vcs, 12 * V, V, 2, 10, 26) == CLURIMOON_VCI);
+  CHECK(clurimoon_open(r, vcs, 12 * V, 1, 2, 10, 30) == CLURIMOON_RULES);
+  CHECK(clurimoon_open(r, vcs, 12 * V, 1, 2, 10, 29) == CLURIMOON_DONE);
+  CHECK(vcs[12 + CLURIMOON_WORD_OPEN] == 1 && vcs[12 + CLURIMOON_WORD_M] == 2 &&
+        vcs[12 + CLURIMOON_WORD_F] == 10);
+  CHECK(vcs[12 + CLURIMOON_WORD_C] == 29 && vcs[12 + CLURIMOON_WORD_S] == 0);
+  CHECK(vcs[12 + CLURIMOON_WORD_LAST] == 4294967295u && vcs[12 + CLURIMOON_WORD_WAITING] == 0);
+  CHECK(clurimoon_open(r, vcs, 12 * V, 1, 2, 10, 26) == CLURIMOON_ALREADY_OPEN);
+  CHECK(clurimoon_close(r, vcs, 12 * V, 2) == CLURIMOON_NOT_OPEN);
+  CHECK(clurimoon_close(r, vcs, 12 * V, 0) == CLURIMOON_VCI);
   put_cell(cell, 1, 0x11);
   CHECK(refused(clurimoon_slot(r, MEMORY, cell, 54).answer, CLURIMOON_CELL_LENGTH));
   r = clurimoon_slot(r, MEMORY, cell, 53).record;
@@ -180,20 +182,20 @@ static void every_number(void) {
   CHECK(s.answer.verdict == CLURIMOON_ACCEPTED && s.answer.vci == 1 && s.answer.d == 1 &&
         s.answer.space == CLURIMOON_NONE);
   r = s.record;
-  CHECK(clurimoon_close(r, vcs, 7 * V, 1) == CLURIMOON_WAITING);
-  vcs[14] = 2;
-  CHECK(clurimoon_open(r, vcs, 7 * V, 2, 2, 10, 26) == CLURIMOON_STORED);
-  CHECK(clurimoon_close(r, vcs, 7 * V, 2) == CLURIMOON_STORED);
+  CHECK(clurimoon_close(r, vcs, 12 * V, 1) == CLURIMOON_WAITING);
+  vcs[24] = 2;
+  CHECK(clurimoon_open(r, vcs, 12 * V, 2, 2, 10, 26) == CLURIMOON_STORED);
+  CHECK(clurimoon_close(r, vcs, 12 * V, 2) == CLURIMOON_STORED);
   CHECK(!clurimoon_audit(r, MEMORY));
-  vcs[14] = 0;
+  vcs[24] = 0;
   CHECK(clurimoon_audit(r, MEMORY));
 }
 
 /* A close that is refused leaves all words as they came: neither S nor last has moved. */
 static int close_keeps(clurimoon_record r, uint16_t vci, unsigned number) {
-  uint32_t before[7 * V];
+  uint32_t before[12 * V];
   memcpy(before, vcs, sizeof vcs);
-  return clurimoon_close(r, vcs, 7 * V, vci) == number && memcmp(before, vcs, sizeof vcs) == 0;
+  return clurimoon_close(r, vcs, 12 * V, vci) == number && memcmp(before, vcs, sizeof vcs) == 0;
 }
 
 /* m 2, F 10, C 16, cells in slots 0 and 1: close is 8 up to slot 4, and 0 in slot 5,
@@ -204,27 +206,27 @@ static void debts(void) {
   clurimoon_record r = clurimoon_setup(N, V, false, MEMORY).record;
   clurimoon_served s;
   put_cell(cell, 1, 0x11);
-  CHECK(clurimoon_open(r, vcs, 7 * V, 1, 2, 10, 16) == CLURIMOON_DONE);
+  CHECK(clurimoon_open(r, vcs, 12 * V, 1, 2, 10, 16) == CLURIMOON_DONE);
   for (slot = 0; slot < 5; ++slot) {
     s = clurimoon_slot(r, MEMORY, slot < 2 ? cell : NULL, slot < 2 ? 53 : 0);
     r = s.record;
     /* The first cell leaves at once, the second in slot 2; the debt is left. */
     CHECK(s.answer.space == (slot == 0 ? 0 : slot == 2 ? 1 : CLURIMOON_NONE));
-    CHECK(vcs[7 + CLURIMOON_WORD_WAITING] == (slot == 1));
+    CHECK(vcs[12 + CLURIMOON_WORD_WAITING] == (slot == 1));
     CHECK(close_keeps(r, 1, CLURIMOON_WAITING));
-    CHECK(clurimoon_open(r, vcs, 7 * V, 1, 2, 10, 16) == CLURIMOON_ALREADY_OPEN);
+    CHECK(clurimoon_open(r, vcs, 12 * V, 1, 2, 10, 16) == CLURIMOON_ALREADY_OPEN);
   }
   /* The words still hold slot 1's S, and C is held against that: 3 comes before 8. */
-  CHECK(vcs[7 + CLURIMOON_WORD_S] == 16 && vcs[7 + CLURIMOON_WORD_LAST] == 1);
-  vcs[7 + CLURIMOON_WORD_S] = 17;
+  CHECK(vcs[12 + CLURIMOON_WORD_S] == 16 && vcs[12 + CLURIMOON_WORD_LAST] == 1);
+  vcs[12 + CLURIMOON_WORD_S] = 17;
   CHECK(close_keeps(r, 1, CLURIMOON_STORED));
-  vcs[7 + CLURIMOON_WORD_S] = 16;
+  vcs[12 + CLURIMOON_WORD_S] = 16;
   r = clurimoon_slot(r, MEMORY, NULL, 0).record;
-  CHECK(clurimoon_close(r, vcs, 7 * V, 1) == CLURIMOON_DONE);
-  for (k = 0; k < 7; ++k) CHECK(vcs[7 + k] == 0);
+  CHECK(clurimoon_close(r, vcs, 12 * V, 1) == CLURIMOON_DONE);
+  for (k = 0; k < 12; ++k) CHECK(vcs[12 + k] == 0);
   CHECK(close_keeps(r, 1, CLURIMOON_NOT_OPEN));
   /* Reopened at once, it owes nothing. */
-  CHECK(clurimoon_open(r, vcs, 7 * V, 1, 2, 10, 16) == CLURIMOON_DONE);
+  CHECK(clurimoon_open(r, vcs, 12 * V, 1, 2, 10, 16) == CLURIMOON_DONE);
   s = clurimoon_slot(r, MEMORY, cell, 53);
   CHECK(s.answer.verdict == CLURIMOON_ACCEPTED && s.answer.d == 0 && s.answer.out_vci == 1);
   CHECK(close_keeps(s.record, 1, CLURIMOON_WAITING));
@@ -237,19 +239,19 @@ static void waits_alone(void) {
   uint8_t cell[53];
   unsigned slot;
   clurimoon_record r = clurimoon_setup(N, V, false, MEMORY).record;
-  CHECK(clurimoon_open(r, vcs, 7 * V, 1, 0, 1, 1) == CLURIMOON_DONE);
-  CHECK(clurimoon_open(r, vcs, 7 * V, 2, 0, 5, 9) == CLURIMOON_DONE);
-  CHECK(clurimoon_open(r, vcs, 7 * V, 3, 0, 3, 5) == CLURIMOON_DONE);
+  CHECK(clurimoon_open(r, vcs, 12 * V, 1, 0, 1, 1) == CLURIMOON_DONE);
+  CHECK(clurimoon_open(r, vcs, 12 * V, 2, 0, 5, 9) == CLURIMOON_DONE);
+  CHECK(clurimoon_open(r, vcs, 12 * V, 3, 0, 3, 5) == CLURIMOON_DONE);
   for (slot = 0; slot < 9; ++slot) {
     put_cell(cell, arrives[slot], slot);
     r = clurimoon_slot(r, MEMORY, cell, arrives[slot] ? 53 : 0).record;
     /* Slot 6: a debt of 1, and a cell waits; slot 7: the cell alone; slot 8: it has left. */
     if (slot == 6 || slot == 7) CHECK(close_keeps(r, 1, CLURIMOON_WAITING));
   }
-  CHECK(clurimoon_close(r, vcs, 7 * V, 1) == CLURIMOON_DONE);
+  CHECK(clurimoon_close(r, vcs, 12 * V, 1) == CLURIMOON_DONE);
 }
 
-/* The four verdicts, and all six numbers of each answer. */
+/* Four verdicts, and all six numbers of each answer. */
 static int answers_with(clurimoon_answer a, unsigned verdict, unsigned vci, unsigned d, unsigned space,
                         unsigned out_vci) {
   return a.number == 0 && a.verdict == verdict && a.vci == vci && a.d == d && a.space == space &&
@@ -260,7 +262,7 @@ static void verdicts(void) {
   uint8_t cell[53];
   clurimoon_record r = clurimoon_setup(N, V, false, MEMORY).record;
   clurimoon_served s;
-  CHECK(clurimoon_open(r, vcs, 7 * V, 3, 0, 2, 5) == CLURIMOON_DONE);
+  CHECK(clurimoon_open(r, vcs, 12 * V, 3, 0, 2, 5) == CLURIMOON_DONE);
   put_cell(cell, 3, 0x33);
   s = clurimoon_slot(r, MEMORY, cell, 53);
   CHECK(answers_with(s.answer, 1, 3, 0, 0, 3));
@@ -326,7 +328,7 @@ static void raw_single(unsigned bit) {
   uint8_t clean[53], cell[53];
   clurimoon_served s;
   clurimoon_record r = clurimoon_setup(N, V, true, MEMORY).record;
-  CHECK(clurimoon_open(r, vcs, 7 * V, 3, 0, 1, 1) == CLURIMOON_DONE);
+  CHECK(clurimoon_open(r, vcs, 12 * V, 3, 0, 1, 1) == CLURIMOON_DONE);
   put_raw(clean, 3, 0x33, 0, 0), put_raw(cell, 3, 0x33, 1, bit);
   s = raw_slot(r, cell);
   CHECK(answers_with(s.answer, CLURIMOON_ACCEPTED, 3, 0, 0, 3) && s.record.mode == CLURIMOON_DETECTION);
@@ -349,17 +351,17 @@ static void raw_double(unsigned bit) {
   uint8_t clean[53], cell[53];
   clurimoon_served s;
   clurimoon_record r = clurimoon_setup(N, V, true, MEMORY).record;
-  CHECK(clurimoon_open(r, vcs, 7 * V, 3, 0, 2, 5) == CLURIMOON_DONE);
+  CHECK(clurimoon_open(r, vcs, 12 * V, 3, 0, 2, 5) == CLURIMOON_DONE);
   put_raw(clean, 3, 0x33, 0, 0), put_raw(cell, 3, 0x33, 2, bit);
   r = raw_slot(r, clean).record;
   s = raw_slot(r, clean);
   CHECK(answers_with(s.answer, CLURIMOON_ACCEPTED, 3, 1, CLURIMOON_NONE, 0));
   s = raw_slot(s.record, cell);
   CHECK(answers_with(s.answer, CLURIMOON_DROPPED, 0, 0, 1, 3) && s.record.mode == CLURIMOON_DETECTION);
-  CHECK(vcs[3 * 7 + CLURIMOON_WORD_WAITING] == 0);
+  CHECK(vcs[3 * 12 + CLURIMOON_WORD_WAITING] == 0);
   r = clurimoon_setup(N, V, false, MEMORY).record;
   put_cell(cell, 3, 0x33), cell[4] = (uint8_t)(octet_5(cell) ^ bit);
-  CHECK(clurimoon_open(r, vcs, 7 * V, 3, 0, 2, 5) == CLURIMOON_DONE);
+  CHECK(clurimoon_open(r, vcs, 12 * V, 3, 0, 2, 5) == CLURIMOON_DONE);
   s = raw_slot(r, cell);
   CHECK(answers_with(s.answer, CLURIMOON_ACCEPTED, 3, 0, 0, 3) && shown(s.answer, cell));
   CHECK(s.record.raw == 0 && s.record.mode == 0);
@@ -398,7 +400,7 @@ static void raw_unfit(void) {
   s = clurimoon_slot(r, MEMORY, NULL, 0);
   CHECK(s.answer.number == CLURIMOON_DONE && s.record.raw == 2);
   CHECK(refused(clurimoon_slot(r, MEMORY, cell, 52).answer, CLURIMOON_CELL_LENGTH));
-  CHECK(refused(clurimoon_slot(r, NULL, 0, links, N, calendar, 2 * N, vcs, 7 * V, cell, 53).answer,
+  CHECK(refused(clurimoon_slot(r, NULL, 0, links, N, calendar, 2 * N, vcs, 12 * V, cell, 53).answer,
                 CLURIMOON_LENGTH));
   r.n = 0;
   CHECK(refused(clurimoon_slot(r, MEMORY, cell, 53).answer, CLURIMOON_RANGE));
@@ -429,7 +431,7 @@ static void raw_burst(void) {
   unsigned k;
   clurimoon_burst_end e;
   clurimoon_record r = clurimoon_setup(N, V, true, MEMORY).record;
-  CHECK(clurimoon_open(r, vcs, 7 * V, 3, 0, 1, 1) == CLURIMOON_DONE);
+  CHECK(clurimoon_open(r, vcs, 12 * V, 3, 0, 1, 1) == CLURIMOON_DONE);
   for (k = 0; k < K; ++k) put_raw(arrivals + 53 * k, 3, 0x40 + k, wrong[k], 5 * k + 30), sizes[k] = 53;
   memcpy(before, arrivals, sizeof before), memset(departures, 0xee, sizeof departures);
   e = clurimoon_burst(r, MEMORY, arrivals, sizeof arrivals, sizes, K, departures, sizeof departures, answers,
@@ -444,6 +446,104 @@ static void raw_burst(void) {
     if (verdict[k] == 1) CHECK(memcmp(departures + 53 * k, clean, 53) == 0);
     else CHECK(departures[53 * k] == 0xee && departures[53 * k + 52] == 0xee);
   }
+}
+
+/* Opens VC 1 with a second bucket, which is to be refused with this number, and nothing written. */
+static int opens_with(clurimoon_record r, uint8_t m, uint32_t f, uint32_t c, uint8_t m2, uint32_t f2, uint32_t c2,
+                      uint8_t tag, unsigned number) {
+  uint32_t before[12 * V];
+  memcpy(before, vcs, sizeof vcs);
+  return clurimoon_open_sustained(r, vcs, 12 * V, 1, m, f, c, m2, f2, c2, tag) == number &&
+         (number == 0 || memcmp(before, vcs, sizeof vcs) == 0);
+}
+
+/* Every limit of 11, on both sides; 6 comes before it, and 5 before both. */
+static void second_limits(void) {
+  clurimoon_record r = clurimoon_setup(N, V, false, MEMORY).record, small = r;
+  unsigned k;
+  small.v = 1;
+  CHECK(opens_with(small, 0, 1, 1, 0, 1, 1, 0, CLURIMOON_RANGE));
+  CHECK(clurimoon_open_sustained(r, vcs, 7 * V, 1, 0, 1, 1, 0, 1, 1, 0) == CLURIMOON_LENGTH);
+  CHECK(clurimoon_open_sustained(r, vcs, 12 * V, V, 0, 1, 1, 16, 1, 1, 0) == CLURIMOON_VCI);
+  CHECK(opens_with(r, 2, 10, 30, 16, 1, 1, 2, CLURIMOON_RULES));
+  CHECK(opens_with(r, 2, 10, 29, 16, 1, 1, 0, CLURIMOON_SECOND));
+  CHECK(opens_with(r, 2, 10, 29, 0, 0, 1, 0, CLURIMOON_SECOND));
+  CHECK(opens_with(r, 2, 10, 29, 1, 0, 0, 0, CLURIMOON_SECOND));
+  CHECK(opens_with(r, 2, 10, 29, 0, 0, 0, 1, CLURIMOON_SECOND));
+  CHECK(opens_with(r, 2, 10, 29, 0, 16777217, 16777217, 0, CLURIMOON_SECOND));
+  CHECK(opens_with(r, 2, 10, 29, 0, 2, 1, 0, CLURIMOON_SECOND));
+  CHECK(opens_with(r, 2, 10, 29, 0, 2, CLURIMOON_C2_MAX + 1u, 0, CLURIMOON_SECOND));
+  CHECK(opens_with(r, 2, 10, 29, 0, 2, 2, 2, CLURIMOON_SECOND));
+  /* F below L, the greatest C, and all twelve words in their places. */
+  CHECK(opens_with(r, 2, 10, 29, 15, 3, CLURIMOON_C2_MAX, 1, CLURIMOON_DONE));
+  CHECK(vcs[12 + CLURIMOON_WORD_OPEN] == 1 && vcs[12 + CLURIMOON_WORD_M] == 2 && vcs[12 + CLURIMOON_WORD_F] == 10);
+  CHECK(vcs[12 + CLURIMOON_WORD_C] == 29 && vcs[12 + CLURIMOON_WORD_S] == 0 && vcs[12 + CLURIMOON_WORD_WAITING] == 0);
+  CHECK(vcs[12 + CLURIMOON_WORD_LAST] == 4294967295u && vcs[12 + CLURIMOON_WORD_M2] == 15);
+  CHECK(vcs[12 + CLURIMOON_WORD_F2] == 3 && vcs[12 + CLURIMOON_WORD_C2] == CLURIMOON_C2_MAX);
+  CHECK(vcs[12 + CLURIMOON_WORD_S2] == 0 && vcs[12 + CLURIMOON_WORD_TAG] == 1);
+  CHECK(opens_with(r, 2, 10, 30, 16, 1, 1, 2, CLURIMOON_ALREADY_OPEN));
+  CHECK(clurimoon_audit(r, MEMORY));
+  /* Each of the five words as stored: 3 in open and close, no to the audit. */
+  for (k = 7; k < 12; ++k) {
+    const uint32_t before = vcs[12 + k];
+    vcs[12 + k] = k == 7 ? 16 : k == 8 ? 0 : k == 9 ? 2 : k == 10 ? CLURIMOON_C2_MAX + 1u : 2;
+    CHECK(opens_with(r, 2, 10, 29, 0, 1, 1, 0, CLURIMOON_STORED) && close_keeps(r, 1, CLURIMOON_STORED));
+    CHECK(!clurimoon_audit(r, MEMORY));
+    vcs[12 + k] = before;
+  }
+  CHECK(clurimoon_close(r, vcs, 12 * V, 1) == CLURIMOON_DONE);
+  for (k = 0; k < 12; ++k) CHECK(vcs[12 + k] == 0);
+  CHECK(opens_with(r, 15, 32768, 32768, 0, 0, 0, 0, CLURIMOON_DONE) && vcs[12 + CLURIMOON_WORD_C] == 32768);
+}
+
+/* VC 3 at line rate, beside one CLP 0 cell in four slots and a tolerance of four: with and without the flag. */
+static void tagging(bool tags, bool raw) {
+  static const unsigned clp[8] = {0, 0, 0, 1, 0, 0, 0, 1}, fits[8] = {1, 1, 0, 1, 1, 0, 0, 1};
+  uint8_t cell[53], line[53];
+  unsigned k, space = 0;
+  clurimoon_record r = clurimoon_setup(N, V, raw, MEMORY).record;
+  CHECK(clurimoon_open_sustained(r, vcs, 12 * V, 3, 0, 1, 1, 2, 16, 32, tags ? 1 : 0) == CLURIMOON_DONE);
+  for (k = 0; k < 8; ++k) {
+    const unsigned verdict = fits[k] ? CLURIMOON_ACCEPTED : tags ? CLURIMOON_TAGGED : CLURIMOON_EXCESS;
+    clurimoon_served s;
+    put_cell(cell, 3, 0x60 + k);
+    cell[3] = (uint8_t)(cell[3] | 14 | clp[k]);
+    cell[4] = (uint8_t)(raw ? octet_5(cell) : 0x77);
+    memcpy(line, cell, 53);
+    if (verdict == CLURIMOON_TAGGED) line[3] = (uint8_t)(line[3] | 1), line[4] = (uint8_t)octet_5(line);
+    s = raw_slot(r, cell);
+    if (verdict == CLURIMOON_EXCESS) {
+      CHECK(answers_with(s.answer, CLURIMOON_EXCESS, 3, 0, CLURIMOON_NONE, 0));
+    } else {
+      CHECK(answers_with(s.answer, verdict, 3, 0, space, 3) && shown(s.answer, line));
+      space = (space + 1) % N;
+    }
+    r = s.record;
+  }
+  /* Slots 0, 1 and 4 filled the second bucket, and 20 are left in it. Closing looks at the peak alone, whose debt is paid
+     in slot 8. */
+  CHECK(vcs[36 + CLURIMOON_WORD_S2] == 20 && vcs[36 + CLURIMOON_WORD_LAST] == 7);
+  CHECK(close_keeps(r, 3, CLURIMOON_WAITING));
+  r = clurimoon_slot(r, MEMORY, NULL, 0).record;
+  CHECK(clurimoon_close(r, vcs, 12 * V, 3) == CLURIMOON_DONE && clurimoon_audit(r, MEMORY));
+  for (k = 0; k < 12; ++k) CHECK(vcs[36 + k] == 0);
+}
+
+/* Above both buckets a cell is excess, whatever the flag. */
+static void above_both(void) {
+  uint8_t cell[53];
+  clurimoon_record r = clurimoon_setup(N, V, false, MEMORY).record;
+  clurimoon_served s;
+  CHECK(clurimoon_open_sustained(r, vcs, 12 * V, 3, 0, 2, 2, 0, 9, 9, 1) == CLURIMOON_DONE);
+  put_cell(cell, 3, 0x33);
+  s = clurimoon_slot(r, MEMORY, cell, 53);
+  CHECK(answers_with(s.answer, CLURIMOON_ACCEPTED, 3, 0, 0, 3));
+  s = clurimoon_slot(s.record, MEMORY, cell, 53);
+  CHECK(answers_with(s.answer, CLURIMOON_EXCESS, 3, 0, CLURIMOON_NONE, 0));
+  CHECK(vcs[36 + CLURIMOON_WORD_S] == 1 && vcs[36 + CLURIMOON_WORD_S2] == 8);
+  s = clurimoon_slot(s.record, MEMORY, cell, 53);
+  CHECK(answers_with(s.answer, CLURIMOON_TAGGED, 3, 0, 1, 3));
+  CHECK(vcs[36 + CLURIMOON_WORD_S] == 2 && vcs[36 + CLURIMOON_WORD_S2] == 7);
 }
 
 static void line_parts(void) {
@@ -467,6 +567,7 @@ static void nulls(void) {
   set = clurimoon_setup(N, V, false, MEMORY);
   r = set.record;
   CHECK(clurimoon_open(r, NULL, 0, 1, 2, 10, 26) == CLURIMOON_LENGTH);
+  CHECK(clurimoon_open_sustained(r, NULL, 0, 1, 2, 10, 26, 0, 0, 0, 0) == CLURIMOON_LENGTH);
   CHECK(clurimoon_close(r, NULL, 0, 1) == CLURIMOON_LENGTH);
   CHECK(refused(clurimoon_slot(r, NULL, 0, NULL, 0, NULL, 0, NULL, 0, NULL, 0).answer, CLURIMOON_LENGTH));
   CHECK(clurimoon_slot(r, MEMORY, NULL, 0).answer.number == CLURIMOON_DONE);
@@ -485,13 +586,13 @@ static void bursts(void) {
   static uint8_t arrivals[53 * K], sizes[K], departures[53 * K];
   static uint16_t answers[6 * K];
   unsigned k;
-  clurimoon_record r = clurimoon_setup(1, 2, false, cells, 53, links, 1, calendar, 2, vcs, 14).record;
+  clurimoon_record r = clurimoon_setup(1, 2, false, cells, 53, links, 1, calendar, 2, vcs, 24).record;
   clurimoon_burst_end e;
-  CHECK(clurimoon_open(r, vcs, 14, 1, 0, 1, 1) == CLURIMOON_DONE);
+  CHECK(clurimoon_open(r, vcs, 24, 1, 0, 1, 1) == CLURIMOON_DONE);
   memset(departures, 0xee, sizeof departures), memset(answers, 0xee, sizeof answers);
   for (k = 0; k < K; ++k) put_cell(arrivals + 53 * k, 1, 100 + k), sizes[k] = k == 4 ? 0 : 53;
   sizes[7] = 52;
-  e = clurimoon_burst(r, cells, 53, links, 1, calendar, 2, vcs, 14, arrivals, sizeof arrivals, sizes, K,
+  e = clurimoon_burst(r, cells, 53, links, 1, calendar, 2, vcs, 24, arrivals, sizeof arrivals, sizes, K,
                       departures, sizeof departures, answers, 6 * K);
   CHECK(e.number == CLURIMOON_CELL_LENGTH && e.done == 7 && e.record.t == 6);
   for (k = 0; k < K; ++k) {
@@ -505,7 +606,7 @@ static void bursts(void) {
     if (left) CHECK(memcmp(departures + 53 * k, arrivals + 53 * k, 53) == 0);
     else CHECK(departures[53 * k] == 0xee && departures[53 * k + 52] == 0xee);
   }
-  e = clurimoon_burst(r, cells, 53, links, 1, calendar, 2, vcs, 14, arrivals, sizeof arrivals, sizes, K,
+  e = clurimoon_burst(r, cells, 53, links, 1, calendar, 2, vcs, 24, arrivals, sizeof arrivals, sizes, K,
                       departures, sizeof departures - 1, answers, 6 * K);
   CHECK(e.number == CLURIMOON_LENGTH && e.done == 0 && same_record(e.record, r));
 }
@@ -575,6 +676,9 @@ int main(void) {
   raw_idle();
   raw_unfit();
   raw_burst();
+  second_limits();
+  for (bit = 0; bit < 4; ++bit) tagging(bit % 2 == 1, bit >= 2);
+  above_both();
   line_parts();
   nulls();
   bursts();

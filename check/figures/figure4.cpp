@@ -89,7 +89,7 @@ private:
                        departures = std::vector<uint8_t>(53 * block);
   std::vector<uint16_t> links = std::vector<uint16_t>(N), calendar = std::vector<uint16_t>(2 * N),
                         answers = std::vector<uint16_t>(6 * block);
-  std::vector<uint32_t> vcs = std::vector<uint32_t>(7 * V);
+  std::vector<uint32_t> vcs = std::vector<uint32_t>(CLURIMOON_VCS(V));
   std::vector<uint64_t> due = std::vector<uint64_t>(4096); // by arrival slot; none waits so long
 
   void arrive(uint64_t slot, size_t k) {

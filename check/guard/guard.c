@@ -100,12 +100,12 @@ static struct fence arrivals_fence, sizes_fence, departures_fence, answers_fence
 static uint8_t *cells, *cell, *idle, *arrivals, *sizes, *departures;
 static uint16_t *links, *calendar, *answers;
 static uint32_t *vcs;
-static unsigned long long slots_served, cells_sent, calls_made, refused, mended, dropped;
+static unsigned long long slots_served, cells_sent, calls_made, refused, mended, dropped, tagged, not_sustained;
 static unsigned greatest_space, greatest_d;
 
 static void make_fences(void) {
   cells_fence = make_fence(CLURIMOON_CELLS(1024)), links_fence = make_fence(2 * 1024);
-  calendar_fence = make_fence(4 * 1024), vcs_fence = make_fence(28 * 1024);
+  calendar_fence = make_fence(4 * 1024), vcs_fence = make_fence(48 * 1024);
   cell_fence = make_fence(53), idle_fence = make_fence(53);
   arrivals_fence = make_fence(53 * slots_in_burst), sizes_fence = make_fence(slots_in_burst);
   departures_fence = make_fence(53 * slots_in_burst), answers_fence = make_fence(12 * slots_in_burst);
@@ -166,6 +166,24 @@ static void judge_check(unsigned verdict, unsigned mode, unsigned wrong, bool le
   dropped += drops, mended += lent && wrong == 1 && !drops;
 }
 
+/* The last VC tags what is above its sustainable rate, no other does; of VC 1, whose peak is the line's, only the
+   second bucket can make a cell excess. */
+static void judge_second(unsigned verdict, unsigned vci, unsigned v) {
+  if (verdict == CLURIMOON_TAGGED && vci != v - 1) fail("a cell was tagged though its VC does not ask for it");
+  tagged += verdict == CLURIMOON_TAGGED;
+  not_sustained += verdict == CLURIMOON_EXCESS && vci == 1 && v > 2;
+}
+
+/* Every VC but the last has the line's rate for its peak if it is VC 1, and a third of it otherwise; VC 1 and the last have
+   a second bucket, the last with the flag. Tolerances are the greatest, so that the memory fills. */
+static uint16_t open_vc(clurimoon_record r, unsigned n, unsigned v, unsigned vci) {
+  const uint32_t f = vci == 1 && v > 2 ? 16 : 48, c = f + 16 * n - 1;
+  ++calls_made;
+  if (vci == v - 1) return clurimoon_open_sustained(r, vcs, CLURIMOON_VCS(v), (uint16_t)vci, 4, f, c, 2, 24, 90, 1);
+  if (vci == 1) return clurimoon_open_sustained(r, vcs, CLURIMOON_VCS(v), (uint16_t)vci, 4, f, c, 15, 98304, 98304, 0);
+  return clurimoon_open(r, vcs, CLURIMOON_VCS(v), (uint16_t)vci, 4, f, c);
+}
+
 static clurimoon_record one_slot(clurimoon_record r, unsigned n, unsigned v, size_t length, unsigned wrong) {
   /* An empty cell is lent as a pointer to unreadable memory. */
   const uint8_t *lent = length == 0 ? cell_fence.start + cell_fence.room : cell;
@@ -174,6 +192,7 @@ static clurimoon_record one_slot(clurimoon_record r, unsigned n, unsigned v, siz
   if (s.answer.number != 0) fail("a slot was refused");
   ++slots_served, ++calls_made;
   judge_check(s.answer.verdict, r.mode, wrong, length != 0);
+  judge_second(s.answer.verdict, s.answer.vci, v);
   if (s.record.mode != (length == 0 ? r.mode : wrong ? 1 : 0)) fail("the header check is in the wrong mode");
   now_doing = "line";
   clurimoon_part part = clurimoon_line(cells, CLURIMOON_CELLS(n), idle, 53, s.answer.space);
@@ -205,6 +224,7 @@ static clurimoon_record one_burst(clurimoon_record r, unsigned n, unsigned v, un
   slots_served += e.done, ++calls_made;
   for (unsigned k = 0; k < slots_in_burst; ++k) {
     judge_check(answers[6 * k + CLURIMOON_ANSWER_VERDICT], mode, wrong[k], sizes[k] != 0);
+    judge_second(answers[6 * k + CLURIMOON_ANSWER_VERDICT], answers[6 * k + CLURIMOON_ANSWER_VCI], v);
     if (sizes[k] != 0) mode = wrong[k] ? 1 : 0;
   }
   if (e.record.mode != mode) fail("the header check is in the wrong mode");
@@ -263,11 +283,13 @@ static void run_too_small(clurimoon_record good, unsigned n, unsigned v) {
   wide.v = (uint16_t)(v < 1024 ? v + 1 : v - 1);
   if (clurimoon_open(wide, vcs, CLURIMOON_VCS(v), (uint16_t)(wide.v - 1), 0, 1, 1) != CLURIMOON_LENGTH)
     fail("open was not refused");
+  if (clurimoon_open_sustained(wide, vcs, CLURIMOON_VCS(v), (uint16_t)(wide.v - 1), 0, 1, 1, 0, 1, 1, 1) != CLURIMOON_LENGTH)
+    fail("open_sustained was not refused");
   if (clurimoon_close(wide, vcs, CLURIMOON_VCS(v), (uint16_t)(wide.v - 1)) != CLURIMOON_LENGTH)
     fail("close was not refused");
   if (clurimoon_line(cells, CLURIMOON_CELLS(n), idle, 53, (uint16_t)n).length != 0)
     fail("the line shows a space past the last");
-  calls_made += 3, refused += 3;
+  calls_made += 4, refused += 4;
 }
 
 /* Closes the last VC, whose words end where the buffer ends, and opens it again. After a cell of it
@@ -285,9 +307,8 @@ static clurimoon_record close_last(clurimoon_record r, unsigned n, unsigned v) {
     ++calls_made, ++refused;
   }
   if (k == 0) fail("a close wiped a debt");
-  if (clurimoon_open(r, vcs, CLURIMOON_VCS(v), last, 4, 48, 48 + 16 * n - 1) != 0)
-    fail("the VC was not closed");
-  calls_made += 2;
+  if (open_vc(r, n, v, last) != 0) fail("the VC was not closed");
+  calls_made += 1;
   return r;
 }
 
@@ -302,9 +323,7 @@ static void run_policer(unsigned n, unsigned v) {
   now_doing = "open";
   /* Two bursty VCs and the last, with the greatest tolerance: they fill the memory. */
   for (unsigned vci = 1; vci < v; vci = vci < 3 ? vci + 1 : vci < v - 1 ? v - 1 : v) {
-    if (clurimoon_open(r, vcs, CLURIMOON_VCS(v), (uint16_t)vci, 4, 48, 48 + 16 * n - 1) != 0)
-      fail("an open was refused");
-    ++calls_made;
+    if (open_vc(r, n, v, vci) != 0) fail("an open was refused");
   }
   greatest_space = greatest_d = 0;
   /* Long enough to use every space, and for rotation to name every VC. */
@@ -399,7 +418,8 @@ int main(void) {
     fflush(stdout);
   }
   printf("guard: N 1 to 1,024 and V 2 to 1,024, twice%s: %llu calls (%llu refused), %llu slots, %llu "
-         "cells sent, %llu mended, %llu dropped, no octet touched outside\n",
-         rounds == 4 ? ", raw and not" : "", calls_made, refused, slots_served, cells_sent, mended, dropped);
+         "cells sent, %llu mended, %llu dropped, %llu tagged, %llu above a sustainable rate without the flag, no octet touched outside\n",
+         rounds == 4 ? ", raw and not" : "", calls_made, refused, slots_served, cells_sent, mended, dropped, tagged, not_sustained);
+  if (tagged < 10000 || not_sustained < 10000) fail("too few cells were above a sustainable rate");
   return 0;
 }

@@ -21,6 +21,11 @@ const char *const close_name[close_count] = {
     CALLS_CLOSES(X)
 #undef X
 };
+const char *const bucket_name[bucket_count] = {
+#define X(name) #name,
+    CALLS_BUCKETS(X)
+#undef X
+};
 const char *const check_name[check_count] = {
 #define X(name) #name,
     CALLS_CHECKS(X)
@@ -41,7 +46,7 @@ void need(bool fit, Clause clause) {
 }
 
 // The words of a VC, by name.
-enum Word { w_open, w_m, w_F, w_C, w_S, w_last, w_waiting };
+enum Word { w_open, w_m, w_F, w_C, w_S, w_last, w_waiting, w_m2, w_F2, w_C2, w_S2, w_tag, word_count };
 
 // What was written, with the value before: undone from the last to the first.
 struct Journal {
@@ -75,7 +80,7 @@ bool sizes_in_range(uint16_t n, uint16_t v) { return 1 <= n && n <= 1024 && 2 <=
 
 bool lengths_fit(uint16_t n, uint16_t v, const Memory &lent) {
   return lent.cells.length == size_t{53} * n && lent.links.length == n &&
-         lent.calendar.length == size_t{2} * n && lent.vcs.length == size_t{7} * v;
+         lent.calendar.length == size_t{2} * n && lent.vcs.length == size_t{word_count} * v;
 }
 
 // The rules on m, F and C; `first` is the clause for m, the others follow it.
@@ -90,19 +95,37 @@ int rule_broken(uint64_t n, uint64_t m, uint64_t f, uint64_t c) {
   return rules_kept;
 }
 
+// The limits of a second bucket: m (0 to 15), F (1 to 2^24), C (F to 2^30), flag (0 or 1); "m, F, C and flag all 0 mean none".
+int limit_broken(uint64_t m, uint64_t f, uint64_t c, uint64_t flag) {
+  if (m == 0 && f == 0 && c == 0 && flag == 0) return rules_kept;
+  if (m > 15) return 0;
+  if (f == 0) return 1;
+  if (f > 16777216) return 2;
+  if (c < f) return 3;
+  if (c > 1073741824) return 4;
+  if (flag > 1) return 5;
+  return rules_kept;
+}
+
+// Six clauses for the peak bucket, from `m_clause` on, then seven for the second.
 void need_rules(uint16_t n, const uint32_t *vc, Clause m_clause) {
   const int rule = rule_broken(n, vc[w_m], vc[w_F], vc[w_C]);
   need(rule == rules_kept, static_cast<Clause>(m_clause + rule));
   need(vc[w_S] <= vc[w_C], static_cast<Clause>(m_clause + 5));
+  const int limit = limit_broken(vc[w_m2], vc[w_F2], vc[w_C2], vc[w_tag]);
+  need(limit == rules_kept, static_cast<Clause>(m_clause + 6 + limit));
+  need(vc[w_S2] <= vc[w_C2], static_cast<Clause>(m_clause + 12));
 }
 
-// S falls by what leaked out since `last`; the words have been judged.
-uint64_t leaked_since(const uint32_t *vc, uint32_t t) {
-  return uint64_t{static_cast<uint32_t>(t - vc[w_last])} << vc[w_m];
+// Each S falls by what leaked out of its bucket since `last`; the words have been judged.
+uint64_t leaked_since(const uint32_t *vc, uint32_t t, Word m = w_m) {
+  return uint64_t{static_cast<uint32_t>(t - vc[w_last])} << vc[m];
 }
 void let_fall(uint32_t *vc, uint32_t t, Journal &journal) {
   const uint64_t leaked = leaked_since(vc, t), s = vc[w_S];
+  const uint64_t leaked2 = leaked_since(vc, t, w_m2), s2 = vc[w_S2];
   journal.put(vc[w_S], static_cast<uint32_t>(s > leaked ? s - leaked : 0));
+  journal.put(vc[w_S2], static_cast<uint32_t>(s2 > leaked2 ? s2 - leaked2 : 0));
   journal.put(vc[w_last], t);
 }
 
@@ -114,12 +137,12 @@ void need_pair(uint16_t n, uint16_t head, uint16_t tail, Clause first) {
 }
 
 struct Header {
-  unsigned vpi, vci;
+  unsigned vpi, vci, clp;
 };
 Header read_header(const uint8_t *octet) {
   const uint32_t word =
       uint32_t{octet[0]} << 24 | uint32_t{octet[1]} << 16 | uint32_t{octet[2]} << 8 | uint32_t{octet[3]};
-  return {word >> 20 & 0xff, word >> 4 & 0xffff};
+  return {word >> 20 & 0xff, word >> 4 & 0xffff, word & 1};
 }
 
 // One slot, step by step, on the lent memory itself.
@@ -137,7 +160,7 @@ public:
     }
     tick();
     if (r.rotation != 0) update_named_by_rotation();
-    if (lets_through) arrive(arriving.data());
+    if (lets_through) arrive();
     transfer();
     if (r.out_head != empty) depart();
     return {r, answer};
@@ -166,7 +189,7 @@ private:
     return true;
   }
 
-  uint32_t *vc(unsigned vci) const { return lent.vcs.at + size_t{7} * vci; }
+  uint32_t *vc(unsigned vci) const { return lent.vcs.at + size_t{word_count} * vci; }
 
   void tick() {
     need(r.T < n, slot_T);
@@ -187,8 +210,8 @@ private:
     if (words[w_open] == 1) bring_up_to_date(words, rotation_m);
   }
 
-  void arrive(const uint8_t *cell) {
-    const Header header = read_header(cell);
+  void arrive() {
+    const Header header = read_header(arriving.data());
     if (header.vpi == 0 && header.vci == 0) return;
     answer.vci = static_cast<uint16_t>(header.vci);
     answer.verdict = CLURIMOON_UNKNOWN;
@@ -197,16 +220,45 @@ private:
     need(words[w_open] <= 1, arrival_open);
     if (words[w_open] == 0) return;
     bring_up_to_date(words, arrival_m);
+    const bool above_peak = words[w_S] > words[w_C] - words[w_F];
+    const bool above_second = words[w_S2] > words[w_C2] - words[w_F2];
+    const bool tags = words[w_tag] == 1;
+    tally_buckets(words, header.clp, above_peak, above_second);
     answer.verdict = CLURIMOON_EXCESS;
-    if (words[w_S] > words[w_C] - words[w_F]) return;
-    answer.verdict = CLURIMOON_ACCEPTED;
+    if (above_peak || (header.clp == 0 && above_second && !tags)) return;
+    answer.verdict = header.clp == 0 && above_second ? CLURIMOON_TAGGED : CLURIMOON_ACCEPTED;
     answer.d = static_cast<uint16_t>(words[w_S] >> words[w_m]);
     need(words[w_waiting] < n, arrival_waiting);
     journal.put(words[w_S], words[w_S] + words[w_F]);
+    if (header.clp == 0 && !above_second) journal.put(words[w_S2], words[w_S2] + words[w_F2]);
     journal.put(words[w_waiting], words[w_waiting] + 1);
+    if (answer.verdict == CLURIMOON_TAGGED) tag();
     const uint16_t space = take_free();
-    journal.put_cell(lent.cells.at + size_t{53} * space, cell);
+    journal.put_cell(lent.cells.at + size_t{53} * space, arriving.data());
     join(static_cast<unsigned>((r.T + answer.d) % n), space);
+  }
+
+  // CLP becomes 1, and octet 5 is recomputed, in the copy of the lent cell.
+  void tag() {
+    arriving[3] = static_cast<uint8_t>(arriving[3] | 1);
+    arriving[4] = second::octet5({arriving[0], arriving[1], arriving[2], arriving[3], 0});
+  }
+
+  void tally_buckets(const uint32_t *words, unsigned clp, bool above_peak, bool above_second) {
+    const auto met = [](Bucket bucket) { tally.bucket[bucket] += 1; };
+    const bool none = words[w_C2] == 0, tags = words[w_tag] == 1;
+    const uint32_t over = words[w_S2] - (words[w_C2] - words[w_F2]);
+    if (none) return met(no_second_bucket);
+    if (above_peak && above_second && clp == 0) met(tags ? above_both_with_the_flag : above_both_without);
+    if (above_peak && !above_second) met(above_peak_alone);
+    if (above_peak) return;
+    if (clp == 1) return met(above_second ? clp_1_above_second : clp_1_within_second);
+    met(!above_second ? fills_both : tags ? is_tagged : excess_by_second);
+    if (above_second && over == 1) met(above_second_by_one_part);
+    if (!above_second && over == 0 && words[w_S2] != 0) met(just_within_second);
+    if (words[w_F2] < uint64_t{1} << words[w_m2]) met(F_below_L_in_second);
+    if (above_second && tags && r.raw == 0) met(tagged_not_raw);
+    if (above_second && tags && r.raw == 1 && r.mode == CLURIMOON_DETECTION) met(tagged_and_mended);
   }
 
   uint16_t take_free() {
@@ -278,16 +330,16 @@ void need_vc(uint16_t n, const uint32_t *words, Clause open_clause) {
   need(words[w_open] <= 1, open_clause);
   if (words[w_open] == 0) return;
   need_rules(n, words, static_cast<Clause>(open_clause + 1));
-  need(words[w_waiting] <= n, static_cast<Clause>(open_clause + 7));
+  need(words[w_waiting] <= n, static_cast<Clause>(open_clause + 14));
 }
 
 // The refusals that open and close share, up to 3; 0 if there is none.
 uint16_t refuse_vc(const clurimoon_record &record, Lent<uint32_t> vcs, uint16_t vci, Clause open_clause) {
   if (!sizes_in_range(record.n, record.v)) return 1;
-  if (vcs.length != size_t{7} * record.v) return 2;
+  if (vcs.length != size_t{word_count} * record.v) return 2;
   if (vci < 1 || vci >= record.v) return 4;
   try {
-    need_vc(record.n, vcs.at + size_t{7} * vci, open_clause);
+    need_vc(record.n, vcs.at + size_t{word_count} * vci, open_clause);
   } catch (const Unfit &unfit) {
     tally.clause[unfit.clause] += 1;
     return 3;
@@ -320,14 +372,25 @@ clurimoon_set setup(uint16_t n, uint16_t v, bool raw, Memory lent) {
   return {0, record};
 }
 
-uint16_t open(const clurimoon_record &record, Lent<uint32_t> vcs, uint16_t vci, uint8_t m, uint32_t f,
-              uint32_t c) {
+uint16_t open(const clurimoon_record &record, Lent<uint32_t> vcs, uint16_t vci, const Rates &rates) {
   if (const uint16_t number = refuse_vc(record, vcs, vci, open_open)) return number;
-  uint32_t *words = vcs.at + size_t{7} * vci;
+  uint32_t *words = vcs.at + size_t{word_count} * vci;
   if (words[w_open] == 1) return 5;
-  if (rule_broken(record.n, m, f, c) != rules_kept) return 6;
-  const uint32_t fresh[7] = {1, m, f, c, 0, record.t, 0};
-  std::copy(fresh, fresh + 7, words);
+  const int limit = limit_broken(rates.m2, rates.f2, rates.c2, rates.tag);
+  if (rule_broken(record.n, rates.m, rates.f, rates.c) != rules_kept) {
+    if (limit != rules_kept) tally.bucket[broken_6_and_11] += 1;
+    return 6;
+  }
+  if (limit != rules_kept) {
+    tally.bucket[refused_11_m + limit] += 1;
+    if (rates.f2 == 0 && rates.c2 == 0 && (rates.m2 == 0) != (rates.tag == 0)) tally.bucket[refused_11_zeros_but_one] += 1;
+    return 11;
+  }
+  if (rates.c2 != 0) tally.bucket[opened_with_second] += 1;
+  if (rates.c2 == 1073741824) tally.bucket[opened_with_greatest_C] += 1;
+  const uint32_t fresh[word_count] = {1,        rates.m,  rates.f,  rates.c,  0, record.t,
+                                      0,        rates.m2, rates.f2, rates.c2, 0, rates.tag};
+  std::copy(fresh, fresh + word_count, words);
   return 0;
 }
 
@@ -349,6 +412,8 @@ void tally_close(const uint32_t *before, uint32_t owed, uint32_t t) {
   if (!waits && owed == 1) tally.close[refused_for_one_part] += 1;
   if (!waits && leaked >> 32 && static_cast<uint32_t>(leaked) < before[w_S])
     tally.close[closed_product_is_wide] += 1;
+  if (waits || owed || before[w_S2] == 0) return;
+  tally.close[leaked_since(before, t, w_m2) < before[w_S2] ? closed_second_not_empty : closed_second_fell] += 1;
 }
 
 } // namespace
@@ -356,18 +421,18 @@ void tally_close(const uint32_t *before, uint32_t owed, uint32_t t) {
 // The VC is brought up to date in its words; a refusal takes that back.
 uint16_t close(const clurimoon_record &record, Lent<uint32_t> vcs, uint16_t vci) {
   const uint16_t number = refuse_vc(record, vcs, vci, close_open);
-  if (number == 3) tally_3_of_close(vcs.at + size_t{7} * vci, record.t);
+  if (number == 3) tally_3_of_close(vcs.at + size_t{word_count} * vci, record.t);
   if (number != 0) return number;
-  uint32_t *words = vcs.at + size_t{7} * vci;
+  uint32_t *words = vcs.at + size_t{word_count} * vci;
   if (words[w_open] == 0) return 7;
-  uint32_t before[7];
-  std::copy(words, words + 7, before);
+  uint32_t before[word_count];
+  std::copy(words, words + word_count, before);
   Journal journal;
   let_fall(words, record.t, journal);
   const uint32_t owed = words[w_S];
   tally_close(before, owed, record.t);
   if (owed != 0 || words[w_waiting] != 0) return journal.undo(), 8;
-  std::fill_n(words, 7, 0u);
+  std::fill_n(words, size_t{word_count}, 0u);
   return 0;
 }
 
@@ -405,7 +470,8 @@ void tally_check(const clurimoon_record &record, Lent<const uint8_t> cell, const
     if (!user) met(dropped_no_user_cell);
   } else {
     if (!done) return met(mended_and_refused);
-    static const Check by_verdict[] = {mended_to_no_user_cell, mended_accepted, mended_excess, mended_unknown};
+    static const Check by_verdict[] = {mended_to_no_user_cell, mended_accepted, mended_excess,
+                                       mended_unknown,         check_count,     mended_tagged};
     met(by_verdict[a.verdict]);
     if (bit >= 32) met(mended_in_octet_5);
     if (!user && a.verdict != CLURIMOON_NOTHING) met(mended_from_no_user_cell);
@@ -465,7 +531,7 @@ public:
     must(r.raw <= 1, no_raw);
     must(r.mode <= 1, no_mode);
     must(r.rotation < r.v, no_rotation);
-    for (unsigned vci = 1; vci < r.v; ++vci) judge_vc(lent.vcs.at + size_t{7} * vci);
+    for (unsigned vci = 1; vci < r.v; ++vci) judge_vc(lent.vcs.at + size_t{word_count} * vci);
     walk(r.free_head, r.free_tail, false);
     walk(r.out_head, r.out_tail, true);
     for (unsigned entry = 0; entry < r.n; ++entry)
@@ -473,7 +539,7 @@ public:
     must(std::find(seen.begin(), seen.end(), false) == seen.end(), no_space_missing);
     must(lent.calendar.at[2 * r.T] == empty, no_entry_T);
     for (unsigned vci = 1; vci < r.v; ++vci) {
-      const uint32_t *words = lent.vcs.at + size_t{7} * vci;
+      const uint32_t *words = lent.vcs.at + size_t{word_count} * vci;
       must(words[w_open] == 0 || words[w_waiting] == queued[vci], no_waiting_count);
     }
   }
@@ -489,6 +555,8 @@ private:
     if (words[w_open] == 0) return;
     must(rule_broken(r.n, words[w_m], words[w_F], words[w_C]) == rules_kept, no_rules);
     must(words[w_S] <= words[w_C], no_S);
+    must(limit_broken(words[w_m2], words[w_F2], words[w_C2], words[w_tag]) == rules_kept, no_second_limits);
+    must(words[w_S2] <= words[w_C2], no_second_S);
     must(words[w_waiting] <= r.n, no_waiting_range);
   }
 
@@ -510,7 +578,7 @@ private:
   void count(uint16_t space) {
     const Header header = read_header(lent.cells.at + size_t{53} * space);
     must(header.vpi == 0 && header.vci != 0 && header.vci < r.v, no_header);
-    must(lent.vcs.at[size_t{7} * header.vci + w_open] == 1, no_header);
+    must(lent.vcs.at[size_t{word_count} * header.vci + w_open] == 1, no_header);
     queued[header.vci] += 1;
   }
 };

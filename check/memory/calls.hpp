@@ -14,26 +14,22 @@
 namespace calls {
 
 // Every clause of refusal 3, by the place in a call that reads the number.
+#define CALLS_RULES(X, where)                                                                                \
+  X(where##_m) X(where##_F_low) X(where##_F_high) X(where##_C_low) X(where##_C_high) X(where##_S)            \
+  X(where##_m2) X(where##_F2_0) X(where##_F2_high) X(where##_C2_low) X(where##_C2_high) X(where##_tag)       \
+  X(where##_S2)
+#define CALLS_PAIR(X, where) X(where##_head) X(where##_tail) X(where##_half_empty)
 #define CALLS_CLAUSES(X)                                                                                     \
-  X(slot_raw)                                                                                                \
-  X(slot_mode)                                                                                               \
-  X(slot_T)                                                                                                  \
-  X(slot_rotation)                                                                                           \
-  X(rotation_open)                                                                                           \
-  X(rotation_m)                                                                                              \
-  X(rotation_F_low)                                                                                          \
-  X(rotation_F_high) X(rotation_C_low) X(rotation_C_high) X(rotation_S) X(arrival_open) X(arrival_m)         \
-      X(arrival_F_low) X(arrival_F_high) X(arrival_C_low) X(arrival_C_high) X(arrival_S) X(arrival_waiting)  \
-          X(take_pair_head) X(take_pair_tail) X(take_pair_half_empty) X(take_empty) X(take_link)             \
-              X(join_pair_head) X(join_pair_tail) X(join_pair_half_empty) X(entry_pair_head)                 \
-                  X(entry_pair_tail) X(entry_pair_half_empty) X(output_pair_head) X(output_pair_tail)        \
-                      X(output_pair_half_empty) X(output_link) X(departing_vpi) X(departing_vci_0)           \
-                          X(departing_vci_high) X(departing_closed) X(departing_open) X(departing_waiting_0) \
-                              X(departing_waiting_high) X(give_pair_head) X(give_pair_tail)                  \
-                                  X(give_pair_half_empty) X(open_open) X(open_m) X(open_F_low)               \
-                                      X(open_F_high) X(open_C_low) X(open_C_high) X(open_S) X(open_waiting)  \
-                                          X(close_open) X(close_m) X(close_F_low) X(close_F_high)            \
-                                              X(close_C_low) X(close_C_high) X(close_S) X(close_waiting)
+  X(slot_raw) X(slot_mode) X(slot_T) X(slot_rotation)                                                        \
+  X(rotation_open) CALLS_RULES(X, rotation)                                                                  \
+  X(arrival_open) CALLS_RULES(X, arrival) X(arrival_waiting)                                                 \
+  CALLS_PAIR(X, take_pair) X(take_empty) X(take_link)                                                        \
+  CALLS_PAIR(X, join_pair) CALLS_PAIR(X, entry_pair) CALLS_PAIR(X, output_pair) X(output_link)               \
+  X(departing_vpi) X(departing_vci_0) X(departing_vci_high) X(departing_closed) X(departing_open)            \
+  X(departing_waiting_0) X(departing_waiting_high)                                                           \
+  CALLS_PAIR(X, give_pair)                                                                                   \
+  X(open_open) CALLS_RULES(X, open) X(open_waiting)                                                          \
+  X(close_open) CALLS_RULES(X, close) X(close_waiting)
 
 enum Clause {
 #define X(name) name,
@@ -52,7 +48,7 @@ extern const char *const clause_name[clause_count];
   X(no_mode)                                                                                                 \
   X(no_rotation)                                                                                             \
   X(no_open_word)                                                                                            \
-  X(no_rules) X(no_S) X(no_waiting_range) X(no_pair) X(no_link) X(no_space_twice) X(no_space_missing)        \
+  X(no_rules) X(no_S) X(no_second_limits) X(no_second_S) X(no_waiting_range) X(no_pair) X(no_link) X(no_space_twice) X(no_space_missing)        \
       X(no_chain_end) X(no_entry_T) X(no_header) X(no_waiting_count)
 
 enum Fault {
@@ -74,7 +70,9 @@ extern const char *const fault_name[fault_count];
   X(closed_S_fell_exactly)  /* elapsed x L is the stored S */                                                \
   X(closed_S_fell_past)                                                                                      \
   X(closed_product_is_wide) /* elapsed x L takes more than 32 bits, and their lower part is below S */       \
-  X(S_above_C_would_fall)   /* 3, though S as of t is 0 */
+  X(S_above_C_would_fall)   /* 3, though S as of t is 0 */                                                   \
+  X(closed_second_not_empty) /* what is in the second bucket as of t doesn't matter */                       \
+  X(closed_second_fell)
 
 enum Close {
 #define X(name) name,
@@ -91,6 +89,7 @@ extern const char *const close_name[close_count];
   X(mended_accepted)                                                                                         \
   X(mended_excess)                                                                                           \
   X(mended_unknown)                                                                                          \
+  X(mended_tagged)                                                                                           \
   X(mended_to_no_user_cell)                                                                                  \
   X(mended_from_no_user_cell) /* as it came, its slot would have been empty */                               \
   X(mended_in_octet_5)                                                                                       \
@@ -116,12 +115,48 @@ enum Check {
 };
 extern const char *const check_name[check_count];
 
+// What the two buckets made of a cell of an open VC, and open of a second bucket.
+#define CALLS_BUCKETS(X)                                                                                     \
+  X(no_second_bucket)                                                                                        \
+  X(fills_both)                                                                                              \
+  X(is_tagged)                                                                                               \
+  X(tagged_not_raw)                                                                                          \
+  X(tagged_and_mended)                                                                                       \
+  X(excess_by_second)                                                                                        \
+  X(clp_1_within_second)                                                                                     \
+  X(clp_1_above_second) /* accepted all the same */                                                          \
+  X(above_peak_alone)                                                                                        \
+  X(above_both_with_the_flag) /* excess, not tagged */                                                       \
+  X(above_both_without)                                                                                      \
+  X(above_second_by_one_part)                                                                                \
+  X(just_within_second)                                                                                      \
+  X(F_below_L_in_second)                                                                                     \
+  X(opened_with_second)                                                                                      \
+  X(opened_with_greatest_C)                                                                                  \
+  X(broken_6_and_11) /* 6 */                                                                                 \
+  X(refused_11_zeros_but_one) /* m or flag alone is not 0 */                                                 \
+  X(refused_11_m)                                                                                            \
+  X(refused_11_F_0)                                                                                          \
+  X(refused_11_F_high)                                                                                       \
+  X(refused_11_C_low)                                                                                        \
+  X(refused_11_C_high)                                                                                       \
+  X(refused_11_flag)
+
+enum Bucket {
+#define X(name) name,
+  CALLS_BUCKETS(X)
+#undef X
+      bucket_count
+};
+extern const char *const bucket_name[bucket_count];
+
 // What was met, for the summary of a run.
 struct Tally {
   std::array<uint64_t, clause_count> clause{};
   std::array<uint64_t, fault_count> fault{};
   std::array<uint64_t, close_count> close{};
   std::array<uint64_t, check_count> check{};
+  std::array<uint64_t, bucket_count> bucket{};
   std::array<uint64_t, 40> mended_bit{};
 };
 extern Tally tally;
@@ -139,7 +174,15 @@ struct Memory {
 };
 
 clurimoon_set setup(uint16_t n, uint16_t v, bool raw, Memory);
-uint16_t open(const clurimoon_record &, Lent<uint32_t> vcs, uint16_t vci, uint8_t m, uint32_t f, uint32_t c);
+// What a VC is opened with: its peak bucket, and its second one or zeros.
+struct Rates {
+  uint8_t m;
+  uint32_t f, c;
+  uint8_t m2;
+  uint32_t f2, c2;
+  uint8_t tag;
+};
+uint16_t open(const clurimoon_record &, Lent<uint32_t> vcs, uint16_t vci, const Rates &);
 uint16_t close(const clurimoon_record &, Lent<uint32_t> vcs, uint16_t vci);
 clurimoon_served slot(const clurimoon_record &, Memory, Lent<const uint8_t> cell);
 clurimoon_part line(size_t cells_length, size_t idle_length, uint16_t number);

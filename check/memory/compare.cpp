@@ -19,11 +19,12 @@ public:
   void numbers() {
     const std::map<std::string, std::vector<unsigned>> expected = {{"setup", {0, 1, 2}},
                                                                    {"open", {0, 1, 2, 3, 4, 5, 6}},
+                                                                   {"open_sustained", {0, 1, 2, 3, 4, 5, 6, 11}},
                                                                    {"close", {0, 1, 2, 3, 4, 7, 8}},
                                                                    {"slot", {0, 1, 2, 3, 9}},
                                                                    {"burst", {0, 1, 2, 3, 9}}};
     for (const auto &[call, which] : expected) {
-      std::printf("  %-6s", call.c_str());
+      std::printf("  %-14s", call.c_str());
       for (unsigned number : which) item("  " + std::to_string(number) + ":", met[call][number]);
       std::printf("\n");
     }
@@ -33,6 +34,7 @@ public:
     item(" nothing", verdicts[0]), item(", accepted", verdicts[1]), item(", excess", verdicts[2]);
     item(", unknown", verdicts[3]);
     if (may_be_raw) item(", dropped", verdicts[4]);
+    item(", tagged", verdicts[5]);
     item("; sent", sent), item("; slots in bursts", burst_slots);
     std::printf("\n  audits:");
     item(" yes", audits_yes), item(", no", audits_no), item("; line parts: empty", parts_empty);
@@ -60,7 +62,8 @@ private:
   const uint64_t enough;
 
   static bool of_the_header_check(const std::string &name) {
-    return name == "slot_raw" || name == "slot_mode" || name == "no_raw" || name == "no_mode";
+    return name == "slot_raw" || name == "slot_mode" || name == "no_raw" || name == "no_mode" ||
+           name == "tagged_and_mended";
   }
   void item(const std::string &name, uint64_t times) {
     std::printf("%s %llu%s", name.c_str(), static_cast<unsigned long long>(times),
@@ -98,6 +101,7 @@ int main(int count_arguments, char **arguments) {
   summary.clauses("refusal 3 by clause:", calls::clause_name, calls::tally.clause);
   summary.clauses("the audit's no by clause:", calls::fault_name, calls::tally.fault);
   summary.clauses("close by what is left of S:", calls::close_name, calls::tally.close);
+  summary.clauses("cells and openings by the second bucket:", calls::bucket_name, calls::tally.bucket);
   if (may_be_raw) summary.clauses("the header check:", calls::check_name, calls::tally.check), summary.bits();
   std::printf("memories: %llu calls in %llu scenarios compared, all equal\n",
               static_cast<unsigned long long>(made), static_cast<unsigned long long>(scenario));

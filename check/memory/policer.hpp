@@ -16,6 +16,8 @@ constexpr bool may_be_raw = false;
 constexpr bool may_be_raw = true;
 #endif
 
+constexpr size_t words_per_vc = 12;
+
 class Policer {
 protected:
   explicit Policer(uint64_t seed) : random(seed) {}
@@ -56,7 +58,7 @@ protected:
     memory.cells.resize(size_t{53} * n, cell_of_vc_1);
     memory.links.resize(n, {0});
     memory.calendar.resize(size_t{2} * n, {none});
-    memory.vcs.resize(size_t{7} * v, {1, 2, 10, 10, 0, 0, 1});
+    memory.vcs.resize(words_per_vc * v, {1, 2, 10, 10, 0, 0, 1, 2, 20, 60, 0, 1});
     for (size_t k = 0; k < memory.cells.size(); k += random.between(1, 60))
       memory.cells.set(k, static_cast<uint8_t>(random.next()));
     for (size_t k = 0; k < memory.vcs.size(); k += random.between(1, 20))
@@ -75,16 +77,17 @@ protected:
     // Another size with just its lengths is done, too, and is not the policer that follows.
     if (got.number != 0 || asked_n != n || asked_v != v) return false;
     if (random.once_in(2)) disguise_vc_0();
-    for (uint64_t k = random.between(1, 12); k > 0; --k) open();
+    for (uint64_t k = random.between(1, 12); k > 0; --k) any_open();
     return true;
   }
 
   // VC 0's words don't matter: here they look like those of an open VC, or like none.
   void disguise_vc_0() {
     const uint32_t open = random.pick<uint32_t>({1, 1, 2, UINT32_MAX});
-    const uint32_t words[7] = {
-        open, 2, 10, 10, random.pick<uint32_t>({0, 10, 11}), 0, random.pick<uint32_t>({0, 1, n, n + 1u})};
-    for (size_t k = 0; k < 7; ++k) memory.vcs.set(k, words[k]);
+    const uint32_t s = random.pick<uint32_t>({0, 10, 11}), waiting = random.pick<uint32_t>({0, 1, n, n + 1u});
+    const uint32_t words[words_per_vc] = {
+        open, 2, 10, 10, s, 0, waiting, 2, 20, 60, random.pick<uint32_t>({0, 60, 61}), random.pick<uint32_t>({0, 1, 2})};
+    for (size_t k = 0; k < words_per_vc; ++k) memory.vcs.set(k, words[k]);
   }
 
   // A state that is as sound as can be, but for an N or V just outside its range.
@@ -129,7 +132,7 @@ protected:
     if (which == 0 || which == 4) lent.cells = wrong_length(lent.cells, 53);
     if (which == 1 || which == 4) lent.links = wrong_length(lent.links, 1);
     if (which == 2 || which == 4) lent.calendar = wrong_length(lent.calendar, 2);
-    if (which == 3 || which == 4) lent.vcs = wrong_length(lent.vcs, 7);
+    if (which == 3 || which == 4) lent.vcs = random.once_in(4) ? size_t{7} * v : wrong_length(lent.vcs, words_per_vc);
     return lent;
   }
   Lengths usual_lengths() { return random.once_in(60) ? wrong_lengths() : lengths(); }
@@ -195,20 +198,78 @@ protected:
                                   static_cast<uint16_t>(random.below(v))});
   }
 
+  // A second bucket within its limits: mostly slower than the peak and with a tolerance of some
+  // cells, so that a VC that keeps to its peak meets the tolerance's end; often at an edge.
+  void choose_second(const calls::Rates &peak, uint8_t &m, uint32_t &f, uint32_t &c) {
+    m = static_cast<uint8_t>(random.percent(60) ? random.below(4) : random.below(16));
+    const uint64_t kind = random.below(10), times = random.between(1, 4);
+    uint64_t fill = (uint64_t{peak.f} * times << m) >> peak.m;
+    if (kind == 0) fill = random.pick<uint64_t>({1, 16777216});
+    else if (kind == 1) fill = random.between(1, 16777216);
+    else if (kind == 2) fill = random.between(1, (uint64_t{1} << m) + 1);
+    else fill += random.below((uint64_t{1} << m) + 1);
+    fill = std::min<uint64_t>(std::max<uint64_t>(fill, 1), 16777216);
+    uint64_t most = fill * random.between(1, 5);
+    most += random.below(fill);
+    if (random.once_in(4)) most = fill;
+    if (random.once_in(10)) most = random.pick<uint64_t>({1073741824, 1073741823});
+    f = static_cast<uint32_t>(fill), c = static_cast<uint32_t>(std::min<uint64_t>(most, 1073741824));
+  }
+  void break_limits(calls::Rates &rates) {
+    switch (random.below(9)) {
+    case 0: rates.m2 = random.pick<uint8_t>({16, 17, 31, 32, 33, 63, 64, 255}); break;
+    case 1: rates.f2 = 0; break;
+    case 2: rates.f2 = 16777217, rates.c2 = random.pick<uint32_t>({16777217, 33554434}); break;
+    case 3: rates.c2 = rates.f2 - 1; break;
+    case 4: rates.c2 = random.pick<uint32_t>({1073741825, UINT32_MAX}); break;
+    case 5: rates.tag = random.pick<uint8_t>({2, 3, 128, 255}); break;
+    case 6: rates.f2 = rates.c2 = 0, rates.m2 = random.pick<uint8_t>({1, 15, 16}), rates.tag = 0; break;
+    case 7: rates.f2 = rates.c2 = 0, rates.m2 = 0, rates.tag = random.pick<uint8_t>({1, 1, 2}); break;
+    case 8: rates.f2 = 0, rates.c2 = 1; break;
+    }
+  }
+
+  void any_open() {
+    if (random.percent(30)) open();
+    else open_sustained();
+  }
+  calls::Rates peak_alone() {
+    calls::Rates rates{};
+    choose_rules(rates.m, rates.f, rates.c);
+    return rates;
+  }
   void open() {
     begin_call("open");
-    uint8_t m;
-    uint32_t f, c;
-    choose_rules(m, f, c);
-    if (random.percent(15)) break_rules(m, f, c);
+    calls::Rates rates = peak_alone();
+    if (random.percent(15)) break_rules(rates.m, rates.f, rates.c);
     const uint16_t vci = any_vci();
     const size_t lent = usual_lengths().vcs;
-    const uint16_t expected = calls::open(record, memory.vcs.lend_ours(lent), vci, m, f, c);
+    const uint16_t expected = calls::open(record, memory.vcs.lend_ours(lent), vci, rates);
+    const uint16_t got = clurimoon_open(record, memory.vcs.lend_theirs(lent, random.once_in(2)), lent, vci, rates.m,
+                                        rates.f, rates.c);
+    opened("open", expected, got);
+  }
+  void open_sustained() {
+    begin_call("open_sustained");
+    calls::Rates rates = peak_alone();
+    if (random.percent(90)) {
+      choose_second(rates, rates.m2, rates.f2, rates.c2);
+      rates.tag = random.percent(60) ? 1 : 0;
+    }
+    if (random.percent(15)) break_limits(rates);
+    if (random.percent(8)) break_rules(rates.m, rates.f, rates.c);
+    const uint16_t vci = any_vci();
+    const size_t lent = usual_lengths().vcs;
+    const uint16_t expected = calls::open(record, memory.vcs.lend_ours(lent), vci, rates);
     const uint16_t got =
-        clurimoon_open(record, memory.vcs.lend_theirs(lent, random.once_in(2)), lent, vci, m, f, c);
+        clurimoon_open_sustained(record, memory.vcs.lend_theirs(lent, random.once_in(2)), lent, vci, rates.m, rates.f,
+                                 rates.c, rates.m2, rates.f2, rates.c2, rates.tag);
+    opened("open_sustained", expected, got);
+  }
+  void opened(const char *call, uint16_t expected, uint16_t got) {
     same<uint64_t>("number", expected, got);
     compare_memories();
-    count("open", got);
+    count(call, got);
     never_3(got);
   }
   void close() { close_of(any_vci()); }
@@ -287,7 +348,7 @@ protected:
     if (got.answer.number == 0) tally(got.answer.verdict, got.answer.space);
   }
   void tally(uint16_t verdict, uint16_t space) {
-    if (verdict > 4) fail("a verdict above 4");
+    if (verdict > 5) fail("a verdict above 5");
     verdicts[verdict] += 1;
     sent += space != none;
   }
@@ -383,7 +444,7 @@ protected:
     for (; count > 0; --count) {
       const uint64_t kind = random.below(100);
       if (kind < 66) slot();
-      else if (kind < 72) open();
+      else if (kind < 72) any_open();
       else if (kind < 78) close();
       else if (kind < 82) line();
       else if (kind < 94) audit();

@@ -61,7 +61,7 @@ private:
   void damage() {
     fresh = false;
     damages += 1;
-    switch (random.below(may_be_raw ? 17 : 15)) {
+    switch (random.below(may_be_raw ? 20 : 18)) {
     case 0: damage_record(); break;
     case 1: memory.links.set(likely_space(), edge_number()); break;
     case 2: memory.calendar.set(2 * likely_entry() + random.below(2), edge_number()); break;
@@ -79,8 +79,11 @@ private:
     case 14:
       (random.once_in(2) ? record.free_tail : record.free_head) = random.pick<uint16_t>({n, 65534});
       break;
-    case 15: record.raw = random.pick<uint16_t>({0, 1, 1, 2, 256, 65535}); break;
-    case 16: record.mode = random.pick<uint16_t>({0, 1, 1, 2, 256, 65535}); break;
+    case 15:
+    case 16:
+    case 17: damage_second(); break;
+    case 18: record.raw = random.pick<uint16_t>({0, 1, 1, 2, 256, 65535}); break;
+    case 19: record.mode = random.pick<uint16_t>({0, 1, 1, 2, 256, 65535}); break;
     }
   }
   void damage_record() {
@@ -98,7 +101,7 @@ private:
     }
   }
   void damage_vc() {
-    const size_t at = size_t{7} * likely_vc();
+    const size_t at = words_per_vc * likely_vc();
     const uint32_t m = memory.vcs.get(at + 1), f = memory.vcs.get(at + 2), c = memory.vcs.get(at + 3);
     const uint32_t leak = m < 16 ? uint32_t{1} << m : 1;
     const uint32_t any = static_cast<uint32_t>(random.next());
@@ -139,7 +142,32 @@ private:
     memory.vcs.set(at + 5, random.once_in(6) ? record.t - static_cast<uint32_t>((uint64_t{1} << 32) / leak)
                                              : record.t - elapsed);
     memory.vcs.set(at + 6, 0);
-    close_of(static_cast<uint16_t>(at / 7));
+    close_of(static_cast<uint16_t>(at / words_per_vc));
+  }
+  // One word of the second bucket, or several that stand at an edge together; each call that reads the VC may come next.
+  void damage_second() {
+    const uint16_t vci = likely_vc();
+    const size_t at = words_per_vc * vci + 7;
+    const uint32_t f = memory.vcs.get(at + 1), c = memory.vcs.get(at + 2);
+    const uint32_t any = static_cast<uint32_t>(random.next());
+    switch (random.below(9)) {
+    case 0: memory.vcs.set(at, random.pick<uint32_t>({0, 1, 15, 16, 31, 32, 64, 256, 65536, UINT32_MAX})); break;
+    case 1: memory.vcs.set(at + 1, random.pick<uint32_t>({0, 0, 1, 16777216, 16777217, c, c + 1, any})); break;
+    case 2:
+      memory.vcs.set(at + 2, random.pick<uint32_t>({0, f - 1, f - 1, f, 1073741824, 1073741825, UINT32_MAX, any}));
+      break;
+    case 3: memory.vcs.set(at + 3, random.pick<uint32_t>({0, c, c + 1, c + 1, c - f, c - f + 1, UINT32_MAX, any})); break;
+    case 4: memory.vcs.set(at + 4, random.pick<uint32_t>({0, 1, 2, 2, 256, 65536, UINT32_MAX, any})); break;
+    case 5: put_second(at, {random.pick<uint32_t>({0, 0, 1, 16}), 0, 0, random.pick<uint32_t>({0, 0, 1}), random.pick<uint32_t>({0, 1, 2})}); break;
+    case 6: put_second(at, {15, 16777217, 33554432, 0, 1}); break;
+    case 7: put_second(at, {random.pick<uint32_t>({0, 15}), 16777216, random.pick<uint32_t>({1073741824, 1073741825}), 0, 1}); break;
+    // Full to the brim, or by one part: the next CLP 0 cell is above it, or just within.
+    case 8: put_second(at, {0, 1000, 5000, random.pick<uint32_t>({4000, 4001, 4002, 5000, 5001}), random.pick<uint32_t>({0, 1})}); break;
+    }
+    if (random.once_in(6)) close_of(vci);
+  }
+  void put_second(size_t at, std::array<uint32_t, 5> words) {
+    for (size_t k = 0; k < 5; ++k) memory.vcs.set(at + k, words[k]);
   }
   // The head and tail of the Free List, the Output List or an entry.
   struct Pair {
@@ -200,7 +228,8 @@ private:
         {UINT32_MAX - record.t, UINT32_MAX - record.t - 3, static_cast<uint32_t>(random.next())});
     record.t += by;
     for (size_t vci = 1; vci < v; ++vci)
-      if (memory.vcs.get(7 * vci) == 1) memory.vcs.set(7 * vci + 5, memory.vcs.get(7 * vci + 5) + by);
+      if (memory.vcs.get(words_per_vc * vci) == 1)
+        memory.vcs.set(words_per_vc * vci + 5, memory.vcs.get(words_per_vc * vci + 5) + by);
   }
   // T at the next marked entry: every chain is sound, but entry T isn't empty.
   void mark_entry_T() {

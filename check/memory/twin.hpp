@@ -15,7 +15,7 @@ namespace memories {
 using calls::Lent;
 constexpr uint16_t none = CLURIMOON_NONE;
 // Elements around every lent buffer that no call may touch: whole cells, whole VCs.
-constexpr size_t slack = 53 * 7;
+constexpr size_t slack = 53 * 12;
 
 inline uint64_t scenario, made;
 inline const char *call_name = "none";
@@ -102,12 +102,12 @@ inline void same_record(const clurimoon_record &expected, const clurimoon_record
 }
 
 // How often each call gave each number, and each verdict was met.
-inline std::map<std::string, std::array<uint64_t, 11>> met;
-inline std::array<uint64_t, 5> verdicts;
+inline std::map<std::string, std::array<uint64_t, 12>> met;
+inline std::array<uint64_t, 6> verdicts;
 inline uint64_t sent, audits_yes, audits_no, parts_empty, parts_idle, parts_cell, burst_slots, damages;
 
 inline void count(const char *call, unsigned number) {
-  if (number > 10) fail("a number above 10");
+  if (number > 11) fail("a number above 11");
   met[call][number] += 1;
 }
 

@@ -27,6 +27,11 @@ Octets vo(unsigned vci, unsigned m, uint32_t f, uint32_t c) {
   Octets to = marked("VO");
   return put(to, vci, 2), put(to, m, 1), put(to, f, 4), put(to, c, 4), to;
 }
+Octets vs(unsigned vci, unsigned m, uint32_t f, uint32_t c, const SecondBucket &second) {
+  Octets to = vo(vci, m, f, c);
+  to[1] = 'S';
+  return put(to, second.m, 1), put(to, second.f, 4), put(to, second.c, 4), put(to, second.flag, 1), to;
+}
 Octets vx(unsigned vci) {
   Octets to = marked("VX");
   return put(to, vci, 2), to;
@@ -35,7 +40,7 @@ Octets sl(unsigned count) {
   Octets to = marked("SL");
   return put(to, count, 2), to;
 }
-// GFC, PTI, CLP, HEC and the payload are random: none of them matters where headers aren't checked.
+// GFC, PTI, CLP, HEC and the payload are random: of them only CLP matters where headers aren't checked.
 Octets ca(Random &random, unsigned vpi, unsigned vci) {
   Octets to = marked("CA");
   const uint64_t rest = random.next();
@@ -67,6 +72,8 @@ public:
         {"headers", &Generator::headers},       {"long pauses", &Generator::pauses},
         {"debts", &Generator::debts},           {"late cells", &Generator::late},
         {"header bits", &Generator::bits},      {"raw traffic", &Generator::raw_traffic},
+        {"sustained", &Generator::sustained},   {"limits of 11", &Generator::limits},
+        {"second debts", &Generator::second_debts},
     };
     const Kind &kind = kinds[index % (sizeof kinds / sizeof kinds[0])];
     trace.kind = kind.name;
@@ -97,8 +104,37 @@ private:
   }
   unsigned some_vci() { return random.percent(10) ? random.pick({1u, v - 1}) : 1 + small(v - 1); }
 
-  // Parameters within the rules: peak intervals from one slot up, tolerances up to N-1.
+  // Parameters within the rules: peak intervals from one slot up, tolerances up to N-1; some VCs with a second bucket.
   void open_good(unsigned vci, unsigned slowest) {
+    open_peak(vci, slowest);
+    Octets &record = trace.records.back();
+    if (!random.percent(40)) return;
+    const unsigned m = record[4];
+    const uint32_t f = value(record, 5), c = value(record, 9);
+    record = vs(vci, m, f, c, random.percent(90) ? a_second(m, f) : SecondBucket());
+  }
+  static uint32_t value(const Octets &record, size_t at) {
+    return uint32_t{record[at]} << 24 | uint32_t{record[at + 1]} << 16 | uint32_t{record[at + 2]} << 8 | record[at + 3];
+  }
+  // A second bucket for a VC with this peak: mostly slower by some times and with a tolerance of some cells, so that it
+  // is met by a source at its peak.
+  SecondBucket a_second(unsigned m, uint64_t f) {
+    SecondBucket second;
+    second.m = random.percent(50) ? small(4) : small(16);
+    const uint64_t leak = uint64_t{1} << second.m;
+    uint64_t fill = (f * (1 + random.below(4)) << second.m) >> m;
+    fill += random.below(leak + 1);
+    if (random.once_in(8)) fill = 1 + random.below(leak + 1);
+    fill = std::min<uint64_t>(std::max<uint64_t>(fill, 1), 16777216);
+    uint64_t most = fill * (1 + random.below(7));
+    most += random.below(fill);
+    if (random.once_in(5)) most = fill;
+    second.f = static_cast<uint32_t>(fill);
+    second.c = static_cast<uint32_t>(std::min<uint64_t>(most, 1073741824));
+    second.flag = random.percent(60) ? 1 : 0;
+    return second;
+  }
+  void open_peak(unsigned vci, unsigned slowest) {
     const unsigned m = random.percent(50) ? small(4) : small(16);
     const uint32_t leak = 1u << m;
     uint64_t f = leak;
@@ -135,6 +171,13 @@ private:
     const uint64_t kind = random.below(10);
     for (uint64_t bits = kind < 6 ? 1 : kind < 8 ? 2 : kind < 9 ? 3 : random.between(4, 9); bits > 0; --bits)
       change_bit(record, small(40));
+  }
+  // A cell with CLP 0 or 1.
+  void arrive_with(unsigned vci, unsigned clp) {
+    Octets record = ca(random, 0, vci);
+    record[5] = static_cast<uint8_t>((record[5] & 254u) | clp);
+    if (raw) put_octet_5(record), spoil(record);
+    add(std::move(record));
   }
   void cell() { arrive(0, random.pick(in_use)); }
   void quiet(unsigned most) { add(sl(1 + small(most))); }
@@ -292,7 +335,7 @@ private:
   Octets unknown_mark() {
     static const char *const marks[] = {"gm", "MG", "VV", "OV", "CX", "AC", "LS", "SX",
                                         "VA", "GO", "CL", "  ", "ca", "VM", "SO", "GN",
-                                        "gr", "RG", "VR", "SR", "GX"};
+                                        "gr", "RG", "VR", "SR", "GX", "vs", "SV", "GS", "CS", "SS"};
     Octets record = marked(marks[random.below(sizeof marks / sizeof marks[0])]);
     record.resize(2 + random.below(55), 0);
     return record;
@@ -320,7 +363,7 @@ private:
     const size_t more = random.pick<size_t>({0, 0, 0, 0, 1, 2, 3, 4, 5});
     const size_t target = 65536 + more - random.pick<size_t>({0, 0, 0, 1, 2, 3, 4, 12});
     while (length + 36 < target) add(sl(1)), length += 4;
-    while (length < target && (target - length) % 4 != 0) open_good(some_vci(), 4), length += 13;
+    while (length < target && (target - length) % 4 != 0) open_peak(some_vci(), 4), length += 13;
     while (length < target) add(sl(1 + small(3))), length += 4;
     switch (random.below(6)) {
     case 0: cell(); break;
@@ -410,6 +453,85 @@ private:
       else add(sl(1));
     }
     add(vx(1)), add(vx(2));
+  }
+  // Sources of variable rate: bursts of mostly CLP 0 cells at some interval, then a pause.
+  void sustained() {
+    begin();
+    for (unsigned k = 1 + small(4); k > 0; --k) {
+      const unsigned vci = some_vci(), m = small(8);
+      const uint64_t leak = uint64_t{1} << m, f = leak + random.below(2 * leak + 1), tolerance = random.below(n * leak);
+      const SecondBucket second = a_second(m, f);
+      add(vs(vci, m, static_cast<uint32_t>(f), static_cast<uint32_t>(f + tolerance), second));
+      in_use.push_back(vci);
+    }
+    for (unsigned k = small(40); k > 0; --k) {
+      const unsigned vci = random.pick(in_use), interval = random.pick({1u, 1u, 2u, 3u, 5u}), clp_1 = random.pick({0u, 0u, 10u, 50u});
+      for (unsigned cells = small(30); cells > 0; --cells) {
+        arrive_with(vci, random.percent(clp_1) ? 1 : 0);
+        if (interval > 1) add(sl(interval - 1));
+      }
+      if (random.once_in(2)) quiet(random.pick({2u, 20u, 300u}));
+      if (random.once_in(10)) odd_event();
+    }
+    if (random.percent(70)) quiet(2 * n + 5);
+  }
+  // Both sides of every limit of 11, alone and with 6 broken too, then cells that show what opened.
+  void limits() {
+    begin();
+    for (unsigned k = 1 + small(25); k > 0; --k) {
+      const unsigned vci = random.once_in(12) ? random.pick({0u, v, v + 1, 65535u}) : some_vci(), m = small(16);
+      const uint32_t leak = 1u << m, f = leak + small(2 * leak), good = f + small(n * leak);
+      const unsigned asked_m = random.once_in(10) ? 16 : m;
+      const uint32_t c = random.once_in(10) ? f + n * leak : good;
+      SecondBucket second = a_second(m, f);
+      switch (random.below(16)) {
+      case 0: second.m = random.pick({16u, 16u, 17u, 31u, 32u, 64u, 255u}); break;
+      case 1: second.f = 0; break;
+      case 2: second.f = 16777217, second.c = random.pick({16777217u, 16777218u, 1073741824u}); break;
+      case 3: second.c = second.f - 1; break;
+      case 4: second.c = random.pick({1073741825u, 2147483648u, 4294967295u}); break;
+      case 5: second.flag = random.pick({2u, 3u, 128u, 255u}); break;
+      case 6: second = {1 + small(16), 0, 0, 0}; break;
+      case 7: second = {0, 0, 0, random.pick({1u, 1u, 2u})}; break;
+      case 8: second = {}; break;
+      case 9: second.f = 16777216, second.c = random.pick({16777216u, 16777215u, 1073741824u}); break;
+      case 10: second.f = random.pick({1u, 1u, 2u}), second.c = random.pick({second.f, 1073741824u}); break;
+      case 11: second.m = 15; break;
+      case 12: second = {0, 0, random.pick({1u, 1073741824u}), 1}; break;
+      default: break;
+      }
+      add(vs(vci, asked_m, f, c, second));
+      in_use.push_back(vci);
+      for (unsigned cells = small(8); cells > 0; --cells) {
+        const unsigned clp = random.once_in(4) ? 1 : 0;
+        arrive_with(random.pick(in_use), clp);
+      }
+      if (random.once_in(4)) add(vx(random.pick(in_use)));
+      if (random.once_in(4)) quiet(n);
+    }
+    for (unsigned cells = small(60); cells > 0; --cells) arrive_with(random.pick(in_use), 0);
+  }
+  // A fast peak beside a slow second bucket: the peak's debt is soon paid, the second one's isn't. The VC is closed and
+  // reopened, and what was above its sustainable rate is within it again.
+  void second_debts() {
+    n = 1 + small(20), v = 3 + small(10);
+    set_up(4);
+    for (unsigned openings = 1 + small(8); openings > 0; --openings) {
+      const unsigned m = small(4), m2 = small(16);
+      const uint32_t leak = 1u << m;
+      const uint64_t fill = std::min<uint64_t>(uint64_t{10 + small(500)} << m2, 16777216), spare = small(50);
+      const uint64_t most = fill * (1 + small(4)) + spare;
+      const SecondBucket second = {m2, static_cast<uint32_t>(fill), static_cast<uint32_t>(most), random.percent(60) ? 1u : 0u};
+      add(vs(1, m, leak, leak + small(n * leak), second));
+      for (unsigned cells = 1 + small(12); cells > 0; --cells) {
+        arrive_with(1, random.once_in(6) ? 1 : 0);
+        if (random.once_in(3)) quiet(3);
+      }
+      for (unsigned closes = small(3); closes > 0; --closes) add(vx(1)), add(sl(1));
+      quiet(2 * n + 4);
+      add(vx(1));
+      if (random.once_in(4)) quiet(600);
+    }
   }
   // A raw trace with each of the forty bits wrong alone, then two, three or more, in both modes; idle
   // and unassigned cells, clean and spoilt, lead back, are mended or are dropped like others.

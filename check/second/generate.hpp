@@ -22,6 +22,12 @@ struct Trace {
 Octets gm(unsigned n, unsigned v);
 Octets gr(unsigned n, unsigned v);
 Octets vo(unsigned vci, unsigned m, uint32_t f, uint32_t c);
+struct SecondBucket {
+  unsigned m = 0;
+  uint32_t f = 0, c = 0;
+  unsigned flag = 0;
+};
+Octets vs(unsigned vci, unsigned m, uint32_t f, uint32_t c, const SecondBucket &);
 Octets vx(unsigned vci);
 Octets ca(Random &, unsigned vpi, unsigned vci);
 Octets sl(unsigned count);

@@ -12,8 +12,9 @@ struct Known {
   size_t size;
   bool first;
 };
-const std::map<std::string, Known> marks = {{"GM", {6, true}},  {"GR", {6, true}},   {"VO", {13, false}},
-                                            {"VX", {4, false}}, {"CA", {55, false}}, {"SL", {4, false}}};
+const std::map<std::string, Known> marks = {{"GM", {6, true}},   {"GR", {6, true}},  {"VO", {13, false}},
+                                            {"VS", {23, false}}, {"VX", {4, false}}, {"CA", {55, false}},
+                                            {"SL", {4, false}}};
 
 class Table {
 public:

@@ -16,7 +16,8 @@ size_t record_size(uint8_t first, uint8_t second) {
   const std::string mark{static_cast<char>(first), static_cast<char>(second)};
   static const std::map<std::string, size_t> sizes = {
       {"GM", 2 + 2 + 2}, {"GR", 2 + 2 + 2}, {"VO", 2 + 2 + 1 + 4 + 4},
-      {"VX", 2 + 2},     {"CA", 2 + 53},    {"SL", 2 + 2}};
+      {"VX", 2 + 2},     {"CA", 2 + 53},    {"SL", 2 + 2},
+      {"VS", 2 + 2 + 1 + 4 + 4 + 1 + 4 + 4 + 1}};
   const auto found = sizes.find(mark);
   return found == sizes.end() ? 0 : found->second;
 }
@@ -59,7 +60,7 @@ void Spacer::run(size_t readable, bool more) {
     if (size > left) return stop(place, more ? "record cut by the limit" : "record cut by the end");
     if (mark == 'L' && number(place + 2, 2) == 0) return stop(place, "SL of 0");
     if (sets_up && !setup(place)) return;
-    if (mark == 'O') open(place);
+    if (mark == 'O' || mark == 'S') open(place);
     if (mark == 'X') close(place);
     if (mark == 'A') slot(&input[place + 2]);
     if (mark == 'L')
@@ -111,21 +112,76 @@ bool Spacer::within_rules(uint64_t m, uint64_t f, uint64_t c) {
   return true;
 }
 
-void Spacer::open(size_t place) {
-  const uint64_t vci = number(place + 2, 2), m = number(place + 4, 1);
-  const uint64_t f = number(place + 5, 4), c = number(place + 9, 4);
-  int answer = 0;
-  if (vci < 1 || vci > vcs - 1) answer = 4;
-  else if (openings[vci].open) answer = 5;
-  else if (!within_rules(m, f, c)) answer = 6;
-  if (answer == 0) {
-    openings[vci] = Opening();
-    openings[vci].open = true;
-    openings[vci].m = static_cast<unsigned>(m), openings[vci].f = f, openings[vci].c = c;
-    if (pasts[vci].next_due != 0 && pasts[vci].closed_at == now) met("reopened at once");
+namespace {
+
+// The limits of 11: m (0 to 15), F (1 to 2^24), C (F to 2^30), flag (0 or 1), or all of them 0. F may be below L, and
+// nothing is said of N.
+const char *broken_limit(uint64_t m, uint64_t f, uint64_t c, uint64_t flag) {
+  if (m == 0 && f == 0 && c == 0 && flag == 0) return nullptr;
+  return m > 15          ? "m"
+         : f == 0       ? "F 0"
+         : f > 16777216 ? "F high"
+         : c < f        ? "C below F"
+         : c > 1u << 30 ? "C high"
+         : flag > 1     ? "flag"
+                        : nullptr;
+}
+
+} // namespace
+
+// Which of the limits are broken, and which are met exactly.
+bool Spacer::within_limits(const Opening &asked, uint64_t m2, uint64_t flag) {
+  const uint64_t f = asked.f2, c = asked.c2;
+  if (const char *broken = broken_limit(m2, f, c, flag)) {
+    met(std::string("11: ") + broken);
+    if (f == 0 && c == 0 && (m2 == 0 || flag == 0)) met("11: zeros but one");
+    if (m2 == 16 && f != 0) met("11: m 16");
+    if (m2 <= 15 && f == 16777217 && c >= f) met("11: F one high");
+    if (m2 <= 15 && f > 1 && c + 1 == f) met("11: C one below F");
+    if (m2 <= 15 && f != 0 && c == (1u << 30) + 1) met("11: C one high");
+    return false;
   }
-  met("open " + text(static_cast<uint64_t>(answer)));
+  if (f == 0) return true;
+  if (m2 == 15) met("0: second m 15");
+  if (f < uint64_t{1} << m2) met("0: second F below L");
+  if (f == 1) met("0: second F 1");
+  if (f == 16777216) met("0: second F greatest");
+  if (c == f) met("0: second C is F");
+  if (c == 1u << 30) met("0: second C greatest");
+  if (c - f >= spaces << m2) met("0: second tolerance above N");
+  return true;
+}
+
+// VO, or VS: "as VO, then m (8), F (32), C (32), flag (8)".
+void Spacer::open(size_t place) {
+  const bool sustained = input[place + 1] == 'S';
+  const uint64_t vci = number(place + 2, 2), m = number(place + 4, 1);
+  const uint64_t m2 = sustained ? number(place + 13, 1) : 0, flag = sustained ? number(place + 22, 1) : 0;
+  Opening asked;
+  asked.open = true;
+  asked.f = number(place + 5, 4), asked.c = number(place + 9, 4);
+  if (sustained) asked.f2 = number(place + 14, 4), asked.c2 = number(place + 18, 4);
+  const int answer = open_with(asked, vci, m, m2, flag);
+  met((sustained ? "VS: open " : "open ") + text(static_cast<uint64_t>(answer)));
+  if (sustained && answer == 0 && asked.f2 == 0) met("VS: open 0, zeros");
   listing += "open " + text(vci) + " " + text(static_cast<uint64_t>(answer)) + "\n";
+}
+
+int Spacer::open_with(const Opening &asked, uint64_t vci, uint64_t m, uint64_t m2, uint64_t flag) {
+  if (vci < 1 || vci > vcs - 1) return 4;
+  if (openings[vci].open) return 5;
+  if (!within_rules(m, asked.f, asked.c)) {
+    if (broken_limit(m2, asked.f2, asked.c2, flag)) met("6 before 11");
+    return 6;
+  }
+  if (!within_limits(asked, m2, flag)) return 11;
+  openings[vci] = asked;
+  openings[vci].m = static_cast<unsigned>(m), openings[vci].m2 = static_cast<unsigned>(m2);
+  openings[vci].tags = flag == 1;
+  const bool at_once = pasts[vci].next_due != 0 && pasts[vci].closed_at == now;
+  if (at_once) met("reopened at once");
+  if (at_once && pasts[vci].owed2 && asked.f2 != 0) met("reopened at once, the second debt wiped");
+  return 0;
 }
 
 void Spacer::close(size_t place) {
@@ -135,7 +191,11 @@ void Spacer::close(size_t place) {
   else if (!openings[vci].open) answer = 7;
   else if (!may_close(openings[vci])) answer = 8;
   if (answer == 0) {
-    if (openings[vci].next_due != 0) pasts[vci] = {openings[vci].next_due, openings[vci].m, now};
+    const Opening &vc = openings[vci];
+    // "Closing looks at the peak bucket only."
+    const bool owed2 = vc.next_due2 > 0 && vc.next_due2 > (now - 1) << vc.m2;
+    if (vc.f2 != 0) met(owed2 ? "close 0: second bucket not empty" : "close 0: second bucket empty");
+    if (vc.next_due != 0) pasts[vci] = {vc.next_due, vc.m, now, owed2};
     openings[vci] = Opening();
   }
   met("close " + text(static_cast<uint64_t>(answer)));
@@ -214,7 +274,7 @@ std::string Spacer::arrive(const Header &cell) {
   const unsigned vpi = (cell[0] & 15u) * 16 + cell[1] / 16;
   const unsigned vci = (cell[1] & 15u) * 4096 + cell[2] * 16u + cell[3] / 16;
   if (vpi == 0 && vci == 0) return met("no user cell"), ". - -";
-  if (vpi == 0 && vci < vcs && openings[vci].open) return arrive_open(openings[vci], vci);
+  if (vpi == 0 && vci < vcs && openings[vci].open) return arrive_open(openings[vci], vci, cell[3] % 2 == 1);
   unknown += 1;
   met(vpi != 0     ? vci == 0 ? "U: VPI not 0, VCI 0" : "U: VPI not 0"
       : vci >= vcs ? "U: VCI high"
@@ -222,15 +282,17 @@ std::string Spacer::arrive(const Header &cell) {
   return "U " + text(vci) + " -";
 }
 
-std::string Spacer::arrive_open(Opening &vc, unsigned vci) {
+std::string Spacer::arrive_open(Opening &vc, unsigned vci, bool clp) {
   const uint64_t leak = uint64_t{1} << vc.m, arrival = now * leak;
   const uint64_t due_time = std::max(arrival, vc.next_due);
-  meet_engine(vc, due_time, due_time - arrival > vc.c - vc.f);
   // The exact leak rule: what is still owed may be at most C-F.
-  if (due_time - arrival > vc.c - vc.f) {
+  const bool above_peak = due_time - arrival > vc.c - vc.f;
+  const bool within = sustained(vc, clp, above_peak);
+  meet_engine(vc, due_time, above_peak);
+  if (above_peak || (!within && !vc.tags)) {
     excess += 1;
-    if (due_time - arrival == vc.c - vc.f + 1) met("X: one part too early");
-    return met("X"), "X " + text(vci) + " -";
+    if (above_peak && due_time - arrival == vc.c - vc.f + 1) met("X: one part too early");
+    return met(above_peak ? "X" : "X: by the second bucket"), "X " + text(vci) + " -";
   }
   if (due_time != arrival && due_time - arrival == vc.c - vc.f) met("A: just in time");
   if (vc.next_due == 0 && pasts[vci].next_due != 0) meet_reopening(vc, pasts[vci], due_time);
@@ -241,11 +303,45 @@ std::string Spacer::arrive_open(Opening &vc, unsigned vci) {
   due[due_slot].push_back({vci, due_slot});
   if (spaces > 1 && due_slot - now == spaces - 1) met("A: D is N-1");
   if (due[due_slot].size() > 1) met("A: joins others");
-  return met("A"), "A " + text(vci) + " " + text(due_slot - now);
+  const char *const letter = within ? "A" : "T";
+  if (!within && due_slot != now) met("T: D above 0");
+  return met(letter), letter + (" " + text(vci)) + " " + text(due_slot - now);
 }
 
-// Virtual scheduling says of each cell what the leak rule says, with the same due time.
+// Whether the cell is within the sustainable rate; if so, and CLP 0 and not above the peak, it counts against it. A cell
+// of CLP 1 is always within, and a VC without a second bucket has no such rate.
+bool Spacer::sustained(Opening &vc, bool clp, bool above_peak) {
+  if (vc.f2 == 0) return true;
+  const uint64_t arrival = now << vc.m2, due_time = std::max(arrival, vc.next_due2), early = due_time - arrival;
+  const bool above = early > vc.c2 - vc.f2;
+  if (above_peak) {
+    met(!above ? "X: within the second bucket" : vc.tags ? "X: above both, with the flag" : "X: above both");
+    return true;
+  }
+  if (clp) return met(above ? "A: CLP 1, above the second bucket" : "A: CLP 1"), true;
+  if (above && early == vc.c2 - vc.f2 + 1) met("second: one part too early");
+  if (!above && early != 0 && early == vc.c2 - vc.f2) met("second: just in time");
+  if (above) return false;
+  vc.next_due2 = due_time + vc.f2, met("A: fills both");
+  meet_bound(vc, arrival);
+  return true;
+}
+
+// "In any w consecutive slots at most 1 + floor(((w-1) x L + C-F) / F)" of these cells: so the k-th and an earlier one,
+// i-th, lie apart by at least (k - i) x F - (C-F) parts. The earlier one that asks for most is kept.
+void Spacer::meet_bound(Opening &vc, uint64_t arrival) {
+  const Wide spared = Wide(arrival) - Wide(vc.sustained_cells) * Wide(vc.f2), tolerance = Wide(vc.c2 - vc.f2);
+  if (vc.sustained_cells == 0) vc.most_spared = spared;
+  if (spared < vc.most_spared - tolerance) met("FALSE: more CLP 0 cells pass than the sustainable rate allows");
+  if (vc.sustained_cells != 0 && spared - (vc.most_spared - tolerance) < Wide(vc.f2)) met("second: as many as the bound allows");
+  vc.most_spared = std::max(vc.most_spared, spared);
+  vc.sustained_cells += 1;
+}
+
+// Virtual scheduling says of each cell what the leak rule says, with the same due time: on a VC where nothing but the
+// peak bucket makes a cell excess.
 void Spacer::meet_engine(Opening &vc, uint64_t due_time, bool is_excess) {
+  if (vc.f2 != 0 && !vc.tags) return;
   const Told told = gcra(vc.engine, {spaces, vc.m, vc.f, vc.c}, now);
   vc.engine = told.kept;
   if (told.number != 0 || told.verdict != (is_excess ? 2u : 1u) || told.due != (is_excess ? 0 : due_time))

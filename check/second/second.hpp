@@ -37,12 +37,20 @@ private:
     uint64_t next_due = 0; // the last accepted cell's due time plus F, or 0
     uint64_t waiting = 0;
     Kept engine; // the generator's rule beside it, from its first cell on
+    // The sustainable rate of CLP 0 cells, in parts of its own 1/L slot; F 0 for none.
+    unsigned m2 = 0;
+    uint64_t f2 = 0, c2 = 0;
+    bool tags = false;
+    uint64_t next_due2 = 0; // as next_due, of the cells that filled the second bucket
+    uint64_t sustained_cells = 0;
+    Wide most_spared = 0; // for the bound on them
   };
   // A VC's last opening that accepted a cell and is closed, to hold the next against.
   struct Past {
     uint64_t next_due = 0; // 0 for none
     unsigned m = 0;
     uint64_t closed_at = 0; // `now` at its close
+    bool owed2 = false;     // its second bucket was not empty then
   };
   // An accepted cell; the slot in which it is due is the queue that it is in.
   struct Cell {
@@ -68,6 +76,8 @@ private:
   void run(size_t readable, bool more);
   bool setup(size_t place);
   void open(size_t place);
+  int open_with(const Opening &asked, uint64_t vci, uint64_t m, uint64_t m2, uint64_t flag);
+  bool within_limits(const Opening &asked, uint64_t m2, uint64_t flag);
   void close(size_t place);
   bool may_close(const Opening &);
   void meet_reopening(const Opening &, const Past &, uint64_t due_time);
@@ -75,7 +85,9 @@ private:
   std::string take_in(const uint8_t *cell);
   void meet_check(const Header &came, bool correcting, bool taken, char verdict);
   std::string arrive(const Header &);
-  std::string arrive_open(Opening &, unsigned vci);
+  std::string arrive_open(Opening &, unsigned vci, bool clp);
+  bool sustained(Opening &, bool clp, bool above_peak);
+  void meet_bound(Opening &, uint64_t arrival);
   void meet_engine(Opening &, uint64_t due_time, bool is_excess);
   bool within_rules(uint64_t m, uint64_t f, uint64_t c);
   void stop(size_t place, const char *why);

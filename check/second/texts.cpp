@@ -117,8 +117,14 @@ std::string later(Random &random, uint64_t most_pause) {
   const uint64_t kind = random.below(10);
   if (kind < 5) return pause(random, most_pause);
   if (kind < 6) return "VX " + number(random, 65535);
-  if (kind < 8)
-    return "VO " + number(random, 65535) + " " + number(random, 255) + " " + number(random, wide) + " " + number(random, wide);
+  if (kind < 8) {
+    const bool sustained = random.once_in(2);
+    std::string line = sustained ? "VS" : "VO";
+    for (uint64_t most : {uint64_t{65535}, uint64_t{255}, wide, wide}) line += " " + number(random, most);
+    if (sustained)
+      for (uint64_t most : {uint64_t{255}, wide, wide, uint64_t{255}}) line += " " + number(random, most);
+    return line;
+  }
   return "CA " + cell(random);
 }
 

@@ -1,4 +1,4 @@
--- Steps 1 to 3 of a slot: an accepted cell is one more that waits, and no other waiting word changes.
+-- Steps 1 to 3 of a slot: a cell that is let in, accepted or tagged, is one more that waits, and no other waiting word changes.
 use Prim.Native.Nat.{ℕ, _+_, _-_, _%_, _≤_, _<_}
 use mathlib.Core.Path.{_≡_, refl, sym, ap, subst, _∙_}
 use mathlib.Core.Bool.{Bool, true, false, not, _&&_, _||_}
@@ -8,15 +8,15 @@ use native.Mathlib.Omega.{arith}
 use borrow.Author.Tests.{eqb-false, ltb-true}
 use lib.ListN.{length}
 use Rattle.meaning.specs.declared.Answer.{Answer}
-use Rattle.meaning.specs.Plain.{_<?_, _≤?_, _=?_, Out, refused, next, needs, _andThen_}
-use Rattle.meaning.specs.Numbers.{accepted}
+use Rattle.meaning.specs.Plain.{if_then_else_, _<?_, _≤?_, _=?_, Out, refused, next, needs, _andThen_}
+use Rattle.meaning.specs.Numbers.{excess, letsIn}
 use Rattle.meaning.specs.State.{State, freeList, withRecord, withCells, withLinks, withCalendar, withWords, recordWith, withClock, withFreeList, writeCell}
-use Rattle.meaning.specs.Bucket.{isExcess, delay, fill, elapsed, fall}
+use Rattle.meaning.specs.Bucket.{isExcess, delay, fill, elapsed}
 use Rattle.meaning.specs.Header.{Header, headerAt, noUserCell, namesVc}
-use Rattle.meaning.specs.Words.{Vc, vcAt, writeVc, withWaiting, withBucket, upToDate, openWordFits, bucketFits}
+use Rattle.meaning.specs.Words.{Vc, vcAt, writeVc, withWaiting, withBuckets, fallenTo, upToDate, openWordFits, bucketsFit}
 use Rattle.meaning.specs.Lists.{isEmpty, Taken, takeHead, entryAt, writeEntry, joinHead, endsFit}
 use Rattle.meaning.specs.Work.{Work, withState, withVc, withArrival}
-use Rattle.meaning.specs.Arrival.{place, accept, judge}
+use Rattle.meaning.specs.Arrival.{place, verdictOn, secondAfter, sentAs, accept, judge}
 use Rattle.meaning.specs.Slot.{step1, step2, step3}
 use Rattle.list_meaning.specs.Listing.{isAccepted}
 use Rattle.list_counts.proofs.Balance.{Holds, holds-then, holds-if, holds-needs, both, not-not, one, Words, Quiet, Fresh, write-words, write-same}
@@ -35,11 +35,11 @@ module _ (z base : ℕ) where
   Kept vc now = (now .opened ≡ vc .opened) × (now .waiting ≡ vc .waiting)
 
   date-kept : (N t : ℕ) (vc : Vc) → Holds (Kept vc) (upToDate N t vc)
-  unfolding upToDate
+  unfolding upToDate fallenTo
   date-kept N t vc =
-      let now : Vc = record { opened = vc .opened; bucket = fall (elapsed t (vc .last)) (vc .bucket); last = t; waiting = vc .waiting } in
+      let now : Vc = fallenTo (elapsed t (vc .last)) t vc in
       let kept : Kept vc now = (refl, refl) in
-      holds-needs (Kept vc) (bucketFits N (vc .bucket)) (next now) (λ _. kept)
+      holds-needs (Kept vc) (bucketsFit N vc) (next now) (λ _. kept)
 
   pub step2-even : (w : Work) → Fresh z base w → Holds (Fresh z base) (step2 w)
   unfolding step2 withWords
@@ -56,6 +56,7 @@ module _ (z base : ℕ) where
   -- ---- step 3
 
   quiet : (w : Work) → Fresh z base w → Quiet z base w
+  unfolding letsIn
   quiet w f =
       let a : isAccepted (w .answer) ≡ false = ap (λ (x : Answer). isAccepted x) (f .bare) in
       record {
@@ -68,8 +69,8 @@ module _ (z base : ℕ) where
       nothing-more : base + 0 ≡ base
       nothing-more = omega arith
 
-  -- an arrival that is not accepted
-  not-accepted : (w : Work) (words′ : List ℕ) (verdict vci : ℕ) → Fresh z base w → Words z base words′ base → verdict =? accepted ≡ false
+  -- an arrival that is not let in
+  not-accepted : (w : Work) (words′ : List ℕ) (verdict vci : ℕ) → Fresh z base w → Words z base words′ base → letsIn verdict ≡ false
       → Quiet z base (withArrival (withState w (withWords (w .state) words′)) verdict vci 0)
   unfolding withWords
   not-accepted w words′ verdict vci f l e =
@@ -83,7 +84,7 @@ module _ (z base : ℕ) where
       nothing-more : base + 0 ≡ base
       nothing-more = omega arith
 
-  unknown-quiet : (w : Work) (verdict vci : ℕ) → Fresh z base w → verdict =? accepted ≡ false → Quiet z base (withArrival w verdict vci 0)
+  unknown-quiet : (w : Work) (verdict vci : ℕ) → Fresh z base w → letsIn verdict ≡ false → Quiet z base (withArrival w verdict vci 0)
   unfolding withWords
   unknown-quiet w verdict vci f e = not-accepted w (w .state .words) verdict vci f (f .words) e
 
@@ -99,46 +100,61 @@ module _ (z base : ℕ) where
       let q′ : Quiet z base (withState w s4) = record { v-is = q .v-is; words = q .words; unsent = q .unsent; number = q .number } in
       holds-needs (Quiet z base) (endsFit (s .ctl .n) entry) (next (withState w s4)) (λ _. q′)
 
-  accept-quiet : (cell : List ℕ) (vci : ℕ) (w : Work) (vc : Vc) → Fresh z base w → vci < z → Kept (vcAt (w .state .words) vci) vc
-      → vc .opened ≢ 0 → Holds (Quiet z base) (accept cell vci w vc)
+  accept-quiet : (cell : List ℕ) (verdict vci : ℕ) (w : Work) (vc : Vc) → Fresh z base w → vci < z → Kept (vcAt (w .state .words) vci) vc
+      → vc .opened ≢ 0 → letsIn verdict ≡ true → Holds (Quiet z base) (accept cell verdict vci w vc)
   unfolding accept withWords
-  accept-quiet cell vci w vc f low k o =
-      let filled = withWaiting (withBucket vc (fill (vc .bucket))) (vc .waiting + 1) in
+  accept-quiet cell verdict vci w vc f low k o in′ =
+      let second = secondAfter (headerAt cell 0 .clp) verdict (vc .second) in
+      let filled = withWaiting (withBuckets vc (fill (vc .bucket)) second) (vc .waiting + 1) in
       let s = w .state in
       let N = s .ctl .n in
       let D = delay (vc .bucket) in
-      let w1 : Work = withArrival (withVc w vci filled) accepted vci D in
+      let w1 : Work = withArrival (withVc w vci filled) verdict vci D in
       let q : Quiet z base w1 =
       record {
         v-is = f .v-is;
-        words = write-words z base (s .words) base vci (base + 1) filled (f .words) low o (omega (arith, k .1));
+        words = subst (Words z base (writeVc (s .words) vci filled)) (sym (ap (λ (b : Bool). base + one b) in′))
+            (write-words z base (s .words) base vci (base + 1) filled (f .words) low o (omega (arith, k .1)));
         unsent = ap (λ (x : Answer). x .space) (f .bare);
         number = ap (λ (x : Answer). x .number) (f .bare);
       } in
-      let rest = takeHead N (s .links) (freeList s) andThen place cell D w1 in
+      let rest = takeHead N (s .links) (freeList s) andThen place (sentAs verdict cell) D w1 in
       holds-needs (Quiet z base) (vc .waiting <? N) (needs (endsFit N (freeList s) && not (isEmpty (freeList s))) rest)
       (λ _. holds-needs (Quiet z base) (endsFit N (freeList s) && not (isEmpty (freeList s))) rest
-      (λ _. holds-then (λ (t : Taken). 0 ≤ 0) (Quiet z base) (takeHead N (s .links) (freeList s)) (place cell D w1) (taken (takeHead N (s .links) (freeList s)))
-      (λ t _. place-quiet cell D w1 t q)))
+      (λ _. holds-then (λ (t : Taken). 0 ≤ 0) (Quiet z base) (takeHead N (s .links) (freeList s)) (place (sentAs verdict cell) D w1) (taken (takeHead N (s .links) (freeList s)))
+      (λ t _. place-quiet (sentAs verdict cell) D w1 t q)))
     where
       taken : (x : Out Taken) → Holds (λ (t : Taken). 0 ≤ 0) x
       taken refused = omega arith
       taken (next t) = omega arith
 
+  -- what is not excess is let in
+  lets-in : (clp : ℕ) (vc : Vc) → verdictOn clp vc =? excess ≡ false → letsIn (verdictOn clp vc) ≡ true
+  unfolding verdictOn letsIn
+  lets-in clp vc = go (isExcess (vc .bucket)) (clp =? 0 && isExcess (vc .second)) (vc .tag =? 0)
+    where
+      go : (a b c : Bool) → (if a then 2 else if b then (if c then 2 else 5) else 1) =? excess ≡ false
+          → letsIn (if a then 2 else if b then (if c then 2 else 5) else 1) ≡ true
+      go true b c e = sym e
+      go false true true e = sym e
+      go false true false e = refl
+      go false false c e = refl
+
   judge-quiet : (cell : List ℕ) (vci : ℕ) (w : Work) (vc : Vc) → Fresh z base w → vci < z → Kept (vcAt (w .state .words) vci) vc
       → vc .opened ≢ 0 → Holds (Quiet z base) (judge cell vci w vc)
-  unfolding judge
+  unfolding judge letsIn
   judge-quiet cell vci w vc f low k o =
-      holds-if (Holds (Quiet z base)) (isExcess (vc .bucket)) _ _
+      let verdict = verdictOn (headerAt cell 0 .clp) vc in
+      holds-if (Holds (Quiet z base)) (verdict =? excess) _ _
       (λ _. not-accepted w (writeVc (w .state .words) vci vc) 2 vci f (write-same z base (w .state .words) base vci vc (f .words) (k .0) (k .1)) refl)
-      (λ _. accept-quiet cell vci w vc f low k o)
+      (λ e. accept-quiet cell verdict vci w vc f low k o (lets-in (headerAt cell 0 .clp) vc e))
 
   pub names-low : (v : ℕ) (h : Header) → namesVc v h ≡ true → h .vci < v
   unfolding namesVc
   names-low v h e = ltb-true (h .vci) v (both (h .vpi =? 0 && 1 ≤? h .vci) (h .vci <? v) e .1)
 
   pub step3-even : (cell : List ℕ) (w : Work) → Fresh z base w → Holds (Quiet z base) (step3 cell w)
-  unfolding step3
+  unfolding step3 letsIn
   step3-even cell w f =
       let s = w .state in
       let h = headerAt cell 0 in

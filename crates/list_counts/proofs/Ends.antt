@@ -14,7 +14,7 @@ use Rattle.meaning.specs.Plain.{if_then_else_, _<?_, _≤?_, _=?_}
 use Rattle.meaning.specs.Numbers.{rangesHold, slotNumbers, wordsPerVc, waitingPlace}
 use Rattle.meaning.specs.State.{State, stateOf, withWords, wordsLong, lengthsHold}
 use Rattle.meaning.specs.Bucket.{bucketOf, obeysRules}
-use Rattle.meaning.specs.Words.{Vc, vcAt, writeVc, openedVc, closedVc, openWordFits, bucketFits, vcFits, debt}
+use Rattle.meaning.specs.Words.{Vc, vcAt, writeVc, openedVc, closedVc, openWordFits, bucketsFit, vcFits, secondObeys, Second, debt}
 use Rattle.meaning.proofs.WordsLaws.{write-read, write-read-other}
 use Rattle.meaning.specs.Calls.{SetUp, setUpOf, zeros, freshRecord, freshState, setup, Called, calledOf, sharedRefusal, openCall, closeCall}
 use Rattle.list_lines.specs.Lines.{stopLine}
@@ -95,29 +95,30 @@ zero-opened N vc f o = go (vc .opened =? 0) refl
     go : (b : Bool) → vc .opened =? 0 ≡ b → vc .opened ≡ 0
     go true e = eqb-true _ _ e
     go false e =
-        let g : (if vc .opened =? 0 then true else (vc .opened ≤? 1 && bucketFits N (vc .bucket) && vc .waiting ≤? N)) ≡ true = f in
-        let k : vc .opened ≤? 1 && bucketFits N (vc .bucket) && vc .waiting ≤? N ≡ true = rw e at g in
-        let l : vc .opened ≤ 1 = leb-true _ _ (both (vc .opened ≤? 1) (bucketFits N (vc .bucket)) (both (vc .opened ≤? 1 && bucketFits N (vc .bucket)) (vc .waiting ≤? N) k .0) .0) in
+        let g : (if vc .opened =? 0 then true else (vc .opened ≤? 1 && bucketsFit N vc && vc .waiting ≤? N)) ≡ true = f in
+        let k : vc .opened ≤? 1 && bucketsFit N vc && vc .waiting ≤? N ≡ true = rw e at g in
+        let l : vc .opened ≤ 1 = leb-true _ _ (both (vc .opened ≤? 1) (bucketsFit N vc) (both (vc .opened ≤? 1 && bucketsFit N vc) (vc .waiting ≤? N) k .0) .0) in
         let n : vc .opened ≢ 1 = eqb-false _ _ o in
         omega (arith, l, n)
 
-open-balanced : (s : State) (h : List Answer) (vci m F C : ℕ) → Balanced s h
-    → Balanced (withWords s (openCall (s .ctl) (s .words) vci m F C .words)) h
+open-balanced : (s : State) (h : List Answer) (vci m F C : ℕ) (x : Second) → Balanced s h
+    → Balanced (withWords s (openCall (s .ctl) (s .words) vci m F C x .words)) h
 unfolding openCall openedVc
-open-balanced s h vci m F C b =
+open-balanced s h vci m F C x b =
     let r = s .ctl in
     let k = sharedRefusal r (s .words) vci in
-    let P : Called → Type 0 = λ x. Balanced (withWords s (x .words)) h in
+    let P : Called → Type 0 = λ k. Balanced (withWords s (k .words)) h in
     let kept = kept-balanced s h b in
     choose-called P (not (k =? 0)) _ _ (λ _. kept) (λ e.
     let p = passed r (s .words) vci (eqb-true k 0 (not-not (k =? 0) e)) in
     choose-called P (vcAt (s .words) vci .opened =? 1) _ _ (λ _. kept) (λ o.
     choose-called P (not (obeysRules (r .n) (bucketOf m F C 0))) _ _ (λ _. kept) (λ _.
+    choose-called P (not (secondObeys (bucketOf (x .m) (x .F) (x .C) 0) (x .tag))) _ _ (λ _. kept) (λ _.
     let z = zero-opened (r .n) (vcAt (s .words) vci) (p .fits) o in
-    written-balanced s h vci (openedVc (r .t) (bucketOf m F C 0)) b (p .long) (p .low) (opened-none r m F C ∙ sym (b .closed vci (p .low) z)) (λ _. opened-none r m F C))))
+    written-balanced s h vci (openedVc (r .t) (bucketOf m F C 0) x) b (p .long) (p .low) (opened-none r ∙ sym (b .closed vci (p .low) z)) (λ _. opened-none r)))))
   where
-    opened-none : (r : Record) (m F C : ℕ) → openedVc (r .t) (bucketOf m F C 0) .waiting ≡ 0
-    opened-none r m F C = refl
+    opened-none : (r : Record) → openedVc (r .t) (bucketOf m F C 0) x .waiting ≡ 0
+    opened-none r = refl
 
 close-balanced : (s : State) (h : List Answer) (vci : ℕ) → Balanced s h
     → Balanced (withWords s (closeCall (s .ctl) (s .words) vci .words)) h
@@ -169,7 +170,7 @@ setup-balanced N z raw cells links calendar words =
 pub call-balanced : (s : State) (h : List Answer) (c : Call) → Balanced s h → Balanced (stateAfter s c) (answersAfter s h c)
 unfolding stateAfter answersAfter
 call-balanced s h (setUp N z raw) b = setup-balanced N z raw (s .cells) (s .links) (s .calendar) (s .words)
-call-balanced s h (openVc vci m F C) b = open-balanced s h vci m F C b
+call-balanced s h (openVc vci m F C x) b = open-balanced s h vci m F C x b
 call-balanced s h (closeVc vci) b = close-balanced s h vci b
 call-balanced s h (serve cell) b = slot-balanced s cell h b
 
@@ -177,7 +178,7 @@ call-balanced s h (serve cell) b = slot-balanced s cell h b
 ends-balanced : (s : State) (h : List Answer) (c : Call) → Balanced s h → endsRun s c ≡ true → Balanced (stateAfter s c) []
 unfolding endsRun stateAfter
 ends-balanced s h (setUp N z raw) b e = setup-balanced N z raw (s .cells) (s .links) (s .calendar) (s .words)
-ends-balanced s h (openVc vci m F C) b e = absurd (let z : _≡_ {A = ℕ} 0 1 = cc in omega arith)
+ends-balanced s h (openVc vci m F C x) b e = absurd (let z : _≡_ {A = ℕ} 0 1 = cc in omega arith)
 ends-balanced s h (closeVc vci) b e = absurd (let z : _≡_ {A = ℕ} 0 1 = cc in omega arith)
 ends-balanced s h (serve cell) b e = absurd (let z : _≡_ {A = ℕ} 0 1 = cc in omega arith)
 
@@ -207,7 +208,7 @@ unfolding lentFor
 lent-balanced finished = zeros-balanced [] [] [] []
 lent-balanced (stopped place) = zeros-balanced [] [] [] []
 lent-balanced (call (setUp N z raw) rest) = zeros-balanced _ _ _ _
-lent-balanced (call (openVc vci m F C) rest) = zeros-balanced [] [] [] []
+lent-balanced (call (openVc vci m F C x) rest) = zeros-balanced [] [] [] []
 lent-balanced (call (closeVc vci) rest) = zeros-balanced [] [] [] []
 lent-balanced (call (serve cell) rest) = zeros-balanced [] [] [] []
 

@@ -1,4 +1,4 @@
--- A slot keeps the balance: an accepted cell waits, a sent one no longer does, and a dropped one never did.
+-- A slot keeps the balance: an accepted or tagged cell waits, a sent one no longer does, and a dropped one never did.
 use Prim.Native.Nat.{ℕ, _+_, _-_, _*_, _≤_, _<_}
 use mathlib.Core.Path.{_≡_, refl, sym, ap, subst, _∙_}
 use mathlib.Core.Bool.{Bool, true, false, not, _&&_, _||_}
@@ -10,7 +10,7 @@ use lib.ListN.{length, getD}
 use Rattle.base_hec.specs.Modes.{Arriving, arriving, arrivingFits}
 use Rattle.meaning.specs.declared.Answer.{Answer}
 use Rattle.meaning.specs.Plain.{if_then_else_, _<?_, _≤?_, _=?_, Out, refused, next, needs, _andThen_}
-use Rattle.meaning.specs.Numbers.{octets, perEntry, wordsPerVc, empty, nothing, rangesHold, cellStart}
+use Rattle.meaning.specs.Numbers.{octets, perEntry, wordsPerVc, empty, nothing, letsIn, rangesHold, cellStart}
 use Rattle.meaning.specs.State.{State, Ends, freeList, outputList, lengthsHold, wordsLong, withRecord, withLinks, withCalendar, withWords, recordWith, withFreeList, withOutputList, recordInMode, withMode}
 use Rattle.meaning.specs.Header.{headerAt, namesVc, namesOpenVc}
 use Rattle.meaning.specs.Words.{vcAt, withWaiting}
@@ -121,7 +121,7 @@ one-more test a h = refl
 
 -- an answer that neither accepts nor sends, and a state that stays
 stay-balanced : (s : State) (h : List Answer) (k : ℕ) → Balanced s h → Balanced s (bareAnswer k ∷ h)
-unfolding manyOf
+unfolding manyOf letsIn
 stay-balanced s h k b = record { even = omega (arith, b .even); closed = b .closed }
 
 done-balanced : (s : State) (w : Work) (h : List Answer) → Balanced s h

@@ -6,7 +6,7 @@ use mathlib.Core.Bool.{Bool, true, false, _&&_}
 use mathlib.Core.List.{[]}
 use native.Mathlib.Omega.{arith}
 use Rattle.meaning.specs.Plain.{if_then_else_, _<?_, _≤?_, _=?_, Out, refused, next, needs, _andThen_}
-use Rattle.meaning.specs.Numbers.{nothing, accepted, cellStart}
+use Rattle.meaning.specs.Numbers.{nothing, letsIn, cellStart}
 use Rattle.meaning.specs.State.{State, freeList, outputList, withLinks, withCalendar, withFreeList, withOutputList}
 use Rattle.meaning.specs.Header.{headerAt, namesOpenVc}
 use Rattle.meaning.specs.Words.{Vc, vcAt, withWaiting, openWordFits, upToDate}
@@ -88,11 +88,12 @@ five-silent w h =
 -- a dropped cell that is told stays out of the balance
 module _ (z base : ℕ) where
   told-done : (w : Work) → Done z base w → Silent w → Done z base (told true w)
+  unfolding letsIn
   told-done w d e =
       record {
         v-is = d .v-is;
         closed = d .closed;
-        even = d .even ∙ ap (λ (v : ℕ). base + one (v =? accepted)) e;
+        even = d .even ∙ ap (λ (v : ℕ). base + one (letsIn v)) e;
         number = d .number;
       }
 

@@ -9,12 +9,12 @@ use denote.Enum.Declared.{tagOf}
 use Rattle.meaning.specs.Plain.{if_then_else_, _≤?_}
 use Rattle.meaning.specs.Numbers.{rangesHold, mostN, leastV, mostV}
 use Rattle.trace_record.specs.declared.Event.{Event}
-use Rattle.trace_record.specs.declared.Event.the-variants.{Setup, Open, Close, Cell, Pause}
+use Rattle.trace_record.specs.declared.Event.the-variants.{Setup, Open, Close, Cell, Pause, Sustain}
 use Rattle.trace_record.specs.declared.Found.{Found}
 use Rattle.trace_record.specs.declared.Found.the-variants.{Read, End, Unreadable}
 use Rattle.trace_record.proofs.Event as Event·laws
 use Rattle.trace_record.proofs.Found as Found·laws
-use Rattle.trace_record.specs.Trace.{TraceRecord, GM, VO, VX, CA, SL, Stands, event, finish, refusal, recordOf, saidOf}
+use Rattle.trace_record.specs.Trace.{TraceRecord, GM, VO, VX, CA, SL, VS, Stands, event, finish, refusal, recordOf, saidOf}
 use Rattle.list_whole.specs.declared.Sizes.{Sizes}
 use Rattle.list_whole.specs.Fill.{sizesAt}
 
@@ -28,11 +28,12 @@ no-record (Read e next) (inr h) = let z : _≡_ {A = ℕ} 0 2 = h in cc
 no-record End h = refl
 no-record (Unreadable place) h = refl
 
-pub later-tag : (k : ℕ) → ((k ≡ 1) ⊎ ((k ≡ 2) ⊎ ((k ≡ 3) ⊎ (k ≡ 4)))) → k ≡ 0 → ⊥
+pub later-tag : (k : ℕ) → ((k ≡ 1) ⊎ ((k ≡ 2) ⊎ ((k ≡ 3) ⊎ ((k ≡ 4) ⊎ (k ≡ 5))))) → k ≡ 0 → ⊥
 later-tag k (inl h) z = omega arith
 later-tag k (inr (inl h)) z = omega arith
 later-tag k (inr (inr (inl h))) z = omega arith
-later-tag k (inr (inr (inr h))) z = omega arith
+later-tag k (inr (inr (inr (inl h)))) z = omega arith
+later-tag k (inr (inr (inr (inr h)))) z = omega arith
 
 pub no-setup : (e : Event) (next : ℕ) → (tagOf Event·laws.the-type e ≡ 0 → ⊥) → noSizes ≡ sizesAt (event (recordOf e) next)
 unfolding sizesAt
@@ -41,6 +42,7 @@ no-setup (Open vci m f c) next h = refl
 no-setup (Close vci) next h = refl
 no-setup (Cell start) next h = refl
 no-setup (Pause slots) next h = refl
+no-setup (Sustain vci m f c m2 f2 c2 tag) next h = refl
 
 pub setup-fits : (N z : ℕ) (raw : Bool) (next : ℕ) → rangesHold N z ≡ true → record { n = N; v = z } ≡ sizesAt (event (GM N z raw) next)
 unfolding sizesAt
@@ -80,5 +82,6 @@ sizes-small (event (VO vci m F C) next) = no-small
 sizes-small (event (VX vci) next) = no-small
 sizes-small (event (CA start) next) = no-small
 sizes-small (event (SL count) next) = no-small
+sizes-small (event (VS vci m F C x) next) = no-small
 sizes-small finish = no-small
 sizes-small (refusal number place) = no-small

@@ -4,7 +4,7 @@ use mathlib.Core.Bool.{Bool, not, _||_}
 use mathlib.Core.List.{List, [], _∷_}
 use Rattle.meaning.specs.declared.Answer.{Answer}
 use Rattle.meaning.specs.Plain.{if_then_else_, _=?_}
-use Rattle.meaning.specs.Numbers.{empty, nothing, accepted, excess, unknown, dropped}
+use Rattle.meaning.specs.Numbers.{empty, nothing, accepted, excess, unknown, dropped, tagged, letsIn}
 use Rattle.list_lines.specs.Text.{decimalOf, line, shown}
 
 -- `setup N V number`
@@ -19,13 +19,15 @@ openLine vci number = line ((111 ∷ 112 ∷ 101 ∷ 110 ∷ []) ∷ decimalOf v
 unfoldable pub closeLine : ℕ → ℕ → List ℕ
 closeLine vci number = line ((99 ∷ 108 ∷ 111 ∷ 115 ∷ 101 ∷ []) ∷ decimalOf vci ∷ decimalOf number ∷ [])
 
--- "with A, X, U or `.`": accepted, excess, unknown, nothing; document 02 (i): "A dropped cell (verdict 4, H)"
+-- "with A, X, U or `.`": accepted, excess, unknown, nothing; document 02 (i): "A dropped cell (verdict 4, H)"; (iv): "tagged ..
+-- (.. verdict 5, T ..)"
 unfoldable pub letter : ℕ → ℕ
 letter verdict =
     if verdict =? accepted then 65
     else if verdict =? excess then 88
     else if verdict =? unknown then 85
     else if verdict =? dropped then 72
+    else if verdict =? tagged then 84
     else 46
 
 -- a VCI is shown: `-` stands for it exactly after `.` and H
@@ -33,14 +35,15 @@ unfoldable pub showsVci : ℕ → Bool
 showsVci verdict = not (verdict =? nothing || verdict =? dropped)
 
 -- "per slot `t verdict VCI D out` .., where out is the departing VCI, and `-` stands for VCI exactly after `.`, for D
--- exactly unless A, for out exactly when nothing departs"; document 02 (i), of a dropped cell: "its line `-` for VCI and D"
+-- exactly unless A, for out exactly when nothing departs"; document 02 (i), of a dropped cell: "its line `-` for VCI and D";
+-- (iv): a tagged one has its "D from the peak bucket", so "unless A" is unless A or T
 unfoldable pub servedLine : ℕ → ℕ → ℕ → ℕ → ℕ → ℕ → List ℕ
 servedLine t verdict vci D x departing =
     line
     (decimalOf t
     ∷ (letter verdict ∷ [])
     ∷ shown (showsVci verdict) vci
-    ∷ shown (verdict =? accepted) D
+    ∷ shown (letsIn verdict) D
     ∷ shown (not (x =? empty)) departing
     ∷ [])
 

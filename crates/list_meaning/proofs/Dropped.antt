@@ -6,7 +6,7 @@ use mathlib.Core.List.{List, _∷_}
 use native.Mathlib.Omega.{arith}
 use Rattle.meaning.specs.declared.Answer.{Answer}
 use Rattle.meaning.specs.Plain.{if_then_else_}
-use Rattle.meaning.specs.Numbers.{dropped}
+use Rattle.meaning.specs.Numbers.{dropped, letsIn}
 use Rattle.meaning.specs.Work.{answerOf}
 use Rattle.list_meaning.specs.Listing.{manyOf, isAccepted, isExcess, isUnknown}
 
@@ -29,4 +29,5 @@ module _ (a : Answer) (h : List Answer) where
       → (manyOf isAccepted (a ∷ h) ≡ manyOf isAccepted h)
       × (manyOf isExcess (a ∷ h) ≡ manyOf isExcess h)
       × (manyOf isUnknown (a ∷ h) ≡ manyOf isUnknown h)
+  unfolding letsIn
   dropped-uncounted e = (untold isAccepted e refl, untold isExcess e refl, untold isUnknown e refl)

@@ -10,6 +10,7 @@ use Rattle.meaning.specs.declared.Fresh.{Fresh}
 use Rattle.meaning.specs.declared.Served.{Served}
 use Rattle.meaning.specs.Plain.{if_then_else_, _=?_}
 use Rattle.meaning.specs.State.{State, stateOf, withWords}
+use Rattle.meaning.specs.Words.{Second}
 use Rattle.meaning.specs.Calls.{SetUp, setUpOf, zeros, Called, calledOf}
 use Rattle.meaning.specs.Work.{Work, workOf}
 use Rattle.meaning.specs.Slot.{slot}
@@ -60,12 +61,12 @@ module _ (run run′ : Run) (next : ℕ) (cells links calendar words words′ ou
       ∙ ap (λ (b : Bool). worldOf (onward (run .ctl) next 0 b (run .tally)) cells links calendar words′) going
       ∙ ap (λ (k : Called). worldOf (onward (run .ctl) next 0 false (run .tally)) cells links calendar (k .words)) e
 
-  pub open-did : (vci m F C : ℕ) → openPromise (run .ctl) words vci m F C number words′
+  pub open-did : (vci m F C : ℕ) (x : Second) → openPromise (run .ctl) words vci m F C x number words′
       → Put out used (openLine vci number) out′ used′
-      → Did (called (worldOf run cells links calendar words) (openVc vci m F C) next 0) room out used
+      → Did (called (worldOf run cells links calendar words) (openVc vci m F C x) next 0) room out used
       (worldOf run′ cells links calendar words′) out′ used′
   unfolding called lineOf stateAfter endsRun tallyAfter
-  open-did vci m F C e p =
+  open-did vci m F C x e p =
       record {
         world = reworded e;
         put = put-is (append-nil _ ∙ sym (ap (λ (k : Called). openLine vci (k .number)) e)) p;

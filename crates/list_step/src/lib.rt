@@ -6,6 +6,7 @@ ghost use Prim.Native.Nat.{_+_, _≤_};
 ghost use lib.ListN.{length};
 ghost use Rattle.list_lines.specs.Put.{Put};
 ghost use Rattle.list_lines.specs.Lines.{stopLine};
+ghost use Rattle.meaning.specs.Words.{secondOf};
 ghost use Rattle.trace_record.specs.Trace.{recordOf};
 ghost use Rattle.list_meaning.specs.Trace.{setUp, openVc, closeVc, limit};
 ghost use Rattle.list_meaning.specs.Trace.{serve as Trace·serve};
@@ -37,7 +38,7 @@ fn counted(t: Tally, a: Answer) -> Tally
     ensures { λ r. ⌜ r ≡ Run·counted t a ⌝ }
 {
     Tally {
-        accepted: counted_if(t.accepted, a.verdict == 1),
+        accepted: counted_if(t.accepted, list_lines::lets_in(a.verdict)),
         excess: counted_if(t.excess, a.verdict == 2),
         unknown: counted_if(t.unknown, a.verdict == 3),
         sent: counted_if(t.sent, a.space != 65535),
@@ -152,22 +153,26 @@ fn moved(run: Run, at: u32, left: u16) -> Run
     }
 }
 
-// An opening with its line.
+// An opening with its line; the second bucket's m, F and C and the flag are 0 where there is none.
 fn open_vc(
     run: Run,
     vci: u16,
     m: u8,
     f: u32,
     c: u32,
+    m2: u8,
+    f2: u32,
+    c2: u32,
+    tag: u8,
     next: u32,
     words: &mut [u32],
     out: &mut [u8],
     used: usize,
 ) -> Filled
     requires { ⌜ (used + room ≤ length (now out)) × (run .done ≡ false) ⌝ }
-    ensures { λ r. ⌜ DidWords (λ (w : World). called w (openVc vci m f c) next 0) room run words out used r ⌝ }
+    ensures { λ r. ⌜ DidWords (λ (w : World). called w (openVc vci m f c (secondOf m2 f2 c2 tag)) next 0) room run words out used r ⌝ }
 {
-    let answer = call_vc::open(run.ctl, words, vci, m, f, c);
+    let answer = call_vc::open_sustained(run.ctl, words, vci, m, f, c, m2, f2, c2, tag);
     let line = list_lines::open_line(out, used, vci, answer);
     let next_run = moved(run, next, 0);
     Filled {
@@ -251,7 +256,21 @@ fn happen(
         Event::Setup { n, v, raw } => {
             set_up(n, v, raw, next, cells, links, calendar, words, out, used)
         }
-        Event::Open { vci, m, f, c } => open_vc(run, vci, m, f, c, next, words, out, used),
+        Event::Open { vci, m, f, c } => open_vc(
+            run,
+            vci,
+            m,
+            f,
+            c,
+            0,
+            0,
+            0,
+            0,
+            next,
+            words,
+            out,
+            used,
+        ),
         Event::Close { vci } => close_vc(run, vci, next, words, out, used),
         Event::Cell { start } => {
             let end = start + 53;
@@ -275,6 +294,16 @@ fn happen(
                 used,
             }
         }
+        Event::Sustain {
+            vci,
+            m,
+            f,
+            c,
+            m2,
+            f2,
+            c2,
+            tag,
+        } => { open_vc(run, vci, m, f, c, m2, f2, c2, tag, next, words, out, used) }
     }
 }
 

@@ -32,7 +32,7 @@ pub tally-recount : (s : State) (t : Tally) (h : List Answer) (c : Call) → t �
     → tallyAfter s t c ≡ recount (answersAfter s h c)
 unfolding tallyAfter answersAfter
 tally-recount s t h (setUp N z raw) e = recount-none
-tally-recount s t h (openVc vci m F C) e = e
+tally-recount s t h (openVc vci m F C x) e = e
 tally-recount s t h (closeVc vci) e = e
 tally-recount s t h (serve cell) e =
     ap (λ (x : Tally). counted x (slot s cell .answer)) e ∙ counted-recount (slot s cell .answer) h

@@ -10,8 +10,9 @@ use lib.ListN.{length}
 use Rattle.meaning.specs.declared.Answer.{Answer}
 use Rattle.meaning.specs.Plain.{if_then_else_}
 use Rattle.meaning.specs.State.{State}
+use Rattle.meaning.specs.Words.{noSecond}
 use Rattle.list_lines.specs.Lines.{stopLine}
-use Rattle.trace_record.specs.Trace.{TraceRecord, GM, VO, VX, CA, SL, Stands, event, finish, refusal, standsAt}
+use Rattle.trace_record.specs.Trace.{TraceRecord, GM, VO, VX, CA, SL, VS, Stands, event, finish, refusal, standsAt}
 use Rattle.trace_record.specs.Fits.{Fits, stands-fits}
 use Rattle.list_meaning.specs.declared.Tally.{Tally}
 use Rattle.list_meaning.specs.Trace.{Call, setUp, openVc, closeVc, serve, Calls, finished, stopped, call, pauses, cellOf, recordCalls, callsAt, callsFrom}
@@ -88,7 +89,8 @@ module _ (more : Bool) (trace : List ℕ) where
         → Left more trace (recordStep trace w r next) (linesOf (w .state) h (recordCalls trace r (callsFrom k more trace next)))
     unfolding recordStep recordCalls pauses paused
     record-left (GM N z raw) next k n = called-left w h (setUp N z raw) next 0 k n counts
-    record-left (VO vci m F C) next k n = called-left w h (openVc vci m F C) next 0 k n counts
+    record-left (VO vci m F C) next k n = called-left w h (openVc vci m F C noSecond) next 0 k n counts
+    record-left (VS vci m F C x) next k n = called-left w h (openVc vci m F C x) next 0 k n counts
     record-left (VX vci) next k n = called-left w h (closeVc vci) next 0 k n counts
     record-left (CA start) next k n = called-left w h (serve (cellOf trace start)) next 0 k n counts
     record-left (SL count) next k n =

@@ -16,7 +16,7 @@ use Rattle.meaning.specs.Calls.{SetUp, setUpOf, zeros, setup, freshState}
 use Rattle.list_lines.specs.Lines.{setupLine}
 use Rattle.list_lines.specs.Put.{Put}
 use Rattle.list_lines.proofs.Puts.{put-front, put-once}
-use Rattle.trace_record.specs.Trace.{TraceRecord, GM, VO, VX, CA, SL, Stands, event, finish, refusal, standsAt}
+use Rattle.trace_record.specs.Trace.{TraceRecord, GM, VO, VX, CA, SL, VS, Stands, event, finish, refusal, standsAt}
 use Rattle.trace_record.specs.Fits.{Fits, stands-fits}
 use Rattle.list_whole.specs.declared.Run.{Run}
 use Rattle.list_whole.specs.declared.Sizes.{Sizes}
@@ -102,6 +102,7 @@ module _ (cells links calendar words : List ℕ) where
   unfolding callsAt recordCalls sizesAt linesOf
   stands-lines more trace go (event (GM N z raw) next) f s = setup-lines N z raw (go next) (rangesHold N z) refl s
   stands-lines more trace go (event (VO vci m F C) next) f s = absurd (omega (arith, f .2))
+  stands-lines more trace go (event (VS vci m F C x) next) f s = absurd (omega (arith, f .2))
   stands-lines more trace go (event (VX vci) next) f s = absurd (omega (arith, f .2))
   stands-lines more trace go (event (CA start) next) f s = absurd (omega (arith, f .2 .0))
   stands-lines more trace go (event (SL count) next) f s = absurd (omega (arith, f .2 .0))

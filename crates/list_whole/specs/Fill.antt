@@ -10,7 +10,7 @@ use Rattle.list_lines.specs.Put.{Put}
 use Rattle.meaning.specs.Plain.{if_then_else_}
 use Rattle.meaning.specs.Numbers.{octets, perEntry, wordsPerVc, rangesHold}
 use Rattle.meaning.specs.Calls.{zeros}
-use Rattle.trace_record.specs.Trace.{TraceRecord, GM, VO, VX, CA, SL, Stands, event, finish, refusal, standsAt}
+use Rattle.trace_record.specs.Trace.{TraceRecord, GM, VO, VX, CA, SL, VS, Stands, event, finish, refusal, standsAt}
 use Rattle.list_whole.specs.declared.Run.{Run}
 use Rattle.list_whole.specs.declared.Sizes.{Sizes}
 use Rattle.list_meaning.specs.Trace.{limit, goesOn}
@@ -66,6 +66,7 @@ CellWithin trace (VO vci m F C) = 0 ≤ 0
 CellWithin trace (VX vci) = 0 ≤ 0
 CellWithin trace (CA start) = start + octets ≤ length trace
 CellWithin trace (SL count) = 0 ≤ 0
+CellWithin trace (VS vci m F C x) = 0 ≤ 0
 
 -- where a run begins: no record is set up, nothing is read or counted
 unfoldable pub startRun : Run
@@ -78,13 +79,15 @@ sizesAt (event (VO vci m F C) next) = record { n = 0; v = 0 }
 sizesAt (event (VX vci) next) = record { n = 0; v = 0 }
 sizesAt (event (CA start) next) = record { n = 0; v = 0 }
 sizesAt (event (SL count) next) = record { n = 0; v = 0 }
+sizesAt (event (VS vci m F C x) next) = record { n = 0; v = 0 }
 sizesAt finish = record { n = 0; v = 0 }
 sizesAt (refusal number place) = record { n = 0; v = 0 }
 
 unfoldable pub sizesOf : List ℕ → Sizes
 sizesOf input = sizesAt (standsAt (take limit input) 0)
 
--- "Lent memory: 53 × N octets of cells; N links of 16 bits; 2 × N calendar numbers of 16 bits; 7 × V words"
+-- "Lent memory: 53 × N octets of cells; N links of 16 bits; 2 × N calendar numbers of 16 bits; 7 × V words", of which
+-- document 02 (iv) made 12 × V
 pub record LentFor (n : Sizes) (w : World) : Type 0 where
   pub cells-long : length (w .state .cells) ≡ octets * n .n
   pub links-long : length (w .state .links) ≡ n .n

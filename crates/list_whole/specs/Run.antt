@@ -13,9 +13,10 @@ use Rattle.meaning.specs.declared.Answer.{Answer}
 use Rattle.meaning.specs.Plain.{if_then_else_, _<?_}
 use Rattle.meaning.specs.Numbers.{slotNumbers}
 use Rattle.meaning.specs.State.{State, stateOf}
+use Rattle.meaning.specs.Words.{noSecond}
 use Rattle.meaning.specs.Slot.{slot}
 use Rattle.list_lines.specs.Lines.{stopLine}
-use Rattle.trace_record.specs.Trace.{TraceRecord, GM, VO, VX, CA, SL, Stands, event, finish, refusal, standsAt}
+use Rattle.trace_record.specs.Trace.{TraceRecord, GM, VO, VX, CA, SL, VS, Stands, event, finish, refusal, standsAt}
 use Rattle.list_meaning.specs.declared.Tally.{Tally}
 use Rattle.list_whole.specs.declared.Run.{Run}
 use Rattle.list_meaning.specs.Trace.{Call, setUp, openVc, closeVc, serve, cellOf}
@@ -60,7 +61,7 @@ noTally = record { accepted = 0; excess = 0; unknown = 0; sent = 0 }
 
 unfoldable pub tallyAfter : State → Tally → Call → Tally
 tallyAfter s t (setUp N z raw) = noTally
-tallyAfter s t (openVc vci m F C) = t
+tallyAfter s t (openVc vci m F C x) = t
 tallyAfter s t (closeVc vci) = t
 tallyAfter s t (serve cell) = counted t (slot s cell .answer)
 
@@ -100,10 +101,11 @@ ended w before =
 
 unfoldable pub recordStep : List ℕ → World → TraceRecord → ℕ → Step
 recordStep trace w (GM N z raw) next = called w (setUp N z raw) next 0
-recordStep trace w (VO vci m F C) next = called w (openVc vci m F C) next 0
+recordStep trace w (VO vci m F C) next = called w (openVc vci m F C noSecond) next 0
 recordStep trace w (VX vci) next = called w (closeVc vci) next 0
 recordStep trace w (CA start) next = called w (serve (cellOf trace start)) next 0
 recordStep trace w (SL count) next = paused w next count
+recordStep trace w (VS vci m F C x) next = called w (openVc vci m F C x) next 0
 
 -- "A record that can't be read ends the run there", with its place on the stop line; so does the trace's end, with a stop
 -- line at that place where the input goes on

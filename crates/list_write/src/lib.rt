@@ -74,7 +74,7 @@ pub fn list(
     cells: &mut [u8; 54272],
     links: &mut [u16; 1024],
     calendar: &mut [u16; 2048],
-    words: &mut [u32; 7168],
+    words: &mut [u32; 12288],
     out: &mut [u8; 65536],
 ) -> bool
     ensures { λ r. ⌜ Listed (now (input .entry)) (worldBefore startRun cells links calendar words) (now (out .entry)) (λ (run : Run). worldAfter run cells links calendar words) (now (out .exit)) r ⌝ }

@@ -8,10 +8,10 @@ use lib.ListN.{length, getD}
 use borrow.Author.Tests.{leb-true, eqb-true, eqb-false, eq-eqb, ne-eqb, le-leb}
 use native.Mathlib.Omega.{arith}
 use Rattle.meaning.specs.Plain.{if_then_else_, _<?_, _≤?_, _=?_}
-use Rattle.trace_record.specs.Trace.{TraceRecord, GM, VO, VX, CA, SL, Stands, event, finish, refusal, unreadable}
-use Rattle.trace_record.specs.Trace.{be16, whole, setupAt, openAt, closeAt, cellAt, pauseAt, firstAt, laterAt, standsAt}
-use Rattle.trace_record.specs.Trace.{markOctets, markGM, markGR, markVO, markVX, markCA, markSL, longGM, longVO, longVX, longCA, longSL}
-use Rattle.trace_record.proofs.Cases.{whole-read, pause-whole, first-gm, first-gr, later-cell, later-pause, later-open, later-close, stands-first, stands-later}
+use Rattle.trace_record.specs.Trace.{TraceRecord, GM, VO, VX, CA, SL, VS, Stands, event, finish, refusal, unreadable}
+use Rattle.trace_record.specs.Trace.{be16, whole, setupAt, openAt, sustainAt, closeAt, cellAt, pauseAt, firstAt, laterAt, standsAt}
+use Rattle.trace_record.specs.Trace.{markOctets, markGM, markGR, markVO, markVX, markCA, markSL, markVS, longGM, longVO, longVX, longCA, longSL, longVS}
+use Rattle.trace_record.proofs.Cases.{whole-read, pause-whole, first-gm, first-gr, later-cell, later-pause, later-open, later-close, later-sustain, stands-first, stands-later}
 use Rattle.mend_step.specs.Salvage.{Reading, none, upTo, readingOf, readsTo, isMark, knownMark}
 
 -- the mark m and the number n behind it, at p, of a record that ends at e
@@ -22,6 +22,7 @@ pub data Kind (m n p e : ℕ) : Type 0 where
   sl : 0 < p → m ≡ markSL → (n ≡ 0 → ⊥) → e ≡ p + longSL → Kind m n p e
   vo : 0 < p → m ≡ markVO → e ≡ p + longVO → Kind m n p e
   vx : 0 < p → m ≡ markVX → e ≡ p + longVX → Kind m n p e
+  vs : 0 < p → m ≡ markVS → e ≡ p + longVS → Kind m n p e
 
 pub record Shape (s : List ℕ) (p e : ℕ) : Type 0 where
   pub within : e ≤ length s
@@ -54,13 +55,14 @@ module _ (s : List ℕ) (p e : ℕ) where
       (λ _. choose Shaped (be16 s p =? markGR) (λ t. whole-shaped longGM _ (gr z (eqb-true _ _ t))) (λ _. none-shaped))
 
   later-shaped : 0 < p → Shaped (laterAt s p (be16 s p))
-  unfolding laterAt openAt closeAt cellAt pauseAt
+  unfolding laterAt openAt sustainAt closeAt cellAt pauseAt
   later-shaped z =
       choose Shaped (be16 s p =? markCA) (λ t. whole-shaped longCA _ (ca z (eqb-true _ _ t)))
       (λ _. choose Shaped (be16 s p =? markSL)
       (λ t. choose Shaped (be16 s (p + 2) =? 0) (λ _. none-shaped) (λ f. whole-shaped longSL _ (sl z (eqb-true _ _ t) (eqb-false _ _ f))))
       (λ _. choose Shaped (be16 s p =? markVO) (λ t. whole-shaped longVO _ (vo z (eqb-true _ _ t)))
-      (λ _. choose Shaped (be16 s p =? markVX) (λ t. whole-shaped longVX _ (vx z (eqb-true _ _ t))) (λ _. none-shaped))))
+      (λ _. choose Shaped (be16 s p =? markVX) (λ t. whole-shaped longVX _ (vx z (eqb-true _ _ t)))
+      (λ _. choose Shaped (be16 s p =? markVS) (λ t. whole-shaped longVS _ (vs z (eqb-true _ _ t))) (λ _. none-shaped)))))
 
   positive : (p ≡ 0 → ⊥) → 0 < p
   positive h = omega arith
@@ -81,7 +83,7 @@ module _ (s : List ℕ) (p e : ℕ) where
 
   module _ (within : e ≤ length s) where
     kind-reads : Kind (be16 s p) (be16 s (p + 2)) p e → readsTo s p ≡ upTo e
-    unfolding setupAt openAt closeAt cellAt
+    unfolding setupAt openAt sustainAt closeAt cellAt
     kind-reads (gm z m q) =
         read-at q (stands-first s p (omega arith) (omega arith) refl z (first-gm s p _ m (whole-read s p longGM _ refl (omega arith))))
     kind-reads (gr z m q) =
@@ -94,6 +96,8 @@ module _ (s : List ℕ) (p e : ℕ) where
         read-at q (stands-later s p (omega arith) (omega arith) refl (omega arith) (later-open s p _ (λ h. absurd (omega arith)) (λ h. absurd (omega arith)) m (whole-read s p longVO _ refl (omega arith))))
     kind-reads (vx z m q) =
         read-at q (stands-later s p (omega arith) (omega arith) refl (omega arith) (later-close s p _ (λ h. absurd (omega arith)) (λ h. absurd (omega arith)) (λ h. absurd (omega arith)) m (whole-read s p longVX _ refl (omega arith))))
+    kind-reads (vs z m q) =
+        read-at q (stands-later s p (omega arith) (omega arith) refl (omega arith) (later-sustain s p _ (λ h. absurd (omega arith)) (λ h. absurd (omega arith)) (λ h. absurd (omega arith)) (λ h. absurd (omega arith)) m (whole-read s p longVS _ refl (omega arith))))
 
 pub shape-reads : (s : List ℕ) (p e : ℕ) → Shape s p e → readsTo s p ≡ upTo e
 shape-reads s p e h = kind-reads s p e (h .within) (h .kind)
@@ -107,6 +111,7 @@ kind-long (ca z m q) = omega arith
 kind-long (sl z m n q) = omega arith
 kind-long (vo z m q) = omega arith
 kind-long (vx z m q) = omega arith
+kind-long (vs z m q) = omega arith
 
 -- a cell's record is the longest
 pub kind-short : {m n p e : ℕ} → Kind m n p e → e ≤ p + longCA
@@ -116,6 +121,7 @@ kind-short (ca z m q) = omega arith
 kind-short (sl z m n q) = omega arith
 kind-short (vo z m q) = omega arith
 kind-short (vx z m q) = omega arith
+kind-short (vs z m q) = omega arith
 
 kind-mark : {m n p e : ℕ} → Kind m n p e → isMark m ≡ true
 unfolding isMark
@@ -125,6 +131,7 @@ kind-mark {m} (ca z h q) = rw h
 kind-mark {m} (sl z h n q) = rw h
 kind-mark {m} (vo z h q) = rw h
 kind-mark {m} (vx z h q) = rw h
+kind-mark {m} (vs z h q) = rw h
 
 pub shape-mark : (s : List ℕ) (p e : ℕ) → Shape s p e → knownMark s p ≡ true
 unfolding knownMark
@@ -142,6 +149,7 @@ kind-moved p′ l mm nn k f g (ca z m q) = ca (g z) (sym mm ∙ m) (omega arith)
 kind-moved p′ l mm nn k f g (sl z m n q) = sl (g z) (sym mm ∙ m) (λ h. n (nn ∙ h)) (omega arith)
 kind-moved p′ l mm nn k f g (vo z m q) = vo (g z) (sym mm ∙ m) (omega arith)
 kind-moved p′ l mm nn k f g (vx z m q) = vx (g z) (sym mm ∙ m) (omega arith)
+kind-moved p′ l mm nn k f g (vs z m q) = vs (g z) (sym mm ∙ m) (omega arith)
 
 be16-moved : (s : List ℕ) (p : ℕ) (s′ : List ℕ) (p′ : ℕ) → getD s p 0 ≡ getD s′ p′ 0 → getD s (p + 1) 0 ≡ getD s′ (p′ + 1) 0
     → be16 s p ≡ be16 s′ p′

@@ -19,7 +19,7 @@ use mathlib.Core.List.{List, [], _∷_, _++_}
 use lib.ListN.{length, take, drop}
 use Rattle.meaning.specs.Plain.{if_then_else_, _<?_, _≤?_, _=?_}
 use Rattle.trace_record.specs.Trace.{Stands, event, finish, refusal, standsAt, be16, markOctets}
-use Rattle.trace_record.specs.Trace.{markGM, markGR, markVO, markVX, markCA, markSL}
+use Rattle.trace_record.specs.Trace.{markGM, markGR, markVO, markVX, markCA, markSL, markVS}
 use Rattle.mend_step.specs.declared.Stride.{Stride}
 use Rattle.mend_step.specs.declared.Taken.{Taken}
 
@@ -44,6 +44,7 @@ marks =
     ∷ markVX
     ∷ markGM
     ∷ markGR
+    ∷ markVS
     ∷ []
 
 abbrev pub among : ℕ → List ℕ → Bool

@@ -27,6 +27,8 @@ const GR: u16 = 0x4752;
 
 const VO: u16 = 0x564f;
 
+const VS: u16 = 0x5653;
+
 const VX: u16 = 0x5658;
 
 const CA: u16 = 0x4341;
@@ -71,6 +73,9 @@ fn is_mark(m: u16) -> bool
         return true;
     }
     if m == GR {
+        return true;
+    }
+    if m == VS {
         return true;
     }
     false

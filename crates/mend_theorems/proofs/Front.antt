@@ -13,7 +13,7 @@ use Rattle.trace_record.specs.Trace.{be16, longGM, markGM, markGR}
 use Rattle.mend_step.specs.declared.Stride.{Stride}
 use Rattle.mend_step.specs.Salvage.{Reading, none, upTo, readsTo, meetsRule, firstOf, resume, stepOf, stepAt, Piece, keeps, skips, pieceOf, walkFrom, walk}
 use Rattle.mend_step.specs.Salvage.{Salvage, refused, mended, salvageOf, salvageFront}
-use Rattle.mend_step.proofs.Shape.{Shape, Kind, gm, gr, ca, sl, vo, vx, reads-shape, shape-reads, kind-long}
+use Rattle.mend_step.proofs.Shape.{Shape, Kind, gm, gr, ca, sl, vo, vx, vs, reads-shape, shape-reads, kind-long}
 use Rattle.mend_step.proofs.Walk.{step-on}
 use Rattle.mend_theorems.specs.Promises.{begins, Ends}
 
@@ -49,6 +49,7 @@ module _ (s : List ℕ) where
       go l (sl z m n q) = absurd (omega arith)
       go l (vo z m q) = absurd (omega arith)
       go l (vx z m q) = absurd (omega arith)
+      go l (vs z m q) = absurd (omega arith)
 
   pub begins-tells : (n : ℕ) → salvageFront s n ≡ (if begins s then mended (walk s n) else refused 17)
   unfolding salvageFront

@@ -4,7 +4,7 @@ use mathlib.Core.Bool.{false}
 use native.Mathlib.Omega.{arith}
 use mathlib.Core.Path.{_≡_, refl, sym, subst}
 use mathlib.Core.List.{List, [], _∷_, _++_, map}
-use Rattle.trace_record.specs.Trace.{be16, be32, whole, setupAt, openAt, closeAt, cellAt, pauseAt, firstAt, laterAt, standsAt}
+use Rattle.trace_record.specs.Trace.{be16, be32, whole, setupAt, openAt, sustainAt, closeAt, cellAt, pauseAt, firstAt, laterAt, standsAt}
 use Rattle.mend_step.specs.Salvage.{readsTo, isMark, knownMark, meetsRule, firstOf, resume, stepAt, Piece, keeps, skips, walkFrom, walk}
 use Rattle.mend_step.specs.Salvage.{Salvage, refused, mended, salvageFront, salvage, writtenOf, stretchesOf}
 use Rattle.mend_theorems.specs.Promises.{Records, Hole, Damaged, DamagedIn}
@@ -81,10 +81,14 @@ table =
     ∷ row (71 ∷ 77 ∷ 0 ∷ 5 ∷ 0 ∷ 64 ∷ 83 ∷ 83 ∷ 76 ∷ 0 ∷ 1 ∷ []) (done (71 ∷ 77 ∷ 0 ∷ 5 ∷ 0 ∷ 64 ∷ 83 ∷ 76 ∷ 0 ∷ 1 ∷ []) (skips 6 1 ∷ []))  -- S before SL
     ∷ row (71 ∷ 88 ∷ 0 ∷ 5 ∷ 0 ∷ 64 ∷ 83 ∷ 76 ∷ 0 ∷ 1 ∷ 83 ∷ 76 ∷ 0 ∷ 2 ∷ []) (stop 17)  -- GM damaged
     ∷ row (71 ∷ 77 ∷ 0 ∷ 5 ∷ 0 ∷ 64 ∷ 0 ∷ 0 ∷ 67 ∷ 65 ∷ 83 ∷ 76 ∷ 0 ∷ 1 ∷ 83 ∷ 76 ∷ 86 ∷ 88 ∷ 0 ∷ 1 ∷ []) (done (71 ∷ 77 ∷ 0 ∷ 5 ∷ 0 ∷ 64 ∷ 83 ∷ 76 ∷ 0 ∷ 1 ∷ 83 ∷ 76 ∷ 86 ∷ 88 ∷ []) (skips 6 4 ∷ skips 18 2 ∷ []))  -- damage that makes a record longer, places judged in the undamaged trace
+    ∷ row (71 ∷ 77 ∷ 0 ∷ 5 ∷ 0 ∷ 64 ∷ 86 ∷ 83 ∷ 0 ∷ 1 ∷ 2 ∷ 0 ∷ 0 ∷ 0 ∷ 10 ∷ 0 ∷ 0 ∷ 0 ∷ 26 ∷ 0 ∷ 0 ∷ 0 ∷ 0 ∷ 2 ∷ 0 ∷ 0 ∷ 0 ∷ 2 ∷ 1 ∷ 83 ∷ 76 ∷ 0 ∷ 1 ∷ []) (done (71 ∷ 77 ∷ 0 ∷ 5 ∷ 0 ∷ 64 ∷ 86 ∷ 83 ∷ 0 ∷ 1 ∷ 2 ∷ 0 ∷ 0 ∷ 0 ∷ 10 ∷ 0 ∷ 0 ∷ 0 ∷ 26 ∷ 0 ∷ 0 ∷ 0 ∷ 0 ∷ 2 ∷ 0 ∷ 0 ∷ 0 ∷ 2 ∷ 1 ∷ 83 ∷ 76 ∷ 0 ∷ 1 ∷ []) ([]))  -- VS readable
+    ∷ row (71 ∷ 77 ∷ 0 ∷ 5 ∷ 0 ∷ 64 ∷ 0 ∷ 83 ∷ 76 ∷ 0 ∷ 1 ∷ 86 ∷ 83 ∷ 0 ∷ 1 ∷ 2 ∷ 0 ∷ 0 ∷ 0 ∷ 10 ∷ 0 ∷ 0 ∷ 0 ∷ 26 ∷ 0 ∷ 0 ∷ 0 ∷ 0 ∷ 2 ∷ 0 ∷ 0 ∷ 0 ∷ 2 ∷ 1 ∷ []) (done (71 ∷ 77 ∷ 0 ∷ 5 ∷ 0 ∷ 64 ∷ 83 ∷ 76 ∷ 0 ∷ 1 ∷ 86 ∷ 83 ∷ 0 ∷ 1 ∷ 2 ∷ 0 ∷ 0 ∷ 0 ∷ 10 ∷ 0 ∷ 0 ∷ 0 ∷ 26 ∷ 0 ∷ 0 ∷ 0 ∷ 0 ∷ 2 ∷ 0 ∷ 0 ∷ 0 ∷ 2 ∷ 1 ∷ []) (skips 6 1 ∷ []))  -- resumed before a VS
+    ∷ row (71 ∷ 77 ∷ 0 ∷ 5 ∷ 0 ∷ 64 ∷ 86 ∷ 83 ∷ 0 ∷ 1 ∷ 2 ∷ 0 ∷ 0 ∷ 0 ∷ 10 ∷ 0 ∷ 0 ∷ 0 ∷ 26 ∷ 0 ∷ 0 ∷ 0 ∷ 0 ∷ 2 ∷ 0 ∷ 0 ∷ 0 ∷ 2 ∷ []) (done (71 ∷ 77 ∷ 0 ∷ 5 ∷ 0 ∷ 64 ∷ []) (skips 6 22 ∷ []))  -- short VS at the end
+    ∷ row (71 ∷ 77 ∷ 0 ∷ 5 ∷ 0 ∷ 64 ∷ 86 ∷ 83 ∷ 76 ∷ 0 ∷ 1 ∷ 0 ∷ 0 ∷ 0 ∷ 0 ∷ 0 ∷ 0 ∷ 0 ∷ 0 ∷ 0 ∷ 0 ∷ 0 ∷ 0 ∷ 0 ∷ 0 ∷ 0 ∷ 0 ∷ 0 ∷ 0 ∷ 83 ∷ 76 ∷ 0 ∷ 1 ∷ []) (done (71 ∷ 77 ∷ 0 ∷ 5 ∷ 0 ∷ 64 ∷ 86 ∷ 83 ∷ 76 ∷ 0 ∷ 1 ∷ 0 ∷ 0 ∷ 0 ∷ 0 ∷ 0 ∷ 0 ∷ 0 ∷ 0 ∷ 0 ∷ 0 ∷ 0 ∷ 0 ∷ 0 ∷ 0 ∷ 0 ∷ 0 ∷ 0 ∷ 0 ∷ 83 ∷ 76 ∷ 0 ∷ 1 ∷ []) ([]))  -- VS whole, SL within not looked at
     ∷ []
 
 pub worked : map (λ c. outputOf (c .trace) (salvage (c .trace))) table ≡ map (λ c. c .output) table
-unfolding salvageFront walk walkFrom stepAt resume firstOf meetsRule knownMark isMark readsTo standsAt firstAt laterAt setupAt openAt closeAt cellAt pauseAt whole be16 be32
+unfolding salvageFront walk walkFrom stepAt resume firstOf meetsRule knownMark isMark readsTo standsAt firstAt laterAt setupAt openAt sustainAt closeAt cellAt pauseAt whole be16 be32
 worked = refl
 
 -- what the damage theorem asks can be met: of GM, SL 1, SL 2 the first pause is left as two octets
@@ -95,7 +99,7 @@ abbrev sl : ℕ → List ℕ
 sl n = 83 ∷ 76 ∷ 0 ∷ n ∷ []
 
 pub met : DamagedIn gm (sl 1) (0 ∷ 83 ∷ []) (sl 2) (keeps 0 6 ∷ []) (keeps 10 4 ∷ [])
-unfolding salvageFront walk walkFrom stepAt resume firstOf meetsRule knownMark isMark readsTo standsAt firstAt laterAt setupAt openAt closeAt cellAt pauseAt whole be16 be32
+unfolding salvageFront walk walkFrom stepAt resume firstOf meetsRule knownMark isMark readsTo standsAt firstAt laterAt setupAt openAt sustainAt closeAt cellAt pauseAt whole be16 be32
 met =
     record {
       some = omega arith;

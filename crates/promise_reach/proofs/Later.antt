@@ -8,13 +8,13 @@ use borrow.Author.Tests.{eq-eqb, ne-eqb}
 use lib.ListN.{length, take, drop, length-take, length-drop}
 use Rattle.meaning.specs.Plain.{if_then_else_, _=?_}
 use Rattle.meaning.specs.Numbers.{octets}
-use Rattle.trace_record.specs.Trace.{TraceRecord, GM, VO, VX, CA, SL, Stands, event, finish, refusal, standsAt, markOctets}
+use Rattle.trace_record.specs.Trace.{TraceRecord, GM, VO, VX, CA, SL, VS, Stands, event, finish, refusal, standsAt, markOctets}
 use Rattle.trace_record.specs.Fits.{Fits, stands-fits}
 use Rattle.list_meaning.specs.Trace.{Call, setUp, openVc, closeVc, serve, Calls, finished, stopped, call, pauses, cellOf, recordCalls, callsAt, callsFrom}
 
 abbrev pub LaterCall : Call → Type 0
 LaterCall (setUp N z raw) = ⊥
-LaterCall (openVc vci m F C) = 0 ≤ 0
+LaterCall (openVc vci m F C x) = 0 ≤ 0
 LaterCall (closeVc vci) = 0 ≤ 0
 LaterCall (serve cell) = length cell =? 0 || length cell =? octets ≡ true
 
@@ -45,6 +45,7 @@ record-later trace at (VX vci) next cs p f l = (omega arith, l)
 record-later trace at (CA start) next cs p f l =
     (cell-later (length (cellOf trace start)) (cell-long trace start (omega (arith, f .0, f .1, f .2 .1))), l)
 record-later trace at (SL count) next cs p f l = pauses-later count cs l
+record-later trace at (VS vci m F C x) next cs p f l = (omega arith, l)
 
 event-next : (trace : List ℕ) (at : ℕ) (r : TraceRecord) (next : ℕ) → Fits trace at (event r next) → 0 < next
 event-next trace at (GM N z raw) next f = omega (arith, f .0)
@@ -52,6 +53,7 @@ event-next trace at (VO vci m F C) next f = omega (arith, f .0)
 event-next trace at (VX vci) next f = omega (arith, f .0)
 event-next trace at (CA start) next f = omega (arith, f .0)
 event-next trace at (SL count) next f = omega (arith, f .0)
+event-next trace at (VS vci m F C x) next f = omega (arith, f .0)
 
 stands-later : (more : Bool) (trace : List ℕ) (go : ℕ → Calls) (at : ℕ) (s : Stands) → 0 < at → Fits trace at s
     → ((next : ℕ) → 0 < next → Later (go next)) → Later (callsAt more trace go at s)

@@ -15,7 +15,7 @@ use Rattle.meaning.specs.Slot.{slot}
 use Rattle.meaning_runs.specs.Run as runs
 use Rattle.promises.specs.Checked.{HeaderCheck, HeaderCheckHolds}
 use Rattle.promises.proofs.Top.{header-check}
-use Rattle.trace_record.specs.Trace.{TraceRecord, GM, VO, VX, CA, SL, Stands, event, finish, refusal, standsAt}
+use Rattle.trace_record.specs.Trace.{TraceRecord, GM, VO, VX, CA, SL, VS, Stands, event, finish, refusal, standsAt}
 use Rattle.trace_record.specs.Fits.{Fits, stands-fits}
 use Rattle.list_meaning.specs.Trace.{Call, setUp, openVc, closeVc, serve, Calls, finished, stopped, call, recordCalls, callsAt, callsFrom, callsOf, limit, goesOn}
 use Rattle.list_meaning.specs.Listing.{stateAfter, endsRun, lentFor}
@@ -52,10 +52,10 @@ module _ (N z : ℕ) (raw : Bool) (cells links calendar words : List ℕ)
   all-served finished pre s e l = omega arith
   all-served (stopped place) pre s e l = omega arith
   all-served (call (setUp N′ z′ raw′) rest) pre s e l = absurd (l .0)
-  all-served (call (openVc vci m F C) rest) pre s e l = (
+  all-served (call (openVc vci m F C x) rest) pre s e l = (
     omega arith,
-    λ _. all-served rest (pre ++ (runs.onOpen vci m F C ∷ [])) _
-        (same pre s (openVc vci m F C) (runs.onOpen vci m F C) e (ap (λ (x : State). stateAfter x (openVc vci m F C)) e))
+    λ _. all-served rest (pre ++ (runs.onOpenWith vci m F C x ∷ [])) _
+        (same pre s (openVc vci m F C x) (runs.onOpenWith vci m F C x) e (ap (λ (st : State). stateAfter st (openVc vci m F C x)) e))
         (l .1),
   )
   all-served (call (closeVc vci) rest) pre s e l = (
@@ -86,6 +86,7 @@ stands-served : (more : Bool) (trace : List ℕ) (go : ℕ → Calls) (s : Stand
 unfolding callsAt recordCalls
 stands-served more trace go (event (GM N z raw) next) f g = first-served _ N z raw (go next) (g next (omega (arith, f .0)))
 stands-served more trace go (event (VO vci m F C) next) f g = absurd (omega (arith, f .2))
+stands-served more trace go (event (VS vci m F C x) next) f g = absurd (omega (arith, f .2))
 stands-served more trace go (event (VX vci) next) f g = absurd (omega (arith, f .2))
 stands-served more trace go (event (CA start) next) f g = absurd (omega (arith, f .2 .0))
 stands-served more trace go (event (SL count) next) f g = absurd (omega (arith, f .2 .0))

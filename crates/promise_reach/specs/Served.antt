@@ -13,7 +13,7 @@ use Rattle.list_meaning.specs.Listing.{stateAfter, endsRun, lentFor}
 
 abbrev pub Serves : State → Call → Type 0
 Serves s (setUp N z raw) = 0 ≤ 0
-Serves s (openVc vci m F C) = 0 ≤ 0
+Serves s (openVc vci m F C x) = 0 ≤ 0
 Serves s (closeVc vci) = 0 ≤ 0
 Serves s (serve cell) = slot s cell .answer .number ≡ 0
 

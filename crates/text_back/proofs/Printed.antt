@@ -10,7 +10,7 @@ use lib.ListN.{length, getD, take, drop, length-append, length-drop}
 use lib.Seq.{drop-drop, drop-append-seam, take-at}
 use Rattle.meaning.specs.Plain.{next, if_then_else_, _<?_, _≤?_, _=?_}
 use Rattle.list_lines.specs.Text.{line as Text·line}
-use Rattle.trace_record.specs.Trace.{TraceRecord, GM, VO, VX, CA, SL, Stands, event, finish, refusal, standsAt}
+use Rattle.trace_record.specs.Trace.{TraceRecord, GM, VO, VX, CA, SL, VS, Stands, event, finish, refusal, standsAt}
 use Rattle.trace_record.specs.Fits.{Fits, stands-fits}
 use Rattle.text_meaning.specs.Events.{Event, octetsAll, merge, eventOf}
 use Rattle.text_meaning.specs.Grammar.{tells, line}
@@ -89,6 +89,7 @@ module _ (s : List ℕ) (b : (i : ℕ) → getD s i 0 < 256) where
   line-some (GM N z raw) = omega arith
   line-some (VO vci m F C) = omega arith
   line-some (VX vci) = omega arith
+  line-some (VS vci m F C x) = omega arith
   line-some (CA start) = omega arith
   line-some (SL count) = omega arith
 

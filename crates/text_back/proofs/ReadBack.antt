@@ -14,9 +14,9 @@ use Rattle.meaning.specs.Numbers.{octets}
 use Rattle.trace_record.proofs.Cases.{stands-end}
 use Rattle.list_lines.specs.Put.{puts, Put}
 use Rattle.list_lines.proofs.Puts.{put-whole}
-use Rattle.text_meaning.specs.Events.{Event, told, pause, full, octetsOf, octetsAll, join, merge}
-use Rattle.text_meaning.specs.Writing.{good, onto}
-use Rattle.text_record.specs.Record.{Given, GM, VO, VX, CA, SL, recordOctets, givenEvent, allowedAt}
+use Rattle.text_meaning.specs.Events.{Event, told, pause, full, slOf, octetsOf, octetsAll, join, merge, eventOf}
+use Rattle.text_meaning.specs.Writing.{Said, good, bad, onto}
+use Rattle.text_record.specs.Record.{Given, GM, VO, VX, CA, SL, VS, recordOctets, givenEvent, allowedAt, recordAt}
 use Rattle.text_record.specs.Back.{Reads}
 use Rattle.text_record.proofs.Top.{put-reads}
 use Rattle.text_trip.specs.Reading.{readAt, readFrom, read}
@@ -48,6 +48,7 @@ told-octets : (o : List ℕ) (r : Given) → givenEvent r ≡ told o → o ≡ r
 told-octets o (GM N z raw) e = cc
 told-octets o (VO vci m F C) e = cc
 told-octets o (VX vci) e = cc
+told-octets o (VS vci m F C x) e = cc
 told-octets o (CA cell) e = cc
 told-octets o (SL count) e = let z : _≡_ {A = ℕ} 0 1 = cc in absurd (omega arith)
 
@@ -68,6 +69,7 @@ pause-later n s = go (s .given) (s .says) (s .allowed)
     go (GM N z raw) e a = let y : _≡_ {A = ℕ} 0 1 = cc in omega arith
     go (VO vci m F C) e a = never a
     go (VX vci) e a = never a
+    go (VS vci m F C x) e a = never a
     go (CA cell) e a = never a
     go (SL count) e a = never a
 
@@ -79,6 +81,7 @@ pause-some n s = go (s .given) (s .says) (s .allowed)
     go (GM N z raw) e a = never a
     go (VO vci m F C) e a = let y : _≡_ {A = ℕ} 0 1 = cc in absurd (omega arith)
     go (VX vci) e a = let y : _≡_ {A = ℕ} 0 1 = cc in absurd (omega arith)
+    go (VS vci m F C x) e a = let y : _≡_ {A = ℕ} 0 1 = cc in absurd (omega arith)
     go (CA cell) e a = let y : _≡_ {A = ℕ} 0 1 = cc in absurd (omega arith)
     go (SL count) e a = let y : count ≡ n = cc in let l = leb-true 1 count a in omega arith
 
@@ -128,6 +131,7 @@ unfolding allowedAt
 any-later at (GM N z raw) h a = never a
 any-later at (VO vci m F C) h a = le-leb 1 at h
 any-later at (VX vci) h a = le-leb 1 at h
+any-later at (VS vci m F C x) h a = le-leb 1 at h
 any-later at (CA cell) h a = simp (le-leb 1 at h) a
 any-later at (SL count) h a = simp (le-leb 1 at h) a
 
@@ -136,6 +140,7 @@ unfolding recordOctets
 some-octets (GM N z raw) = omega arith
 some-octets (VO vci m F C) = omega arith
 some-octets (VX vci) = omega arith
+some-octets (VS vci m F C x) = omega arith
 some-octets (CA cell) = omega arith
 some-octets (SL count) = omega arith
 

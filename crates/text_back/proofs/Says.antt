@@ -10,12 +10,13 @@ use lib.ListN.{length}
 use Rattle.meaning.specs.Plain.{Out, refused, next, _andThen_, if_then_else_, _≤?_, _=?_}
 use Rattle.meaning.specs.Numbers.{octets}
 use Rattle.list_lines.specs.Text.{space, lineFeed}
-use Rattle.trace_record.specs.Trace.{markGM, markGR, markVO, markVX, markCA, markSL}
-use Rattle.text_meaning.specs.Shapes.{Field, n8, n16, n32, cell, top, of16, ofField, Shape, fields, find, rowsOf}
-use Rattle.text_meaning.specs.Events.{told, pause}
-use Rattle.text_meaning.specs.Grammar.{Number, Part, part, Told, tells, expect, digitOf, digits, within, number, nibbleOf, hexes}
+use Rattle.meaning.specs.Words.{secondOf}
+use Rattle.trace_record.specs.Trace.{markGM, markGR, markVO, markVX, markCA, markSL, markVS}
+use Rattle.text_meaning.specs.Shapes.{Field, n8, n16, n32, cell, top, of16, ofField, Shape, fields, slots, find, rowsOf}
+use Rattle.text_meaning.specs.Events.{Event, told, pause}
+use Rattle.text_meaning.specs.Grammar.{Number, number-of, Part, part, Told, tells, expect, digitOf, digits, within, number, nibbleOf, hexes}
 use Rattle.text_meaning.specs.Grammar.{fieldAt, fieldsAt, slotsAt, shapedLine, line}
-use Rattle.text_record.specs.Record.{GM, VO, VX, CA, SL, recordOctets, allowedAt}
+use Rattle.text_record.specs.Record.{GM, VO, VX, CA, SL, VS, recordOctets, allowedAt}
 use Rattle.text_back.specs.Back.{Sayable}
 
 -- whatever was found is so
@@ -157,6 +158,11 @@ module _ (s : List ℕ) where
   unfolding allowedAt recordOctets
   open-said d (with16 v (with8 m (with32 F (with32 C end)))) = record { given = VO v m F C; says = refl; allowed = refl }
 
+  sustain-said : (d : List ℕ) → Filled (n16 ∷ n8 ∷ n32 ∷ n32 ∷ n8 ∷ n32 ∷ n32 ∷ n8 ∷ []) (of16 markVS) d → Sayable 1 (told d)
+  unfolding allowedAt recordOctets
+  sustain-said d (with16 v (with8 m (with32 F (with32 C (with8 m2 (with32 F2 (with32 C2 (with8 tag end)))))))) =
+      record { given = VS v m F C (secondOf m2 F2 C2 tag); says = refl; allowed = refl }
+
   close-said : (d : List ℕ) → Filled (n16 ∷ []) (of16 markVX) d → Sayable 1 (told d)
   unfolding allowedAt recordOctets
   close-said d (with16 v end) = record { given = VX v; says = refl; allowed = refl }
@@ -203,7 +209,8 @@ module _ (s : List ℕ) where
       choose P (m =? markCA) (λ t. at markCA (cell ∷ []) (eqb-true m markCA t) cell-said)
       (λ _. choose P (m =? markSL) (λ _. slots-said)
       (λ _. choose P (m =? markVO) (λ t. at markVO (n16 ∷ n8 ∷ n32 ∷ n32 ∷ []) (eqb-true m markVO t) open-said)
-      (λ _. choose P (m =? markVX) (λ t. at markVX (n16 ∷ []) (eqb-true m markVX t) close-said) (λ _. omega arith))))
+      (λ _. choose P (m =? markVX) (λ t. at markVX (n16 ∷ []) (eqb-true m markVX t) close-said)
+      (λ _. choose P (m =? markVS) (λ t. at markVS (n16 ∷ n8 ∷ n32 ∷ n32 ∷ n8 ∷ n32 ∷ n32 ∷ n8 ∷ []) (eqb-true m markVS t) sustain-said) (λ _. omega arith)))))
 
 -- of what a line was read from, two octets at least are gone
 pub record LineSays (first : Bool) (s : List ℕ) (t : Told) : Type 0 where

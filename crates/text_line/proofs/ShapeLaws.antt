@@ -6,7 +6,7 @@ use mathlib.Core.List.{List, [], _∷_, _++_}
 use native.Mathlib.Omega.{arith}
 use borrow.Author.Tests.{eq-eqb, ne-eqb}
 use Rattle.meaning.specs.Plain.{Out, refused, next}
-use Rattle.trace_record.specs.Trace.{markGM, markGR, markVO, markVX, markCA, markSL}
+use Rattle.trace_record.specs.Trace.{markGM, markGR, markVO, markVX, markCA, markSL, markVS}
 use Rattle.text_meaning.specs.Shapes.{Field, n8, n16, n32, cell, wide, Shape, fields, slots, find, shapeOf}
 use Rattle.text_line.specs.Found.{fieldNamed, decode, span}
 
@@ -43,9 +43,14 @@ module _ (b : Bool) (m : ℕ) (f : b ≡ false) where
         unfolding find
         later-vx h = simp (f, ne-eqb m markCA ca, ne-eqb m markSL sl, ne-eqb m markVO vo, eq-eqb m markVX h)
 
-        pub later-no : (m ≡ markVX → ⊥) → refused ≡ shapeOf b m
-        unfolding find
-        later-no vx = simp (f, ne-eqb m markCA ca, ne-eqb m markSL sl, ne-eqb m markVO vo, ne-eqb m markVX vx)
+        module _ (vx : m ≡ markVX → ⊥) where
+          pub later-vs : m ≡ markVS → next (fields (n16 ∷ n8 ∷ n32 ∷ n32 ∷ n8 ∷ n32 ∷ n32 ∷ n8 ∷ [])) ≡ shapeOf b m
+          unfolding find
+          later-vs h = simp (f, ne-eqb m markCA ca, ne-eqb m markSL sl, ne-eqb m markVO vo, ne-eqb m markVX vx, eq-eqb m markVS h)
+
+          pub later-no : (m ≡ markVS → ⊥) → refused ≡ shapeOf b m
+          unfolding find
+          later-no vs = simp (f, ne-eqb m markCA ca, ne-eqb m markSL sl, ne-eqb m markVO vo, ne-eqb m markVX vx, ne-eqb m markVS vs)
 
 module _ (k : ℕ) where
   pub kind-8 : k ≡ 1 → fieldNamed k ≡ n8

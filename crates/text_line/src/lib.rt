@@ -38,6 +38,8 @@ const GR: u16 = 0x4752;
 
 const VO: u16 = 0x564f;
 
+const VS: u16 = 0x5653;
+
 const VX: u16 = 0x5658;
 
 const CA: u16 = 0x4341;
@@ -45,15 +47,17 @@ const CA: u16 = 0x4341;
 const SL: u16 = 0x534c;
 
 // Shapes to the base 16, the lowest digit first: how many fields, then each of them by its octets, 8 for a cell.
-const TWO_NUMBERS: u32 = 0x222;
+const TWO_NUMBERS: u64 = 0x222;
 
-const OPENING: u32 = 0x44124;
+const OPENING: u64 = 0x44124;
 
-const CLOSING: u32 = 0x21;
+const SUSTAINED: u64 = 0x144144128;
 
-const ONE_CELL: u32 = 0x81;
+const CLOSING: u64 = 0x21;
 
-const SLOTS: u32 = 0x10;
+const ONE_CELL: u64 = 0x81;
+
+const SLOTS: u64 = 0x10;
 
 // An octet widened here needs no proof of its own where it is read.
 fn wide(x: u8) -> u64
@@ -263,7 +267,7 @@ fn field32(text: &[u8], p: usize, rec: &mut [u8], at: usize) -> usize
 }
 
 // The octets of a field, by its digit of a shape.
-fn wide_of(kind: u32) -> usize
+fn wide_of(kind: u64) -> usize
     ensures { λ r. ⌜ (r ≡ Shapes·wide (fieldNamed kind)) × (0 < r) ⌝ }
 {
     if kind == 1 {
@@ -278,7 +282,7 @@ fn wide_of(kind: u32) -> usize
     53
 }
 
-fn field(text: &[u8], p: usize, kind: u32, rec: &mut [u8], at: usize) -> usize
+fn field(text: &[u8], p: usize, kind: u64, rec: &mut [u8], at: usize) -> usize
     requires { ⌜ at + Shapes·wide (fieldNamed kind) ≤ length (now rec) ⌝ }
     ensures { λ r. ⌜ partFound (now (text .entry)) (now (rec .exit)) (at + Shapes·wide (fieldNamed kind)) r ≡ fieldAt (fieldNamed kind) (take at (now (rec .entry))) (drop p (now (text .entry))) ⌝ }
     ensures { λ r. ⌜ (r ≤ length (now (text .entry))) × ((r ≡ 0 → ⊥) → p < r) ⌝ }
@@ -296,7 +300,7 @@ fn field(text: &[u8], p: usize, kind: u32, rec: &mut [u8], at: usize) -> usize
 }
 
 // The fields of a shape, a space before each and a line feed after the last, put behind the mark's two octets.
-fn fields(text: &[u8], p: usize, shape: u32, rec: &mut [u8]) -> Reach
+fn fields(text: &[u8], p: usize, shape: u64, rec: &mut [u8]) -> Reach
     requires { ⌜ 2 + span (decode (shape % 16) (shape / 16)) ≤ length (now rec) ⌝ }
     ensures { λ r. ⌜ partFound (now (text .entry)) (now (rec .exit)) (r .end) (r .next) ≡ fieldsAt (decode (shape % 16) (shape / 16)) (take 2 (now (rec .entry))) (drop p (now (text .entry))) ⌝ }
     ensures { λ r. ⌜ FieldsWithin p (length (now (text .entry))) (2 + span (decode (shape % 16) (shape / 16))) (r .end) (r .next) ⌝ }
@@ -356,7 +360,7 @@ fn slots(text: &[u8], p: usize) -> Value
 }
 
 // The shape of a mark: GM and GR first and only first.
-fn shape_of(first: bool, mark: u16) -> u32
+fn shape_of(first: bool, mark: u16) -> u64
     ensures { λ r. ⌜ (shapeNamed r ≡ shapeOf first mark) × (span (decode (r % 16) (r / 16)) ≤ 53) ⌝ }
 {
     if first {
@@ -379,6 +383,9 @@ fn shape_of(first: bool, mark: u16) -> u32
     }
     if mark == VX {
         return CLOSING;
+    }
+    if mark == VS {
+        return SUSTAINED;
     }
     0
 }

@@ -11,7 +11,7 @@ use mathlib.Core.List.{List, [], _∷_, _++_}
 use lib.ListN.{take, drop}
 use Rattle.meaning.specs.Plain.{if_then_else_, _=?_}
 use Rattle.meaning.specs.Numbers.{octets}
-use Rattle.trace_record.specs.Trace.{TraceRecord, GM, VO, VX, CA, SL, markGM, markGR, markVO, markVX, markCA, markSL}
+use Rattle.trace_record.specs.Trace.{TraceRecord, GM, VO, VX, CA, SL, VS, markGM, markGR, markVO, markVX, markCA, markSL, markVS}
 use Rattle.text_meaning.specs.Shapes.{of16, of32}
 
 pub data Event : Type 0 where
@@ -54,10 +54,11 @@ merge [] = []
 merge (told o ∷ es) = told o ∷ merge es
 merge (pause n ∷ es) = join n (merge es)
 
--- A record found by the reader, by its own numbers; a CA by the 53 octets that stand in the trace where it says.
+-- A record found by the reader, by its own numbers, so that a VS with zeros stays a VS; a CA by the 53 octets that stand in the trace where it says.
 unfoldable pub eventOf : List ℕ → TraceRecord → Event
 eventOf trace (GM N z raw) = told (of16 (if raw then markGR else markGM) ++ (of16 N ++ of16 z))
 eventOf trace (VO vci m F C) = told (of16 markVO ++ (of16 vci ++ (m ∷ (of32 F ++ of32 C))))
 eventOf trace (VX vci) = told (of16 markVX ++ of16 vci)
 eventOf trace (CA start) = told (of16 markCA ++ take octets (drop start trace))
 eventOf trace (SL count) = pause count
+eventOf trace (VS vci m F C x) = told (of16 markVS ++ (of16 vci ++ (m ∷ (of32 F ++ (of32 C ++ (x .m ∷ (of32 (x .F) ++ (of32 (x .C) ++ (x .tag ∷ [])))))))))

@@ -11,7 +11,7 @@ use mathlib.Core.Bool.{Bool, true, false}
 use mathlib.Core.List.{List, [], _∷_, _++_}
 use Rattle.meaning.specs.Plain.{Out, refused, next, if_then_else_, _=?_}
 use Rattle.meaning.specs.Numbers.{octets}
-use Rattle.trace_record.specs.Trace.{markGM, markGR, markVO, markVX, markCA, markSL}
+use Rattle.trace_record.specs.Trace.{markGM, markGR, markVO, markVX, markCA, markSL, markVS}
 
 pub data Field : Type 0 where
   n8 : Field
@@ -61,13 +61,15 @@ row m x = record { mark = m; shape = x }
 abbrev pub heads : List Row
 heads = row markGM (fields (n16 ∷ n16 ∷ [])) ∷ row markGR (fields (n16 ∷ n16 ∷ [])) ∷ []
 
--- "VO: VCI, m, F, C. VX: VCI. CA: 53 octets, one slot. SL: a count of empty slots"
+-- "VO: VCI, m, F, C. VX: VCI. CA: 53 octets, one slot. SL: a count of empty slots"; document 02 (iv): "VS: as VO, then
+-- m (8), F (32), C (32), flag (8)"
 abbrev pub laters : List Row
 laters =
     row markCA (fields (cell ∷ []))
     ∷ row markSL slots
     ∷ row markVO (fields (n16 ∷ n8 ∷ n32 ∷ n32 ∷ []))
     ∷ row markVX (fields (n16 ∷ []))
+    ∷ row markVS (fields (n16 ∷ n8 ∷ n32 ∷ n32 ∷ n8 ∷ n32 ∷ n32 ∷ n8 ∷ []))
     ∷ []
 
 unfoldable pub find : ℕ → List Row → Out Shape

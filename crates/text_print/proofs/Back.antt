@@ -9,7 +9,8 @@ use native.Mathlib.Omega.{arith}
 use borrow.Author.Tests.{ne-eqb}
 use Rattle.meaning.specs.Plain.{Out, refused, next, _andThen_, if_then_else_, _=?_}
 use Rattle.meaning.specs.Numbers.{octets}
-use Rattle.trace_record.specs.Trace.{GM, VO, VX, CA, SL, markGM, markGR, markVO, markVX, markCA, markSL}
+use Rattle.meaning.specs.Words.{Second}
+use Rattle.trace_record.specs.Trace.{GM, VO, VX, CA, SL, VS, markGM, markGR, markVO, markVX, markCA, markSL, markVS}
 use Rattle.list_lines.specs.Text.{decimalOf}
 use Rattle.list_lines.specs.Text.{line as Text·line}
 use Rattle.text_meaning.specs.Shapes.{Field, n8, n16, n32, cell, of16, of32, find}
@@ -101,6 +102,39 @@ module _ (trace s : List ℕ) where
       ∙ field32 (n32 ∷ []) (of16 markVO ++ (of16 vci ++ (m ∷ []))) F 32 (decimalOf C ++ (10 ∷ s)) space-ends hf
       ∙ field32 [] (of16 markVO ++ (of16 vci ++ (m ∷ of32 F))) C 10 s feed-ends hc
       ∙ fields-end (of16 markVO ++ (of16 vci ++ (m ∷ (of32 F ++ of32 C)))) s)
+
+  -- a VS: the fields of a VO, then those of the second bucket and the flag
+  abbrev behind : Second → List ℕ
+  behind x = decimalOf (x .m) ++ (32 ∷ (decimalOf (x .F) ++ (32 ∷ (decimalOf (x .C) ++ (32 ∷ (decimalOf (x .tag) ++ (10 ∷ s)))))))
+
+  sustain-parts : (vci m F C : ℕ) (x : Second)
+      → Text·line (of16 markVS ∷ decimalOf vci ∷ decimalOf m ∷ decimalOf F ∷ decimalOf C ∷ decimalOf (x .m) ∷ decimalOf (x .F) ∷ decimalOf (x .C) ∷ decimalOf (x .tag) ∷ []) ++ s
+      ≡ of16 markVS ++ (32 ∷ (decimalOf vci ++ (32 ∷ (decimalOf m ++ (32 ∷ (decimalOf F ++ (32 ∷ (decimalOf C ++ (32 ∷ behind x)))))))))
+  unfolding Text·line
+  sustain-parts vci m F C x = simp append-assoc
+
+  second-fields : (o : List ℕ) (x : Second) → x .m ≤ 255 → x .F ≤ 4_294_967_295 → x .C ≤ 4_294_967_295 → x .tag ≤ 255
+      → fieldsAt (n8 ∷ n32 ∷ n32 ∷ n8 ∷ []) o (32 ∷ behind x) ≡ next (part ((((o ++ (x .m ∷ [])) ++ of32 (x .F)) ++ of32 (x .C)) ++ (x .tag ∷ [])) s)
+  second-fields o x hm hf hc ht =
+      field8 (n32 ∷ n32 ∷ n8 ∷ []) o (x .m) 32 (decimalOf (x .F) ++ (32 ∷ (decimalOf (x .C) ++ (32 ∷ (decimalOf (x .tag) ++ (10 ∷ s)))))) space-ends hm
+      ∙ field32 (n32 ∷ n8 ∷ []) (o ++ (x .m ∷ [])) (x .F) 32 (decimalOf (x .C) ++ (32 ∷ (decimalOf (x .tag) ++ (10 ∷ s)))) space-ends hf
+      ∙ field32 (n8 ∷ []) ((o ++ (x .m ∷ [])) ++ of32 (x .F)) (x .C) 32 (decimalOf (x .tag) ++ (10 ∷ s)) space-ends hc
+      ∙ field8 [] (((o ++ (x .m ∷ [])) ++ of32 (x .F)) ++ of32 (x .C)) (x .tag) 10 s feed-ends ht
+      ∙ fields-end ((((o ++ (x .m ∷ [])) ++ of32 (x .F)) ++ of32 (x .C)) ++ (x .tag ∷ [])) s
+
+  pub sustain-back : (vci m F C : ℕ) (x : Second) → vci ≤ 65_535 → m ≤ 255 → F ≤ 4_294_967_295 → C ≤ 4_294_967_295
+      → x .m ≤ 255 → x .F ≤ 4_294_967_295 → x .C ≤ 4_294_967_295 → x .tag ≤ 255
+      → line false (lineOf trace (VS vci m F C x) ++ s) ≡ next (tells (eventOf trace (VS vci m F C x)) s)
+  unfolding lineOf line shapedLine find eventOf
+  sustain-back vci m F C x hv hm hf hc im jf jc jt =
+      let second = n8 ∷ n32 ∷ n32 ∷ n8 ∷ [] in
+      ap (line false) (sustain-parts vci m F C x)
+      ∙ ap toldBy
+      (field16 (n8 ∷ n32 ∷ n32 ∷ second) (of16 markVS) vci 32 (decimalOf m ++ (32 ∷ (decimalOf F ++ (32 ∷ (decimalOf C ++ (32 ∷ behind x)))))) space-ends hv
+      ∙ field8 (n32 ∷ n32 ∷ second) (of16 markVS ++ of16 vci) m 32 (decimalOf F ++ (32 ∷ (decimalOf C ++ (32 ∷ behind x)))) space-ends hm
+      ∙ field32 (n32 ∷ second) (of16 markVS ++ (of16 vci ++ (m ∷ []))) F 32 (decimalOf C ++ (32 ∷ behind x)) space-ends hf
+      ∙ field32 second (of16 markVS ++ (of16 vci ++ (m ∷ of32 F))) C 32 (behind x) space-ends hc
+      ∙ second-fields (of16 markVS ++ (of16 vci ++ (m ∷ (of32 F ++ of32 C)))) x im jf jc jt)
 
   pub cell-back : (start : ℕ) → length (take octets (drop start trace)) ≡ octets
       → ((i : ℕ) → i < length (take octets (drop start trace)) → getD (take octets (drop start trace)) i 0 < 256)

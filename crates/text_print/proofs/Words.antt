@@ -10,7 +10,8 @@ use lib.Seq.{take-suc, getD-drop}
 use Rattle.list_lines.specs.Put.{Put}
 use Rattle.list_lines.proofs.Puts.{put-is}
 use Rattle.meaning.specs.Numbers.{octets}
-use Rattle.trace_record.specs.Trace.{GM, VO, VX, CA, SL, markVO, markVX, markCA, markSL}
+use Rattle.meaning.specs.Words.{Second}
+use Rattle.trace_record.specs.Trace.{GM, VO, VX, CA, SL, VS, markVO, markVX, markCA, markSL, markVS}
 use Rattle.list_lines.specs.Text.{decimalOf, line}
 use Rattle.text_meaning.specs.Shapes.{of16}
 use Rattle.text_print.specs.Print.{hexDigit, hexPair, hexOf, setupMark, lineOf}
@@ -24,6 +25,12 @@ pub open-words : (trace : List ℕ) (vci m F C : ℕ)
     → lineOf trace (VO vci m F C) ≡ ((((of16 markVO ++ (32 ∷ [])) ++ (decimalOf vci ++ (32 ∷ []))) ++ (decimalOf m ++ (32 ∷ []))) ++ (decimalOf F ++ (32 ∷ []))) ++ (decimalOf C ++ (10 ∷ []))
 unfolding lineOf line
 open-words trace vci m F C = simp append-assoc
+
+pub sustain-words : (trace : List ℕ) (vci m F C : ℕ) (x : Second)
+    → lineOf trace (VS vci m F C x) ≡ ((((((((of16 markVS ++ (32 ∷ [])) ++ (decimalOf vci ++ (32 ∷ []))) ++ (decimalOf m ++ (32 ∷ []))) ++ (decimalOf F ++ (32 ∷ []))) ++ (decimalOf C ++ (32 ∷ [])))
+    ++ (decimalOf (x .m) ++ (32 ∷ []))) ++ (decimalOf (x .F) ++ (32 ∷ []))) ++ (decimalOf (x .C) ++ (32 ∷ []))) ++ (decimalOf (x .tag) ++ (10 ∷ []))
+unfolding lineOf line
+sustain-words trace vci m F C x = simp append-assoc
 
 pub close-words : (trace : List ℕ) (vci : ℕ) → lineOf trace (VX vci) ≡ (of16 markVX ++ (32 ∷ [])) ++ (decimalOf vci ++ (10 ∷ []))
 unfolding lineOf line

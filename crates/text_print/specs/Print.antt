@@ -11,8 +11,8 @@ use mathlib.Core.List.{List, [], _∷_, _++_}
 use lib.ListN.{length, take, drop}
 use Rattle.meaning.specs.Plain.{if_then_else_, _<?_}
 use Rattle.meaning.specs.Numbers.{octets}
-use Rattle.trace_record.specs.Trace.{TraceRecord, GM, VO, VX, CA, SL, Stands, event, finish, refusal, standsAt}
-use Rattle.trace_record.specs.Trace.{markGM, markGR, markVO, markVX, markCA, markSL}
+use Rattle.trace_record.specs.Trace.{TraceRecord, GM, VO, VX, CA, SL, VS, Stands, event, finish, refusal, standsAt}
+use Rattle.trace_record.specs.Trace.{markGM, markGR, markVO, markVX, markCA, markSL, markVS}
 use Rattle.list_lines.specs.Text.{decimalOf, line}
 use Rattle.text_meaning.specs.Shapes.{of16}
 
@@ -36,6 +36,18 @@ lineOf trace (VO vci m F C) = line (of16 markVO ∷ decimalOf vci ∷ decimalOf 
 lineOf trace (VX vci) = line (of16 markVX ∷ decimalOf vci ∷ [])
 lineOf trace (CA start) = line (of16 markCA ∷ hexOf (take octets (drop start trace)) ∷ [])
 lineOf trace (SL count) = line (of16 markSL ∷ decimalOf count ∷ [])
+lineOf trace (VS vci m F C x) =
+    line
+    (of16 markVS
+    ∷ decimalOf vci
+    ∷ decimalOf m
+    ∷ decimalOf F
+    ∷ decimalOf C
+    ∷ decimalOf (x .m)
+    ∷ decimalOf (x .F)
+    ∷ decimalOf (x .C)
+    ∷ decimalOf (x .tag)
+    ∷ [])
 
 -- no line is longer
 abbrev pub lineRoom : ℕ
@@ -48,6 +60,7 @@ CellWithin trace (VO vci m F C) = 0 ≤ 0
 CellWithin trace (VX vci) = 0 ≤ 0
 CellWithin trace (CA start) = start + octets ≤ length trace
 CellWithin trace (SL count) = 0 ≤ 0
+CellWithin trace (VS vci m F C x) = 0 ≤ 0
 
 -- the line of what stands at a place, and what is said from the next on
 unfoldable pub textAt : List ℕ → (ℕ → List ℕ) → Stands → List ℕ

@@ -6,6 +6,8 @@ ghost use lib.ListN.{length, take, drop};
 ghost use Rattle.list_lines.specs.Put.{Put};
 ghost use Rattle.trace_record.specs.Trace.{recordOf};
 ghost use Rattle.trace_record.specs.Trace.{GM as Trace·GM, VO as Trace·VO, VX as Trace·VX, CA as Trace·CA, SL as Trace·SL};
+ghost use Rattle.trace_record.specs.Trace.{VS as Trace·VS};
+ghost use Rattle.meaning.specs.Words.{secondOf};
 ghost use Rattle.text_meaning.specs.Shapes.{of16};
 ghost use Rattle.text_print.specs.Print.{hexDigit, hexPair, hexOf, lineOf};
 ghost use Rattle.text_print.specs.Print.{setupMark, lineRoom, CellWithin};
@@ -25,6 +27,8 @@ const GM: u16 = 0x474d;
 const GR: u16 = 0x4752;
 
 const VO: u16 = 0x564f;
+
+const VS: u16 = 0x5653;
 
 const VX: u16 = 0x5658;
 
@@ -119,6 +123,34 @@ fn open_text(out: &mut [u8], at: usize, vci: u16, m: u8, f: u32, c: u32) -> usiz
     list_lines::number(out, e, c, 10)
 }
 
+// The line of a VO, then the second bucket and the flag.
+fn sustain_text(
+    out: &mut [u8],
+    at: usize,
+    vci: u16,
+    m: u8,
+    f: u32,
+    c: u32,
+    m2: u8,
+    f2: u32,
+    c2: u32,
+    tag: u8,
+) -> usize
+    requires { ⌜ at + lineRoom ≤ length (now out) ⌝ }
+    ensures { λ r. ⌜ ((trace : List ℕ) → Put (now (out .entry)) at (lineOf trace (Trace·VS vci m f c (secondOf m2 f2 c2 tag))) (now (out .exit)) r) ⌝ }
+    ensures { λ r. ⌜ r ≤ at + lineRoom ⌝ }
+{
+    let a = mark(out, at, VS);
+    let b = list_lines::number(out, a, vci as u32, 32);
+    let d = list_lines::number(out, b, m as u32, 32);
+    let e = list_lines::number(out, d, f, 32);
+    let g = list_lines::number(out, e, c, 32);
+    let h = list_lines::number(out, g, m2 as u32, 32);
+    let i = list_lines::number(out, h, f2, 32);
+    let j = list_lines::number(out, i, c2, 32);
+    list_lines::number(out, j, tag as u32, 10)
+}
+
 fn close_text(out: &mut [u8], at: usize, vci: u16) -> usize
     requires { ⌜ at + lineRoom ≤ length (now out) ⌝ }
     ensures { λ r. ⌜ ((trace : List ℕ) → Put (now (out .entry)) at (lineOf trace (Trace·VX vci)) (now (out .exit)) r) ⌝ }
@@ -159,6 +191,16 @@ fn line_text(trace: &[u8], event: Event, out: &mut [u8], at: usize) -> usize
         Event::Close { vci } => close_text(out, at, vci),
         Event::Cell { start } => cell_text(trace, start, out, at),
         Event::Pause { slots } => pause_text(out, at, slots),
+        Event::Sustain {
+            vci,
+            m,
+            f,
+            c,
+            m2,
+            f2,
+            c2,
+            tag,
+        } => sustain_text(out, at, vci, m, f, c, m2, f2, c2, tag),
     }
 }
 

@@ -7,11 +7,12 @@ use lib.ListN.{length, getD, take, drop, length-drop}
 use lib.Seq.{ext-getD, getD-take, getD-drop, length-take-le}
 use native.Mathlib.Omega.{arith}
 use Rattle.meaning.specs.Numbers.{octets}
-use Rattle.trace_record.specs.Trace.{be16, be32, event, standsAt, setupAt, openAt, closeAt, cellAt, pauseAt, firstAt, laterAt}
-use Rattle.trace_record.specs.Trace.{markGM, markGR, markVO, markVX, markCA, markSL, longGM, longVO, longVX, longCA, longSL}
-use Rattle.trace_record.proofs.Cases.{whole-read, pause-whole, first-gm, first-gr, later-cell, later-pause, later-open, later-close, stands-first, stands-later}
+use Rattle.meaning.specs.Words.{Second}
+use Rattle.trace_record.specs.Trace.{be16, be32, event, standsAt, setupAt, openAt, sustainAt, closeAt, cellAt, pauseAt, firstAt, laterAt}
+use Rattle.trace_record.specs.Trace.{markGM, markGR, markVO, markVX, markCA, markSL, markVS, longGM, longVO, longVX, longCA, longSL, longVS}
+use Rattle.trace_record.proofs.Cases.{whole-read, sustain-same, pause-whole, first-gm, first-gr, later-cell, later-pause, later-open, later-close, later-sustain, stands-first, stands-later}
 use Rattle.list_lines.specs.Put.{puts}
-use Rattle.text_record.specs.Record.{GM, VO, VX, CA, SL, recordOctets, recordAt}
+use Rattle.text_record.specs.Record.{GM, VO, VX, CA, SL, VS, recordOctets, recordAt}
 use Rattle.text_record.proofs.Puts.{puts-length, puts-in}
 
 add-two : (k : ℕ) → k + 2 ≡ suc (suc k)
@@ -38,6 +39,13 @@ module _ (out : List ℕ) (at : ℕ) (os : List ℕ) (h : at + length os ≤ len
   two-back k j n e m a b =
       be16-is (puts out at os) j n (sym (octet-back k j (n / 256) e (omega arith) a))
       (sym (octet-back (k + 1) (j + 1) (n % 256) (omega arith) (omega arith) b))
+
+  -- a number of 32 bits whose octets are k to k + 3
+  four-back : (k j n : ℕ) → j ≡ at + k → k + 4 ≤ length os → getD os k 0 ≡ n / 65_536 / 256 → getD os (k + 1) 0 ≡ n / 65_536 % 256
+      → getD os (k + 2) 0 ≡ n % 65_536 / 256 → getD os (k + 2 + 1) 0 ≡ n % 65_536 % 256 → n ≡ be32 (puts out at os) j
+  four-back k j n e m a b d f =
+      be32-is (puts out at os) j n (two-back k j (n / 65_536) e (omega arith) a b)
+      (two-back (k + 2) (j + 2) (n % 65_536) (omega arith) (omega arith) d f)
 
   room-back : (k : ℕ) → k ≤ length os → at + k ≤ length (puts out at os)
   room-back k m = omega (arith, puts-length out at os)
@@ -73,6 +81,25 @@ module _ (out : List ℕ) (at : ℕ) where
         (two-back out at os h 11 (at + 9 + 2) (C % 65_536) (omega arith) (omega arith) refl refl) in
         sym (stands-later s at (λ q. omega arith) (omega arith) (two-back out at os h 0 at markVO (omega arith) (omega arith) refl refl) later
         (later-open s at markVO (λ q. omega arith) (λ q. omega arith) refl (whole-read s at longVO _ (cc) (omega arith))))
+
+    pub sustain-back : (vci m F C : ℕ) (x : Second) → at + longVS ≤ length out
+        → standsAt (puts out at (recordOctets (VS vci m F C x))) at ≡ event (recordAt at (VS vci m F C x)) (at + longVS)
+    unfolding recordOctets recordAt sustainAt
+    sustain-back vci m F C x h =
+        let os = recordOctets (VS vci m F C x) in let s = puts out at os in let l = puts-length out at os in
+        sym (stands-later s at (λ q. omega arith) (omega arith) (two-back out at os h 0 at markVS (omega arith) (omega arith) refl refl) later
+        (later-sustain s at markVS (λ q. omega arith) (λ q. omega arith) (λ q. omega arith) (λ q. omega arith) refl
+        (whole-read s at longVS _
+        (sustain-same
+        (two-back out at os h 2 (at + 2) vci refl (omega arith) refl refl)
+        (octet-back out at os h 4 (at + 4) m refl (omega arith) refl)
+        (four-back out at os h 5 (at + 5) F refl (omega arith) refl refl refl refl)
+        (four-back out at os h 9 (at + 9) C refl (omega arith) refl refl refl refl)
+        (octet-back out at os h 13 (at + 13) (x .m) refl (omega arith) refl)
+        (four-back out at os h 14 (at + 14) (x .F) refl (omega arith) refl refl refl refl)
+        (four-back out at os h 18 (at + 18) (x .C) refl (omega arith) refl refl refl refl)
+        (octet-back out at os h 22 (at + 22) (x .tag) refl (omega arith) refl))
+        (omega arith))))
 
     pub close-back : (vci : ℕ) → at + longVX ≤ length out
         → standsAt (puts out at (recordOctets (VX vci))) at ≡ event (recordAt at (VX vci)) (at + longVX)

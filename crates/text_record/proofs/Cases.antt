@@ -9,12 +9,13 @@ use borrow.Author.Tests.{ne-eqb, eq-eqb, le-leb, lt-leb}
 use native.Mathlib.Omega.{arith}
 use Rattle.meaning.specs.Plain.{if_then_else_, _≤?_, _=?_}
 use Rattle.meaning.specs.Numbers.{octets}
-use Rattle.trace_record.specs.Trace.{markVO, markVX, markCA, markSL, longGM, longVO, longVX, longCA, longSL}
+use Rattle.meaning.specs.Words.{Second}
+use Rattle.trace_record.specs.Trace.{markVO, markVX, markCA, markSL, markVS, longGM, longVO, longVX, longCA, longSL, longVS}
 use Rattle.text_meaning.specs.Shapes.{of16, of32}
 use Rattle.list_lines.specs.Put.{puts, Put}
 use Rattle.list_lines.proofs.Puts.{put-whole}
 use Rattle.text_meaning.specs.declared.Written.{Written}
-use Rattle.text_record.specs.Record.{Given, GM, VO, VX, CA, SL, setupMark, recordOctets, allowedAt}
+use Rattle.text_record.specs.Record.{Given, GM, VO, VX, CA, SL, VS, setupMark, recordOctets, allowedAt}
 use Rattle.text_record.specs.Promises.{numberAt, nextAt, outputAt, WritePromise}
 
 never : (b : Bool) → (b && false) ≡ false
@@ -37,6 +38,14 @@ open-first at vci m F C h = lt-leb 1 at (omega arith)
 pub open-later : (at vci m F C : ℕ) → (at ≡ 0 → ⊥) → allowedAt at (VO vci m F C) ≡ true
 unfolding allowedAt
 open-later at vci m F C h = le-leb 1 at (omega arith)
+
+pub sustain-first : (at vci m F C : ℕ) (x : Second) → at ≡ 0 → allowedAt at (VS vci m F C x) ≡ false
+unfolding allowedAt
+sustain-first at vci m F C x h = lt-leb 1 at (omega arith)
+
+pub sustain-later : (at vci m F C : ℕ) (x : Second) → (at ≡ 0 → ⊥) → allowedAt at (VS vci m F C x) ≡ true
+unfolding allowedAt
+sustain-later at vci m F C x h = le-leb 1 at (omega arith)
 
 pub close-first : (at vci : ℕ) → at ≡ 0 → allowedAt at (VX vci) ≡ false
 unfolding allowedAt
@@ -81,6 +90,10 @@ pub open-long : (vci m F C : ℕ) → length (recordOctets (VO vci m F C)) ≡ l
 unfolding recordOctets
 open-long vci m F C = refl
 
+pub sustain-long : (vci m F C : ℕ) (x : Second) → length (recordOctets (VS vci m F C x)) ≡ longVS
+unfolding recordOctets
+sustain-long vci m F C x = refl
+
 pub close-long : (vci : ℕ) → length (recordOctets (VX vci)) ≡ longVX
 unfolding recordOctets
 close-long vci = refl
@@ -108,6 +121,11 @@ setup-octets N z raw mark e = ap (λ (k : ℕ). of16 k ++ (of16 N ++ of16 z)) (s
 pub open-octets : (vci m F C : ℕ) → recordOctets (VO vci m F C) ≡ of16 markVO ++ (of16 vci ++ ((m ∷ []) ++ (of32 F ++ of32 C)))
 unfolding recordOctets
 open-octets vci m F C = refl
+
+pub sustain-octets : (vci m F C : ℕ) (x : Second) → recordOctets (VS vci m F C x)
+    ≡ of16 markVS ++ (of16 vci ++ ((m ∷ []) ++ (of32 F ++ (of32 C ++ ((x .m ∷ []) ++ (of32 (x .F) ++ (of32 (x .C) ++ (x .tag ∷ []))))))))
+unfolding recordOctets
+sustain-octets vci m F C x = refl
 
 pub close-octets : (vci : ℕ) → recordOctets (VX vci) ≡ of16 markVX ++ of16 vci
 unfolding recordOctets

@@ -17,12 +17,12 @@ use Rattle.list_lines.specs.Put.{puts}
 use Rattle.text_meaning.specs.declared.Written.{Written}
 use Rattle.text_meaning.specs.Shapes.{of16}
 use Rattle.text_meaning.specs.Events.{Event, told, pause, eventOf}
-use Rattle.text_record.specs.Record.{Given, GM, VO, VX, CA, SL, recordOctets, givenEvent, allowedAt, recordAt}
+use Rattle.text_record.specs.Record.{Given, GM, VO, VX, CA, SL, VS, recordOctets, givenEvent, allowedAt, recordAt}
 use Rattle.text_record.specs.Promises.{numberAt, nextAt, outputAt, WritePromise}
 use Rattle.text_record.specs.Back.{Reads, Kept}
 use Rattle.text_record.proofs.Cases.{setup-long, open-long, close-long, cell-long, pause-long}
 use Rattle.text_record.proofs.Puts.{puts-length, puts-before, puts-behind}
-use Rattle.text_record.proofs.Back.{setup-back, open-back, close-back, pause-back, cell-back, cell-same}
+use Rattle.text_record.proofs.Back.{setup-back, open-back, sustain-back, close-back, pause-back, cell-back, cell-same}
 
 both : (a b : Bool) → a && b ≡ true → (a ≡ true) × (b ≡ true)
 both true true h = (refl, refl)
@@ -38,6 +38,7 @@ pub put-reads : (out : List ℕ) (at : ℕ) (r : Given) → allowedAt at r ≡ t
 unfolding allowedAt recordOctets recordAt eventOf
 put-reads out at (GM N z raw) a h = record { stands = setup-back out at N z raw (eqb-true at 0 a) h; says = refl }
 put-reads out at (VO vci m F C) a h = record { stands = open-back out at (not-zero at a) vci m F C h; says = refl }
+put-reads out at (VS vci m F C x) a h = record { stands = sustain-back out at (not-zero at a) vci m F C x h; says = refl }
 put-reads out at (VX vci) a h = record { stands = close-back out at (not-zero at a) vci h; says = refl }
 put-reads out at (SL count) a h =
     let t = both (1 ≤? at) (1 ≤? count) a in
@@ -64,6 +65,9 @@ never-read trace at (GM N z raw) a q =
     eqb-false at 0 a (f .2)
 never-read trace at (VO vci m F C) a q =
     let f : Fits trace at (event (recordAt at (VO vci m F C)) _) = subst (Fits trace at) (q .stands) (stands-fits trace at) in
+    let l = leb-false 1 at a in omega (arith, f .2)
+never-read trace at (VS vci m F C x) a q =
+    let f : Fits trace at (event (recordAt at (VS vci m F C x)) _) = subst (Fits trace at) (q .stands) (stands-fits trace at) in
     let l = leb-false 1 at a in omega (arith, f .2)
 never-read trace at (VX vci) a q =
     let f : Fits trace at (event (recordAt at (VX vci)) _) = subst (Fits trace at) (q .stands) (stands-fits trace at) in

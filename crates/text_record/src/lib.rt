@@ -7,6 +7,8 @@ ghost use lib.ListN.{length};
 ghost use Rattle.list_lines.specs.Put.{Put};
 ghost use Rattle.text_record.specs.Record.{GM as Record·GM, VO as Record·VO, VX as Record·VX, CA as Record·CA, SL as Record·SL};
 ghost use Rattle.text_meaning.specs.Shapes.{of16, of32};
+ghost use Rattle.text_record.specs.Record.{VS as Record·VS};
+ghost use Rattle.meaning.specs.Words.{secondOf};
 ghost use Rattle.text_record.specs.Record.{setupMark};
 ghost use Rattle.text_record.specs.Promises.{WritePromise};
 use text_meaning::Written;
@@ -17,6 +19,8 @@ const GM: u16 = 0x474d;
 const GR: u16 = 0x4752;
 
 const VO: u16 = 0x564f;
+
+const VS: u16 = 0x5653;
 
 const VX: u16 = 0x5658;
 
@@ -123,6 +127,48 @@ pub fn write_open(out: &mut [u8], at: usize, vci: u16, m: u8, f: u32, c: u32) ->
     let d = one(out, b, m);
     let e = four(out, d, f);
     let next = four(out, e, c);
+    Written {
+        number: 0,
+        place: next,
+    }
+}
+
+// A VO with the second bucket and the flag behind it.
+pub fn write_sustain(
+    out: &mut [u8],
+    at: usize,
+    vci: u16,
+    m: u8,
+    f: u32,
+    c: u32,
+    m2: u8,
+    f2: u32,
+    c2: u32,
+    tag: u8,
+) -> Written
+    ensures { λ r. ⌜ WritePromise (now (out .entry)) at (Record·VS vci m f c (secondOf m2 f2 c2 tag)) r (now (out .exit)) ⌝ }
+{
+    if at == 0 {
+        return Written {
+            number: 10,
+            place: at,
+        };
+    }
+    if room(at, out.len()) < 23 {
+        return Written {
+            number: 14,
+            place: at,
+        };
+    }
+    let a = two(out, at, VS);
+    let b = two(out, a, vci);
+    let d = one(out, b, m);
+    let e = four(out, d, f);
+    let g = four(out, e, c);
+    let h = one(out, g, m2);
+    let i = four(out, h, f2);
+    let j = four(out, i, c2);
+    let next = one(out, j, tag);
     Written {
         number: 0,
         place: next,

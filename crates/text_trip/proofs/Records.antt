@@ -11,9 +11,9 @@ use lib.ListN.{length, getD, take, drop, take-append-drop}
 use lib.Seq.{drop-cons, drop-drop}
 use Rattle.meaning.specs.Plain.{if_then_else_, _<?_, _≤?_, _=?_}
 use Rattle.meaning.specs.Numbers.{octets}
-use Rattle.trace_record.specs.Trace.{TraceRecord, GM, VO, VX, CA, SL, Stands, event, finish, refusal, unreadable}
-use Rattle.trace_record.specs.Trace.{be16, be32, whole, setupAt, openAt, closeAt, cellAt, pauseAt, firstAt, laterAt, standsAt}
-use Rattle.trace_record.specs.Trace.{markOctets, markGM, markGR, markVO, markVX, markCA, markSL}
+use Rattle.trace_record.specs.Trace.{TraceRecord, GM, VO, VX, CA, SL, VS, Stands, event, finish, refusal, unreadable}
+use Rattle.trace_record.specs.Trace.{be16, be32, whole, setupAt, openAt, sustainAt, closeAt, cellAt, pauseAt, firstAt, laterAt, standsAt}
+use Rattle.trace_record.specs.Trace.{markOctets, markGM, markGR, markVO, markVX, markCA, markSL, markVS}
 use Rattle.text_meaning.specs.Shapes.{of16, of32}
 use Rattle.text_meaning.specs.Events.{Event, told, pause, full, slOf, octetsOf, eventOf}
 use Rattle.text_trip.proofs.Settled.{single-octets}
@@ -169,6 +169,27 @@ module _ (s : List ℕ) (b : (i : ℕ) → getD s i 0 < 256) where
         ))
         (λ _. omega arith)
 
+    -- octets that stand there up to place j, and a part before them from place i on
+    behind : {x : List ℕ} (f : List ℕ → List ℕ) (i j : ℕ) → i ≡ j → x ≡ drop i s → f x ≡ f (drop j s)
+    behind f i j e h = ap f (h ∙ ap (λ (k : ℕ). drop k s) e)
+
+    sustain-same : be16 s at ≡ markVS → Same (sustainAt s at)
+    unfolding sustainAt whole octetsOf eventOf
+    sustain-same e =
+        choose Same (at + 23 ≤? length s)
+        (λ t.
+        let h : at + 23 ≤ length s = leb-true (at + 23) (length s) t in
+        let tag = behind (λ y. getD s (at + 22) 0 ∷ y) (at + 23) (at + 22 + 1) (omega arith) refl ∙ one (at + 22) (omega arith) in
+        let c2 = behind (λ y. of32 (be32 s (at + 18)) ++ y) (at + 22) (at + 18 + 4) (omega arith) tag ∙ four (at + 18) (omega arith) in
+        let f2 = behind (λ y. of32 (be32 s (at + 14)) ++ y) (at + 18) (at + 14 + 4) (omega arith) c2 ∙ four (at + 14) (omega arith) in
+        let m2 = behind (λ y. getD s (at + 13) 0 ∷ y) (at + 14) (at + 13 + 1) (omega arith) f2 ∙ one (at + 13) (omega arith) in
+        let c1 = behind (λ y. of32 (be32 s (at + 9)) ++ y) (at + 13) (at + 9 + 4) (omega arith) m2 ∙ four (at + 9) (omega arith) in
+        let f1 = behind (λ y. of32 (be32 s (at + 5)) ++ y) (at + 9) (at + 5 + 4) (omega arith) c1 ∙ four (at + 5) (omega arith) in
+        let m1 = behind (λ y. getD s (at + 4) 0 ∷ y) (at + 5) (at + 4 + 1) (omega arith) f1 ∙ one (at + 4) (omega arith) in
+        let v1 = behind (λ y. of16 (be16 s (at + 2)) ++ y) (at + 4) (at + 2 + 2) (omega arith) m1 ∙ two (at + 2) (omega arith) in
+        (marked markVS _ e (omega arith) v1, omega arith, omega arith))
+        (λ _. omega arith)
+
     both : (x y : Bool) → x && y ≡ true → y ≡ true
     both true y h = h
     both false y h = let z : _≡_ {A = ℕ} 0 1 = cc in absurd (omega arith)
@@ -184,4 +205,5 @@ module _ (s : List ℕ) (b : (i : ℕ) → getD s i 0 < 256) where
         (λ _. choose Same (be16 s at =? markCA) (λ t. cell-same (eqb-true _ _ t))
         (λ _. choose Same (be16 s at =? markSL) (λ t. pause-same (eqb-true _ _ t))
         (λ _. choose Same (be16 s at =? markVO) (λ t. open-same (eqb-true _ _ t))
-        (λ _. choose Same (be16 s at =? markVX) (λ t. close-same (eqb-true _ _ t)) (λ _. omega arith)))))))
+        (λ _. choose Same (be16 s at =? markVX) (λ t. close-same (eqb-true _ _ t))
+        (λ _. choose Same (be16 s at =? markVS) (λ t. sustain-same (eqb-true _ _ t)) (λ _. omega arith))))))))

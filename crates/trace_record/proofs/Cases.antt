@@ -8,9 +8,10 @@ use lib.ListN.{length}
 use borrow.Author.Tests.{ne-eqb, eq-eqb, le-leb, lt-leb, lt-ltb, le-ltb}
 use native.Mathlib.Omega.{arith}
 use Rattle.meaning.specs.Plain.{if_then_else_, _≤?_, _=?_}
-use Rattle.trace_record.specs.Trace.{TraceRecord, SL, Stands, event, finish, unreadable}
-use Rattle.trace_record.specs.Trace.{be16, whole, setupAt, openAt, closeAt, cellAt, pauseAt, firstAt, laterAt, standsAt}
-use Rattle.trace_record.specs.Trace.{markGM, markGR, markVO, markVX, markCA, markSL, longSL}
+use Rattle.meaning.specs.Words.{secondOf}
+use Rattle.trace_record.specs.Trace.{TraceRecord, SL, VS, Stands, event, finish, unreadable}
+use Rattle.trace_record.specs.Trace.{be16, whole, setupAt, openAt, sustainAt, closeAt, cellAt, pauseAt, firstAt, laterAt, standsAt}
+use Rattle.trace_record.specs.Trace.{markGM, markGR, markVO, markVX, markCA, markSL, markVS, longSL}
 
 -- a record q as it was read, whose numbers are those of r
 module _ (s : List ℕ) (at long : ℕ) (r : TraceRecord) where
@@ -21,6 +22,11 @@ module _ (s : List ℕ) (at long : ℕ) (r : TraceRecord) where
   pub whole-short : length s < at + long → unreadable at ≡ whole s at long r
   unfolding whole
   whole-short h = simp (lt-leb (at + long) (length s) h)
+
+-- a VS by its eight numbers
+pub sustain-same : {v m F C a b d e v′ m′ F′ C′ a′ b′ d′ e′ : ℕ} → v ≡ v′ → m ≡ m′ → F ≡ F′ → C ≡ C′
+    → a ≡ a′ → b ≡ b′ → d ≡ d′ → e ≡ e′ → VS v m F C (secondOf a b d e) ≡ VS v′ m′ F′ C′ (secondOf a′ b′ d′ e′)
+sustain-same p1 p2 p3 p4 q1 q2 q3 q4 = rw (p1, p2, p3, p4, q1, q2, q3, q4)
 
 never : (b : Bool) → (b && false) ≡ false
 never true = refl
@@ -75,15 +81,22 @@ module _ (s : List ℕ) (at m : ℕ) {x : Stands} where
         unfolding laterAt
         later-close h e = simp (ne-eqb m markCA ca, ne-eqb m markSL sl, ne-eqb m markVO vo, eq-eqb m markVX h) e
 
+        module _ (vx : m ≡ markVX → ⊥) where
+          pub later-sustain : m ≡ markVS → x ≡ sustainAt s at → x ≡ laterAt s at m
+          unfolding laterAt
+          later-sustain h e =
+              simp (ne-eqb m markCA ca, ne-eqb m markSL sl, ne-eqb m markVO vo, ne-eqb m markVX vx, eq-eqb m markVS h) e
+
 module _ (s : List ℕ) (at m : ℕ) where
   pub first-other : (m ≡ markGM → ⊥) → (m ≡ markGR → ⊥) → unreadable at ≡ firstAt s at m
   unfolding firstAt
   first-other gm gr = simp (ne-eqb m markGM gm, ne-eqb m markGR gr)
 
-  pub later-unknown : (m ≡ markCA → ⊥) → (m ≡ markSL → ⊥) → (m ≡ markVO → ⊥) → (m ≡ markVX → ⊥)
+  pub later-unknown : (m ≡ markCA → ⊥) → (m ≡ markSL → ⊥) → (m ≡ markVO → ⊥) → (m ≡ markVX → ⊥) → (m ≡ markVS → ⊥)
       → unreadable at ≡ laterAt s at m
   unfolding laterAt
-  later-unknown ca sl vo vx = simp (ne-eqb m markCA ca, ne-eqb m markSL sl, ne-eqb m markVO vo, ne-eqb m markVX vx)
+  later-unknown ca sl vo vx vs =
+      simp (ne-eqb m markCA ca, ne-eqb m markSL sl, ne-eqb m markVO vo, ne-eqb m markVX vx, ne-eqb m markVS vs)
 
 -- by the place
 module _ (s : List ℕ) (at : ℕ) where

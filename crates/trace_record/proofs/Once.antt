@@ -3,10 +3,10 @@
 use Prim.Native.Nat.{ℕ}
 use mathlib.Core.Path.{_≡_, refl, sym, ap, _∙_}
 use mathlib.Core.List.{List}
-use Rattle.trace_record.specs.Trace.{TraceRecord, GM, VO, VX, CA, SL, Stands, event, finish, refusal, saidOf}
+use Rattle.trace_record.specs.Trace.{TraceRecord, GM, VO, VX, CA, SL, VS, Stands, event, finish, refusal, saidOf}
 use Rattle.trace_record.specs.Promises.{eventPromise, placePromise}
 use Rattle.trace_record.specs.declared.Event.{Event}
-use Rattle.trace_record.specs.declared.Event.the-variants.{Setup, Open, Close, Cell, Pause}
+use Rattle.trace_record.specs.declared.Event.the-variants.{Setup, Open, Close, Cell, Pause, Sustain}
 use Rattle.trace_record.specs.declared.Found.{Found}
 use Rattle.trace_record.specs.declared.Found.the-variants.{Read, End, Unreadable}
 
@@ -17,6 +17,7 @@ eventOf (VO vci m F C) = Open vci m F C
 eventOf (VX vci) = Close vci
 eventOf (CA start) = Cell start
 eventOf (SL count) = Pause count
+eventOf (VS vci m F C x) = Sustain vci m F C (x .m) (x .F) (x .C) (x .tag)
 
 abbrev pub foundOf : Stands → Found
 foundOf (event r next) = Read (eventOf r) next
@@ -29,6 +30,7 @@ found-of-said (Read (Open vci m f c) next) = refl
 found-of-said (Read (Close vci) next) = refl
 found-of-said (Read (Cell start) next) = refl
 found-of-said (Read (Pause slots) next) = refl
+found-of-said (Read (Sustain vci m f c m2 f2 c2 tag) next) = refl
 found-of-said End = refl
 found-of-said (Unreadable place) = refl
 

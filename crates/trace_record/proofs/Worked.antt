@@ -5,8 +5,9 @@ use mathlib.Core.Path.{_≡_, refl}
 use mathlib.Core.Bool.{true, false}
 use mathlib.Core.List.{List, [], _∷_, _++_, map}
 use lib.ListN.{replicate, take}
-use Rattle.trace_record.specs.Trace.{GM, VO, VX, CA, SL, Stands, event, finish, unreadable}
-use Rattle.trace_record.specs.Trace.{be16, be32, whole, setupAt, openAt, closeAt, cellAt, pauseAt, firstAt, laterAt, standsAt}
+use Rattle.meaning.specs.Words.{secondOf, noSecond}
+use Rattle.trace_record.specs.Trace.{GM, VO, VX, CA, SL, VS, Stands, event, finish, unreadable}
+use Rattle.trace_record.specs.Trace.{be16, be32, whole, setupAt, openAt, sustainAt, closeAt, cellAt, pauseAt, firstAt, laterAt, standsAt}
 
 pub record Case : Type 0 where
   pub trace : List ℕ
@@ -34,6 +35,11 @@ sl high low = 83 ∷ 76 ∷ high ∷ low ∷ []
 
 abbrev vx : List ℕ
 vx = 86 ∷ 88 ∷ 1 ∷ 2 ∷ []
+
+-- a VO's octets, then "m (8), F (32), C (32), flag (8)"
+abbrev vs : ℕ → ℕ → ℕ → ℕ → List ℕ
+vs m F C flag =
+    (86 ∷ 83 ∷ 0 ∷ 40 ∷ 2 ∷ 0 ∷ 0 ∷ 0 ∷ 10 ∷ 0 ∷ 0 ∷ 0 ∷ 26 ∷ []) ++ (m ∷ 0 ∷ 0 ∷ 1 ∷ F ∷ 0 ∷ 0 ∷ 2 ∷ C ∷ flag ∷ [])
 
 -- "GM 5 64; VO 40 with m 2, F 10, C 26; VO 41 with m 2, F 4, C 4; cells .. in slots 0 to 4; .. in slot 5; SL 2"
 abbrev eight : List ℕ
@@ -70,9 +76,15 @@ table =
     ∷ row 6 (gm ++ take 3 (sl 1 0)) (unreadable 6)
     ∷ row 6 (gm ++ take 12 (vo 40 2 10 26)) (unreadable 6)
     ∷ row 6 (gm ++ take 54 (ca 128)) (unreadable 6)
+    ∷ row 6 (gm ++ vs 3 4 5 1) (event (VS 40 2 10 26 (secondOf 3 260 517 1)) 29)
+    ∷ row 6 (gm ++ take 22 (vs 3 4 5 1)) (unreadable 6)
+    ∷ row 6 (gm ++ take 13 (vs 3 4 5 1)) (unreadable 6)
+    ∷ row 29 (gm ++ (vs 3 4 5 255 ++ vx)) (event (VX 258) 33)
+    ∷ row 6 (gm ++ ((86 ∷ 83 ∷ []) ++ replicate 21 0)) (event (VS 0 0 0 0 noSecond) 29)
+    ∷ row 0 (vs 3 4 5 1) (unreadable 0)
     ∷ row 6 (gm ++ (86 ∷ 89 ∷ 1 ∷ 2 ∷ [])) (unreadable 6)
     ∷ []
 
 pub worked : map (λ c. standsAt (c .trace) (c .place)) table ≡ map (λ c. c .stands) table
-unfolding standsAt firstAt laterAt setupAt openAt closeAt cellAt pauseAt whole be16 be32
+unfolding standsAt firstAt laterAt setupAt openAt sustainAt closeAt cellAt pauseAt whole be16 be32
 worked = refl

@@ -8,9 +8,9 @@ use lib.ListN.{length}
 use borrow.Author.Tests.{leb-true, eqb-true, eqb-false}
 use native.Mathlib.Omega.{arith}
 use Rattle.meaning.specs.Plain.{if_then_else_, _<?_, _≤?_, _=?_}
-use Rattle.trace_record.specs.Trace.{TraceRecord, GM, VO, VX, CA, SL, Stands, event, finish, refusal, unreadable}
-use Rattle.trace_record.specs.Trace.{be16, whole, setupAt, openAt, closeAt, cellAt, pauseAt, firstAt, laterAt, standsAt}
-use Rattle.trace_record.specs.Trace.{markOctets, markGM, markGR, markVO, markVX, markCA, markSL, longGM, longVO, longVX, longCA, longSL}
+use Rattle.trace_record.specs.Trace.{TraceRecord, GM, VO, VX, CA, SL, VS, Stands, event, finish, refusal, unreadable}
+use Rattle.trace_record.specs.Trace.{be16, whole, setupAt, openAt, sustainAt, closeAt, cellAt, pauseAt, firstAt, laterAt, standsAt}
+use Rattle.trace_record.specs.Trace.{markOctets, markGM, markGR, markVO, markVX, markCA, markSL, markVS, longGM, longVO, longVX, longCA, longSL, longVS}
 
 abbrev pub longOf : TraceRecord → ℕ
 longOf (GM N z raw) = longGM
@@ -18,6 +18,7 @@ longOf (VO vci m F C) = longVO
 longOf (VX vci) = longVX
 longOf (CA start) = longCA
 longOf (SL count) = longSL
+longOf (VS vci m F C x) = longVS
 
 -- "first and only first"; "CA: 53 octets"; "a count of empty slots, at least 1"
 abbrev pub Allowed : ℕ → TraceRecord → Type 0
@@ -26,6 +27,7 @@ Allowed at (VO vci m F C) = 0 < at
 Allowed at (VX vci) = 0 < at
 Allowed at (CA start) = (0 < at) × (start ≡ at + markOctets)
 Allowed at (SL count) = (0 < at) × (0 < count)
+Allowed at (VS vci m F C x) = 0 < at
 
 abbrev pub Fits : List ℕ → ℕ → Stands → Type 0
 Fits trace at (event r next) = (next ≡ at + longOf r) × (next ≤ length trace) × Allowed at r
@@ -68,12 +70,13 @@ module _ (s : List ℕ) (at : ℕ) where
         (λ f. whole-fits (SL (be16 s (at + 2))) (later, positive (be16 s (at + 2)) (eqb-false _ _ f)))
 
     later-fits : (m : ℕ) → Fits s at (laterAt s at m)
-    unfolding laterAt openAt closeAt cellAt
+    unfolding laterAt openAt sustainAt closeAt cellAt
     later-fits m =
         choose (Fits s at) (m =? markCA) (λ _. whole-fits (CA (at + markOctets)) (later, refl))
         (λ _. choose (Fits s at) (m =? markSL) (λ _. pause-fits)
         (λ _. choose (Fits s at) (m =? markVO) (λ _. whole-fits (VO _ _ _ _) later)
-        (λ _. choose (Fits s at) (m =? markVX) (λ _. whole-fits (VX _) later) (λ _. refused-fits))))
+        (λ _. choose (Fits s at) (m =? markVX) (λ _. whole-fits (VX _) later)
+        (λ _. choose (Fits s at) (m =? markVS) (λ _. whole-fits (VS _ _ _ _ _) later) (λ _. refused-fits)))))
 
   pub stands-fits : Fits s at (standsAt s at)
   unfolding standsAt

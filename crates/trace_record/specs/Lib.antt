@@ -1,3 +1,4 @@
+pub mod Marks
 pub mod Trace
 pub mod Fits
 pub mod Promises

@@ -9,20 +9,24 @@ use mathlib.Core.Bool.{Bool, true, false, _&&_}
 use mathlib.Core.List.{List}
 use lib.ListN.{length, getD}
 use Rattle.meaning.specs.Plain.{if_then_else_, _<?_, _≤?_, _=?_}
-use Rattle.meaning.specs.Numbers.{octets}
+use Rattle.meaning.specs.Words.{Second, secondOf}
+pub use Rattle.trace_record.specs.Marks.{markOctets, markGM, markGR, markVO, markVX, markCA, markSL, markVS}
+pub use Rattle.trace_record.specs.Marks.{longGM, longVO, longVX, longCA, longSL, longVS}
 use Rattle.trace_record.specs.declared.Event.{Event}
-use Rattle.trace_record.specs.declared.Event.the-variants.{Setup, Open, Close, Cell, Pause}
+use Rattle.trace_record.specs.declared.Event.the-variants.{Setup, Open, Close, Cell, Pause, Sustain}
 use Rattle.trace_record.specs.declared.Found.{Found}
 use Rattle.trace_record.specs.declared.Found.the-variants.{Read, End, Unreadable}
 
 -- "GM: N, V .. VO: VCI, m, F, C. VX: VCI. CA: 53 octets, one slot. SL: a count of empty slots": a CA names the place
--- where its 53 octets start. Document 02 (i): "a trace beginning GR instead of GM is raw": a GR is a GM that is raw
+-- where its 53 octets start. Document 02 (i): "a trace beginning GR instead of GM is raw": a GR is a GM that is raw.
+-- Document 02 (iv): "VS: as VO, then m (8), F (32), C (32), flag (8)": the second bucket that the VC is opened with
 pub data TraceRecord : Type 0 where
   GM : (N z : ℕ) (raw : Bool) → TraceRecord
   VO : (vci m F C : ℕ) → TraceRecord
   VX : (vci : ℕ) → TraceRecord
   CA : (start : ℕ) → TraceRecord
   SL : (count : ℕ) → TraceRecord
+  VS : (vci m F C : ℕ) (x : Second) → TraceRecord
 
 pub data Stands : Type 0 where
   event : TraceRecord → (next : ℕ) → Stands
@@ -40,44 +44,6 @@ be16 trace i = getD trace i 0 * 256 + getD trace (i + 1) 0
 unfoldable pub be32 : List ℕ → ℕ → ℕ
 be32 trace i = be16 trace i * 65_536 + be16 trace (i + 2)
 
--- "Every record begins with a two-octet mark in letters": the two letters' octets, as a number of 16 bits
-abbrev pub markOctets : ℕ
-markOctets = 2
-
-abbrev pub markGM : ℕ
-markGM = 0x474d
-
-abbrev pub markGR : ℕ
-markGR = 0x4752
-
-abbrev pub markVO : ℕ
-markVO = 0x564f
-
-abbrev pub markVX : ℕ
-markVX = 0x5658
-
-abbrev pub markCA : ℕ
-markCA = 0x4341
-
-abbrev pub markSL : ℕ
-markSL = 0x534c
-
--- the octets of a record, mark included: GM and GR 16 and 16 bits; VO 16, 8, 32 and 32; VX 16; CA 53 octets; SL 16
-abbrev pub longGM : ℕ
-longGM = markOctets + 4
-
-abbrev pub longVO : ℕ
-longVO = markOctets + 11
-
-abbrev pub longVX : ℕ
-longVX = markOctets + 2
-
-abbrev pub longCA : ℕ
-longCA = markOctets + octets
-
-abbrev pub longSL : ℕ
-longSL = markOctets + 2
-
 -- "a short record .. is refused with 10": a record of so many octets that starts at place at
 unfoldable pub whole : List ℕ → ℕ → ℕ → TraceRecord → Stands
 whole trace at long r = if at + long ≤? length trace then event r (at + long) else unreadable at
@@ -89,6 +55,12 @@ unfoldable pub openAt : List ℕ → ℕ → Stands
 openAt trace at =
     whole trace at longVO
     (VO (be16 trace (at + 2)) (getD trace (at + 4) 0) (be32 trace (at + 5)) (be32 trace (at + 9)))
+
+unfoldable pub sustainAt : List ℕ → ℕ → Stands
+sustainAt trace at =
+    let x = secondOf (getD trace (at + 13) 0) (be32 trace (at + 14)) (be32 trace (at + 18)) (getD trace (at + 22) 0) in
+    whole trace at longVS
+    (VS (be16 trace (at + 2)) (getD trace (at + 4) 0) (be32 trace (at + 5)) (be32 trace (at + 9)) x)
 
 unfoldable pub closeAt : List ℕ → ℕ → Stands
 closeAt trace at = whole trace at longVX (VX (be16 trace (at + 2)))
@@ -116,6 +88,7 @@ laterAt trace at mark =
     else if mark =? markSL then pauseAt trace at
     else if mark =? markVO then openAt trace at
     else if mark =? markVX then closeAt trace at
+    else if mark =? markVS then sustainAt trace at
     else unreadable at
 
 -- What stands at a place. First is place 0. The place after the last octet of a trace that isn't empty is its end.
@@ -134,6 +107,7 @@ recordOf (Open vci m f c) = VO vci m f c
 recordOf (Close vci) = VX vci
 recordOf (Cell start) = CA start
 recordOf (Pause slots) = SL slots
+recordOf (Sustain vci m f c m2 f2 c2 tag) = VS vci m f c (secondOf m2 f2 c2 tag)
 
 abbrev pub saidOf : Found → Stands
 saidOf (Read e next) = event (recordOf e) next

@@ -2,16 +2,42 @@
 ghost use mathlib.Core.Path.{_≡_};
 ghost use Prim.Native.Nat.{_+_, _≤_, _<_};
 ghost use lib.ListN.{length};
-ghost use Rattle.trace_record.specs.Trace.{be16, be32, setupAt, openAt, closeAt, cellAt, pauseAt, firstAt, laterAt, saidOf};
+ghost use Rattle.trace_record.specs.Trace.{be16, be32, setupAt, openAt, sustainAt, closeAt, cellAt, pauseAt, firstAt, laterAt, saidOf};
 ghost use Rattle.trace_record.specs.Promises.{eventPromise, placePromise};
 
-// A record of a trace. A setup is raw where its mark is GR. A cell's 53 octets start at octet `start` of the trace.
+// A record of a trace. A setup is raw where its mark is GR. Open is a VO; Sustain is a VS, with the second bucket's m, F and
+// C and the tagging flag. A cell's 53 octets start at octet `start` of the trace.
 pub enum Event {
-    Setup { n: u16, v: u16, raw: bool },
-    Open { vci: u16, m: u8, f: u32, c: u32 },
-    Close { vci: u16 },
-    Cell { start: usize },
-    Pause { slots: u16 },
+    Setup {
+        n: u16,
+        v: u16,
+        raw: bool,
+    },
+    Open {
+        vci: u16,
+        m: u8,
+        f: u32,
+        c: u32,
+    },
+    Close {
+        vci: u16,
+    },
+    Cell {
+        start: usize,
+    },
+    Pause {
+        slots: u16,
+    },
+    Sustain {
+        vci: u16,
+        m: u8,
+        f: u32,
+        c: u32,
+        m2: u8,
+        f2: u32,
+        c2: u32,
+        tag: u8,
+    },
 }
 
 // What stands at a place: a record, and where the next one starts; the end; or nothing that can be read (10).
@@ -28,6 +54,8 @@ const GR: u16 = 0x4752;
 
 const VO: u16 = 0x564f;
 
+const VS: u16 = 0x5653;
+
 const VX: u16 = 0x5658;
 
 const CA: u16 = 0x4341;
@@ -40,6 +68,8 @@ const MARK_LONG: usize = 2;
 const GM_LONG: usize = 6;
 
 const VO_LONG: usize = 13;
+
+const VS_LONG: usize = 23;
 
 const VX_LONG: usize = 4;
 
@@ -103,6 +133,37 @@ fn open_at(s: &[u8], at: usize) -> Found
     Found::Read {
         event: Event::Open { vci, m, f, c },
         next: at + VO_LONG,
+    }
+}
+
+// A VS is a VO with ten octets more: the second bucket and the flag.
+fn sustain_at(s: &[u8], at: usize) -> Found
+    requires { ⌜ at ≤ length (now s) ⌝ }
+    ensures { λ r. ⌜ saidOf r ≡ sustainAt (now (s .entry)) at ⌝ }
+{
+    if s.len() - at < VS_LONG {
+        return Found::Unreadable { place: at };
+    }
+    let vci = u16_at(s, at + 2);
+    let m = s[at + 4];
+    let f = u32_at(s, at + 5);
+    let c = u32_at(s, at + 9);
+    let m2 = s[at + 13];
+    let f2 = u32_at(s, at + 14);
+    let c2 = u32_at(s, at + 18);
+    let tag = s[at + 22];
+    Found::Read {
+        event: Event::Sustain {
+            vci,
+            m,
+            f,
+            c,
+            m2,
+            f2,
+            c2,
+            tag,
+        },
+        next: at + VS_LONG,
     }
 }
 
@@ -184,6 +245,9 @@ fn later_at(s: &[u8], at: usize, mark: u16) -> Found
     }
     if mark == VX {
         return close_at(s, at);
+    }
+    if mark == VS {
+        return sustain_at(s, at);
     }
     Found::Unreadable { place: at }
 }

@@ -25,8 +25,14 @@ returns-4 c =
 returns-5 : tie.Need-returns-5
 unfolding letter
 returns-5 c =
-    let b = c .before in
-    simp (ne-eqb _ _ (b .before .before .if1 .left), ne-eqb _ _ (b .before .if2 .left), ne-eqb _ _ (b .if3 .left), ne-eqb _ _ (c .if4 .left))
+    let b = c .before .before in
+    simp (ne-eqb _ _ (b .before .before .if1 .left), ne-eqb _ _ (b .before .if2 .left), ne-eqb _ _ (b .if3 .left), ne-eqb _ _ (c .before .if4 .left), eq-eqb _ _ (c .if5 .taken))
+
+returns-6 : tie.Need-returns-6
+unfolding letter
+returns-6 c =
+    let b = c .before .before in
+    simp (ne-eqb _ _ (b .before .before .if1 .left), ne-eqb _ _ (b .before .if2 .left), ne-eqb _ _ (b .if3 .left), ne-eqb _ _ (c .before .if4 .left), ne-eqb _ _ (c .if5 .left))
 
 pub letter-spec : {M : Type 1} → statement M
-letter-spec = tie.close (tie.spec returns returns-2 returns-3 returns-4 returns-5)
+letter-spec = tie.close (tie.spec returns returns-2 returns-3 returns-4 returns-5 returns-6)

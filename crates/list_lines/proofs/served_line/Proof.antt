@@ -18,10 +18,11 @@ returns c =
     let w1 = w2 .before .before .before .before in
     let p = w1 .before .before .before .before in
     let n = p .before .before .before .before in
-    let s = n .before .before in
+    let d = n .before .before in
+    let s = d .before in
     let l = s .before in (
       put-is (slot-words _ _ _ _ _)
-          (put-then (put-then (put-then (put-then (n .number .ensures .0) (put-is (ap (λ (x : ℕ). x ∷ 32 ∷ []) (sym (l .letter .ensures))) (p .pair .ensures))) (put-is (shown-same _ _ (s .shows-vci .ensures)) (w1 .word .ensures .0))) (w2 .word2 .ensures .0)) (w3 .word3 .ensures .0)),
+          (put-then (put-then (put-then (put-then (n .number .ensures .0) (put-is (ap (λ (x : ℕ). x ∷ 32 ∷ []) (sym (l .letter .ensures))) (p .pair .ensures))) (put-is (shown-same _ _ (s .shows-vci .ensures)) (w1 .word .ensures .0))) (put-is (shown-same _ _ (d .lets-in .ensures)) (w2 .word2 .ensures .0))) (w3 .word3 .ensures .0)),
       omega (arith, n .number .ensures .1, p .pair .ensures .next, w1 .word .ensures .1, w2 .word2 .ensures .1, w3 .word3 .ensures .1),
     )
 
@@ -29,6 +30,7 @@ pub served-line-spec : {M : Type 1} → statement M
 served-line-spec =
     tie.close
     (tie.spec
+    (λ c κs. search needs)
     (λ c κs. search needs)
     (λ c κs. search needs)
     (λ c κs. search needs)

@@ -34,6 +34,10 @@ returns-4 c = rw (c .before .before .before .before .before .before .before .bef
 returns-5 : tie.Need-returns-5
 returns-5 c = rw (c .before .before .event5 .given .1) (did-pause _ _ _ _ _ _ _ _ _ _ _ (c .moved .ensures))
 
+returns-6 : tie.Need-returns-6
+unfolding recordStep
+returns-6 c = rw (c .before .before .before .before .before .before .before .before .event6 .given .1) (c .before .before .before .before .open-vc2 .ensures _ _ _)
+
 pub happen-spec : {M : Type 1} → statement M
 happen-spec =
     tie.close
@@ -49,6 +53,8 @@ happen-spec =
     (λ c. search needs)
     (λ c. search needs)
     part-serve-end
+    (λ c κs. search needs)
+    (λ c. search needs)
     (λ c κs. search needs)
     (λ c. search needs)
     (λ c κs. search needs)
@@ -70,4 +76,7 @@ happen-spec =
     (λ c. search needs)
     (λ c. search needs)
     returns-4
-    returns-5)
+    returns-5
+    (λ c. search needs)
+    (λ c. search needs)
+    returns-6)

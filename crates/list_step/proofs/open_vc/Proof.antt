@@ -9,7 +9,7 @@ returns c cells links calendar =
     let l = c .before .before .before in
     let o = l .before .before .before .before in
     let s = o .before .before .before .before in
-    open-did (s .args .run) _ _ cells links calendar _ _ _ _ _ _ _ (s .pre .1) (c .moved .ensures) (l .open-line .ensures .1) _ _ _ _ (o .«open» .ensures) (l .open-line .ensures .0)
+    open-did (s .args .run) _ _ cells links calendar _ _ _ _ _ _ _ (s .pre .1) (c .moved .ensures) (l .open-line .ensures .1) _ _ _ _ _ (o .open-sustained .ensures) (l .open-line .ensures .0)
 
 pub open-vc-spec : {M : Type 1} → statement M
 open-vc-spec =

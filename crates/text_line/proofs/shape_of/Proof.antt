@@ -1,5 +1,5 @@
 -- `shape_of`: the tests are those of the table of marks, row by row.
-use Rattle.text_line.proofs.ShapeLaws.{head-gm, head-gr, head-no, later-ca, later-sl, later-vo, later-vx, later-no}
+use Rattle.text_line.proofs.ShapeLaws.{head-gm, head-gr, head-no, later-ca, later-sl, later-vo, later-vx, later-vs, later-no}
 use Rattle.text_line.specs.Found.{decode, span}
 use borrow.Author.Needs.{needs}
 use Rattle.text_line.proofs.shape_of.Statement.{statement}
@@ -35,7 +35,19 @@ returns-7 c = let a = c .before .before .before .before .before .args in (later-
 
 returns-8 : tie.Need-returns-8
 unfolding decode span
-returns-8 c = let a = c .before .before .before .before .before .args in (later-no (a .first) (a .mark) (c .before .before .before .before .if1 .left) (search needs) (search needs) (search needs) (search needs), search needs)
+returns-8 c =
+    let a = c .before .before .before .before .before .before .args in (
+      later-vs (a .first) (a .mark) (c .before .before .before .before .before .if1 .left) (search needs) (search needs) (search needs) (search needs) (search needs),
+      search needs,
+    )
+
+returns-9 : tie.Need-returns-9
+unfolding decode span
+returns-9 c =
+    let a = c .before .before .before .before .before .before .args in (
+      later-no (a .first) (a .mark) (c .before .before .before .before .before .if1 .left) (search needs) (search needs) (search needs) (search needs) (search needs),
+      search needs,
+    )
 
 pub shape-of-spec : {M : Type 1} → statement M
 shape-of-spec =
@@ -48,4 +60,5 @@ shape-of-spec =
     returns-5
     returns-6
     returns-7
-    returns-8)
+    returns-8
+    returns-9)

@@ -23,6 +23,9 @@ returns-4 c = (rw (c .before .before .before .before .before .event4 .given .1) 
 returns-5 : tie.Need-returns-5
 returns-5 c = (rw (c .before .before .before .before .before .event5 .given .1) (c .before .before .pause-text .ensures .0 _), omega (arith, c .before .before .pause-text .ensures .1))
 
+returns-6 : tie.Need-returns-6
+returns-6 c = (rw (c .before .before .before .before .before .event6 .given .1) (c .before .before .sustain-text .ensures .0 _), omega (arith, c .before .before .sustain-text .ensures .1))
+
 pub line-text-spec : {M : Type 1} → statement M
 line-text-spec =
     tie.close
@@ -38,6 +41,8 @@ line-text-spec =
     (λ c. search needs)
     (λ c κs. search needs)
     (λ c. search needs)
+    (λ c κs. search needs)
+    (λ c. search needs)
     returns
     (λ c. search needs)
     returns-2
@@ -46,4 +51,6 @@ line-text-spec =
     (λ c. search needs)
     returns-4
     (λ c. search needs)
-    returns-5)
+    returns-5
+    (λ c. search needs)
+    returns-6)

@@ -1,5 +1,5 @@
--- `later_at`: at a later place the four other marks are read, and any mark besides is refused.
-use Rattle.trace_record.proofs.Cases.{later-cell, later-pause, later-open, later-close, later-unknown}
+-- `later_at`: at a later place the five other marks are read, and any mark besides is refused.
+use Rattle.trace_record.proofs.Cases.{later-cell, later-pause, later-open, later-close, later-sustain, later-unknown}
 use borrow.Author.Needs.{needs}
 use Rattle.trace_record.proofs.later_at.Statement.{statement}
 use Rattle.trace_record.proofs.later_at.Tie as tie
@@ -17,7 +17,10 @@ returns-4 : tie.Need-returns-4
 returns-4 c = later-close _ _ _ (search needs) (search needs) (search needs) (search needs) (search needs)
 
 returns-5 : tie.Need-returns-5
-returns-5 c = later-unknown _ _ _ (search needs) (search needs) (search needs) (search needs)
+returns-5 c = later-sustain _ _ _ (search needs) (search needs) (search needs) (search needs) (search needs) (search needs)
+
+returns-6 : tie.Need-returns-6
+returns-6 c = later-unknown _ _ _ (search needs) (search needs) (search needs) (search needs) (search needs)
 
 pub later-at-spec : {M : Type 1} → statement M
 later-at-spec =
@@ -31,4 +34,6 @@ later-at-spec =
     returns-3
     (λ c κs. search needs)
     returns-4
-    returns-5)
+    (λ c κs. search needs)
+    returns-5
+    returns-6)
