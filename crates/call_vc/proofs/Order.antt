@@ -11,7 +11,7 @@ use Rattle.meaning.specs.declared.Record.{Record}
 use Rattle.meaning.specs.Plain.{if_then_else_, _<?_, _≤?_}
 use Rattle.meaning.specs.Numbers.{rangesHold, wordsPerVc, vcPlace}
 use Rattle.meaning.specs.State.{wordsLong}
-use Rattle.meaning.specs.Words.{vcAt, openWordFits, bucketFits, vcFits}
+use Rattle.meaning.specs.Words.{vcAt, openWordFits, bucketFits, secondFits, bucketsFit, vcFits}
 use Rattle.meaning.specs.Calls.{sharedRefusal}
 use Rattle.leaf_bucket.proofs.Rules.{both}
 use Rattle.mem_words.proofs.Fits.{bucket-facts}
@@ -106,11 +106,11 @@ module _ (r : Record) (words : List ℕ) (vci : ℕ) where
 
   -- and an open VC's m is in its range
   pub shared-m : sharedRefusal r words vci ≡ 0 → (vcAt words vci .opened ≡ 0 → ⊥) → vcAt words vci .bucket .m ≤ 15
-  unfolding sharedRefusal vcFits bucketFits
+  unfolding sharedRefusal vcFits bucketsFit
   shared-m h o =
       let vc = vcAt words vci in
       let e : vcFits (r .n) vc ≡ true = shared-zero inRange isLong isNamed fits h .2 in
-      let f : openWordFits vc && bucketFits (r .n) (vc .bucket) && vc .waiting ≤? r .n ≡ true = rw (ne-eqb (vc .opened) 0 o) at e in
-      let g = both (openWordFits vc && bucketFits (r .n) (vc .bucket)) (vc .waiting ≤? r .n) f .0 in
-      let k = both (openWordFits vc) (bucketFits (r .n) (vc .bucket)) g .1 in
-      bucket-facts (r .n) (vc .bucket) k .rules .m-low
+      let f : openWordFits vc && bucketsFit (r .n) vc && vc .waiting ≤? r .n ≡ true = rw (ne-eqb (vc .opened) 0 o) at e in
+      let g = both (openWordFits vc && bucketsFit (r .n) vc) (vc .waiting ≤? r .n) f .0 in
+      let k = both (openWordFits vc) (bucketsFit (r .n) vc) g .1 in
+      bucket-facts (r .n) (vc .bucket) (both (bucketFits (r .n) (vc .bucket)) (secondFits (vc .second) (vc .tag)) k .0) .rules .m-low

@@ -1,4 +1,4 @@
--- The two refusals that are open's or close's own come after the shared ones, and in their order; then the words change.
+-- The refusals that are open's or close's own come after the shared ones, and in their order; then the words change.
 use Prim.Native.Nat.{ℕ}
 use mathlib.Core.Path.{_≡_, refl}
 use mathlib.Core.Bool.{Bool, true, false, not, _&&_}
@@ -6,16 +6,15 @@ use mathlib.Core.List.{List}
 use native.Mathlib.Omega.{arith}
 use borrow.Author.Tests.{eq-eqb, ne-eqb}
 use Rattle.meaning.specs.declared.Record.{Record}
-use Rattle.meaning.specs.Plain.{_=?_}
+use Rattle.meaning.specs.Plain.{if_then_else_, _=?_}
 use Rattle.meaning.specs.Bucket.{bucketOf, obeysRules}
-use Rattle.meaning.specs.Words.{Vc, vcAt, writeVc, openedVc, closedVc, debt}
+use Rattle.meaning.specs.Words.{Vc, Second, vcAt, writeVc, secondObeys, openedVc, closedVc, debt}
 use Rattle.meaning.specs.Calls.{Called, calledOf, sharedRefusal, openCall, closeCall}
 use Rattle.leaf_refusal.specs.Order.{refuseOf, firstOf}
 use Rattle.call_vc.specs.NotYet.{notYet}
-use Rattle.leaf_refusal.proofs.Two.{two-given, two-none}
 
 -- ---- open
-module _ (r : Record) (words : List ℕ) (vci m F C : ℕ) where
+module _ (r : Record) (words : List ℕ) (vci m F C : ℕ) (x : Second) where
   -- "already open"
   abbrev already : Bool
   already = vcAt words vci .opened =? 1
@@ -24,30 +23,53 @@ module _ (r : Record) (words : List ℕ) (vci m F C : ℕ) where
   abbrev against : Bool
   against = not (obeysRules (r .n) (bucketOf m F C 0))
 
+  -- "second bucket against its limits, after 6"
+  abbrev beyond : Bool
+  beyond = not (secondObeys (bucketOf (x .m) (x .F) (x .C) 0) (x .tag))
+
   abbrev pub openRefusal : ℕ
-  openRefusal = firstOf (refuseOf 5 already) (refuseOf 6 against)
+  openRefusal = firstOf (firstOf (refuseOf 5 already) (refuseOf 6 against)) (refuseOf 11 beyond)
 
   -- "Each leaves everything as it came."
-  abbrev asItWas : ℕ → Called
-  asItWas k = calledOf k words
+  abbrev told : Bool → Bool → Bool → Called
+  told a b c =
+      if a then calledOf 5 words else if b then calledOf 6 words else if c then calledOf 11 words
+      else calledOf 0 (writeVc words vci (openedVc (r .t) (bucketOf m F C 0) x))
 
-  abbrev opening : Called
-  opening = calledOf 0 (writeVc words vci (openedVc (r .t) (bucketOf m F C 0)))
+  three-given : (a b c : Bool) → (firstOf (firstOf (refuseOf 5 a) (refuseOf 6 b)) (refuseOf 11 c) ≡ 0 → ⊥)
+      → calledOf (firstOf (firstOf (refuseOf 5 a) (refuseOf 6 b)) (refuseOf 11 c)) words ≡ told a b c
+  three-given true b c h = go b
+    where
+      go : (b : Bool) → calledOf (firstOf (firstOf 5 (refuseOf 6 b)) (refuseOf 11 c)) words ≡ calledOf 5 words
+      go true = refl
+      go false = refl
+  three-given false true c h = refl
+  three-given false false true h = refl
+  three-given false false false h = absurd (h refl)
+
+  three-none : (a b c : Bool) → firstOf (firstOf (refuseOf 5 a) (refuseOf 6 b)) (refuseOf 11 c) ≡ 0
+      → calledOf 0 (writeVc words vci (openedVc (r .t) (bucketOf m F C 0) x)) ≡ told a b c
+  three-none true true c h = absurd (omega arith)
+  three-none true false c h = absurd (omega arith)
+  three-none false true c h = absurd (omega arith)
+  three-none false false true h = absurd (omega arith)
+  three-none false false false h = refl
 
   pub open-shared : (sharedRefusal r words vci ≡ 0 → ⊥)
-      → calledOf (sharedRefusal r words vci) words ≡ openCall r words vci m F C
+      → calledOf (sharedRefusal r words vci) words ≡ openCall r words vci m F C x
   unfolding openCall
   open-shared h = simp (ne-eqb (sharedRefusal r words vci) 0 h)
 
   pub open-refused : sharedRefusal r words vci ≡ 0
       → (openRefusal ≡ 0 → ⊥)
-      → calledOf openRefusal words ≡ openCall r words vci m F C
+      → calledOf openRefusal words ≡ openCall r words vci m F C x
   unfolding openCall
-  open-refused e h = rw (eq-eqb (sharedRefusal r words vci) 0 e) (two-given 5 6 refl refl asItWas opening already against h)
+  open-refused e h = rw (eq-eqb (sharedRefusal r words vci) 0 e) (three-given already against beyond h)
 
-  pub open-done : sharedRefusal r words vci ≡ 0 → openRefusal ≡ 0 → opening ≡ openCall r words vci m F C
+  pub open-done : sharedRefusal r words vci ≡ 0 → openRefusal ≡ 0
+      → calledOf 0 (writeVc words vci (openedVc (r .t) (bucketOf m F C 0) x)) ≡ openCall r words vci m F C x
   unfolding openCall
-  open-done e h = rw (eq-eqb (sharedRefusal r words vci) 0 e) (two-none 5 6 refl refl asItWas opening already against h)
+  open-done e h = rw (eq-eqb (sharedRefusal r words vci) 0 e) (three-none already against beyond h)
 
 -- ---- close
 -- 8 is given exactly where one of its two halves is

@@ -5,12 +5,13 @@ ghost use Prim.Native.Nat.{_+_, _*_, _≤_};
 ghost use lib.ListN.{length};
 ghost use Rattle.meaning.specs.Plain.{_<?_, _≤?_};
 ghost use Rattle.meaning.specs.State.{HasVc};
-ghost use Rattle.meaning.specs.Words.{vcAt, debt};
+ghost use Rattle.meaning.specs.Words.{secondOf, noSecond, vcAt, debt};
 ghost use Rattle.meaning.specs.Calls.{sharedRefusal};
 ghost use Rattle.meaning.specs.Promises.{openPromise, closePromise};
 ghost use Rattle.call_vc.specs.NotYet.{notYet};
 use leaf_bucket::fallen_to;
 use leaf_bucket::obeys_rules;
+use leaf_bucket::obeys_second;
 use leaf_refusal::first;
 use leaf_refusal::ranges_hold;
 use leaf_refusal::refuse;
@@ -48,9 +49,20 @@ fn shared_refusal(ctl: Record, words: &[u32], vci: u16) -> u16
     refuse(3, !vc_fits(ctl.n, words, vci))
 }
 
-// "Opening sets open 1, the given m, F and C, S 0, last t, waiting 0."
-pub fn open(ctl: Record, words: &mut [u32], vci: u16, m: u8, f: u32, c: u32) -> u16
-    ensures { λ r. ⌜ openPromise ctl (now (words .entry)) vci m f c r (now (words .exit)) ⌝ }
+// "Opening sets open 1, the given m, F and C, S 0, last t, waiting 0.", and so for a second bucket; none is m, F, C and flag 0.
+pub fn open_sustained(
+    ctl: Record,
+    words: &mut [u32],
+    vci: u16,
+    m: u8,
+    f: u32,
+    c: u32,
+    m2: u8,
+    f2: u32,
+    c2: u32,
+    tag: u8,
+) -> u16
+    ensures { λ r. ⌜ openPromise ctl (now (words .entry)) vci m f c (secondOf m2 f2 c2 tag) r (now (words .exit)) ⌝ }
 {
     let shared = shared_refusal(ctl, words, vci);
     if shared != 0 {
@@ -59,12 +71,33 @@ pub fn open(ctl: Record, words: &mut [u32], vci: u16, m: u8, f: u32, c: u32) -> 
     let opened = words[WORDS_PER_VC * (vci as usize)];
     let already = refuse(5, opened == 1);
     let against = refuse(6, !obeys_rules(ctl.n, m as u32, f, c));
-    let k = first(already, against);
+    let beyond = refuse(11, !obeys_second(m2 as u32, f2, c2, tag as u32));
+    let early = first(already, against);
+    let k = first(early, beyond);
     if k != 0 {
         return k;
     }
-    write_vc(words, vci, 1, m as u32, f, c, 0, ctl.t, 0);
+    write_vc(
+        words,
+        vci,
+        1,
+        m as u32,
+        f,
+        c,
+        ctl.t,
+        m2 as u32,
+        f2,
+        c2,
+        tag as u32,
+    );
     0
+}
+
+// A VC without a second bucket.
+pub fn open(ctl: Record, words: &mut [u32], vci: u16, m: u8, f: u32, c: u32) -> u16
+    ensures { λ r. ⌜ openPromise ctl (now (words .entry)) vci m f c noSecond r (now (words .exit)) ⌝ }
+{
+    open_sustained(ctl, words, vci, m, f, c, 0, 0, 0, 0)
 }
 
 // What is left in the VC's bucket once it is brought up to date as of t. It is worked out, not stored.
@@ -91,7 +124,7 @@ fn not_yet(words: &[u32], vci: u16, t: u32) -> u16
     first(waits, owes)
 }
 
-// "Closing clears all seven words." Of a closed VC only the open word is read.
+// "Closing clears all seven words.", and the second bucket's five. Of a closed VC only the open word is read.
 pub fn close(ctl: Record, words: &mut [u32], vci: u16) -> u16
     ensures { λ r. ⌜ closePromise ctl (now (words .entry)) vci r (now (words .exit)) ⌝ }
 {
@@ -107,6 +140,6 @@ pub fn close(ctl: Record, words: &mut [u32], vci: u16) -> u16
     if k != 0 {
         return k;
     }
-    write_vc(words, vci, 0, 0, 0, 0, 0, 0, 0);
+    write_vc(words, vci, 0, 0, 0, 0, 0, 0, 0, 0, 0);
     0
 }

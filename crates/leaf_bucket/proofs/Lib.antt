@@ -1,3 +1,4 @@
 pub mod Elapsed
 pub mod RoundedUp
 pub mod Rules
+pub mod SecondRules

@@ -1,7 +1,8 @@
-// A VC's bucket, in parts of 1/L slot: products and quotients by L = 2^m are shifts.
+// A VC's buckets, in parts of 1/L slot: products and quotients by L = 2^m are shifts.
 ghost use mathlib.Core.Path.{_≡_};
 ghost use Prim.Native.Nat.{_+_, _-_, _*_, _/_, _%_, _^_, _≤_};
 ghost use Rattle.meaning.specs.Bucket.{bucketOf, obeysRules, elapsed};
+ghost use Rattle.meaning.specs.Words.{secondObeys};
 
 // L
 pub fn rate(m: u32) -> u32
@@ -29,6 +30,34 @@ pub fn obeys_rules(n: u16, m: u32, f: u32, c: u32) -> bool
         return false;
     }
     (c - f) >> m < n as u32
+}
+
+// A second bucket: "m (0 to 15), F (1 to 2^24), C (F to 2^30)", a flag of 0 or 1; or none, of which all are 0.
+pub fn obeys_second(m: u32, f: u32, c: u32, tag: u32) -> bool
+    ensures { λ r. ⌜ r ≡ secondObeys (bucketOf m f c 0) tag ⌝ }
+{
+    if f == 0 {
+        if m != 0 {
+            return false;
+        }
+        if c != 0 {
+            return false;
+        }
+        return tag == 0;
+    }
+    if m > 15 {
+        return false;
+    }
+    if f > 16777216 {
+        return false;
+    }
+    if c < f {
+        return false;
+    }
+    if c > 1073741824 {
+        return false;
+    }
+    tag <= 1
 }
 
 // The slots from last to t, on the clock that wraps.

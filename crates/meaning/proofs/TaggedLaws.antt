@@ -1,13 +1,17 @@
 -- A tagged cell (document 02 (iv)): as long as it was, with the same VPI and VCI, CLP 1, and an octet 5 that passes the check.
 use Prim.Native.Nat.{ℕ, _+_, _*_, _/_, _%_, _<_}
-use mathlib.Core.Path.{_≡_, sym, _∙_, ap}
+use mathlib.Core.Path.{_≡_, refl, sym, _∙_, ap}
+use mathlib.Core.Bool.{Bool, true, false}
 use mathlib.Core.List.{List}
 use native.Mathlib.Omega.{arith}
 use lib.ListN.{length, getD, set, length-set}
 use lib.Seq.{getD-set-same, getD-set-other}
 use lib.Bits.{bitXor, xor-self}
 use Rattle.base_hec.specs.Check.{checkOf, headOf, hecOf, syndromeOf}
+use Rattle.meaning.specs.Plain.{if_then_else_, _=?_}
+use Rattle.meaning.specs.Numbers.{tagged}
 use Rattle.meaning.specs.Header.{headerOf, headerAt, withClp, taggedCell}
+use Rattle.meaning.specs.Arrival.{sentAs}
 
 pub tagged-length : (cell : List ℕ) → length (taggedCell cell) ≡ length cell
 unfolding taggedCell withClp
@@ -46,6 +50,18 @@ module _ (cell : List ℕ) (long : 4 < length cell) where
   unfolding headerAt headerOf
   tagged-clp = rw tagged-four (omega arith)
 
+  -- the four octets as one number: octet 4 is its low octet
+  pub tagged-head : headOf (withClp cell) ≡ headOf cell / 2 * 2 + 1
+  unfolding headOf withClp
+  tagged-head =
+      rw (
+        getD-set-other cell 3 0 (getD cell 3 0 / 2 * 2 + 1) 0 (λ e. omega arith),
+        getD-set-other cell 3 1 (getD cell 3 0 / 2 * 2 + 1) 0 (λ e. omega arith),
+        getD-set-other cell 3 2 (getD cell 3 0 / 2 * 2 + 1) 0 (λ e. omega arith),
+        getD-set-same cell 3 (getD cell 3 0 / 2 * 2 + 1) 0 (omega arith),
+      )
+      (omega arith)
+
   -- octet 5 belongs to the four octets before it
   same-head : headOf (taggedCell cell) ≡ headOf (withClp cell)
   unfolding headOf taggedCell withClp
@@ -64,3 +80,40 @@ module _ (cell : List ℕ) (long : 4 < length cell) where
   pub tagged-passes : syndromeOf (taggedCell cell) ≡ 0
   unfolding syndromeOf
   tagged-passes = ap (bitXor (hecOf (taggedCell cell))) tagged-checks ∙ xor-self (hecOf (taggedCell cell))
+
+  -- octet 4 and octet 5 stored over a copy
+  pub tagged-stored : (copy : List ℕ) (four head five : ℕ) → copy ≡ cell → four ≡ getD cell 3 0 / 2 * 2 + 1 → head ≡ headOf cell
+      → five ≡ checkOf (head / 2 * 2 + 1)
+      → set (set copy 3 four) 4 five ≡ taggedCell cell
+  unfolding taggedCell hecOf withClp
+  tagged-stored copy four head five same o4 h o5 =
+      rw (same, o4, o5, h) (stored ∙ ap (λ (k : ℕ). set (withClp cell) 4 (checkOf k)) (sym tagged-head))
+    where
+      stored : set (set cell 3 (getD cell 3 0 / 2 * 2 + 1)) 4 (checkOf (headOf cell / 2 * 2 + 1))
+          ≡ set (withClp cell) 4 (checkOf (headOf cell / 2 * 2 + 1))
+      stored = refl
+
+-- what is stored of a cell that is let in, tagged or not
+pub sent-length : (verdict : ℕ) (cell : List ℕ) → length (sentAs verdict cell) ≡ length cell
+unfolding sentAs
+sent-length verdict cell = go (verdict =? tagged)
+  where
+    go : (b : Bool) → length (if b then taggedCell cell else cell) ≡ length cell
+    go true = tagged-length cell
+    go false = refl
+
+pub sent-vpi : (verdict : ℕ) (cell : List ℕ) → 4 < length cell → headerAt (sentAs verdict cell) 0 .vpi ≡ headerAt cell 0 .vpi
+unfolding sentAs
+sent-vpi verdict cell long = go (verdict =? tagged)
+  where
+    go : (b : Bool) → headerAt (if b then taggedCell cell else cell) 0 .vpi ≡ headerAt cell 0 .vpi
+    go true = tagged-vpi cell long
+    go false = refl
+
+pub sent-vci : (verdict : ℕ) (cell : List ℕ) → 4 < length cell → headerAt (sentAs verdict cell) 0 .vci ≡ headerAt cell 0 .vci
+unfolding sentAs
+sent-vci verdict cell long = go (verdict =? tagged)
+  where
+    go : (b : Bool) → headerAt (if b then taggedCell cell else cell) 0 .vci ≡ headerAt cell 0 .vci
+    go true = tagged-vci cell long
+    go false = refl

@@ -9,7 +9,7 @@ use native.Mathlib.Omega.{arith}
 use lib.ListN.{length, getD, set, length-set}
 use lib.Seq.{getD-set-same, getD-set-other}
 use Rattle.meaning.specs.Plain.{if_then_else_}
-use Rattle.meaning.specs.Numbers.{openPlace, sPlace, lastPlace, waitingPlace, wordsPerVc, vcPlace}
+use Rattle.meaning.specs.Numbers.{openPlace, sPlace, lastPlace, secondSPlace, waitingPlace, wordsPerVc, vcPlace}
 use Rattle.meaning.specs.State.{writeCell}
 use Rattle.meaning.specs.Header.{Header, headerAt}
 use Rattle.meaning.specs.Words.{vcAt}
@@ -34,29 +34,47 @@ pub record Kept (words words₂ : List ℕ) : Type 0 where
   pub opened : (u : ℕ) → getD words₂ (openPlace u) 0 ≡ getD words (openPlace u) 0
   pub waiting : (u : ℕ) → getD words₂ (waitingPlace u) 0 ≡ getD words (waitingPlace u) 0
 
--- S and last of a VC written, where on
-pub kept-fall : (on : Bool) (r S t : ℕ) (words : List ℕ)
-    → Kept words (if on then set (set words (sPlace r) S) (lastPlace r) t else words)
-kept-fall false r S t words = record { long = refl; opened = λ u. refl; waiting = λ u. refl }
-kept-fall true r S t words =
+-- a word written that is neither an open word nor waiting
+kept-set : (words : List ℕ) (i a : ℕ) → ((u : ℕ) → openPlace u ≢ i) → ((u : ℕ) → waitingPlace u ≢ i) → Kept words (set words i a)
+kept-set words i a open-far waiting-far =
     record {
-      long = simp length-set;
-      opened = λ u. past (openPlace u) (λ e. omega arith) (λ e. omega arith);
-      waiting = λ u. past (waitingPlace u) (λ e. omega arith) (λ e. omega arith);
+      long = length-set words i a;
+      opened = λ u. getD-set-other words i (openPlace u) a 0 (open-far u);
+      waiting = λ u. getD-set-other words i (waitingPlace u) a 0 (waiting-far u);
     }
-  where
-    past : (j : ℕ) → j ≢ lastPlace r → j ≢ sPlace r
-        → getD (set (set words (sPlace r) S) (lastPlace r) t) j 0 ≡ getD words j 0
-    past j p q =
-        getD-set-other (set words (sPlace r) S) (lastPlace r) j t 0 p ∙ getD-set-other words (sPlace r) j S 0 q
+
+then-kept : (a b c : List ℕ) → Kept a b → Kept b c → Kept a c
+then-kept a b c p q =
+    record {
+      long = q .long ∙ p .long;
+      opened = λ u. q .opened u ∙ p .opened u;
+      waiting = λ u. q .waiting u ∙ p .waiting u;
+    }
+
+kept-both : (r S t : ℕ) (words : List ℕ) → Kept words (set (set words (sPlace r) S) (lastPlace r) t)
+kept-both r S t words =
+    then-kept _ _ _ (kept-set words (sPlace r) S (λ u e. omega arith) (λ u e. omega arith))
+    (kept-set (set words (sPlace r) S) (lastPlace r) t (λ u e. omega arith) (λ u e. omega arith))
+
+kept-second : (r S : ℕ) (words : List ℕ) → Kept words (set words (secondSPlace r) S)
+kept-second r S words = kept-set words (secondSPlace r) S (λ u e. omega arith) (λ u e. omega arith)
+
+-- S and last of a VC written, where on
+pub kept-fall : (on : Bool) (r S S₂ t : ℕ) (words : List ℕ)
+    → Kept words (if on then set (set (set words (sPlace r) S) (lastPlace r) t) (secondSPlace r) S₂ else words)
+kept-fall false r S S₂ t words = record { long = refl; opened = λ u. refl; waiting = λ u. refl }
+kept-fall true r S S₂ t words = then-kept _ _ _ (kept-both r S t words) (kept-second r S₂ _)
 
 -- ---- the words
-module _ (N own S t w : ℕ) (words words₂ : List ℕ) (kept : Kept words words₂) where
+module _ (N own S S₂ t w : ℕ) (words words₂ : List ℕ) (kept : Kept words words₂) where
   abbrev was : List ℕ
   was = set (set words₂ (sPlace own) S) (lastPlace own) t
 
+  abbrev waits : List ℕ
+  waits = set was (waitingPlace own) w
+
   pub counted : vcPlace own + wordsPerVc ≤ length words → vcAt words own .opened ≡ 1 → 1 ≤ w → w ≤ N
-      → Counted N own words (set was (waitingPlace own) w)
+      → Counted N own words (set waits (secondSPlace own) S₂)
   unfolding vcAt
   counted inside opened some most =
       record {
@@ -65,20 +83,26 @@ module _ (N own S t w : ℕ) (words words₂ : List ℕ) (kept : Kept words word
         most-own = rw own-waiting most;
         opened-others = λ u ne. open-word u;
         waiting-others = λ u ne.
-            getD-set-other was (waitingPlace own) (waitingPlace u) w 0 (λ e. ne (omega arith))
+            last .waiting u
+            ∙ getD-set-other was (waitingPlace own) (waitingPlace u) w 0 (λ e. ne (omega arith))
             ∙ fall .waiting u
             ∙ kept .waiting u;
       }
     where
       fall : Kept words₂ was
-      fall = kept-fall true own S t words₂
+      fall = kept-both own S t words₂
 
-      open-word : (u : ℕ) → getD (set was (waitingPlace own) w) (openPlace u) 0 ≡ getD words (openPlace u) 0
+      last : Kept waits (set waits (secondSPlace own) S₂)
+      last = kept-second own S₂ waits
+
+      open-word : (u : ℕ) → getD (set waits (secondSPlace own) S₂) (openPlace u) 0 ≡ getD words (openPlace u) 0
       open-word u =
-          getD-set-other was (waitingPlace own) (openPlace u) w 0 (λ e. omega arith)
+          last .opened u
+          ∙ getD-set-other was (waitingPlace own) (openPlace u) w 0 (λ e. omega arith)
           ∙ fall .opened u
           ∙ kept .opened u
 
-      own-waiting : getD (set was (waitingPlace own) w) (waitingPlace own) 0 ≡ w
+      own-waiting : getD (set waits (secondSPlace own) S₂) (waitingPlace own) 0 ≡ w
       own-waiting =
-          getD-set-same was (waitingPlace own) w 0 (omega (arith, fall .long, kept .long))
+          last .waiting own
+          ∙ getD-set-same was (waitingPlace own) w 0 (omega (arith, fall .long, kept .long))

@@ -1,16 +1,23 @@
-// A VC's seven words in the lent memory, 7 times its number on: read and written here, in one place.
+// A VC's words in the lent memory: read and written here, in one place.
 ghost use mathlib.Core.Path.{_≡_};
 ghost use Prim.Native.Nat.{_+_, _*_, _≤_};
 ghost use lib.ListN.{length};
 ghost use Rattle.meaning.specs.State.{HasVc};
-ghost use Rattle.meaning.specs.Words.{vcAt, writeVc, bucketFits, vcFits};
-ghost use Rattle.mem_words.specs.Vcs.{vcOf};
+ghost use Rattle.meaning.specs.Bucket.{bucketOf};
+ghost use Rattle.meaning.specs.Words.{secondOf, vcAt, writeVc, bucketFits, secondFits, vcFits};
+ghost use Rattle.mem_words.specs.Vcs.{hasNone, bareVc, firstWritten, secondWritten};
 use leaf_bucket::obeys_rules;
+use leaf_bucket::obeys_second;
 use meaning::AT_C;
 use meaning::AT_F;
 use meaning::AT_LAST;
 use meaning::AT_M;
 use meaning::AT_S;
+use meaning::AT_SECOND_C;
+use meaning::AT_SECOND_F;
+use meaning::AT_SECOND_M;
+use meaning::AT_SECOND_S;
+use meaning::AT_TAG;
 use meaning::AT_WAITING;
 use meaning::WORDS_PER_VC;
 
@@ -25,6 +32,38 @@ pub fn bucket_fits(n: u16, words: &[u32], vci: u16) -> bool
         return false;
     }
     words[base + AT_S] <= c
+}
+
+// Whether a VC has no second bucket, and all words of one are 0: the common case, told by one test.
+pub fn none_second(words: &[u32], vci: u16) -> bool
+    requires { ⌜ HasVc vci (now words) ⌝ }
+    ensures { λ r. ⌜ r ≡ hasNone (vcAt (now (words .entry)) vci) ⌝ }
+{
+    let base = WORDS_PER_VC * (vci as usize);
+    let some = words[base + AT_SECOND_M]
+        | words[base + AT_SECOND_F]
+        | words[base + AT_SECOND_C]
+        | words[base + AT_SECOND_S]
+        | words[base + AT_TAG];
+    some == 0
+}
+
+// A second bucket's words and the flag, as the peak bucket's.
+pub fn second_fits(words: &[u32], vci: u16) -> bool
+    requires { ⌜ HasVc vci (now words) ⌝ }
+    ensures { λ r. ⌜ r ≡ secondFits (vcAt (now (words .entry)) vci .second) (vcAt (now (words .entry)) vci .tag) ⌝ }
+{
+    let base = WORDS_PER_VC * (vci as usize);
+    let c = words[base + AT_SECOND_C];
+    if !obeys_second(
+        words[base + AT_SECOND_M],
+        words[base + AT_SECOND_F],
+        c,
+        words[base + AT_TAG],
+    ) {
+        return false;
+    }
+    words[base + AT_SECOND_S] <= c
 }
 
 // The words of a closed VC fit whatever they hold, but for the open word; those of an open one by their ranges.
@@ -43,10 +82,41 @@ pub fn vc_fits(n: u16, words: &[u32], vci: u16) -> bool
     if !bucket_fits(n, words, vci) {
         return false;
     }
+    if !second_fits(words, vci) {
+        return false;
+    }
     words[base + AT_WAITING] <= n as u32
 }
 
-// All seven words of a VC set.
+// The second bucket of a VC set: m, F and C and the flag as given, S 0.
+fn write_second(words: &mut [u32], vci: u16, m: u32, f: u32, c: u32, tag: u32)
+    requires { ⌜ HasVc vci (now words) ⌝ }
+    ensures { λ r. ⌜ now (words .exit) ≡ secondWritten (now (words .entry)) vci (secondOf m f c tag) ⌝ }
+{
+    let base = WORDS_PER_VC * (vci as usize);
+    words[base + AT_SECOND_M] = m;
+    words[base + AT_SECOND_F] = f;
+    words[base + AT_SECOND_C] = c;
+    words[base + AT_SECOND_S] = 0;
+    words[base + AT_TAG] = tag;
+}
+
+// The first words of a VC set: its open word, the peak bucket with S 0, last, waiting 0.
+fn write_first(words: &mut [u32], vci: u16, opened: u32, m: u32, f: u32, c: u32, last: u32)
+    requires { ⌜ HasVc vci (now words) ⌝ }
+    ensures { λ r. ⌜ now (words .exit) ≡ firstWritten (now (words .entry)) vci opened (bucketOf m f c 0) last ⌝ }
+{
+    let base = WORDS_PER_VC * (vci as usize);
+    words[base] = opened;
+    words[base + AT_M] = m;
+    words[base + AT_F] = f;
+    words[base + AT_C] = c;
+    words[base + AT_S] = 0;
+    words[base + AT_LAST] = last;
+    words[base + AT_WAITING] = 0;
+}
+
+// All words of a VC set as an opening or a closing has them: nothing in its buckets, and no cell waits.
 pub fn write_vc(
     words: &mut [u32],
     vci: u16,
@@ -54,19 +124,15 @@ pub fn write_vc(
     m: u32,
     f: u32,
     c: u32,
-    s: u32,
     last: u32,
-    waiting: u32,
+    m2: u32,
+    f2: u32,
+    c2: u32,
+    tag: u32,
 )
     requires { ⌜ HasVc vci (now words) ⌝ }
-    ensures { λ r. ⌜ now (words .exit) ≡ writeVc (now (words .entry)) vci (vcOf opened m f c s last waiting) ⌝ }
+    ensures { λ r. ⌜ now (words .exit) ≡ writeVc (now (words .entry)) vci (bareVc opened (bucketOf m f c 0) last (secondOf m2 f2 c2 tag)) ⌝ }
 {
-    let base = WORDS_PER_VC * (vci as usize);
-    words[base] = opened;
-    words[base + AT_M] = m;
-    words[base + AT_F] = f;
-    words[base + AT_C] = c;
-    words[base + AT_S] = s;
-    words[base + AT_LAST] = last;
-    words[base + AT_WAITING] = waiting;
+    write_first(words, vci, opened, m, f, c, last);
+    write_second(words, vci, m2, f2, c2, tag);
 }

@@ -11,13 +11,13 @@ use native.Mathlib.Decide.{ℕ-discrete}
 use borrow.Author.Tests.{ne-eqb}
 use Rattle.meaning.specs.Plain.{if_then_else_, _=?_}
 use Rattle.meaning.specs.Numbers.{accepted}
-use Rattle.meaning_runs.specs.Leak.{Opening, openingWith, dueTime, leakAccepts}
+use Rattle.meaning_runs.specs.Leak.{Opening, dueTime, leakAccepts}
 use Rattle.call_time.specs.declared.Tat.{Tat}
 use Rattle.call_time.specs.declared.Timed.{Timed}
 use Rattle.call_time.specs.Schedule.{refusalOf, timed}
 use Rattle.call_time.proofs.Cases.{Good, good-is, timed-refused}
 use Rattle.call_time.proofs.EngineLaws.{number-is}
-use Rattle.promise_agreed.specs.DueTimes.{Timing, timingOf, conformed, timedOn, timedAll, fromNotStarted, DueTimes}
+use Rattle.promise_agreed.specs.DueTimes.{peakOnly, Timing, timingOf, conformed, timedOn, timedAll, fromNotStarted, DueTimes}
 use Rattle.promise_agreed.proofs.StepLaws.{TiedTo, Stepped, steps}
 
 -- TAT against the last due time, whatever slot comes next
@@ -36,15 +36,15 @@ any-slot F t (some p) s k = (k .0, k .1)
 
 module _ (N m F C a : ℕ) (p : Option ℕ) (s : Tat) (k : Tied F p s) where
   abbrev o : Opening
-  o = openingWith m F C p
+  o = peakOnly m F C p
 
-  stepped : refusalOf s N m F C a ≡ 0 → Stepped m F C a p (leakAccepts (openingWith m F C p) a) (timed s N m F C a)
+  stepped : refusalOf s N m F C a ≡ 0 → Stepped m F C a p (leakAccepts (peakOnly m F C p) a) (timed s N m F C a)
   stepped e =
       let g = good-is s N m F C a e in
       steps N m F C a (g .N-low) (g .N-high) (g .rules) (g .run) p s (in-slot N m F C a p s k g)
 
   verdict-is : (b : Bool) (r : Timed) → Stepped m F C a p b r
-      → ((r .verdict ≡ accepted) ↔ (b ≡ true)) × (r .verdict ≡ accepted → r .due ≡ dueTime (openingWith m F C p) a)
+      → ((r .verdict ≡ accepted) ↔ (b ≡ true)) × (r .verdict ≡ accepted → r .due ≡ dueTime (peakOnly m F C p) a)
   verdict-is true r st = ((λ v. refl, λ e. st .verdict), λ v. st .due)
   verdict-is false r st = (
     (λ v. absurd (omega (arith, v, st .verdict)), λ e. absurd (let z : _≡_ {A = ℕ} 0 1 = cc in omega arith)),
@@ -53,19 +53,19 @@ module _ (N m F C a : ℕ) (p : Option ℕ) (s : Tat) (k : Tied F p s) where
 
   -- the opening afterwards
   abbrev then-is : Timed → Opening
-  then-is r = if r .number =? 0 && r .verdict =? accepted then conformed (openingWith m F C p) a else openingWith m F C p
+  then-is r = if r .number =? 0 && r .verdict =? accepted then conformed (peakOnly m F C p) a else peakOnly m F C p
 
   pub record Next (r : Timed) : Type 0 where
     pub previous : Option ℕ
-    pub is : then-is r ≡ openingWith m F C previous
+    pub is : then-is r ≡ peakOnly m F C previous
     pub tied : Tied F previous (r .tat)
 
   next-of : (b : Bool) (r : Timed) → Stepped m F C a p b r → Next r
   next-of true r st =
       record {
-        previous = some (dueTime (openingWith m F C p) a);
+        previous = some (dueTime (peakOnly m F C p) a);
         is = rw (st .number, st .verdict) refl;
-        tied = any-slot F (suc a) (some (dueTime (openingWith m F C p) a)) (r .tat) (st .tied);
+        tied = any-slot F (suc a) (some (dueTime (peakOnly m F C p) a)) (r .tat) (st .tied);
       }
   next-of false r st =
       record {
@@ -78,7 +78,7 @@ module _ (N m F C a : ℕ) (p : Option ℕ) (s : Tat) (k : Tied F p s) where
   next = go (ℕ-discrete (refusalOf s N m F C a) 0)
     where
       go : Dec (refusalOf s N m F C a ≡ 0) → Next (timed s N m F C a)
-      go (yes e) = next-of (leakAccepts (openingWith m F C p) a) (timed s N m F C a) (stepped e)
+      go (yes e) = next-of (leakAccepts (peakOnly m F C p) a) (timed s N m F C a) (stepped e)
       go (no n) =
           let r = timed-refused s N m F C a (refusalOf s N m F C a) refl n in
           record {
@@ -92,7 +92,7 @@ module _ (N m F C a : ℕ) (p : Option ℕ) (s : Tat) (k : Tied F p s) where
 
 pub record Ready (m F C : ℕ) (t : Timing) : Type 0 where
   pub previous : Option ℕ
-  pub is : t .opening ≡ openingWith m F C previous
+  pub is : t .opening ≡ peakOnly m F C previous
   pub tied : Tied F previous (t .state)
 
 one : (N m F C a : ℕ) (t : Timing) → Ready m F C t → Ready m F C (timedOn N t a)
@@ -118,7 +118,7 @@ due-times N m F C before a =
     let k = all N m F C (fromNotStarted m F C) before (record { previous = none; is = refl; tied = refl }) in
     subst (Said N a (t .state)) (sym (k .is)) (said (k .previous) (t .state) (k .tied))
   where
-    said : (p : Option ℕ) (s : Tat) → Tied F p s → Said N a s (openingWith m F C p)
+    said : (p : Option ℕ) (s : Tat) → Tied F p s → Said N a s (peakOnly m F C p)
     said p s y e =
-        verdict-is N m F C a p s y (leakAccepts (openingWith m F C p) a) (timed s N m F C a)
+        verdict-is N m F C a p s y (leakAccepts (peakOnly m F C p) a) (timed s N m F C a)
         (stepped N m F C a p s y (sym (number-is s N m F C a) ∙ e))

@@ -11,27 +11,30 @@ use native.Mathlib.Decide.{ℕ-discrete}
 use borrow.Author.Tests.{eq-eqb, ne-eqb}
 use Rattle.meaning.specs.declared.Answer.{Answer}
 use Rattle.meaning.specs.Plain.{_=?_}
-use Rattle.meaning.specs.Numbers.{accepted}
+use Rattle.meaning.specs.Numbers.{accepted, letsIn}
 use Rattle.meaning.specs.Header.{headerAt, namesVc}
+use Rattle.meaning.specs.Words.{noSecond}
 use Rattle.meaning_runs.specs.Run.{Event, ran, served}
-use Rattle.meaning_runs.specs.Leak.{Opening, openingWith, dueTime, accepts, openingOf}
+use Rattle.meaning_runs.specs.Leak.{Opening, openingWith, dueTime, accepts, sustainedAfter, openingOf}
 use Rattle.call_time.specs.declared.Tat.{Tat}
 use Rattle.promise_agreed.specs.Agreed.{Watched, isFor, ask, engineAfter}
 use Rattle.promise_agreed.proofs.StepLaws.{TiedTo, tied-later}
 use Rattle.promise_agreed.proofs.HeaderLaws.{and-no}
 
--- the VC is open as at first, and the engine's state goes with its last due time
+-- the VC is open as at first, without a second bucket, and the engine's state goes with its last due time
 pub record Tied (w : Watched) (h : List Event) : Type 0 where
   pub previous : Option ℕ
-  pub is : openingOf (w .vci) h ≡ some (openingWith (w .m) (w .F) (w .C) previous)
+  pub sustained : Option ℕ
+  pub is : openingOf (w .vci) h ≡ some (openingWith (w .m) (w .F) (w .C) previous noSecond sustained)
   pub state : TiedTo (w .F) (served h) previous (engineAfter w h)
 
-pub tied-of : (w : Watched) (h h′ : List Event) (p : Option ℕ) (t : ℕ) (s : Tat)
-    → openingOf (w .vci) h′ ≡ some (openingWith (w .m) (w .F) (w .C) p)
+pub tied-of : (w : Watched) (h h′ : List Event) (p q : Option ℕ) (t : ℕ) (s : Tat)
+    → openingOf (w .vci) h′ ≡ some (openingWith (w .m) (w .F) (w .C) p noSecond q)
     → served h′ ≡ t → engineAfter w h′ ≡ s → TiedTo (w .F) t p s → Tied w h′
-tied-of w h h′ p t s is n e k =
+tied-of w h h′ p q t s is n e k =
     record {
       previous = p;
+      sustained = q;
       is = is;
       state = subst (λ (x : ℕ). TiedTo (w .F) x p (engineAfter w h′)) (sym n)
           (subst (λ (x : Tat). TiedTo (w .F) t p x) (sym e) k);
@@ -55,7 +58,9 @@ module _ (w : Watched) (h : List Event) (cell : List ℕ) (a : Answer) (out : Li
   engine-still e = rw e
 
   pub opening-moved : (o : Opening) → openingOf (w .vci) h ≡ some o → accepts (w .vci) a ≡ true
-      → openingOf (w .vci) (ran cell a out ∷ h) ≡ some (openingWith (o .m) (o .F) (o .C) (some (dueTime o (served h))))
+      → openingOf (w .vci) (ran cell a out ∷ h)
+      ≡ some (openingWith (o .m) (o .F) (o .C) (some (dueTime o (served h))) (o .second)
+      (sustainedAfter (served h) (headerAt cell 0 .clp) (a .verdict) o))
   unfolding openingOf
   opening-moved o q e = rw (e, q)
 
@@ -76,12 +81,12 @@ module _ (w : Watched) (h : List Event) (cell : List ℕ) (a : Answer) (out : Li
   not-served n = rw (ne-eqb (a .number) 0 n)
 
   pub accepts-is : a .verdict ≡ accepted → a .vci ≡ w .vci → accepts (w .vci) a ≡ true
-  unfolding accepts
+  unfolding accepts letsIn
   accepts-is e f = rw (e, eq-eqb (a .vci) (w .vci) f)
 
-  pub accepts-not : a .verdict ≢ accepted → accepts (w .vci) a ≡ false
+  pub accepts-not : letsIn (a .verdict) ≡ false → accepts (w .vci) a ≡ false
   unfolding accepts
-  accepts-not e = rw (ne-eqb (a .verdict) accepted e)
+  accepts-not e = rw e
 
   -- what a slot that moved neither leaves
   pub quiet : Tied w h → isFor w cell a ≡ false → accepts (w .vci) a ≡ false → Tied w (ran cell a out ∷ h)
@@ -89,8 +94,8 @@ module _ (w : Watched) (h : List Event) (cell : List ℕ) (a : Answer) (out : Li
     where
       go : Dec (a .number ≡ 0) → Tied w (ran cell a out ∷ h)
       go (yes n) =
-          tied-of w h (ran cell a out ∷ h) (k .previous) (suc (served h)) (engineAfter w h) (opening-still f ∙ k .is)
+          tied-of w h (ran cell a out ∷ h) (k .previous) (k .sustained) (suc (served h)) (engineAfter w h) (opening-still f ∙ k .is)
           (served-one n) (engine-still e) (tied-later (w .F) (served h) (k .previous) (engineAfter w h) (k .state))
       go (no n) =
-          tied-of w h (ran cell a out ∷ h) (k .previous) (served h) (engineAfter w h) (opening-still f ∙ k .is)
+          tied-of w h (ran cell a out ∷ h) (k .previous) (k .sustained) (served h) (engineAfter w h) (opening-still f ∙ k .is)
           (served-none n) (engine-still e) (k .state)

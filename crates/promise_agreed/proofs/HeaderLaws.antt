@@ -1,6 +1,5 @@
--- What the policer's judgement is of a cell whose header names the VC, and that of no other cell verdict 1 with its VCI is
--- given.
-use Prim.Native.Nat.{ℕ, _-_, _≤_}
+-- What the policer's judgement is of a cell whose header names the VC, and that no other cell is let in with its VCI.
+use Prim.Native.Nat.{ℕ, _≤_}
 use mathlib.Core.Path.{_≡_, refl}
 use mathlib.Core.Logic.{_≢_}
 use mathlib.Core.Bool.{Bool, true, false, not, _&&_, _||_}
@@ -10,9 +9,9 @@ use native.Mathlib.Omega.{arith}
 use borrow.Author.Tests.{ne-eqb}
 use lib.ListN.{length}
 use Rattle.meaning.specs.Plain.{if_then_else_, _=?_}
-use Rattle.meaning.specs.Numbers.{accepted, excess}
+use Rattle.meaning.specs.Numbers.{letsIn}
 use Rattle.meaning.specs.Header.{Header, headerOf, headerAt, noUserCell, namesVc}
-use Rattle.meaning_runs.specs.Leak.{Opening, dueSlot, leakAccepts}
+use Rattle.meaning_runs.specs.Leak.{Opening, verdictBy}
 use Rattle.meaning_runs.specs.Judged.{judgedOf, judgedUnder, judgedBy}
 use Rattle.theory_invariant.proofs.ArriveLaws.{names-facts}
 
@@ -36,33 +35,28 @@ user z cell n =
 
 pub named : (z t : ℕ) (op : ℕ → Option Opening) (cell : List ℕ) (o : Opening) → namesVc z (headerAt cell 0) ≡ true
     → op (headerAt cell 0 .vci) ≡ some o
-    → judgedBy z t op cell ≡ judgedUnder t (headerAt cell 0 .vci) (some o)
+    → judgedBy z t op cell ≡ judgedUnder t (headerAt cell 0 .vci) (headerAt cell 0 .clp) (some o)
 unfolding judgedBy
 named z t op cell o n q = rw (user z cell n, n, q) refl
 
--- verdict 1 with the VCI v is given to no other cell
+-- no other cell is let in with the VCI v
 pub others : (z t v : ℕ) (op : ℕ → Option Opening) (cell : List ℕ)
     → (namesVc z (headerAt cell 0) && headerAt cell 0 .vci =? v) ≡ false
-    → (judgedBy z t op cell .verdict =? accepted && judgedBy z t op cell .vci =? v) ≡ false
-unfolding judgedBy
+    → (letsIn (judgedBy z t op cell .verdict) && judgedBy z t op cell .vci =? v) ≡ false
+unfolding judgedBy letsIn
 others z t v op cell =
     go (length cell =? 0 || noUserCell (headerAt cell 0)) (namesVc z (headerAt cell 0)) (op (headerAt cell 0 .vci))
   where
     under : (o : Option Opening) → (headerAt cell 0 .vci =? v) ≡ false
-        → (judgedUnder t (headerAt cell 0 .vci) o .verdict =? accepted && judgedUnder t (headerAt cell 0 .vci) o .vci =? v) ≡ false
+        → let j = judgedUnder t (headerAt cell 0 .vci) (headerAt cell 0 .clp) o in
+        (letsIn (j .verdict) && j .vci =? v) ≡ false
     under none e = refl
-    under (some o) e = leak (leakAccepts o t)
-      where
-        leak : (b : Bool)
-            → let j = (if b then judgedOf accepted (headerAt cell 0 .vci) (dueSlot o t - t) else judgedOf excess (headerAt cell 0 .vci) 0) in
-            (j .verdict =? accepted && j .vci =? v) ≡ false
-        leak true = e
-        leak false = refl
+    under (some o) e = rw e (and-no (letsIn (verdictBy o (headerAt cell 0 .clp) t)))
 
     go : (x y : Bool) (o : Option Opening) → (y && headerAt cell 0 .vci =? v) ≡ false
         → let j = (if x then judgedOf 0 0 0
-        else if not y then judgedOf 3 (headerAt cell 0 .vci) 0 else judgedUnder t (headerAt cell 0 .vci) o) in
-        (j .verdict =? accepted && j .vci =? v) ≡ false
+        else if not y then judgedOf 3 (headerAt cell 0 .vci) 0 else judgedUnder t (headerAt cell 0 .vci) (headerAt cell 0 .clp) o) in
+        (letsIn (j .verdict) && j .vci =? v) ≡ false
     go true y o e = refl
     go false false o e = refl
     go false true o e = under o e

@@ -12,16 +12,16 @@ use borrow.Author.Tests.{eqb-true}
 use lib.ListN.{length}
 use Rattle.meaning.specs.declared.Answer.{Answer}
 use Rattle.meaning.specs.Plain.{if_then_else_, _=?_}
-use Rattle.meaning.specs.Numbers.{slotNumbers, accepted, excess}
+use Rattle.meaning.specs.Numbers.{slotNumbers, accepted, excess, letsIn}
 use Rattle.meaning.specs.Bucket.{bucketOf, obeysRules}
 use Rattle.meaning.specs.State.{State}
 use Rattle.meaning.specs.Header.{headerAt, noUserCell, namesVc}
-use Rattle.meaning.specs.Words.{vcAt}
+use Rattle.meaning.specs.Words.{noSecond, vcAt}
 use Rattle.meaning.specs.Work.{Work}
 use Rattle.meaning.specs.Slot.{slot}
 use Rattle.meaning.proofs.CheckedLaws.{dropped-none}
 use Rattle.meaning_runs.specs.Run.{Event, ran, letIn, shown, served}
-use Rattle.meaning_runs.specs.Leak.{Opening, openingWith, dueTime, dueSlot, leakAccepts, accepts, openingOf}
+use Rattle.meaning_runs.specs.Leak.{Opening, openingWith, dueTime, dueSlot, leakAccepts, accepts, sustainedAfter, openingOf}
 use Rattle.meaning_runs.specs.Judged.{Judged, judgedOf, judgedUnder, judged, judgedAs}
 use Rattle.theory_queues.specs.Queue.{turn}
 use Rattle.theory_table.specs.Stored.{VcIs}
@@ -30,6 +30,8 @@ use Rattle.theory_invariant.specs.Invariant.{Inv, waits}
 use Rattle.theory_invariant.proofs.ArriveLaws.{names-facts}
 use Rattle.theory_invariant.proofs.CheckLaws.{slot-served, slot-refused}
 use Rattle.promises.proofs.Demand3Laws.{demanded}
+use Rattle.promises.proofs.SustainedLaws.{peak-alone, none-above}
+use Rattle.promise_agreed.specs.DueTimes.{peakOnly}
 use Rattle.promise_agreed.specs.Agreed.{Watched, isFor, ask, engineAfter, Same}
 use Rattle.promise_agreed.proofs.StepLaws.{Stepped, steps}
 use Rattle.promise_agreed.proofs.HeaderLaws.{user, named, others}
@@ -49,13 +51,16 @@ leakSays t v o b = if b then judgedOf accepted v (dueSlot o t - t) else judgedOf
 
 module _ (w : Watched) (h : List Event) (cell : List ℕ) (a : Answer) (out : List ℕ) (k : Tied w h) where
   abbrev o : Opening
-  o = openingWith (w .m) (w .F) (w .C) (k .previous)
+  o = openingWith (w .m) (w .F) (w .C) (k .previous) noSecond (k .sustained)
+
+  abbrev peak : Opening
+  peak = peakOnly (w .m) (w .F) (w .C) (k .previous)
 
   -- a cell of the VC: the engine's answer is the slot's
   same : (b : Bool) → Stepped (w .m) (w .F) (w .C) (served h) (k .previous) b (ask w (engineAfter w h) (served h))
-      → judgedOf (a .verdict) (a .vci) (a .d) ≡ leakSays (served h) (w .vci) o b
+      → judgedOf (a .verdict) (a .vci) (a .d) ≡ leakSays (served h) (w .vci) peak b
       → Same w h a (ask w (engineAfter w h) (served h))
-  unfolding dueSlot
+  unfolding dueSlot dueTime
   same true st j =
       let d = ap (λ (x : Judged). x .D) j in
       record {
@@ -83,17 +88,19 @@ module _ (w : Watched) (h : List Event) (cell : List ℕ) (a : Answer) (out : Li
   -- and both move on alike
   moved : (b : Bool) → a .number ≡ 0 → isFor w cell a ≡ true
       → Stepped (w .m) (w .F) (w .C) (served h) (k .previous) b (ask w (engineAfter w h) (served h))
-      → judgedOf (a .verdict) (a .vci) (a .d) ≡ leakSays (served h) (w .vci) o b
+      → judgedOf (a .verdict) (a .vci) (a .d) ≡ leakSays (served h) (w .vci) peak b
       → Tied w (ran cell a out ∷ h)
+  unfolding dueTime letsIn
   moved true n e st j =
-      tied-of w h (ran cell a out ∷ h) (some (dueTime o (served h))) (suc (served h)) (ask w (engineAfter w h) (served h) .tat)
+      tied-of w h (ran cell a out ∷ h) (some (dueTime o (served h))) (sustainedAfter (served h) (headerAt cell 0 .clp) (a .verdict) o)
+      (suc (served h)) (ask w (engineAfter w h) (served h) .tat)
       (opening-moved w h cell a out o (k .is)
       (accepts-is w h cell a out (ap (λ (x : Judged). x .verdict) j) (ap (λ (x : Judged). x .vci) j)))
       (served-one w h cell a out n) (engine-asked w h cell a out e) (st .tied)
   moved false n e st j =
-      tied-of w h (ran cell a out ∷ h) (k .previous) (suc (served h)) (ask w (engineAfter w h) (served h) .tat)
+      tied-of w h (ran cell a out ∷ h) (k .previous) (k .sustained) (suc (served h)) (ask w (engineAfter w h) (served h) .tat)
       (opening-still w h cell a out
-      (accepts-not w h cell a out (λ x. omega (arith, x, ap (λ (y : Judged). y .verdict) j))) ∙ k .is)
+      (accepts-not w h cell a out (ap (λ (y : Judged). letsIn (y .verdict)) j)) ∙ k .is)
       (served-one w h cell a out n) (engine-asked w h cell a out e) (st .tied)
 
 -- what one slot leaves: the tie, and the engine's answer where the cell is for the VC
@@ -130,24 +137,36 @@ module _ (w : Watched) (h : List Event) (s : State) (i : Inv (w .N) (w .z) h s) 
       mine : served h < slotNumbers → namesVc (w .z) (headerAt (letIn s cell .cell) 0) ≡ true
           → headerAt (letIn s cell .cell) 0 .vci ≡ w .vci
           → judgedOf (slot s cell .answer .verdict) (slot s cell .answer .vci) (slot s cell .answer .d)
-          ≡ leakSays (served h) (w .vci) (openingWith (w .m) (w .F) (w .C) (k .previous))
-          (leakAccepts (openingWith (w .m) (w .F) (w .C) (k .previous)) (served h))
+          ≡ leakSays (served h) (w .vci) (peakOnly (w .m) (w .F) (w .C) (k .previous))
+          (leakAccepts (peakOnly (w .m) (w .F) (w .C) (k .previous)) (served h))
+      unfolding leakAccepts dueSlot dueTime
       mine low n e =
           judges
           ∙ ap (λ (b : Bool). if b then judgedOf 4 0 0 else judged (w .z) h (letIn s cell .cell)) (let-in n)
           ∙ named (w .z) (served h) (λ v. openingOf v h) (letIn s cell .cell)
-          (openingWith (w .m) (w .F) (w .C) (k .previous)) n (ap (λ (v : ℕ). openingOf v h) e ∙ k .is)
-          ∙ ap (λ (v : ℕ). judgedUnder (served h) v (some (openingWith (w .m) (w .F) (w .C) (k .previous)))) e
+          o n (ap (λ (v : ℕ). openingOf v h) e ∙ k .is)
+          ∙ ap (λ (v : ℕ). judgedUnder (served h) v clp (some o)) e
+          ∙ peak-alone (served h) (w .vci) clp o
+          (none-above (w .N) (w .z) h s i (w .vci) o (omega (arith, f .0, e)) (omega (arith, f .1, e)) (k .is) refl)
+        where
+          o : Opening
+          o = openingWith (w .m) (w .F) (w .C) (k .previous) noSecond (k .sustained)
+
+          clp : ℕ
+          clp = headerAt (letIn s cell .cell) 0 .clp
+
+          f : (1 ≤ headerAt (letIn s cell .cell) 0 .vci) × (headerAt (letIn s cell .cell) 0 .vci < w .z)
+          f = names-facts (w .z) (headerAt (letIn s cell .cell) 0) n
 
       theirs : (namesVc (w .z) (headerAt (letIn s cell .cell) 0) && headerAt (letIn s cell .cell) 0 .vci =? w .vci) ≡ false
           → accepts (w .vci) (slot s cell .answer) ≡ false
-      unfolding accepts
+      unfolding accepts letsIn
       theirs e =
-          ap (λ (j : Judged). j .verdict =? accepted && j .vci =? w .vci) judges ∙ go (letIn s cell .dropped)
+          ap (λ (j : Judged). letsIn (j .verdict) && j .vci =? w .vci) judges ∙ go (letIn s cell .dropped)
         where
           go : (b : Bool)
               → let j = (if b then judgedOf 4 0 0 else judged (w .z) h (letIn s cell .cell)) in
-              (j .verdict =? accepted && j .vci =? w .vci) ≡ false
+              (letsIn (j .verdict) && j .vci =? w .vci) ≡ false
           go true = refl
           go false = others (w .z) (served h) (w .vci) (λ v. openingOf v h) (letIn s cell .cell) e
 
@@ -171,7 +190,7 @@ module _ (w : Watched) (h : List Event) (s : State) (i : Inv (w .N) (w .z) h s) 
               let st = steps (w .N) (w .m) (w .F) (w .C) (served h) (i .stage .ranges .N-low) (i .stage .ranges .N-high)
               (rules (omega (arith, f .0, v)) (omega (arith, f .1, v))) low (k .previous) (engineAfter w h) (k .state) in
               let j = mine low n v in
-              let b = leakAccepts (openingWith (w .m) (w .F) (w .C) (k .previous)) (served h) in
+              let b = leakAccepts (peakOnly (w .m) (w .F) (w .C) (k .previous)) (served h) in
               let it = for-it w h (letIn s cell .cell) (slot s cell .answer) (shown (slot s cell)) number e in
               record {
                 tied = moved w h (letIn s cell .cell) (slot s cell .answer) (shown (slot s cell)) k b number it st j;
@@ -187,11 +206,12 @@ module _ (w : Watched) (h : List Event) (s : State) (i : Inv (w .N) (w .z) h s) 
     -- refused with 9: nothing is said of a cell
     went-refused : length cell =? 0 || length cell =? 53 ≡ false
         → Went w h (letIn s cell .cell) (slot s cell .answer) (shown (slot s cell))
+    unfolding letsIn
     went-refused lent =
         let is = slot-refused (w .N) (w .z) h s i cell lent in
         let n : slot s cell .answer .number ≢ 0 = λ e. omega (arith, e, ap (λ (x : Work). x .answer .number) is) in
         let x = not-served w h (letIn s cell .cell) (slot s cell .answer) (shown (slot s cell)) n in
-        let y : slot s cell .answer .verdict ≢ accepted = λ e. omega (arith, e, ap (λ (x : Work). x .answer .verdict) is) in
+        let y : letsIn (slot s cell .answer .verdict) ≡ false = ap (λ (x : Work). letsIn (x .answer .verdict)) is in
         record {
           tied = quiet w h (letIn s cell .cell) (slot s cell .answer) (shown (slot s cell)) k x
               (accepts-not w h (letIn s cell .cell) (slot s cell .answer) (shown (slot s cell)) y);

@@ -10,13 +10,14 @@ use lib.IntN.{subℕ}
 use Rattle.meaning.specs.Plain.{if_then_else_, _≤?_}
 use Rattle.meaning.specs.Numbers.{slotNumbers, accepted, excess}
 use Rattle.meaning.specs.Bucket.{bucketOf, obeysRules}
-use Rattle.meaning_runs.specs.Leak.{Opening, openingWith, dueTime, dueSlot, leakAccepts}
+use Rattle.meaning_runs.specs.Leak.{Opening, dueTime, dueSlot, leakAccepts}
 use Rattle.theory_table.proofs.LeakLaws.{due-slot}
 use Rattle.call_time.specs.declared.Tat.{Tat}
 use Rattle.call_time.specs.declared.Timed.{Timed}
 use Rattle.call_time.specs.Schedule.{ahead, tatOf, timedOf, tooLate, scheduled, refusalOf, timed}
 use Rattle.call_time.proofs.Cases.{ahead-sub, Good, no-refusal, too-early, in-time, first-is, later-is}
 use Rattle.call_time.proofs.EngineLaws.{number-is, leaves}
+use Rattle.promise_agreed.specs.DueTimes.{peakOnly}
 
 -- the engine's state s against the last due time, before slot t: TAT is that plus F
 abbrev pub TiedTo : ℕ → ℕ → Option ℕ → Tat → Type 0
@@ -34,9 +35,9 @@ next b o t = if b then some (dueTime o t) else o .previous
 pub record Stepped (m F C t : ℕ) (p : Option ℕ) (b : Bool) (r : Timed) : Type 0 where
   pub number : r .number ≡ 0
   pub verdict : r .verdict ≡ (if b then accepted else excess)
-  pub due : r .due ≡ (if b then dueTime (openingWith m F C p) t else 0)
-  pub early : b ≡ true → ahead (r .early) / 2 ^ m ≡ dueSlot (openingWith m F C p) t - t
-  pub tied : TiedTo F (suc t) (next b (openingWith m F C p) t) (r .tat)
+  pub due : r .due ≡ (if b then dueTime (peakOnly m F C p) t else 0)
+  pub early : b ≡ true → ahead (r .early) / 2 ^ m ≡ dueSlot (peakOnly m F C p) t - t
+  pub tied : TiedTo F (suc t) (next b (peakOnly m F C p) t) (r .tat)
 
 module _ (N m F C t : ℕ) (N-low : 1 ≤ N) (N-high : N ≤ 1_024) (rules : obeysRules N (bucketOf m F C 0) ≡ true)
     (run : t < slotNumbers) where
@@ -62,11 +63,11 @@ module _ (N m F C t : ℕ) (N-low : 1 ≤ N) (N-high : N ≤ 1_024) (rules : obe
   none-given p s k = no-refusal s N m F C t (good p s k)
 
   delayed : (p : Option ℕ) (e : ℕ) (x : ℕ)
-      → dueSlot (openingWith m F C p) t ≡ t + x / 2 ^ m → e ≡ x → e / 2 ^ m ≡ dueSlot (openingWith m F C p) t - t
+      → dueSlot (peakOnly m F C p) t ≡ t + x / 2 ^ m → e ≡ x → e / 2 ^ m ≡ dueSlot (peakOnly m F C p) t - t
   delayed p e x d q = ap (λ (n : ℕ). n / 2 ^ m) q ∙ omega (arith, d)
 
   pub steps : (p : Option ℕ) (s : Tat) → TiedTo F t p s
-      → Stepped m F C t p (leakAccepts (openingWith m F C p) t) (timed s N m F C t)
+      → Stepped m F C t p (leakAccepts (peakOnly m F C p) t) (timed s N m F C t)
   unfolding leakAccepts dueTime
   steps none s k =
       let now = t * 2 ^ m in
@@ -78,7 +79,7 @@ module _ (N m F C t : ℕ) (N-low : 1 ≤ N) (N-high : N ≤ 1_024) (rules : obe
         number = number-is s N m F C t ∙ none-given none s k;
         verdict = ap (λ (x : Timed). x .verdict) r;
         due = ap (λ (x : Timed). x .due) r ∙ omega arith;
-        early = λ on. delayed none (ahead (timed s N m F C t .early)) (0 - now) (due-slot (openingWith m F C none) t)
+        early = λ on. delayed none (ahead (timed s N m F C t .early)) (0 - now) (due-slot (peakOnly m F C none) t)
             (ap (λ (x : Timed). ahead (x .early)) r ∙ ahead-sub now now ∙ omega arith);
         tied = (
           ap (λ (x : Timed). x .tat .started) r,
@@ -113,7 +114,7 @@ module _ (N m F C t : ℕ) (N-low : 1 ≤ N) (N-high : N ≤ 1_024) (rules : obe
             verdict = ap (λ (x : Timed). x .verdict) r;
             due = ap (λ (x : Timed). x .due) r ∙ omega (arith, k .1);
             early = λ on. delayed (some p) (ahead (timed s N m F C t .early)) (p + F - t * 2 ^ m)
-                (due-slot (openingWith m F C (some p)) t) (ap (λ (x : Timed). ahead (x .early)) r ∙ ahead-sub (s .tat) (t * 2 ^ m) ∙ omega (arith, k .1));
+                (due-slot (peakOnly m F C (some p)) t) (ap (λ (x : Timed). ahead (x .early)) r ∙ ahead-sub (s .tat) (t * 2 ^ m) ∙ omega (arith, k .1));
             tied = (
               ap (λ (x : Timed). x .tat .started) r,
               ap (λ (x : Timed). x .tat .tat) r ∙ omega (arith, k .1),

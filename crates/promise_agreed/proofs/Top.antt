@@ -12,9 +12,10 @@ use Rattle.meaning.specs.declared.Answer.{Answer}
 use Rattle.meaning.specs.Plain.{if_then_else_, _=?_}
 use Rattle.meaning.specs.Numbers.{slotNumbers}
 use Rattle.meaning.specs.State.{State}
+use Rattle.meaning.specs.Words.{Second, noSecond}
 use Rattle.meaning.specs.Calls.{setup}
-use Rattle.meaning_runs.specs.Run.{Call, onOpen, onClose, onSlot, Event, opened, closed, ran, Run, runOf, call, calls, freshRun, served}
-use Rattle.meaning_runs.specs.Leak.{openingWith, openingOf}
+use Rattle.meaning_runs.specs.Run.{Call, onOpenWith, onOpen, onClose, onSlot, Event, opened, closed, ran, Run, runOf, call, calls, freshRun, served}
+use Rattle.meaning_runs.specs.Leak.{newOpening, openingOf}
 use Rattle.theory_queues.specs.Queue.{All}
 use Rattle.theory_invariant.proofs.FreshLaws.{setup-fresh}
 use Rattle.theory_invariant.proofs.RunLaws.{Kept, call-kept, run-kept}
@@ -28,13 +29,13 @@ use Rattle.promise_agreed.proofs.SlotLaws.{went}
 -- slots are only ever added
 one-more : (h : List Event) (e : Event) → served h ≤ served (e ∷ h)
 unfolding served
-one-more h (opened vci m F C number) = omega arith
+one-more h (opened vci m F C x number) = omega arith
 one-more h (closed vci number) = omega arith
 one-more h (ran cell a out) = omega arith
 
 call-more : (r : Run) (c : Call) → served (r .events) ≤ served (call r c .events)
 unfolding call
-call-more r (onOpen vci m F C) = one-more (r .events) _
+call-more r (onOpenWith vci m F C x) = one-more (r .events) _
 call-more r (onClose vci) = one-more (r .events) _
 call-more r (onSlot cell) = one-more (r .events) _
 
@@ -54,22 +55,23 @@ module _ (w : Watched) where
     pub tied : Tied w (r .events)
     pub agrees : Agrees w (r .events)
 
-  tied-open : (h : List Event) (vci m F C number : ℕ) → vci ≢ w .vci → Tied w h → Tied w (opened vci m F C number ∷ h)
+  tied-open : (h : List Event) (vci m F C : ℕ) (x : Second) (number : ℕ) → vci ≢ w .vci → Tied w h
+      → Tied w (opened vci m F C x number ∷ h)
   unfolding openingOf served engineAfter
-  tied-open h vci m F C number n k =
-      record { previous = k .previous; is = rw (other-vc (w .vci) vci number n) (k .is); state = k .state }
+  tied-open h vci m F C x number n k =
+      record { previous = k .previous; sustained = k .sustained; is = rw (other-vc (w .vci) vci number n) (k .is); state = k .state }
 
   tied-close : (h : List Event) (vci number : ℕ) → vci ≢ w .vci → Tied w h → Tied w (closed vci number ∷ h)
   unfolding openingOf served engineAfter
   tied-close h vci number n k =
-      record { previous = k .previous; is = rw (other-vc (w .vci) vci number n) (k .is); state = k .state }
+      record { previous = k .previous; sustained = k .sustained; is = rw (other-vc (w .vci) vci number n) (k .is); state = k .state }
 
   one-call : (r : Run) (c : Call) → Together r → Apart (w .vci) c → served (call r c .events) ≤ slotNumbers → Together (call r c)
   unfolding call Agrees
-  one-call r (onOpen vci m F C) g n low =
+  one-call r (onOpenWith vci m F C x) g n low =
       record {
-        kept = call-kept (w .N) (w .z) r (onOpen vci m F C) (g .kept);
-        tied = tied-open (r .events) vci m F C _ n (g .tied);
+        kept = call-kept (w .N) (w .z) r (onOpenWith vci m F C x) (g .kept);
+        tied = tied-open (r .events) vci m F C x _ n (g .tied);
         agrees = g .agrees;
       }
   one-call r (onClose vci) g n low =
@@ -106,7 +108,7 @@ unserved h cell a out e = (λ n. omega (arith, first n), omega (arith, e))
 asleep : (w : Watched) (h : List Event) → served h ≡ 0 → (engineAfter w h ≡ notStarted) × Agrees w h
 unfolding engineAfter Agrees served
 asleep w [] e = (refl, tt)
-asleep w (opened vci m F C number ∷ h) e = asleep w h e
+asleep w (opened vci m F C x number ∷ h) e = asleep w h e
 asleep w (closed vci number ∷ h) e = asleep w h e
 asleep w (ran cell a out ∷ h) e =
     let u = unserved h cell a out e in
@@ -117,12 +119,13 @@ asleep w (ran cell a out ∷ h) e =
     )
 
 at-first : (w : Watched) (r : Run) → Kept (w .N) (w .z) r → served (r .events) ≡ 0
-    → openingOf (w .vci) (r .events) ≡ some (openingWith (w .m) (w .F) (w .C) none) → Together w r
+    → openingOf (w .vci) (r .events) ≡ some (newOpening (w .m) (w .F) (w .C) noSecond) → Together w r
 at-first w r k e o =
     record {
       kept = k;
       tied = record {
         previous = none;
+        sustained = none;
         is = o;
         state = ap (λ (s : Tat). s .started) (asleep w (r .events) e .0);
       };

@@ -7,7 +7,7 @@
 -- rounded down, less the arrival slot, and if the cell is accepted D is also the engine's earliness (0 where it is late) over
 -- L; and its due time is document 01's.
 --
--- "Without a second bucket": no VC has one before request (iv). That request adds it to the hypotheses here.
+-- "Without a second bucket": so the VC was opened. Other VCs may have one.
 --
 --   Watched            == N, V, and the VC with its m, F and C
 --   isFor w cell a     == the slot that answered a was served, and the cell that the header check let through names the VC
@@ -21,14 +21,15 @@ use mathlib.Core.Path.{_≡_}
 use mathlib.Core.Logic.{_≢_}
 use mathlib.Core.Bool.{Bool, true, _&&_}
 use mathlib.Core.List.{List, [], _∷_, map}
-use mathlib.Core.Option.{none, some}
+use mathlib.Core.Option.{some}
 use Rattle.meaning.specs.declared.Answer.{Answer}
 use Rattle.meaning.specs.Plain.{if_then_else_, _=?_}
 use Rattle.meaning.specs.Numbers.{slotNumbers, accepted}
 use Rattle.meaning.specs.Header.{headerAt, namesVc}
+use Rattle.meaning.specs.Words.{noSecond}
 use Rattle.meaning.specs.Calls.{setup}
-use Rattle.meaning_runs.specs.Run.{Call, onOpen, onClose, onSlot, Event, opened, closed, ran, numberOf, runOf, call, calls, served}
-use Rattle.meaning_runs.specs.Leak.{Opening, openingWith, dueTime, openingOf}
+use Rattle.meaning_runs.specs.Run.{Call, onOpenWith, onOpen, onClose, onSlot, Event, opened, closed, ran, numberOf, runOf, call, calls, served}
+use Rattle.meaning_runs.specs.Leak.{Opening, newOpening, dueTime, openingOf}
 use Rattle.theory_queues.specs.Queue.{All}
 use Rattle.call_time.specs.declared.Tat.{Tat}
 use Rattle.call_time.specs.declared.Timed.{Timed}
@@ -54,7 +55,7 @@ ask w s t = timed s (w .N) (w .m) (w .F) (w .C) t
 
 unfoldable pub engineAfter : Watched → List Event → Tat
 engineAfter w [] = notStarted
-engineAfter w (opened vci m F C number ∷ h) = engineAfter w h
+engineAfter w (opened vci m F C x number ∷ h) = engineAfter w h
 engineAfter w (closed vci number ∷ h) = engineAfter w h
 engineAfter w (ran cell a out ∷ h) =
     if isFor w cell a then ask w (engineAfter w h) (served h) .tat else engineAfter w h
@@ -70,13 +71,13 @@ pub record Same (w : Watched) (h : List Event) (a : Answer) (r : Timed) : Type 0
 
 unfoldable pub Agrees : Watched → List Event → Type 0
 Agrees w [] = Unit {0}
-Agrees w (opened vci m F C number ∷ h) = Agrees w h
+Agrees w (opened vci m F C x number ∷ h) = Agrees w h
 Agrees w (closed vci number ∷ h) = Agrees w h
 Agrees w (ran cell a out ∷ h) =
     Agrees w h × (isFor w cell a ≡ true → Same w h a (ask w (engineAfter w h) (served h)))
 
 abbrev pub Apart : ℕ → Call → Type 0
-Apart v (onOpen vci m F C) = vci ≢ v
+Apart v (onOpenWith vci m F C x) = vci ≢ v
 Apart v (onClose vci) = vci ≢ v
 Apart v (onSlot cell) = Unit {0}
 
@@ -87,7 +88,7 @@ AgreedAlways = (N z : ℕ) (raw : Bool) (cells links calendar words : List ℕ)
     → (before : List Call) (v m F C : ℕ)
     → let r = calls (runOf (setup N z raw cells links calendar words .state) []) before in
     served (r .events) ≡ 0
-    → openingOf v (r .events) ≡ some (openingWith m F C none)
+    → openingOf v (r .events) ≡ some (newOpening m F C noSecond)
     → (after : List Call) → All (Apart v) after
     → served (calls r after .events) ≤ slotNumbers
     → Agrees (watch N z v m F C) (calls r after .events)

@@ -1,7 +1,7 @@
--- A cell is accepted only where its VC is open, of every run: the verdict is the leak rule's over openings, and a slot
+-- A cell is accepted or tagged only where its VC is open, of every run: the verdict is the leak rules' over openings, and a slot
 -- that is refused accepts none.
-use Prim.Native.Nat.{ℕ, _-_}
-use mathlib.Core.Path.{_≡_, refl, sym, ap, subst}
+use Prim.Native.Nat.{ℕ}
+use mathlib.Core.Path.{_≡_, refl, sym, ap, _∙_, subst}
 use mathlib.Core.Bool.{Bool, true, false, not, _||_}
 use mathlib.Core.List.{List, [], _∷_}
 use mathlib.Core.Option.{Option, none, some}
@@ -10,12 +10,12 @@ use lib.ListN.{length}
 use Rattle.base_hec.specs.Modes.{Arriving}
 use Rattle.meaning.specs.declared.Answer.{Answer}
 use Rattle.meaning.specs.Plain.{if_then_else_, _=?_}
-use Rattle.meaning.specs.Numbers.{nothing, accepted, excess, unknown, dropped}
+use Rattle.meaning.specs.Numbers.{nothing, unknown, dropped, letsIn}
 use Rattle.meaning.specs.Header.{headerAt, noUserCell, namesVc}
 use Rattle.meaning.specs.Work.{Work}
 use Rattle.meaning.specs.Slot.{slot}
-use Rattle.meaning_runs.specs.Run.{Call, onOpen, onClose, onSlot, Event, opened, closed, ran, Run, letIn, call, calls, served}
-use Rattle.meaning_runs.specs.Leak.{Opening, dueSlot, leakAccepts, openingOf}
+use Rattle.meaning_runs.specs.Run.{Call, onOpenWith, onClose, onSlot, Event, opened, closed, ran, Run, letIn, call, calls, served}
+use Rattle.meaning_runs.specs.Leak.{Opening, openingOf}
 use Rattle.meaning_runs.specs.Judged.{Judged, judgedOf, judgedUnder, judgedBy, judgedAs}
 use Rattle.theory_invariant.proofs.CheckLaws.{slot-refused}
 use Rattle.theory_invariant.proofs.RunLaws.{Kept, call-kept}
@@ -25,52 +25,56 @@ abbrev pub IsOpen : Option Opening → Type 0
 IsOpen none = ⊥
 IsOpen (some o) = Unit {0}
 
--- ── a cell is accepted only where its VC is open ──
+-- ── a cell is let in only where its VC is open ──
+not-let : {A : Type 0} → false ≡ true → A
+not-let e = absurd (let z : _≡_ {A = ℕ} 0 1 = cc in omega arith)
+
 module _ (t : ℕ) (openings : ℕ → Option Opening) where
   abbrev OpenWhere : Judged → Type 0
-  OpenWhere j = j .verdict ≡ accepted → IsOpen (openings (j .vci))
+  OpenWhere j = letsIn (j .verdict) ≡ true → IsOpen (openings (j .vci))
 
-  under-open : (u : ℕ) (x : Option Opening) → openings u ≡ x → OpenWhere (judgedUnder t u x)
-  under-open u none e n = absurd (omega (arith, n))
-  under-open u (some o) e n = go (leakAccepts o t) n
-    where
-      go : (b : Bool) → OpenWhere (if b then judgedOf accepted u (dueSlot o t - t) else judgedOf excess u 0)
-      go true n = subst IsOpen (sym e) tt
-      go false n = absurd (omega (arith, n))
+  under-open : (u clp : ℕ) (x : Option Opening) → openings u ≡ x → OpenWhere (judgedUnder t u clp x)
+  unfolding letsIn
+  under-open u clp none e n = not-let n
+  under-open u clp (some o) e n = subst IsOpen (sym e) tt
 
   by-open : (z : ℕ) (cell : List ℕ) → OpenWhere (judgedBy z t openings cell)
-  unfolding judgedBy
+  unfolding judgedBy letsIn
   by-open z cell =
-      go (length cell =? 0 || noUserCell (headerAt cell 0)) (namesVc z (headerAt cell 0)) (under-open u (openings u) refl)
+      go (length cell =? 0 || noUserCell (headerAt cell 0)) (namesVc z (headerAt cell 0)) (under-open u clp (openings u) refl)
     where
       u : ℕ
       u = headerAt cell 0 .vci
 
-      go : (b c : Bool) → OpenWhere (judgedUnder t (headerAt cell 0 .vci) (openings (headerAt cell 0 .vci)))
-          → OpenWhere (if b then judgedOf nothing 0 0 else if not c then judgedOf unknown (headerAt cell 0 .vci) 0
-          else judgedUnder t (headerAt cell 0 .vci) (openings (headerAt cell 0 .vci)))
-      go true c k n = absurd (omega (arith, n))
-      go false false k n = absurd (omega (arith, n))
+      clp : ℕ
+      clp = headerAt cell 0 .clp
+
+      go : (b c : Bool) → OpenWhere (judgedUnder t u clp (openings u))
+          → OpenWhere (if b then judgedOf nothing 0 0 else if not c then judgedOf unknown u 0 else judgedUnder t u clp (openings u))
+      go true c k n = not-let n
+      go false false k n = not-let n
       go false true k n = k n
 
 judged-open : (z : ℕ) (h : List Event) (a : Arriving) → OpenWhere (served h) (λ v. openingOf v h) (judgedAs z h a)
+unfolding letsIn
 judged-open z h a = go (a .dropped)
   where
     go : (b : Bool) → OpenWhere (served h) (λ v. openingOf v h)
         (if b then judgedOf dropped 0 0 else judgedBy z (served h) (λ v. openingOf v h) (a .cell))
-    go true n = absurd (omega (arith, n))
+    go true n = not-let n
     go false n = by-open (served h) (λ v. openingOf v h) z (a .cell) n
 
 -- ── of a run ──
 abbrev pub AcceptedOpen : List Event → Type 0
 AcceptedOpen [] = Unit {0}
-AcceptedOpen (opened vci m F C number ∷ h) = AcceptedOpen h
+AcceptedOpen (opened vci m F C x number ∷ h) = AcceptedOpen h
 AcceptedOpen (closed vci number ∷ h) = AcceptedOpen h
-AcceptedOpen (ran cell a out ∷ h) = (a .verdict ≡ accepted → IsOpen (openingOf (a .vci) h)) × AcceptedOpen h
+AcceptedOpen (ran cell a out ∷ h) = (letsIn (a .verdict) ≡ true → IsOpen (openingOf (a .vci) h)) × AcceptedOpen h
 
 module _ (N z : ℕ) where
-  slot-open : (r : Run) (cell : List ℕ) → Kept N z r → slot (r .state) cell .answer .verdict ≡ accepted
+  slot-open : (r : Run) (cell : List ℕ) → Kept N z r → letsIn (slot (r .state) cell .answer .verdict) ≡ true
       → IsOpen (openingOf (slot (r .state) cell .answer .vci) (r .events))
+  unfolding letsIn
   slot-open r cell k n = go (length cell =? 0 || length cell =? 53) refl
     where
       h : List Event
@@ -85,15 +89,12 @@ module _ (N z : ℕ) where
           subst (OpenWhere (served h) (λ v. openingOf v h)) (sym (says N z (r .events) (r .state) (k .inv) cell e))
           (judged-open z h (letIn (r .state) cell)) n
       go false e =
-          absurd (omega (
-            arith,
-            n,
-            ap (λ (w : Work). w .answer .verdict) (slot-refused N z (r .events) (r .state) (k .inv) cell e),
-          ))
+          not-let (sym (ap (λ (w : Work). letsIn (w .answer .verdict)) (slot-refused N z (r .events) (r .state) (k .inv) cell e))
+          ∙ n)
 
   call-open : (r : Run) (c : Call) → Kept N z r → AcceptedOpen (r .events) → AcceptedOpen (call r c .events)
   unfolding call
-  call-open r (onOpen v m F C) k p = p
+  call-open r (onOpenWith v m F C x) k p = p
   call-open r (onClose v) k p = p
   call-open r (onSlot cell) k p = (slot-open r cell k, p)
 

@@ -1,4 +1,4 @@
--- What an event adds to the accepted cells of a VC: a slot that accepted one of it that cell, any other event none. So
+-- What an event adds to the accepted cells of a VC: a slot that let one of it in that cell, any other event none. So
 -- later events leave the cells that were there as they are.
 use Prim.Native.Nat.{ℕ}
 use mathlib.Core.Path.{_≡_, refl, sym, ap, _∙_}
@@ -6,10 +6,12 @@ use mathlib.Core.Logic.{_≢_}
 use mathlib.Core.Bool.{Bool, true, false}
 use mathlib.Core.List.{List, [], _∷_, _++_, append-assoc, append-nil}
 use mathlib.Core.Option.{Option, none, some}
-use borrow.Author.Tests.{eq-eqb, eqb-true, eqb-false}
+use borrow.Author.Tests.{eqb-true, eqb-false}
 use Rattle.meaning.specs.declared.Answer.{Answer}
 use Rattle.meaning.specs.Plain.{if_then_else_, _=?_}
-use Rattle.meaning.specs.Numbers.{accepted}
+use Rattle.meaning.specs.Numbers.{letsIn}
+use Rattle.meaning.specs.Words.{Second}
+use Rattle.meaning.specs.Arrival.{sentAs}
 use Rattle.meaning_runs.specs.Run.{Event, opened, closed, ran, served}
 use Rattle.meaning_runs.specs.Leak.{Opening, accepts, openingOf}
 use Rattle.meaning_runs.specs.Seen.{Cell, cellUnder, ofVc, cellsIn, cellsOf}
@@ -19,10 +21,10 @@ use Rattle.theory_table.proofs.LeakLaws.{and-left, and-right}
 -- ── what an event adds to the cells of a VC ──
 module _ (v : ℕ) where
   pub cells-new : (h : List Event) (octets : List ℕ) (a : Answer) (out : List ℕ) → accepts v a ≡ true
-      → cellsOf v (ran octets a out ∷ h) ≡ cellsOf v h ++ (cellUnder (served h) a octets (openingOf v h) ∷ [])
+      → cellsOf v (ran octets a out ∷ h) ≡ cellsOf v h ++ (cellUnder (served h) a (sentAs (a .verdict) octets) (openingOf v h) ∷ [])
   unfolding cellsOf cellsIn accepts
   cells-new h octets a out e =
-      rw (eq-eqb (a .verdict) accepted verdict)
+      rw lets
       (ofVc-append vciOf v (cellsIn h) (under (a .vci) ∷ [])
       ∙ ap (λ l. ofVc vciOf v (cellsIn h) ++ l) (ofVc-yes vciOf v (under (a .vci)) [] (named (openingOf (a .vci) h))
       ∙ ap (λ (u : ℕ). under u ∷ []) vci))
@@ -31,37 +33,37 @@ module _ (v : ℕ) where
       vciOf c = c .vci
 
       under : ℕ → Cell
-      under u = cellUnder (served h) a octets (openingOf u h)
+      under u = cellUnder (served h) a (sentAs (a .verdict) octets) (openingOf u h)
 
-      verdict : a .verdict ≡ accepted
-      verdict = eqb-true (a .verdict) accepted (and-left (a .verdict =? accepted) (a .vci =? v) e)
+      lets : letsIn (a .verdict) ≡ true
+      lets = and-left (letsIn (a .verdict)) (a .vci =? v) e
 
       vci : a .vci ≡ v
-      vci = eqb-true (a .vci) v (and-right (a .verdict =? accepted) (a .vci =? v) e)
+      vci = eqb-true (a .vci) v (and-right (letsIn (a .verdict)) (a .vci =? v) e)
 
-      named : (o : Option Opening) → cellUnder (served h) a octets o .vci ≡ v
+      named : (o : Option Opening) → cellUnder (served h) a (sentAs (a .verdict) octets) o .vci ≡ v
       named none = vci
       named (some o) = vci
 
   pub cells-not : (h : List Event) (octets : List ℕ) (a : Answer) (out : List ℕ) → accepts v a ≡ false
       → cellsOf v (ran octets a out ∷ h) ≡ cellsOf v h
   unfolding cellsOf cellsIn accepts
-  cells-not h octets a out e = go (a .verdict =? accepted) refl
+  cells-not h octets a out e = go (letsIn (a .verdict)) refl
     where
       vciOf : Cell → ℕ
       vciOf c = c .vci
 
       new : Cell
-      new = cellUnder (served h) a octets (openingOf (a .vci) h)
+      new = cellUnder (served h) a (sentAs (a .verdict) octets) (openingOf (a .vci) h)
 
-      other : a .verdict =? accepted ≡ true → a .vci ≢ v
+      other : letsIn (a .verdict) ≡ true → a .vci ≢ v
       other y = eqb-false (a .vci) v (rw y at e)
 
-      named : (o : Option Opening) → a .vci ≢ v → cellUnder (served h) a octets o .vci ≡ v → ⊥
+      named : (o : Option Opening) → a .vci ≢ v → cellUnder (served h) a (sentAs (a .verdict) octets) o .vci ≡ v → ⊥
       named none ne = ne
       named (some o) ne = ne
 
-      go : (b : Bool) → a .verdict =? accepted ≡ b
+      go : (b : Bool) → letsIn (a .verdict) ≡ b
           → ofVc vciOf v (if b then cellsIn h ++ (new ∷ []) else cellsIn h) ≡ ofVc vciOf v (cellsIn h)
       go true y =
           ofVc-append vciOf v (cellsIn h) (new ∷ [])
@@ -69,9 +71,9 @@ module _ (v : ℕ) where
           ∙ append-nil (ofVc vciOf v (cellsIn h))
       go false y = refl
 
-  pub cells-open : (h : List Event) (u m F C number : ℕ) → cellsOf v (opened u m F C number ∷ h) ≡ cellsOf v h
+  pub cells-open : (h : List Event) (u m F C : ℕ) (x : Second) (number : ℕ) → cellsOf v (opened u m F C x number ∷ h) ≡ cellsOf v h
   unfolding cellsOf cellsIn
-  cells-open h u m F C number = refl
+  cells-open h u m F C x number = refl
 
   pub cells-close : (h : List Event) (u number : ℕ) → cellsOf v (closed u number ∷ h) ≡ cellsOf v h
   unfolding cellsOf cellsIn
@@ -93,13 +95,14 @@ module _ (v : ℕ) where
       }
 
   grown-once : (e : Event) (h : List Event) → Grown (cellsOf v h) (cellsOf v (e ∷ h))
-  grown-once (opened u m F C number) h = same (cellsOf v h) (cellsOf v (opened u m F C number ∷ h)) (cells-open h u m F C number)
+  grown-once (opened u m F C x number) h =
+      same (cellsOf v h) (cellsOf v (opened u m F C x number ∷ h)) (cells-open h u m F C x number)
   grown-once (closed u number) h = same (cellsOf v h) (cellsOf v (closed u number ∷ h)) (cells-close h u number)
   grown-once (ran octets a out) h = go (accepts v a) refl
     where
       go : (b : Bool) → accepts v a ≡ b → Grown (cellsOf v h) (cellsOf v (ran octets a out ∷ h))
       go true e =
-          record { rest = cellUnder (served h) a octets (openingOf v h) ∷ []; is = cells-new h octets a out e }
+          record { rest = cellUnder (served h) a (sentAs (a .verdict) octets) (openingOf v h) ∷ []; is = cells-new h octets a out e }
       go false e = same (cellsOf v h) (cellsOf v (ran octets a out ∷ h)) (cells-not h octets a out e)
 
   pub grown : (later h : List Event) → Grown (cellsOf v h) (cellsOf v (later ++ h))

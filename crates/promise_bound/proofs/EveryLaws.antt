@@ -10,9 +10,12 @@ use borrow.Author.Tests.{eqb-true, eq-eqb}
 use lib.ListN.{length, length-append}
 use Rattle.meaning.specs.declared.Answer.{Answer}
 use Rattle.meaning.specs.Plain.{if_then_else_, _=?_}
-use Rattle.meaning.specs.Numbers.{accepted}
+use Rattle.meaning.specs.Numbers.{letsIn}
+use Rattle.meaning.specs.Header.{headerAt}
+use Rattle.meaning.specs.Words.{Second}
+use Rattle.meaning.specs.Arrival.{sentAs}
 use Rattle.meaning_runs.specs.Run.{Event, opened, closed, ran, served}
-use Rattle.meaning_runs.specs.Leak.{Opening, openingWith, accepts, afterCell, openingOf}
+use Rattle.meaning_runs.specs.Leak.{Opening, newOpening, accepts, afterCell, openingOf}
 use Rattle.meaning_runs.specs.Seen.{cellUnder, cellsIn, cellsOf}
 use Rattle.theory_table.proofs.LeakLaws.{and-left, and-right}
 use Rattle.promise_bound.specs.Bound.{Stays, Lasts, OfOpening}
@@ -24,9 +27,10 @@ record Found (v : ℕ) (h : List Event) : Type 0 where
   m : ℕ
   F : ℕ
   C : ℕ
+  second : Second
   before : List Event
   during : List Event
-  is : h ≡ during ++ (opened v m F C 0 ∷ before)
+  is : h ≡ during ++ (opened v m F C second 0 ∷ before)
   lasts : Lasts v during
 
 module _ (v : ℕ) where
@@ -37,6 +41,7 @@ module _ (v : ℕ) where
         m = f .m;
         F = f .F;
         C = f .C;
+        second = f .second;
         before = f .before;
         during = e ∷ f .during;
         is = ap (λ x. e ∷ x) (f .is);
@@ -49,31 +54,32 @@ module _ (v : ℕ) where
       let x : _≡_ {A = ℕ} 0 1 = cc in
       omega arith
 
-  -- an accepted cell moves an opening on, and begins none
-  was-open : (t : ℕ) (b : Bool) (x : Option Opening) → IsOpen (if b then afterCell t x else x) → IsOpen x
-  was-open t true none o = o
-  was-open t true (some x) o = tt
-  was-open t false x o = o
+  -- a cell that is let in moves an opening on, and begins none
+  was-open : (t clp verdict : ℕ) (b : Bool) (x : Option Opening) → IsOpen (if b then afterCell t clp verdict x else x) → IsOpen x
+  was-open t clp verdict true none o = o
+  was-open t clp verdict true (some x) o = tt
+  was-open t clp verdict false x o = o
 
   found : (h : List Event) → IsOpen (openingOf v h) → Found v h
   unfolding openingOf
   found [] o = absurd o
-  found (opened u m F C number ∷ h) o = go (number =? 0 && u =? v) refl (λ y. found h y) o
+  found (opened u m F C x number ∷ h) o = go (number =? 0 && u =? v) refl (λ y. found h y) o
     where
       go : (b : Bool) → number =? 0 && u =? v ≡ b → (IsOpen (openingOf v h) → Found v h)
-          → IsOpen (if b then some (openingWith m F C none) else openingOf v h) → Found v (opened u m F C number ∷ h)
+          → IsOpen (if b then some (newOpening m F C x) else openingOf v h) → Found v (opened u m F C x number ∷ h)
       go true e f y =
           record {
             m = m;
             F = F;
             C = C;
+            second = x;
             before = h;
             during = [];
-            is = ap (λ (n : ℕ). opened u m F C n ∷ h) (eqb-true number 0 (and-left (number =? 0) (u =? v) e))
-                ∙ ap (λ (w : ℕ). opened w m F C 0 ∷ h) (eqb-true u v (and-right (number =? 0) (u =? v) e));
+            is = ap (λ (n : ℕ). opened u m F C x n ∷ h) (eqb-true number 0 (and-left (number =? 0) (u =? v) e))
+                ∙ ap (λ (w : ℕ). opened w m F C x 0 ∷ h) (eqb-true u v (and-right (number =? 0) (u =? v) e));
             lasts = tt;
           }
-      go false e f y = found-more (opened u m F C number) h (f y) (λ during l. (unless number u e, l))
+      go false e f y = found-more (opened u m F C x number) h (f y) (λ during l. (unless number u e, l))
   found (closed u number ∷ h) o = go (number =? 0 && u =? v) refl (λ y. found h y) o
     where
       go : (b : Bool) → number =? 0 && u =? v ≡ b → (IsOpen (openingOf v h) → Found v h)
@@ -81,7 +87,7 @@ module _ (v : ℕ) where
       go true e f y = absurd y
       go false e f y = found-more (closed u number) h (f y) (λ during l. (unless number u e, l))
   found (ran cell a out ∷ h) o =
-      found-more (ran cell a out) h (found h (was-open (served h) (accepts v a) (openingOf v h) o)) (λ during l. l)
+      found-more (ran cell a out) h (found h (was-open (served h) (headerAt cell 0 .clp) (a .verdict) (accepts v a) (openingOf v h) o)) (λ during l. l)
 
   -- ── so each cell is of one ──
   of-later : (k : ℕ) (e : Event) (h : List Event) → OfOpening v k h → OfOpening v k (e ∷ h)
@@ -92,6 +98,7 @@ module _ (v : ℕ) where
         F = f .F;
         C = f .C;
         opening = record {
+          second = o .second;
           before = o .before;
           during = o .during;
           later = e ∷ o .later;
@@ -110,6 +117,7 @@ module _ (v : ℕ) where
         F = f .F;
         C = f .C;
         opening = record {
+          second = f .second;
           before = f .before;
           during = ran cell a out ∷ f .during;
           later = [];
@@ -121,38 +129,38 @@ module _ (v : ℕ) where
           e,
           ap (λ l. length (cellsOf v l)) (f .is),
           ap length (g .is),
-          length-append (cellsOf v (opened v (f .m) (f .F) (f .C) 0 ∷ f .before)) (g .rest),
-          ap length (cells-open v (f .before) v (f .m) (f .F) (f .C) 0),
+          length-append (cellsOf v (opened v (f .m) (f .F) (f .C) (f .second) 0 ∷ f .before)) (g .rest),
+          ap length (cells-open v (f .before) v (f .m) (f .F) (f .C) (f .second) 0),
         );
         below = omega (
           arith,
           e,
           ap (λ l. length (cellsOf v (ran cell a out ∷ l))) (f .is),
           ap length (cells-new v h cell a out y),
-          length-append (cellsOf v h) (cellUnder (served h) a cell (openingOf v h) ∷ []),
+          length-append (cellsOf v h) (cellUnder (served h) a (sentAs (a .verdict) cell) (openingOf v h) ∷ []),
         );
       }
     where
-      g : Grown v (cellsOf v (opened v (f .m) (f .F) (f .C) 0 ∷ f .before))
-          (cellsOf v (f .during ++ (opened v (f .m) (f .F) (f .C) 0 ∷ f .before)))
-      g = grown v (f .during) (opened v (f .m) (f .F) (f .C) 0 ∷ f .before)
+      g : Grown v (cellsOf v (opened v (f .m) (f .F) (f .C) (f .second) 0 ∷ f .before))
+          (cellsOf v (f .during ++ (opened v (f .m) (f .F) (f .C) (f .second) 0 ∷ f .before)))
+      g = grown v (f .during) (opened v (f .m) (f .F) (f .C) (f .second) 0 ∷ f .before)
 
   nothing-yet : length (cellsOf v []) ≡ 0
   unfolding cellsOf cellsIn
   nothing-yet = refl
 
-  named : (h : List Event) (a : Answer) → accepts v a ≡ true → (a .verdict ≡ accepted → IsOpen (openingOf (a .vci) h))
+  named : (h : List Event) (a : Answer) → accepts v a ≡ true → (letsIn (a .verdict) ≡ true → IsOpen (openingOf (a .vci) h))
       → IsOpen (openingOf v h)
   unfolding accepts
   named h a e f =
-      subst (λ (u : ℕ). IsOpen (openingOf u h)) (eqb-true (a .vci) v (and-right (a .verdict =? accepted) (a .vci =? v) e))
-      (f (eqb-true (a .verdict) accepted (and-left (a .verdict =? accepted) (a .vci =? v) e)))
+      subst (λ (u : ℕ). IsOpen (openingOf u h)) (eqb-true (a .vci) v (and-right (letsIn (a .verdict)) (a .vci =? v) e))
+      (f (and-left (letsIn (a .verdict)) (a .vci =? v) e))
 
   pub every : (h : List Event) → AcceptedOpen h → (k : ℕ) → k < length (cellsOf v h) → OfOpening v k h
   every [] p k low = absurd (omega (arith, low, nothing-yet))
-  every (opened u m F C number ∷ h) p k low =
-      of-later k (opened u m F C number) h
-      (every h p k (omega (arith, low, ap length (cells-open v h u m F C number))))
+  every (opened u m F C x number ∷ h) p k low =
+      of-later k (opened u m F C x number) h
+      (every h p k (omega (arith, low, ap length (cells-open v h u m F C x number))))
   every (closed u number ∷ h) p k low =
       of-later k (closed u number) h (every h p k (omega (arith, low, ap length (cells-close v h u number))))
   every (ran cell a out ∷ h) p k low = go (accepts v a) refl (decLt k (length (cellsOf v h))) (λ y. every h (p .1) k y)
@@ -167,7 +175,7 @@ module _ (v : ℕ) where
             low,
             y,
             ap length (cells-new v h cell a out e),
-            length-append (cellsOf v h) (cellUnder (served h) a cell (openingOf v h) ∷ []),
+            length-append (cellsOf v h) (cellUnder (served h) a (sentAs (a .verdict) cell) (openingOf v h) ∷ []),
           ))
           e (found h (named h a e (p .0)))
       go false e (no y) f = absurd (omega (arith, low, y, ap length (cells-not v h cell a out e)))

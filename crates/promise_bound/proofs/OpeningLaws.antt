@@ -11,9 +11,12 @@ use borrow.Author.Tests.{eq-eqb, ne-eqb}
 use lib.ListN.{length}
 use Rattle.meaning.specs.declared.Answer.{Answer}
 use Rattle.meaning.specs.Plain.{_=?_}
+use Rattle.meaning.specs.Header.{headerAt}
+use Rattle.meaning.specs.Words.{Second}
+use Rattle.meaning.specs.Arrival.{sentAs}
 use Rattle.meaning_runs.specs.Run.{Event, opened, closed, ran, served}
-use Rattle.meaning_runs.specs.Leak.{Opening, openingWith, parts, dueTime, dueSlot, accepts, openingOf}
-use Rattle.meaning_runs.specs.Seen.{Cell, cellUnder, cellsOf}
+use Rattle.meaning_runs.specs.Leak.{Opening, openingWith, parts, dueTime, dueSlot, accepts, sustainedAfter, openingOf}
+use Rattle.meaning_runs.specs.Seen.{cellUnder, cellsOf}
 use Rattle.theory_table.specs.Stored.{earliestAfter}
 use Rattle.theory_table.proofs.LeakLaws.{due-time}
 use Rattle.promise_bound.specs.Bound.{Stays, Lasts}
@@ -32,12 +35,12 @@ module _ (v : ℕ) where
       go (yes e) = rw (ne-eqb number 0 (λ y. omega (arith, ne e, y)))
       go (no e) = rw (ne-eqb w v e) (fails (number =? 0))
 
-  still-open : (h : List Event) (w m F C number : ℕ) → Stays v w number
-      → openingOf v (opened w m F C number ∷ h) ≡ openingOf v h
+  pub still-open : (h : List Event) (w m F C : ℕ) (x : Second) (number : ℕ) → Stays v w number
+      → openingOf v (opened w m F C x number ∷ h) ≡ openingOf v h
   unfolding openingOf
-  still-open h w m F C number ne = rw (not-both number w ne)
+  still-open h w m F C x number ne = rw (not-both number w ne)
 
-  still-closed : (h : List Event) (w number : ℕ) → Stays v w number
+  pub still-closed : (h : List Event) (w number : ℕ) → Stays v w number
       → openingOf v (closed w number ∷ h) ≡ openingOf v h
   unfolding openingOf
   still-closed h w number ne = rw (not-both number w ne)
@@ -46,61 +49,68 @@ module _ (v : ℕ) where
   unfolding dueSlot
   slot-of o t = refl
 
-  pub record Under (m F C a : ℕ) (h : List Event) : Type 0 where
+  pub record Under (m F C : ℕ) (x : Second) (a : ℕ) (h : List Event) : Type 0 where
     pub previous : Option ℕ
-    pub is : openingOf v h ≡ some (openingWith m F C previous)
+    pub sustained : Option ℕ
+    pub is : openingOf v h ≡ some (openingWith m F C previous x sustained)
     pub spaced : Spaced F (2 ^ m) a (earliestAfter F previous) (cellsOf v h)
 
-  module _ (m F C : ℕ) where
-    under-start : (h : List Event) → Under m F C (length (cellsOf v h)) (opened v m F C 0 ∷ h)
+  module _ (m F C : ℕ) (x : Second) where
+    under-start : (h : List Event) → Under m F C x (length (cellsOf v h)) (opened v m F C x 0 ∷ h)
     unfolding openingOf
     under-start h =
         record {
           previous = none;
+          sustained = none;
           is = rw (eq-eqb v v refl);
-          spaced = rw (cells-open v h v m F C 0) (spaced-none F (2 ^ m) 0 (cellsOf v h));
+          spaced = rw (cells-open v h v m F C x 0) (spaced-none F (2 ^ m) 0 (cellsOf v h));
         }
 
     module _ (a : ℕ) where
-      under-same : (h k : List Event) → Under m F C a h → openingOf v k ≡ openingOf v h → cellsOf v k ≡ cellsOf v h
-          → Under m F C a k
+      under-same : (h k : List Event) → Under m F C x a h → openingOf v k ≡ openingOf v h → cellsOf v k ≡ cellsOf v h
+          → Under m F C x a k
       under-same h k u o c =
           record {
             previous = u .previous;
+            sustained = u .sustained;
             is = o ∙ u .is;
             spaced = subst (λ l. Spaced F (2 ^ m) a (earliestAfter F (u .previous)) l) (sym c) (u .spaced);
           }
 
-      under-new : (h : List Event) (octets : List ℕ) (b : Answer) (out : List ℕ) → accepts v b ≡ true → Under m F C a h
-          → Under m F C a (ran octets b out ∷ h)
+      under-new : (h : List Event) (octets : List ℕ) (b : Answer) (out : List ℕ) → accepts v b ≡ true → Under m F C x a h
+          → Under m F C x a (ran octets b out ∷ h)
       unfolding openingOf
       under-new h octets b out e u =
           record {
             previous = some (dueTime o (served h));
+            sustained = sustainedAfter (served h) (headerAt octets 0 .clp) (b .verdict) o;
             is = rw (e, u .is);
             spaced = subst (λ l. Spaced F (2 ^ m) a (dueTime o (served h) + F) l)
-                (sym (cells-new v h octets b out e ∙ ap (λ (x : Option Opening). cellsOf v h ++ (cellUnder (served h) b octets x ∷ [])) (u .is)))
+                (sym (cells-new v h octets b out e ∙ ap (λ (q : Option Opening). cellsOf v h ++ (cellUnder (served h) b sent q ∷ [])) (u .is)))
                 (spaced-more F (2 ^ m) a (earliestAfter F (u .previous)) (cellsOf v h)
-                (cellUnder (served h) b octets (some o)) (u .spaced) (omega (arith, due-time o (served h))) (slot-of o (served h)));
+                (cellUnder (served h) b sent (some o)) (u .spaced) (omega (arith, due-time o (served h))) (slot-of o (served h)));
           }
         where
           o : Opening
-          o = openingWith m F C (u .previous)
+          o = openingWith m F C (u .previous) x (u .sustained)
 
-      under-ran : (h : List Event) (octets : List ℕ) (b : Answer) (out : List ℕ) → Under m F C a h
-          → Under m F C a (ran octets b out ∷ h)
+          sent : List ℕ
+          sent = sentAs (b .verdict) octets
+
+      under-ran : (h : List Event) (octets : List ℕ) (b : Answer) (out : List ℕ) → Under m F C x a h
+          → Under m F C x a (ran octets b out ∷ h)
       unfolding openingOf
       under-ran h octets b out u = go (accepts v b) refl
         where
-          go : (c : Bool) → accepts v b ≡ c → Under m F C a (ran octets b out ∷ h)
+          go : (c : Bool) → accepts v b ≡ c → Under m F C x a (ran octets b out ∷ h)
           go true e = under-new h octets b out e u
           go false e = under-same h (ran octets b out ∷ h) u (rw e) (cells-not v h octets b out e)
 
-      pub under : (during h : List Event) → Lasts v during → Under m F C a h → Under m F C a (during ++ h)
+      pub under : (during h : List Event) → Lasts v during → Under m F C x a h → Under m F C x a (during ++ h)
       under [] h l u = u
-      under (opened w n G D number ∷ during) h l u =
-          under-same (during ++ h) (opened w n G D number ∷ (during ++ h)) (under during h (l .1) u)
-          (still-open (during ++ h) w n G D number (l .0)) (cells-open v (during ++ h) w n G D number)
+      under (opened w n G D y number ∷ during) h l u =
+          under-same (during ++ h) (opened w n G D y number ∷ (during ++ h)) (under during h (l .1) u)
+          (still-open (during ++ h) w n G D y number (l .0)) (cells-open v (during ++ h) w n G D y number)
       under (closed w number ∷ during) h l u =
           under-same (during ++ h) (closed w number ∷ (during ++ h)) (under during h (l .1) u)
           (still-closed (during ++ h) w number (l .0)) (cells-close v (during ++ h) w number)
@@ -108,6 +118,6 @@ module _ (v : ℕ) where
 
     -- of the whole of an opening
     pub of-opening : (during before : List Event) → Lasts v during
-        → Under m F C (length (cellsOf v before)) (during ++ (opened v m F C 0 ∷ before))
+        → Under m F C x (length (cellsOf v before)) (during ++ (opened v m F C x 0 ∷ before))
     of-opening during before l =
-        under (length (cellsOf v before)) during (opened v m F C 0 ∷ before) l (under-start before)
+        under (length (cellsOf v before)) during (opened v m F C x 0 ∷ before) l (under-start before)

@@ -10,9 +10,9 @@ use Rattle.meaning.specs.declared.Record.{Record}
 use Rattle.meaning.specs.Plain.{if_then_else_, _=?_}
 use Rattle.meaning.specs.State.{State}
 use Rattle.meaning.specs.Bucket.{bucketOf, obeysRules}
-use Rattle.meaning.specs.Words.{vcAt, writeVc, openedVc}
+use Rattle.meaning.specs.Words.{Second, vcAt, writeVc, secondObeys, openedVc}
 use Rattle.meaning.specs.Calls.{calledOf, sharedRefusal, setup, openCall}
-use Rattle.meaning_runs.specs.Run.{Call, onOpen, onClose, onSlot, Run, runOf, call, calls, freshRun}
+use Rattle.meaning_runs.specs.Run.{Call, onOpenWith, onClose, onSlot, Run, runOf, call, calls, freshRun}
 use Rattle.theory_table.proofs.LeakLaws.{rules-are}
 use Rattle.theory_invariant.proofs.FreshLaws.{setup-fresh}
 use Rattle.theory_invariant.proofs.RunLaws.{Kept, calls-kept, run-kept}
@@ -24,29 +24,31 @@ use Rattle.promise_bound.proofs.BoundLaws.{OpensObey, bounded}
 use Rattle.promise_bound.proofs.LineLaws.{whole-line}
 
 -- an open that answers 0
-opens-by : (k : ℕ) (b c : Bool) (words after : List ℕ)
-    → (if not (k =? 0) then calledOf k words else if b then calledOf 5 words else if not c then calledOf 6 words else calledOf 0 after) .number ≡ 0
+opens-by : (k : ℕ) (b c d : Bool) (words after : List ℕ)
+    → (if not (k =? 0) then calledOf k words else if b then calledOf 5 words else if not c then calledOf 6 words
+    else if not d then calledOf 11 words else calledOf 0 after) .number ≡ 0
     → c ≡ true
-opens-by k b c words after = go (k =? 0) refl b c
+opens-by k b c d words after = go (k =? 0) refl b c
   where
     go : (a : Bool) → k =? 0 ≡ a → (b c : Bool)
-        → (if not a then calledOf k words else if b then calledOf 5 words else if not c then calledOf 6 words else calledOf 0 after) .number ≡ 0
+        → (if not a then calledOf k words else if b then calledOf 5 words else if not c then calledOf 6 words
+        else if not d then calledOf 11 words else calledOf 0 after) .number ≡ 0
         → c ≡ true
     go false e b c n = absurd (eqb-false k 0 e n)
     go true e true c n = absurd (omega (arith, n))
     go true e false false n = absurd (omega (arith, n))
     go true e false true n = refl
 
-opens : (r : Record) (words : List ℕ) (v m F C : ℕ) → openCall r words v m F C .number ≡ 0 → 2 ^ m ≤ F
+opens : (r : Record) (words : List ℕ) (v m F C : ℕ) (x : Second) → openCall r words v m F C x .number ≡ 0 → 2 ^ m ≤ F
 unfolding openCall
-opens r words v m F C e =
+opens r words v m F C x e =
     rules-are (r .n) (bucketOf m F C 0)
-    (opens-by (sharedRefusal r words v) (vcAt words v .opened =? 1) (obeysRules (r .n) (bucketOf m F C 0)) words
-    (writeVc words v (openedVc (r .t) (bucketOf m F C 0))) e) .F-low
+    (opens-by (sharedRefusal r words v) (vcAt words v .opened =? 1) (obeysRules (r .n) (bucketOf m F C 0))
+    (secondObeys (bucketOf (x .m) (x .F) (x .C) 0) (x .tag)) words (writeVc words v (openedVc (r .t) (bucketOf m F C 0) x)) e) .F-low
 
 call-obey : (r : Run) (c : Call) → OpensObey (r .events) → OpensObey (call r c .events)
 unfolding call
-call-obey r (onOpen v m F C) o = (opens (r .state .ctl) (r .state .words) v m F C, o)
+call-obey r (onOpenWith v m F C x) o = (opens (r .state .ctl) (r .state .words) v m F C x, o)
 call-obey r (onClose v) o = o
 call-obey r (onSlot cell) o = o
 

@@ -9,14 +9,14 @@
 --   every-cell  each accepted cell of a VC is one of such an opening, the present one or one long closed
 -- Each / is rounded down.
 --
---   OneOpening v m F C h  == an opening of the VC v in h: the open that answered 0, all that came before it, what came
---                            while it lasted, or any first part of that, and all that came later
+--   OneOpening v m F C h  == an opening of the VC v in h: the open that answered 0, with a second bucket or none, all that
+--                            came before it, what came while it lasted, or any first part of that, and all that came later
 --   first o, past o       == its accepted cells are those of the VC from the number `first` on, below `past`
 --   gone o                == their departures, as far as they have left by the end of h
 --   leaving x w ds        == how many of the departures ds are in the slots x to x + w - 1
 -- By demand 3 the k-th departure of a VC is its k-th accepted cell. `later` is part of h: a window that reaches beyond the
 -- close, or into a later opening, still has all cells of this opening. Which cells are accepted, when they are due and what
--- leaves is `runs/Seen`'s to say: a kind of cell or of connection that it counts is counted here, with no word more.
+-- leaves is `runs/Seen`'s to say: a kind of cell or of connection that it counts, such as a tagged cell, is counted here.
 use Prim.Native.Nat.{ℕ, _+_, _-_, _*_, _/_, _^_, _≤_, _<_}
 use mathlib.Core.Path.{_≡_}
 use mathlib.Core.Bool.{Bool, _&&_}
@@ -24,6 +24,7 @@ use mathlib.Core.List.{List, [], _∷_, _++_}
 use mathlib.Core.Logic.{_≢_}
 use lib.ListN.{length, take, drop}
 use Rattle.meaning.specs.Plain.{if_then_else_, _<?_, _≤?_}
+use Rattle.meaning.specs.Words.{Second}
 use Rattle.meaning.specs.Calls.{setup}
 use Rattle.meaning_runs.specs.Run.{Call, Event, opened, closed, ran, runOf, calls}
 use Rattle.meaning_runs.specs.Seen.{Departure, departuresIn, cellsOf, departuresOf, cellAt}
@@ -34,22 +35,23 @@ Stays v vci number = vci ≡ v → number ≢ 0
 
 abbrev pub Lasts : ℕ → List Event → Type 0
 Lasts v [] = Unit {0}
-Lasts v (opened vci m F C number ∷ h) = Stays v vci number × Lasts v h
+Lasts v (opened vci m F C x number ∷ h) = Stays v vci number × Lasts v h
 Lasts v (closed vci number ∷ h) = Stays v vci number × Lasts v h
 Lasts v (ran cell a out ∷ h) = Lasts v h
 
 pub record OneOpening (v m F C : ℕ) (h : List Event) : Type 0 where
+  pub second : Second
   pub before : List Event
   pub during : List Event
   pub later : List Event
-  pub is : h ≡ later ++ (during ++ (opened v m F C 0 ∷ before))
+  pub is : h ≡ later ++ (during ++ (opened v m F C second 0 ∷ before))
   pub lasts : Lasts v during
 
 abbrev pub first : {v m F C : ℕ} {h : List Event} → OneOpening v m F C h → ℕ
 first {v} o = length (cellsOf v (o .before))
 
 abbrev pub past : {v m F C : ℕ} {h : List Event} → OneOpening v m F C h → ℕ
-past {v} {m} {F} {C} o = length (cellsOf v (o .during ++ (opened v m F C 0 ∷ o .before)))
+past {v} {m} {F} {C} o = length (cellsOf v (o .during ++ (opened v m F C (o .second) 0 ∷ o .before)))
 
 abbrev pub gone : {v m F C : ℕ} {h : List Event} → OneOpening v m F C h → List Departure
 gone {v} {h = h} o = drop (first o) (take (past o) (departuresOf v h))

@@ -2,19 +2,19 @@
 -- after enough slots the cell should have left. One that discards everything meets the clauses on events.
 use Prim.Native.Nat.{ℕ, zero, suc, _+_, _-_, _≤_, _<_}
 use mathlib.Core.Path.{_≡_, refl, sym, ap, _∙_, subst}
-use mathlib.Core.Logic.{_≢_}
 use mathlib.Core.Bool.{Bool, true, false}
 use mathlib.Core.List.{List, [], _∷_, _++_, append-assoc, append-nil}
 use native.Mathlib.Omega.{arith}
 use native.Mathlib.Nat.{zero-add}
-use borrow.Author.Tests.{eq-eqb, ne-eqb}
+use borrow.Author.Tests.{eq-eqb}
 use lib.Dec.{lit<}
 use lib.ListN.{length, getD, replicate, length-append, List·getD-append}
-use Rattle.meaning.specs.Plain.{if_then_else_, _=?_}
-use Rattle.meaning.specs.Numbers.{rangesHold, accepted, empty}
+use Rattle.meaning.specs.Plain.{if_then_else_}
+use Rattle.meaning.specs.Numbers.{rangesHold, empty, letsIn}
 use Rattle.meaning.specs.State.{State}
+use Rattle.meaning.specs.Arrival.{sentAs}
 use Rattle.theory_invariant.proofs.FreshLaws.{ranges-are}
-use Rattle.meaning_runs.specs.Run.{Call, onOpen, onClose, onSlot, Event, Run, letIn, call, freshRun, served}
+use Rattle.meaning_runs.specs.Run.{Call, onOpenWith, onOpen, onClose, onSlot, Event, Run, letIn, call, freshRun, served}
 use Rattle.meaning_runs.specs.Leak.{openingOf}
 use Rattle.meaning_runs.specs.Seen.{Cell, cellUnder, noCell, ofVc, cellsIn, departuresIn, cellsOf, departuresOf, cellAt}
 use Rattle.meaning_runs.specs.Computed.{byComputation}
@@ -47,22 +47,24 @@ module _ (f : Policer) where
       → departuresIn (r .events) ≡ [] → (cs : List Call) → departuresIn (callsBy f r cs .events) ≡ []
   unfolding callsBy callBy call departuresIn
   none-departs r never e [] = e
-  none-departs r never e (onOpen vci m F C ∷ cs) = none-departs (callBy f r (onOpen vci m F C)) (λ ds. never (onOpen vci m F C ∷ ds)) e cs
+  none-departs r never e (onOpenWith vci m F C x ∷ cs) =
+      none-departs (callBy f r (onOpenWith vci m F C x)) (λ ds. never (onOpenWith vci m F C x ∷ ds)) e cs
   none-departs r never e (onClose vci ∷ cs) = none-departs (callBy f r (onClose vci)) (λ ds. never (onClose vci ∷ ds)) e cs
   none-departs r never e (onSlot cell ∷ cs) =
       none-departs (callBy f r (onSlot cell)) (λ ds. never (onSlot cell ∷ ds))
       (rw (eq-eqb (f (r .state) cell .served .answer .space) empty (never [] cell)) e) cs
 
   -- ── nothing is accepted ──
-  none-accepted : (r : Run) → ((cs : List Call) (cell : List ℕ) → f (callsBy f r cs .state) cell .served .answer .verdict ≢ accepted)
+  none-accepted : (r : Run) → ((cs : List Call) (cell : List ℕ) → letsIn (f (callsBy f r cs .state) cell .served .answer .verdict) ≡ false)
       → cellsIn (r .events) ≡ [] → (cs : List Call) → cellsIn (callsBy f r cs .events) ≡ []
   unfolding callsBy callBy call cellsIn
   none-accepted r never e [] = e
-  none-accepted r never e (onOpen vci m F C ∷ cs) = none-accepted (callBy f r (onOpen vci m F C)) (λ ds. never (onOpen vci m F C ∷ ds)) e cs
+  none-accepted r never e (onOpenWith vci m F C x ∷ cs) =
+      none-accepted (callBy f r (onOpenWith vci m F C x)) (λ ds. never (onOpenWith vci m F C x ∷ ds)) e cs
   none-accepted r never e (onClose vci ∷ cs) = none-accepted (callBy f r (onClose vci)) (λ ds. never (onClose vci ∷ ds)) e cs
   none-accepted r never e (onSlot cell ∷ cs) =
       none-accepted (callBy f r (onSlot cell)) (λ ds. never (onSlot cell ∷ ds))
-      (rw (ne-eqb (f (r .state) cell .served .answer .verdict) accepted (never [] cell)) e) cs
+      (rw (never [] cell) e) cs
 
   -- ── empty slots: the clock goes on, and what was accepted stays ──
   goes-on : (r : Run) → ((cs : List Call) → f (callsBy f r cs .state) [] .served .answer .number ≡ 0) → (m : ℕ)
@@ -83,7 +85,7 @@ module _ (f : Policer) where
   cells-stay r zero = ([], sym (append-nil (cellsIn (r .events))))
   cells-stay r (suc m) =
       let a = f (r .state) [] .served .answer in
-      let one = grown (r .events) (cellUnder (served (r .events)) a (letIn (r .state) [] .cell) (openingOf (a .vci) (r .events))) (a .verdict =? accepted) in
+      let one = grown (r .events) (cellUnder (served (r .events)) a (sentAs (a .verdict) (letIn (r .state) [] .cell)) (openingOf (a .vci) (r .events))) (letsIn (a .verdict)) in
       let rest = cells-stay (callBy f r (onSlot [])) m in
       (one .0 ++ rest .0, rest .1 ∙ ap (λ (l : List Cell). l ++ rest .0) (one .1) ∙ append-assoc (cellsIn (r .events)) (one .0) (rest .0))
 
@@ -210,4 +212,5 @@ discards-meets raw f refuses silent N z e cs =
     empty-handed v = no-cell v h (none-accepted f (freshRun N z raw) (λ ds cell. refuses N z e ds cell) refl cs)
 
 pub discarder-meets : (raw : Bool) → Meets3 raw discarder
-discarder-meets raw = discards-meets raw discarder (λ N z e cs cell y. omega (arith, y)) (λ N z e cs cell. refl)
+unfolding letsIn
+discarder-meets raw = discards-meets raw discarder (λ N z e cs cell. refl) (λ N z e cs cell. refl)

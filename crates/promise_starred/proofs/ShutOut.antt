@@ -8,7 +8,7 @@ use mathlib.Core.List.{List, [], _∷_}
 use native.Mathlib.Omega.{arith}
 use lib.ListN.{getD, replicate}
 use Rattle.meaning.specs.declared.Answer.{Answer}
-use Rattle.meaning.specs.Numbers.{rangesHold, slotNumbers, empty, sPlace}
+use Rattle.meaning.specs.Numbers.{rangesHold, slotNumbers, empty, letsIn, sPlace}
 use Rattle.meaning.specs.State.{State}
 use Rattle.meaning.specs.Words.{vcAt}
 use Rattle.meaning.specs.Work.{Work, answerOf}
@@ -109,4 +109,8 @@ module _ (raw : Bool) (f : Policer) (meets : Meets raw f) where
       omega (arith, out, bad (opened raw) (opened-reached raw) clean)
 
   pub discards-not-all : DiscardsAll raw f → ⊥
-  discards-not-all bad = bad (opened raw) (opened-reached raw) clean (ap (λ (a : Answer). a .verdict) first)
+  unfolding letsIn
+  discards-not-all bad =
+      absurd (let y : _≡_ {A = Bool} true false =
+      sym (ap (λ (a : Answer). letsIn (a .verdict)) first) ∙ bad (opened raw) (opened-reached raw) clean in
+      let x : _≡_ {A = ℕ} 0 1 = cc in omega arith)

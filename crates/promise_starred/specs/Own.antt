@@ -9,16 +9,15 @@
 --   discarder        == a policer that finds every cell excess
 use Prim.Native.Nat.{ℕ, _+_, _-_, _≤_, _<_}
 use mathlib.Core.Path.{_≡_}
-use mathlib.Core.Logic.{_≢_}
-use mathlib.Core.Bool.{Bool, true}
+use mathlib.Core.Bool.{Bool, true, false}
 use mathlib.Core.List.{List, [], _∷_}
 use lib.ListN.{length}
 use Rattle.meaning.specs.Plain.{if_then_else_, _=?_, _andThen_}
-use Rattle.meaning.specs.Numbers.{rangesHold, nothing, accepted, excess, empty}
+use Rattle.meaning.specs.Numbers.{rangesHold, nothing, accepted, excess, empty, letsIn}
 use Rattle.meaning.specs.State.{stateOf}
 use Rattle.meaning.specs.Work.{Work, workOf, answerOf, bareAnswer}
 use Rattle.meaning.specs.Slot.{step1, step2, step3, step4, finish}
-use Rattle.meaning_runs.specs.Run.{Call, onOpen, onClose, onSlot, Event, ran, Run, runOf, shown, letIn, call, freshRun, served}
+use Rattle.meaning_runs.specs.Run.{Call, onOpenWith, onClose, onSlot, Event, ran, Run, runOf, shown, letIn, call, freshRun, served}
 use Rattle.meaning_runs.specs.Seen.{cellsOf, departuresOf, cellAt, departureAt}
 use Rattle.promise_starred.specs.ShutOut.{Given, Policer}
 
@@ -27,7 +26,7 @@ abbrev pub workBy : Given → Work
 workBy g = workOf (stateOf (g .served .ctl) (g .cells) (g .links) (g .calendar) (g .words)) (g .served .answer)
 
 unfoldable pub callBy : Policer → Run → Call → Run
-callBy f r (onOpen vci m F C) = call r (onOpen vci m F C)
+callBy f r (onOpenWith vci m F C x) = call r (onOpenWith vci m F C x)
 callBy f r (onClose vci) = call r (onClose vci)
 callBy f r (onSlot cell) =
     let w = workBy (f (r .state) cell) in
@@ -66,7 +65,7 @@ abbrev pub SendsNothing : Bool → Policer → Type 0
 SendsNothing raw f = OfOwnRuns raw f (λ N r. (cell : List ℕ) → f (r .state) cell .served .answer .space ≡ empty)
 
 abbrev pub AcceptsNothing : Bool → Policer → Type 0
-AcceptsNothing raw f = OfOwnRuns raw f (λ N r. (cell : List ℕ) → f (r .state) cell .served .answer .verdict ≢ accepted)
+AcceptsNothing raw f = OfOwnRuns raw f (λ N r. (cell : List ℕ) → letsIn (f (r .state) cell .served .answer .verdict) ≡ false)
 
 -- it goes on: a slot that is lent no cell is served
 abbrev pub ServesOn : Bool → Policer → Type 0

@@ -3,16 +3,17 @@
 use Prim.Native.Nat.{ℕ, zero, suc, _*_, _/_, _%_}
 use mathlib.Core.Bool.{false}
 use mathlib.Core.List.{List, [], _∷_, _++_}
-use mathlib.Core.Option.{Option, none, some}
+use mathlib.Core.Option.{Option, some}
 use lib.ListN.{replicate}
 use Rattle.meaning.specs.declared.Answer.{Answer}
-use Rattle.meaning.specs.Plain.{if_then_else_, _=?_}
-use Rattle.meaning.specs.Numbers.{octets, perEntry, wordsPerVc, accepted}
+use Rattle.meaning.specs.Plain.{if_then_else_}
+use Rattle.meaning.specs.Numbers.{octets, perEntry, wordsPerVc, letsIn}
 use Rattle.meaning.specs.State.{State, withWords}
+use Rattle.meaning.specs.Words.{noSecond}
 use Rattle.meaning.specs.Calls.{SetUp, setup, openCall, closeCall}
 use Rattle.meaning.specs.Work.{bareAnswer}
 use Rattle.meaning.specs.Slot.{slot}
-use Rattle.meaning_runs.specs.Leak.{Opening, openingWith, afterCell}
+use Rattle.meaning_runs.specs.Leak.{Opening, newOpening, afterCell}
 use Rattle.meaning_runs.specs.Judged.{judgedUnder}
 
 -- what a call says: the number of a setup, open or close, or all six numbers of an answer
@@ -49,7 +50,7 @@ waited (suc k) s rest =
 abbrev pub saysFrom : State → List Step → List Said
 saysFrom s [] = []
 saysFrom s (opens vci m F C k ∷ steps) =
-    let c = openCall (s .ctl) (s .words) vci m F C in
+    let c = openCall (s .ctl) (s .words) vci m F C noSecond in
     number (c .number) ∷ saysFrom (withWords s (c .words)) steps
 saysFrom s (closes vci k ∷ steps) =
     let c = closeCall (s .ctl) (s .words) vci in
@@ -74,12 +75,12 @@ expectsOf (pause k ∷ steps) = replicate k (answer (bareAnswer 0)) ++ expectsOf
 pub data Arrival : Type 0 where
   arrives : ℕ → ℕ → ℕ → Arrival
 
--- what the leak rule says of cells of VC 1; each accepted one moves the rule on
+-- what the leak rule says of cells of VC 1, with CLP 0; each accepted one moves the rule on
 abbrev pub leakSays : Option Opening → List Arrival → List Said
 leakSays o [] = []
 leakSays o (arrives t verdict D ∷ more) =
-    let j = judgedUnder t 1 o in
-    judged (j .verdict) (j .D) ∷ leakSays (if j .verdict =? accepted then afterCell t o else o) more
+    let j = judgedUnder t 1 0 o in
+    judged (j .verdict) (j .D) ∷ leakSays (if letsIn (j .verdict) then afterCell t 0 (j .verdict) o else o) more
 
 abbrev pub leakExpects : List Arrival → List Said
 leakExpects [] = []
@@ -99,7 +100,7 @@ abbrev pub says : Row → List Said
 says (run N z steps) = number (ready N z .number) ∷ saysFrom (ready N z .state) steps
 says (leak N m F C cells) =
     let s = ready N 2 .state in
-    number (openCall (s .ctl) (s .words) 1 m F C .number) ∷ leakSays (some (openingWith m F C none)) cells
+    number (openCall (s .ctl) (s .words) 1 m F C noSecond .number) ∷ leakSays (some (newOpening m F C noSecond)) cells
 
 abbrev pub expects : Row → List Said
 expects (run N z steps) = number 0 ∷ expectsOf steps

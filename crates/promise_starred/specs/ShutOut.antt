@@ -4,10 +4,10 @@
 use Prim.Native.Nat.{ℕ, _-_}
 use mathlib.Core.Path.{_≡_}
 use mathlib.Core.Logic.{_≢_}
-use mathlib.Core.Bool.{Bool, true}
+use mathlib.Core.Bool.{Bool, true, false}
 use mathlib.Core.List.{List}
 use Rattle.meaning.specs.declared.Served.{Served}
-use Rattle.meaning.specs.Numbers.{rangesHold, accepted, empty, slotNumbers}
+use Rattle.meaning.specs.Numbers.{rangesHold, empty, letsIn, slotNumbers}
 use Rattle.meaning.specs.State.{State, stateOf}
 use Rattle.meaning.specs.Work.{workOf}
 use Rattle.meaning.specs.Words.{vcAt}
@@ -70,4 +70,4 @@ NeverSends raw f = (s : State) → Reached raw s → (cell : List ℕ) → f s c
 
 -- "discarding everything would meet 3 alone, so 3 is stated over 2's rules"
 abbrev pub DiscardsAll : Bool → Policer → Type 0
-DiscardsAll raw f = (s : State) → Reached raw s → (cell : List ℕ) → f s cell .served .answer .verdict ≢ accepted
+DiscardsAll raw f = (s : State) → Reached raw s → (cell : List ℕ) → letsIn (f s cell .served .answer .verdict) ≡ false

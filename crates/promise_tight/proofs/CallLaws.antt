@@ -13,15 +13,17 @@ use lib.ListN.{length}
 use Rattle.base_hec.specs.Modes.{Arriving, correction, passes, arriving}
 use Rattle.meaning.specs.declared.Answer.{Answer}
 use Rattle.meaning.specs.Plain.{_=?_}
-use Rattle.meaning.specs.Numbers.{accepted, nothing}
+use Rattle.meaning.specs.Numbers.{accepted, nothing, letsIn}
 use Rattle.meaning.specs.State.{State}
-use Rattle.meaning.specs.Bucket.{bucketOf, obeysRules}
-use Rattle.meaning.specs.Words.{vcAt}
+use Rattle.meaning.specs.Bucket.{bucketOf, obeysRules, obeysSecond, isNone}
+use Rattle.meaning.specs.Header.{headerAt}
+use Rattle.meaning.specs.Words.{noSecond, secondObeys, vcAt}
+use Rattle.meaning.specs.Arrival.{sentAs}
 use Rattle.meaning.specs.Calls.{openCall}
 use Rattle.meaning.specs.Slot.{slot}
 use Rattle.meaning.proofs.CheckedLaws.{arriving-none}
 use Rattle.meaning_runs.specs.Run.{onOpen, onSlot, Event, opened, Run, letIn, call, served}
-use Rattle.meaning_runs.specs.Leak.{Opening, openingWith, dueTime, dueSlot, leakAccepts, accepts, openingOf}
+use Rattle.meaning_runs.specs.Leak.{Opening, openingWith, dueTime, dueSlot, leakAccepts, accepts, sustainedAfter, openingOf}
 use Rattle.meaning_runs.specs.Seen.{Cell, cellUnder, cellsOf}
 use Rattle.meaning_runs.specs.Judged.{Judged, judgedOf, judgedUnder, judgedBy, judgedAs}
 use Rattle.meaning_runs.specs.Computed.{byComputation}
@@ -30,6 +32,8 @@ use Rattle.theory_invariant.proofs.CallLaws.{shared-in}
 use Rattle.theory_invariant.proofs.CheckLaws.{slot-served}
 use Rattle.theory_invariant.proofs.RunLaws.{Kept}
 use Rattle.promises.specs.Reached.{cleanFor}
+use Rattle.promises.specs.Sustained.{byPeak}
+use Rattle.promises.proofs.SustainedLaws.{peak-alone, none-above}
 use Rattle.promise_bound.proofs.CellLaws.{cells-new, cells-not}
 
 -- ── a clean cell of the VC v, which both kinds of policer let through ──
@@ -37,7 +41,10 @@ pub record Clean (z v : ℕ) : Type 0 where
   pub lent : length (cleanFor v) =? 0 || length (cleanFor v) =? 53 ≡ true
   pub lets-in : (raw mode : ℕ)
       → (arriving raw mode (cleanFor v) .cell ≡ cleanFor v) × (arriving raw mode (cleanFor v) .dropped ≡ false)
-  pub judged-as : (t : ℕ) (openings : ℕ → Option Opening) → judgedBy z t openings (cleanFor v) ≡ judgedUnder t v (openings v)
+  pub judged-as : (t : ℕ) (openings : ℕ → Option Opening) → judgedBy z t openings (cleanFor v)
+      ≡ judgedUnder t v (headerAt (cleanFor v) 0 .clp) (openings v)
+  pub low : 1 ≤ v
+  pub high : v < z
 
 either : (b : Bool) (mode : ℕ) (cell : List ℕ)
     → (cond b (passes cell mode) (passes cell correction) .cell ≡ cell)
@@ -52,6 +59,8 @@ clean-one z low =
       lent = refl;
       lets-in = λ raw mode. either (eqb raw 0) mode (cleanFor 1);
       judged-as = λ t openings. rw (lt-ltb 1 z (omega (arith, low)));
+      low = omega arith;
+      high = omega (arith, low);
     }
 
 pub clean-two : (z : ℕ) → 3 ≤ z → Clean z 2
@@ -61,13 +70,16 @@ clean-two z low =
       lent = refl;
       lets-in = λ raw mode. either (eqb raw 0) mode (cleanFor 2);
       judged-as = λ t openings. rw (lt-ltb 2 z (omega (arith, low)));
+      low = omega arith;
+      high = omega (arith, low);
     }
 
 -- ── what a call leaves ──
--- a cell of the VC v was accepted under the opening o
+-- a cell of the VC v, which has no second bucket, was accepted under the opening o; what is noted of that bucket is of no matter
 pub record Took (v : ℕ) (o : Opening) (h k : List Event) : Type 0 where
   pub slots : served k ≡ suc (served h)
-  pub own : openingOf v k ≡ some (openingWith (o .m) (o .F) (o .C) (some (dueTime o (served h))))
+  pub rate : Option ℕ
+  pub own : openingOf v k ≡ some (openingWith (o .m) (o .F) (o .C) (some (dueTime o (served h))) (o .second) rate)
   pub other : (u : ℕ) → u ≢ v → (openingOf u k ≡ openingOf u h) × (cellsOf u k ≡ cellsOf u h)
   pub cell : Cell
   pub due : cell .due ≡ dueSlot o (served h)
@@ -94,15 +106,19 @@ module _ (N z : ℕ) (r : Run) (kept : Kept N z r) where
   fails false = refl
 
   -- ── a slot with a cell ──
-  module _ (v : ℕ) (c : Clean z v) (o : Opening) (open-is : openingOf v h ≡ some o) (takes : leakAccepts o (served h) ≡ true) where
+  module _ (v : ℕ) (c : Clean z v) (o : Opening) (open-is : openingOf v h ≡ some o) (takes : leakAccepts o (served h) ≡ true)
+      (no-second : o .second ≡ noSecond) where
     abbrev a : Answer
     a = slot s (cleanFor v) .answer
 
-    says : judgedOf (a .verdict) (a .vci) (a .d) ≡ judgedUnder (served h) v (some o)
+    says : judgedOf (a .verdict) (a .vci) (a .d) ≡ byPeak (served h) v o
     says =
         slot-served N z h s (kept .inv) (cleanFor v) (c .lent) .says
         ∙ rw (c .lets-in (s .ctl .raw) (s .ctl .mode) .1, c .lets-in (s .ctl .raw) (s .ctl .mode) .0)
-        (c .judged-as (served h) (λ u. openingOf u h) ∙ ap (judgedUnder (served h) v) open-is)
+        (c .judged-as (served h) (λ u. openingOf u h)
+        ∙ ap (judgedUnder (served h) v (headerAt (cleanFor v) 0 .clp)) open-is
+        ∙ peak-alone (served h) v (headerAt (cleanFor v) 0 .clp) o
+        (none-above N z h s (kept .inv) v o (c .low) (c .high) open-is no-second))
 
     verdict-is : a .verdict ≡ accepted
     verdict-is = ap (λ (j : Judged). j .verdict) says ∙ rw takes
@@ -111,24 +127,26 @@ module _ (N z : ℕ) (r : Run) (kept : Kept N z r) where
     vci-is = ap (λ (j : Judged). j .vci) says ∙ rw takes
 
     accepts-own : accepts v a ≡ true
-    unfolding accepts
+    unfolding accepts letsIn
     accepts-own = rw (verdict-is, eq-eqb (a .vci) v vci-is)
 
     accepts-other : (u : ℕ) → u ≢ v → accepts u a ≡ false
     unfolding accepts
-    accepts-other u ne = rw (ne-eqb (a .vci) u (λ e. ne (omega (arith, e, vci-is)))) (fails (a .verdict =? accepted))
+    accepts-other u ne = rw (ne-eqb (a .vci) u (λ e. ne (omega (arith, e, vci-is)))) (fails (letsIn (a .verdict)))
 
     pub took : Took v o (r .events) (call r (onSlot (cleanFor v)) .events)
     unfolding call openingOf
     took =
         record {
           slots = serves (cleanFor v) (c .lent);
+          rate = sustainedAfter (served h) (headerAt (letIn s (cleanFor v) .cell) 0 .clp) (a .verdict) o;
           own = rw (accepts-own, open-is);
           other = λ u ne. (rw (accepts-other u ne), cells-not u h _ a _ (accepts-other u ne));
-          cell = cellUnder (served h) a (letIn s (cleanFor v) .cell) (some o);
+          cell = cellUnder (served h) a (sentAs (a .verdict) (letIn s (cleanFor v) .cell)) (some o);
           due = refl;
           cells = cells-new v h _ a _ accepts-own
-              ∙ ap (λ (x : Option Opening). cellsOf v h ++ (cellUnder (served h) a (letIn s (cleanFor v) .cell) x ∷ [])) open-is;
+              ∙ ap (λ (x : Option Opening). cellsOf v h ++ (cellUnder (served h) a (sentAs (a .verdict) (letIn s (cleanFor v) .cell)) x ∷ []))
+              open-is;
         }
 
   -- ── an empty slot ──
@@ -145,7 +163,7 @@ module _ (N z : ℕ) (r : Run) (kept : Kept N z r) where
       (slot-served N z h s (kept .inv) [] refl .says ∙ ap (judgedAs z h) none-let ∙ judged-none)
 
   none-accepted : (u : ℕ) → accepts u (slot s [] .answer) ≡ false
-  unfolding accepts
+  unfolding accepts letsIn
   none-accepted u = rw quiet
 
   pub idle : Idle (r .events) (call r (onSlot []) .events)
@@ -159,8 +177,8 @@ module _ (N z : ℕ) (r : Run) (kept : Kept N z r) where
     closed-word none q e k = k
     closed-word (some o) q e k = absurd (let y : _≡_ {A = ℕ} 0 1 = cc in omega arith)
 
-    opens : openCall (s .ctl) (s .words) u m F C .number ≡ 0
-    unfolding openCall
+    opens : openCall (s .ctl) (s .words) u m F C noSecond .number ≡ 0
+    unfolding openCall secondObeys isNone obeysSecond
     opens =
         rw (
           shared-in N z h s (kept .inv) u low high,
@@ -168,6 +186,6 @@ module _ (N z : ℕ) (r : Run) (kept : Kept N z r) where
           ap (λ (n : ℕ). obeysRules n (bucketOf m F C 0)) (kept .inv .stage .n-is) ∙ rules,
         )
 
-    pub opened-is : call r (onOpen u m F C) .events ≡ opened u m F C 0 ∷ r .events
+    pub opened-is : call r (onOpen u m F C) .events ≡ opened u m F C noSecond 0 ∷ r .events
     unfolding call
-    opened-is = ap (λ (n : ℕ). opened u m F C n ∷ h) opens
+    opened-is = ap (λ (n : ℕ). opened u m F C noSecond n ∷ h) opens

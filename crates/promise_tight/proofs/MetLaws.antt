@@ -6,6 +6,7 @@ use mathlib.Core.List.{List, [], _∷_, map}
 use native.Mathlib.Omega.{arith}
 use lib.ListN.{take, drop}
 use Rattle.meaning.specs.Numbers.{rangesHold}
+use Rattle.meaning.specs.Words.{noSecond}
 use Rattle.meaning_runs.specs.Run.{Call, Event, calls, freshRun}
 use Rattle.meaning_runs.specs.Seen.{departuresOf}
 use Rattle.meaning_runs.specs.Computed.{byComputation}
@@ -22,9 +23,9 @@ atFive raw = calls (freshRun 5 7 raw) burstAtFive .events
 opening-at-two : (raw : Bool) → OneOpening 1 0 2 3 (atTwo raw)
 unfolding byComputation
 opening-at-two true =
-    record { before = []; during = take 6 (atTwo true); later = []; is = refl; lasts = (λ e. omega (arith, e), tt) }
+    record { second = noSecond; before = []; during = take 6 (atTwo true); later = []; is = refl; lasts = (λ e. omega (arith, e), tt) }
 opening-at-two false =
-    record { before = []; during = take 6 (atTwo false); later = []; is = refl; lasts = (λ e. omega (arith, e), tt) }
+    record { second = noSecond; before = []; during = take 6 (atTwo false); later = []; is = refl; lasts = (λ e. omega (arith, e), tt) }
 
 -- two in the slots 3 and 4
 pub met-at-two : (raw : Bool) → Met 2 3 raw burstAtTwo 1 0 2 3 3 2
@@ -41,6 +42,7 @@ opening-at-five : (raw : Bool) → OneOpening 1 2 10 13 (atFive raw)
 unfolding byComputation
 opening-at-five true =
     record {
+      second = noSecond;
       before = [];
       during = take 29 (atFive true);
       later = [];
@@ -52,6 +54,7 @@ opening-at-five true =
     }
 opening-at-five false =
     record {
+      second = noSecond;
       before = [];
       during = take 29 (atFive false);
       later = [];
@@ -109,11 +112,11 @@ reopened = calls (freshRun 2 3 false) closedAndReopened .events
 pub first-opening : OneOpening 1 0 2 3 (calls (freshRun 2 3 false) closedAndReopened .events)
 unfolding byComputation
 first-opening =
-    record { before = []; during = take 8 (drop 3 reopened); later = take 3 reopened; is = refl; lasts = (λ e. omega (arith, e), tt) }
+    record { second = noSecond; before = []; during = take 8 (drop 3 reopened); later = take 3 reopened; is = refl; lasts = (λ e. omega (arith, e), tt) }
 
 pub second-opening : OneOpening 1 0 5 5 (calls (freshRun 2 3 false) closedAndReopened .events)
 unfolding byComputation
-second-opening = record { before = drop 2 reopened; during = take 1 reopened; later = []; is = refl; lasts = tt }
+second-opening = record { second = noSecond; before = drop 2 reopened; during = take 1 reopened; later = []; is = refl; lasts = tt }
 
 pub both-openings : (leaving 0 8 (gone first-opening) ≡ 3) × (leaving 0 8 (gone second-opening) ≡ 1)
 unfolding byComputation first-opening second-opening

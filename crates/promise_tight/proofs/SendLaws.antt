@@ -13,6 +13,7 @@ use lib.ListN.{length, getD, replicate, length-append, List·getD-append}
 use lib.Seq.{getD-append-add}
 use Rattle.meaning.specs.Numbers.{rangesHold}
 use Rattle.meaning.specs.Bucket.{bucketOf, obeysRules}
+use Rattle.meaning.specs.Words.{noSecond}
 use Rattle.meaning_runs.specs.Run.{Call, onOpen, onSlot, Event, opened, Run, call, calls, freshRun, served}
 use Rattle.meaning_runs.specs.Leak.{Opening, openingWith, dueTime, dueSlot, leakAccepts, openingOf}
 use Rattle.meaning_runs.specs.Seen.{Cell, noCell, cellsIn, cellsOf, cellAt}
@@ -48,38 +49,45 @@ module _ (N z : ℕ) (z-low : 3 ≤ z) where
   abbrev slower : ℕ → ℕ
   slower j = j * 1_025 / 1_024
 
-  abbrev two : ℕ → Opening
-  two zero = openingWith 10 1_025 (N * 1_024 + 1_024) none
-  two (suc k) = openingWith 10 1_025 (N * 1_024 + 1_024) (some (k * 1_025))
+  -- after k cells; q is noted of the second bucket, which it has not
+  abbrev two : ℕ → Option ℕ → Opening
+  two zero q = openingWith 10 1_025 (N * 1_024 + 1_024) none noSecond q
+  two (suc k) q = openingWith 10 1_025 (N * 1_024 + 1_024) (some (k * 1_025)) noSecond q
 
-  two-due : (k : ℕ) → dueTime (two k) k ≡ k * 1_025
+  two-due : (k : ℕ) (q : Option ℕ) → dueTime (two k q) k ≡ k * 1_025
   unfolding dueTime
-  two-due zero = refl
-  two-due (suc k) = omega arith
+  two-due zero q = refl
+  two-due (suc k) q = omega arith
 
-  two-slot : (k : ℕ) → dueSlot (two k) k ≡ slower k
+  two-slot : (k : ℕ) (q : Option ℕ) → dueSlot (two k q) k ≡ slower k
   unfolding dueSlot
-  two-slot zero = ap (λ (x : ℕ). x / 1_024) (two-due zero)
-  two-slot (suc k) = ap (λ (x : ℕ). x / 1_024) (two-due (suc k))
+  two-slot zero q = ap (λ (x : ℕ). x / 1_024) (two-due zero q)
+  two-slot (suc k) q = ap (λ (x : ℕ). x / 1_024) (two-due (suc k) q)
 
-  two-takes : (k : ℕ) → k < N * 1_024 → leakAccepts (two k) k ≡ true
+  two-takes : (k : ℕ) (q : Option ℕ) → k < N * 1_024 → leakAccepts (two k q) k ≡ true
   unfolding leakAccepts
-  two-takes zero low = refl
-  two-takes (suc k) low =
+  two-takes zero q low = refl
+  two-takes (suc k) q low =
       le-leb (k * 1_025 + 1_025 - suc k * 1_024) (N * 1_024 + 1_024 - 1_025) (omega (arith, low))
 
-  two-next : (k : ℕ) → openingWith (two k .m) (two k .F) (two k .C) (some (dueTime (two k) k)) ≡ two (suc k)
-  two-next zero = ap (λ (x : ℕ). openingWith 10 1_025 (N * 1_024 + 1_024) (some x)) (two-due zero)
-  two-next (suc k) = ap (λ (x : ℕ). openingWith 10 1_025 (N * 1_024 + 1_024) (some x)) (two-due (suc k))
+  two-none : (k : ℕ) (q : Option ℕ) → two k q .second ≡ noSecond
+  two-none zero q = refl
+  two-none (suc k) q = refl
+
+  two-next : (k : ℕ) (q p : Option ℕ)
+      → openingWith (two k q .m) (two k q .F) (two k q .C) (some (dueTime (two k q) k)) (two k q .second) p ≡ two (suc k) p
+  two-next zero q p = ap (λ (x : ℕ). openingWith 10 1_025 (N * 1_024 + 1_024) (some x) noSecond p) (two-due zero q)
+  two-next (suc k) q p = ap (λ (x : ℕ). openingWith 10 1_025 (N * 1_024 + 1_024) (some x) noSecond p) (two-due (suc k) q)
 
   abbrev first : Opening
-  first = openingWith 0 1 1 none
+  first = openingWith 0 1 1 none noSecond none
 
   pub record SentTwo (k : ℕ) (r : Run) : Type 0 where
     pub kept : Kept N z r
     pub slots : served (r .events) ≡ k
+    pub rate : Option ℕ
     pub one-is : openingOf 1 (r .events) ≡ some first
-    pub two-is : openingOf 2 (r .events) ≡ some (two k)
+    pub two-is : openingOf 2 (r .events) ≡ some (two k rate)
     pub cells-one : Dues (λ j. N * 1_024 + j) 0 (cellsOf 1 (r .events))
     pub cells-two : Dues slower k (cellsOf 2 (r .events))
 
@@ -88,15 +96,18 @@ module _ (N z : ℕ) (z-low : 3 ≤ z) where
       record {
         kept = call-kept N z r (cellOf 2) (s .kept);
         slots = t .slots ∙ ap suc (s .slots);
+        rate = t .rate;
         one-is = t .other 1 (λ e. omega (arith, e)) .0 ∙ s .one-is;
-        two-is = t .own ∙ ap some (rw (s .slots) (two-next k));
+        two-is = t .own ∙ ap some (rw (s .slots) (two-next k (s .rate) (t .rate)));
         cells-one = rw (t .other 1 (λ e. omega (arith, e)) .1) (s .cells-one);
         cells-two = rw (t .cells) (dues-more slower k (cellsOf 2 (r .events)) (t .cell) (s .cells-two)
-            (t .due ∙ ap (dueSlot (two k)) (s .slots) ∙ two-slot k));
+            (t .due ∙ ap (dueSlot (two k (s .rate))) (s .slots) ∙ two-slot k (s .rate)));
       }
     where
-      t : Took 2 (two k) (r .events) (call r (cellOf 2) .events)
-      t = took N z r (s .kept) 2 (clean-two z z-low) (two k) (s .two-is) (rw (s .slots) (two-takes k low))
+      t : Took 2 (two k (s .rate)) (r .events) (call r (cellOf 2) .events)
+      t =
+          took N z r (s .kept) 2 (clean-two z z-low) (two k (s .rate)) (s .two-is) (rw (s .slots) (two-takes k (s .rate) low))
+          (two-none k (s .rate))
 
   pub all-two : (n k : ℕ) (r : Run) → k + n ≤ N * 1_024 → SentTwo k r → SentTwo (k + n) (calls r (replicate n (cellOf 2)))
   unfolding calls
@@ -109,33 +120,39 @@ module _ (N z : ℕ) (z-low : 3 ≤ z) where
   abbrev a : ℕ
   a = N * 1_024
 
-  abbrev one : ℕ → Opening
-  one zero = first
-  one (suc j) = openingWith 0 1 1 (some (a + j))
+  abbrev one : ℕ → Option ℕ → Opening
+  one zero q = openingWith 0 1 1 none noSecond q
+  one (suc j) q = openingWith 0 1 1 (some (a + j)) noSecond q
 
-  one-due : (j : ℕ) → dueTime (one j) (a + j) ≡ a + j
+  one-due : (j : ℕ) (q : Option ℕ) → dueTime (one j q) (a + j) ≡ a + j
   unfolding dueTime
-  one-due zero = omega arith
-  one-due (suc j) = omega arith
+  one-due zero q = omega arith
+  one-due (suc j) q = omega arith
 
-  one-slot : (j : ℕ) → dueSlot (one j) (a + j) ≡ a + j
+  one-slot : (j : ℕ) (q : Option ℕ) → dueSlot (one j q) (a + j) ≡ a + j
   unfolding dueSlot
-  one-slot zero = div-one (dueTime first (a + 0)) ∙ one-due zero
-  one-slot (suc j) = div-one (dueTime (one (suc j)) (a + suc j)) ∙ one-due (suc j)
+  one-slot zero q = div-one (dueTime (one zero q) (a + 0)) ∙ one-due zero q
+  one-slot (suc j) q = div-one (dueTime (one (suc j) q) (a + suc j)) ∙ one-due (suc j) q
 
-  one-takes : (j : ℕ) → leakAccepts (one j) (a + j) ≡ true
+  one-takes : (j : ℕ) (q : Option ℕ) → leakAccepts (one j q) (a + j) ≡ true
   unfolding leakAccepts
-  one-takes zero = refl
-  one-takes (suc j) = le-leb (a + j + 1 - (a + suc j) * 1) (1 - 1) (omega arith)
+  one-takes zero q = refl
+  one-takes (suc j) q = le-leb (a + j + 1 - (a + suc j) * 1) (1 - 1) (omega arith)
 
-  one-next : (j : ℕ) → openingWith (one j .m) (one j .F) (one j .C) (some (dueTime (one j) (a + j))) ≡ one (suc j)
-  one-next zero = ap (λ (x : ℕ). openingWith 0 1 1 (some x)) (one-due zero)
-  one-next (suc j) = ap (λ (x : ℕ). openingWith 0 1 1 (some x)) (one-due (suc j))
+  one-none : (j : ℕ) (q : Option ℕ) → one j q .second ≡ noSecond
+  one-none zero q = refl
+  one-none (suc j) q = refl
+
+  one-next : (j : ℕ) (q p : Option ℕ)
+      → openingWith (one j q .m) (one j q .F) (one j q .C) (some (dueTime (one j q) (a + j))) (one j q .second) p ≡ one (suc j) p
+  one-next zero q p = ap (λ (x : ℕ). openingWith 0 1 1 (some x) noSecond p) (one-due zero q)
+  one-next (suc j) q p = ap (λ (x : ℕ). openingWith 0 1 1 (some x) noSecond p) (one-due (suc j) q)
 
   pub record SentOne (j : ℕ) (r : Run) : Type 0 where
     pub kept : Kept N z r
     pub slots : served (r .events) ≡ a + j
-    pub one-is : openingOf 1 (r .events) ≡ some (one j)
+    pub rate : Option ℕ
+    pub one-is : openingOf 1 (r .events) ≡ some (one j rate)
     pub cells-one : Dues (λ i. a + i) j (cellsOf 1 (r .events))
     pub cells-two : Dues slower a (cellsOf 2 (r .events))
 
@@ -144,14 +161,17 @@ module _ (N z : ℕ) (z-low : 3 ≤ z) where
       record {
         kept = call-kept N z r (cellOf 1) (s .kept);
         slots = t .slots ∙ ap suc (s .slots) ∙ omega arith;
-        one-is = t .own ∙ ap some (rw (s .slots) (one-next j));
+        rate = t .rate;
+        one-is = t .own ∙ ap some (rw (s .slots) (one-next j (s .rate) (t .rate)));
         cells-one = rw (t .cells) (dues-more (λ i. a + i) j (cellsOf 1 (r .events)) (t .cell) (s .cells-one)
-            (t .due ∙ ap (dueSlot (one j)) (s .slots) ∙ one-slot j));
+            (t .due ∙ ap (dueSlot (one j (s .rate))) (s .slots) ∙ one-slot j (s .rate)));
         cells-two = rw (t .other 2 (λ e. omega (arith, e)) .1) (s .cells-two);
       }
     where
-      t : Took 1 (one j) (r .events) (call r (cellOf 1) .events)
-      t = took N z r (s .kept) 1 (clean-one z z-low) (one j) (s .one-is) (rw (s .slots) (one-takes j))
+      t : Took 1 (one j (s .rate)) (r .events) (call r (cellOf 1) .events)
+      t =
+          took N z r (s .kept) 1 (clean-one z z-low) (one j (s .rate)) (s .one-is) (rw (s .slots) (one-takes j (s .rate)))
+          (one-none j (s .rate))
 
   pub all-one : (n j : ℕ) (r : Run) → SentOne j r → SentOne (j + n) (calls r (replicate n (cellOf 1)))
   unfolding calls

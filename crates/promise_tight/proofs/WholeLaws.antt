@@ -11,6 +11,7 @@ use borrow.Author.Tests.{le-leb, lt-ltb}
 use lib.ListN.{replicate}
 use Rattle.meaning.specs.Numbers.{rangesHold}
 use Rattle.meaning.specs.Bucket.{bucketOf, obeysRules}
+use Rattle.meaning.specs.Words.{noSecond}
 use Rattle.meaning_runs.specs.Run.{Call, onOpen, onSlot, opened, Run, call, calls, freshRun, served}
 use Rattle.meaning_runs.specs.Leak.{openingOf}
 use Rattle.meaning_runs.specs.Seen.{cellsIn, cellsOf}
@@ -58,7 +59,7 @@ module _ (N z : ℕ) (raw : Bool) (range : rangesHold N z ≡ true) (N-low : 2 �
   abbrev after-one : Run
   after-one = call fresh (onOpen 1 0 1 1)
 
-  one-events : after-one .events ≡ opened 1 0 1 1 0 ∷ fresh .events
+  one-events : after-one .events ≡ opened 1 0 1 1 noSecond 0 ∷ fresh .events
   one-events =
       opened-is N z fresh fresh-kept 1 0 1 1 (omega arith) (omega (arith, z-low)) (fresh-none 1)
       (one-obeys N (omega (arith, N-low)))
@@ -73,12 +74,12 @@ module _ (N z : ℕ) (raw : Bool) (range : rangesHold N z ≡ true) (N-low : 2 �
   abbrev opened-both : Run
   opened-both = call after-one (onOpen 2 10 1_025 (N * 1_024 + 1_024))
 
-  both-events : opened-both .events ≡ opened 2 10 1_025 (N * 1_024 + 1_024) 0 ∷ opened 1 0 1 1 0 ∷ []
+  both-events : opened-both .events ≡ opened 2 10 1_025 (N * 1_024 + 1_024) noSecond 0 ∷ opened 1 0 1 1 noSecond 0 ∷ []
   unfolding freshRun
   both-events =
       opened-is N z after-one one-kept 2 10 1_025 (N * 1_024 + 1_024) (omega arith) (omega (arith, z-low)) two-shut
       (two-obeys N (omega (arith, N-low)))
-      ∙ ap (λ l. opened 2 10 1_025 (N * 1_024 + 1_024) 0 ∷ l) one-events
+      ∙ ap (λ l. opened 2 10 1_025 (N * 1_024 + 1_024) noSecond 0 ∷ l) one-events
 
   start : SentTwo N z z-low 0 opened-both
   unfolding served openingOf cellsOf cellsIn
@@ -86,6 +87,7 @@ module _ (N z : ℕ) (raw : Bool) (range : rangesHold N z ≡ true) (N-low : 2 �
       record {
         kept = call-kept N z after-one (onOpen 2 10 1_025 (N * 1_024 + 1_024)) one-kept;
         slots = rw both-events;
+        rate = none;
         one-is = rw both-events;
         two-is = rw both-events;
         cells-one = rw both-events (refl, λ j low. absurd (omega (arith, low)));
@@ -117,6 +119,7 @@ module _ (N z : ℕ) (raw : Bool) (range : rangesHold N z ≡ true) (N-low : 2 �
       (record {
         kept = twos .kept;
         slots = twos .slots ∙ omega arith;
+        rate = none;
         one-is = twos .one-is;
         cells-one = twos .cells-one;
         cells-two = twos .cells-two;

@@ -1,7 +1,7 @@
 -- Request (i) over runs: what the invariant and document 01's slot behind the header check say of the next call; and a run
 -- that is not raw, call for call beside one with no check.
-use Prim.Native.Nat.{ℕ, _≤_}
-use mathlib.Core.Path.{_≡_, refl, ap, _∙_}
+use Prim.Native.Nat.{ℕ}
+use mathlib.Core.Path.{_≡_, refl, sym, ap, _∙_}
 use mathlib.Core.Logic.{_≢_, _⊎_, inl, inr}
 use mathlib.Core.Bool.{Bool, true, false, not, cond, _&&_, _||_}
 use mathlib.Core.List.{List, [], _∷_}
@@ -14,15 +14,16 @@ use Rattle.base_hec.specs.Check.{syndromeOf}
 use Rattle.base_hec.specs.WrongBit.{noError, wrongBit, flipped}
 use Rattle.base_hec.specs.Modes.{Arriving, correction, detection, passes, drops, checked, arriving}
 use Rattle.meaning.specs.Plain.{_=?_}
-use Rattle.meaning.specs.Numbers.{octets, dropped}
+use Rattle.meaning.specs.Numbers.{octets, dropped, letsIn}
 use Rattle.meaning.specs.State.{State, withWords}
 use Rattle.meaning.specs.Header.{headerAt, noUserCell, namesVc}
+use Rattle.meaning.specs.Words.{Second}
 use Rattle.meaning.specs.Calls.{rawNumber, freshRecord, freshState}
 use Rattle.meaning.specs.Work.{Work}
 use Rattle.meaning.specs.Slot.{slot}
 use Rattle.meaning.proofs.CheckedLaws.{arriving-plain, arriving-none, not-raw, dropped-none}
-use Rattle.meaning_runs.specs.Run.{Call, onOpen, onClose, onSlot, Event, ran, Run, runOf, shown, letIn, call, calls, freshRun, served}
-use Rattle.meaning_runs.specs.Leak.{Opening, leakAccepts, accepts, openingOf}
+use Rattle.meaning_runs.specs.Run.{Call, onOpenWith, onClose, onSlot, Event, ran, Run, runOf, shown, letIn, call, calls, freshRun, served}
+use Rattle.meaning_runs.specs.Leak.{Opening, leakAccepts, sustains, verdictBy, accepts, openingOf}
 use Rattle.meaning_runs.specs.Seen.{cellsIn}
 use Rattle.meaning_runs.specs.Judged.{Judged, judgedOf, judgedUnder, judgedBy, judged, judgedAs}
 use Rattle.meaning_runs.proofs.OutLaws.{if-holds}
@@ -38,7 +39,7 @@ fresh-raw N z raw = refl
 
 call-raw : (r : Run) (c : Call) → call r c .state .ctl .raw ≡ r .state .ctl .raw
 unfolding call withWords
-call-raw r (onOpen vci m F C) = refl
+call-raw r (onOpenWith vci m F C x) = refl
 call-raw r (onClose vci) = refl
 call-raw r (onSlot cell) = raw-kept (r .state) cell
 
@@ -52,17 +53,22 @@ unfolding freshRun
 raw-always N z raw cs = calls-raw (runOf (freshState N z raw) []) cs ∙ fresh-raw N z raw
 
 -- ── verdict 4 is the header check's alone ──
-under-low : (t vci : ℕ) (o : Option Opening) → judgedUnder t vci o .verdict ≤ 3
-under-low t vci none = omega arith
-under-low t vci (some o) = if-holds (λ (j : Judged). j .verdict ≤ 3) (leakAccepts o t) _ _ (λ _. omega arith) (λ _. omega arith)
+under-other : (t vci clp : ℕ) (o : Option Opening) → judgedUnder t vci clp o .verdict ≢ dropped
+unfolding verdictBy
+under-other t vci clp none = λ e. omega (arith, e)
+under-other t vci clp (some o) =
+    if-holds (λ (k : ℕ). k ≢ dropped) (not (leakAccepts o t)) _ _ (λ _ e. omega (arith, e))
+    (λ _. if-holds (λ (k : ℕ). k ≢ dropped) (clp =? 0 && not (sustains o t)) _ _
+    (λ _. if-holds (λ (k : ℕ). k ≢ dropped) (o .second .tag =? 0) _ _ (λ _ e. omega (arith, e)) (λ _ e. omega (arith, e)))
+    (λ _ e. omega (arith, e)))
 
-judged-low : (z t : ℕ) (openings : ℕ → Option Opening) (cell : List ℕ) → judgedBy z t openings cell .verdict ≤ 3
+judged-other : (z t : ℕ) (openings : ℕ → Option Opening) (cell : List ℕ) → judgedBy z t openings cell .verdict ≢ dropped
 unfolding judgedBy
-judged-low z t openings cell =
+judged-other z t openings cell =
     let h = headerAt cell 0 in
-    if-holds (λ (j : Judged). j .verdict ≤ 3) (length cell =? 0 || noUserCell h) _ _ (λ _. omega arith)
-    (λ _. if-holds (λ (j : Judged). j .verdict ≤ 3) (not (namesVc z h)) _ _ (λ _. omega arith)
-    (λ _. under-low t (h .vci) (openings (h .vci))))
+    if-holds (λ (j : Judged). j .verdict ≢ dropped) (length cell =? 0 || noUserCell h) _ _ (λ _ e. omega (arith, e))
+    (λ _. if-holds (λ (j : Judged). j .verdict ≢ dropped) (not (namesVc z h)) _ _ (λ _ e. omega (arith, e))
+    (λ _. under-other t (h .vci) (h .clp) (openings (h .vci))))
 
 -- ── what the check lets through ──
 lets-by : (a b c d : Bool) (mode bit : ℕ) (cell : List ℕ) → eqb mode correction ≡ c → ltb bit noError ≡ d
@@ -113,9 +119,9 @@ module _ (N z : ℕ) (raw : Bool) (r : Run) (k : Kept N z r) where
   unfolding call
   refused-keeps cell ne = ap (λ (x : State). x .ctl .mode) (slot-stays s cell ne)
 
-  open-keeps : (vci m F C : ℕ) → modeOf (call r (onOpen vci m F C)) ≡ modeOf r
+  open-keeps : (vci m F C : ℕ) (x : Second) → modeOf (call r (onOpenWith vci m F C x)) ≡ modeOf r
   unfolding call withWords
-  open-keeps vci m F C = refl
+  open-keeps vci m F C x = refl
 
   close-keeps : (vci : ℕ) → modeOf (call r (onClose vci)) ≡ modeOf r
   unfolding call withWords
@@ -135,12 +141,12 @@ module _ (N z : ℕ) (raw : Bool) (r : Run) (k : Kept N z r) where
 
   -- no cell more, and no opening moved
   adds-no-cell : (cell : List ℕ) → Lent cell → letIn s cell .dropped ≡ true → cellsIn (after r cell .events) ≡ cellsIn h
-  unfolding call cellsIn
+  unfolding call cellsIn letsIn
   adds-no-cell cell lent e = rw (ap (λ (j : Judged). j .verdict) (dropped-is cell lent e))
 
   moves-no-opening : (cell : List ℕ) → Lent cell → letIn s cell .dropped ≡ true → (v : ℕ)
       → openingOf v (after r cell .events) ≡ openingOf v h
-  unfolding call openingOf accepts
+  unfolding call openingOf accepts letsIn
   moves-no-opening cell lent e v = rw (ap (λ (j : Judged). j .verdict) (dropped-is cell lent e))
 
   only-dropped : (cell : List ℕ) → slot s cell .answer .verdict ≡ dropped → letIn s cell .dropped ≡ true
@@ -152,7 +158,7 @@ module _ (N z : ℕ) (raw : Bool) (r : Run) (k : Kept N z r) where
           absurd (omega (arith, four, ap (λ (w : Work). w .answer .verdict) (slot-refused N z h s (k .inv) cell e)))
       go true false e f =
           let said = ap (λ (j : Judged). j .verdict) (let-in-is cell e f) in
-          absurd (omega (arith, four, said, judged-low z (served h) (λ v. openingOf v h) (letIn s cell .cell)))
+          absurd (judged-other z (served h) (λ v. openingOf v h) (letIn s cell .cell) (sym said ∙ four))
 
   pub check-kept : s .ctl .raw ≡ rawNumber raw → HeaderCheck raw r
   check-kept same =
@@ -182,7 +188,7 @@ module _ (N z : ℕ) (raw : Bool) (r : Run) (k : Kept N z r) where
 -- ── a policer that is not raw ──
 plain-call : (r : Run) (c : Call) → r .state .ctl .raw ≡ 0 → call r c ≡ plainCall r c
 unfolding call plainCall
-plain-call r (onOpen vci m F C) e = refl
+plain-call r (onOpenWith vci m F C x) e = refl
 plain-call r (onClose vci) e = refl
 plain-call r (onSlot cell) e =
     ap (λ (a : Arriving). runOf (slot (r .state) cell .state)
@@ -190,8 +196,8 @@ plain-call r (onSlot cell) e =
     (arriving-plain (r .state .ctl .raw) (r .state .ctl .mode) cell e)
     ∙ ap (λ (w : Work). runOf (w .state) (ran cell (w .answer) (shown w) ∷ r .events)) (not-raw (r .state) cell e)
 
-pub as-before : (r : Run) (cs : List Call) → r .state .ctl .raw ≡ 0 → calls r cs ≡ plainCalls r cs
+pub plain-before : (r : Run) (cs : List Call) → r .state .ctl .raw ≡ 0 → calls r cs ≡ plainCalls r cs
 unfolding calls plainCalls
-as-before r [] e = refl
-as-before r (c ∷ cs) e =
-    as-before (call r c) cs (call-raw r c ∙ e) ∙ ap (λ (r′ : Run). plainCalls r′ cs) (plain-call r c e)
+plain-before r [] e = refl
+plain-before r (c ∷ cs) e =
+    plain-before (call r c) cs (call-raw r c ∙ e) ∙ ap (λ (r′ : Run). plainCalls r′ cs) (plain-call r c e)

@@ -17,7 +17,7 @@ use Rattle.meaning.specs.Numbers.{rangesHold}
 use Rattle.meaning.specs.State.{State}
 use Rattle.meaning.specs.Words.{Vc, vcAt, writeVc, closedVc, debt}
 use Rattle.meaning.specs.Calls.{calledOf, closeCall}
-use Rattle.meaning_runs.specs.Run.{Call, onOpen, onClose, onSlot, Event, opened, closed, ran, Run, call, calls, freshRun, served}
+use Rattle.meaning_runs.specs.Run.{Call, onOpenWith, onClose, onSlot, Event, opened, closed, ran, Run, call, calls, freshRun, served}
 use Rattle.meaning_runs.specs.Leak.{Opening, parts, dueTime, openingOf}
 use Rattle.meaning_runs.specs.Seen.{ofVc, cellsOf, departuresOf, cellAt}
 use Rattle.theory_queues.specs.Queue.{sum, sums, flat, turn}
@@ -182,7 +182,7 @@ module _ (N z : ℕ) (h : List Event) (s : State) (i : Inv N z h s) where
 -- ── at every close of a run the debt was paid ──
 abbrev pub PaidAtCloses : List Event → Type 0
 PaidAtCloses [] = Unit {0}
-PaidAtCloses (opened vci m F C number ∷ h) = PaidAtCloses h
+PaidAtCloses (opened vci m F C x number ∷ h) = PaidAtCloses h
 PaidAtCloses (closed vci number ∷ h) =
     (number ≡ 0 → (o : Opening) → openingOf vci h ≡ some o → Paid o (lastSlot h)) × PaidAtCloses h
 PaidAtCloses (ran cell a out ∷ h) = PaidAtCloses h
@@ -190,7 +190,7 @@ PaidAtCloses (ran cell a out ∷ h) = PaidAtCloses h
 module _ (N z : ℕ) where
   call-paid : (r : Run) (c : Call) → Kept N z r → PaidAtCloses (r .events) → PaidAtCloses (call r c .events)
   unfolding call
-  call-paid r (onOpen vci m F C) k p = p
+  call-paid r (onOpenWith vci m F C x) k p = p
   call-paid r (onClose vci) k p = (
     λ e o q.
         let v = in-range N z (r .events) (r .state) (k .inv) vci e in
@@ -211,7 +211,7 @@ module _ (N z : ℕ) where
   -- slots are only added
   call-more : (r : Run) (c : Call) → served (r .events) ≤ served (call r c .events)
   unfolding call served
-  call-more r (onOpen vci m F C) = omega arith
+  call-more r (onOpenWith vci m F C x) = omega arith
   call-more r (onClose vci) = omega arith
   call-more r (onSlot cell) = omega arith
 
@@ -223,14 +223,14 @@ module _ (N z : ℕ) where
 served-before : (later h : List Event) → served h ≤ served (later ++ h)
 unfolding served
 served-before [] h = omega arith
-served-before (opened vci m F C number ∷ later) h = served-before later h
+served-before (opened vci m F C x number ∷ later) h = served-before later h
 served-before (closed vci number ∷ later) h = served-before later h
 served-before (ran cell a out ∷ later) h = omega (arith, served-before later h)
 
 paid-before : (later before : List Event) (v : ℕ) (o : Opening) → PaidAtCloses (later ++ (closed v 0 ∷ before))
     → openingOf v before ≡ some o → Paid o (lastSlot before)
 paid-before [] before v o p e = p .0 refl o e
-paid-before (opened vci m F C number ∷ later) before v o p e = paid-before later before v o p e
+paid-before (opened vci m F C x number ∷ later) before v o p e = paid-before later before v o p e
 paid-before (closed vci number ∷ later) before v o p e = paid-before later before v o (p .1) e
 paid-before (ran cell a out ∷ later) before v o p e = paid-before later before v o p e
 

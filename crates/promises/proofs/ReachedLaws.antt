@@ -8,6 +8,7 @@ use mathlib.Core.Option.{some}
 use native.Mathlib.Omega.{arith}
 use lib.Dec.{lit<}
 use Rattle.meaning.specs.Numbers.{rangesHold}
+use Rattle.meaning.specs.Words.{noSecond}
 use Rattle.meaning_runs.specs.Run.{Call}
 use Rattle.meaning_runs.specs.Leak.{openingWith}
 use Rattle.meaning_runs.specs.Seen.{departureAt}
@@ -51,7 +52,7 @@ departures-six-seven = (refl, refl)
 
 closer : PeakKept → 10 ≤ (departureAt 40 3 eightEvents .slot - departureAt 40 2 eightEvents .slot) * 4
 unfolding byComputation
-closer p = p 5 64 false refl eightCalls 40 2 (openingWith 2 10 26 (some 30)) refl (lit< tt)
+closer p = p 5 64 false refl eightCalls 40 2 (openingWith 2 10 26 (some 30) noSecond (some 4)) refl (lit< tt)
 
 pub peak-not-kept : PeakKept → ⊥
 peak-not-kept p = omega (arith, closer p, departures-six-seven .0, departures-six-seven .1)

@@ -20,7 +20,9 @@ use Rattle.promises.specs.Runs.{NeverThree, InOrder, InOrderAlways}
 use Rattle.promises.proofs.Demand3Laws.{demanded}
 use Rattle.promises.specs.Checked.{HeaderCheck, HeaderCheckHolds, NotRawAsBefore}
 use Rattle.promises.proofs.DebtLaws.{debts, refused, fresh-paid}
-use Rattle.promises.proofs.CheckedRuns.{fresh-raw, raw-always, check-kept, as-before}
+use Rattle.promises.specs.Sustained.{AsBefore, AsBeforeHolds}
+use Rattle.promises.proofs.SustainedLaws.{as-before}
+use Rattle.promises.proofs.CheckedRuns.{fresh-raw, raw-always, check-kept, plain-before}
 
 -- a run after a setup that answered 0 is a run from a fresh state
 after-setup : (P : ℕ → ℕ → Bool → Run → Type 0)
@@ -70,6 +72,11 @@ debt-kept =
     let k = run-kept N z range raw cs in
     (debts N z r k (fresh-paid N z range raw cs), λ more. refused N z r k more))
 
+-- REQUEST (iv): a VC opened without a second bucket is judged as before
+pub no-second-as-before : AsBeforeHolds
+no-second-as-before =
+    from-setup (λ N z r. AsBefore z (r .events) (r .state)) (λ N z r k. as-before N z (r .events) (r .state) (k .inv))
+
 -- REQUEST (i): header error control
 pub header-check : HeaderCheckHolds
 header-check =
@@ -80,5 +87,5 @@ header-check =
 pub not-raw-as-before : NotRawAsBefore
 not-raw-as-before N z cells links calendar words e cs =
     let fresh = setup-fresh N z false cells links calendar words e in
-    as-before (runOf (setup N z false cells links calendar words .state) []) cs
+    plain-before (runOf (setup N z false cells links calendar words .state) []) cs
     (ap (λ (s : State). s .ctl .raw) (fresh .1) ∙ fresh-raw N z false)

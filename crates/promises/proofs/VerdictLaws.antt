@@ -1,26 +1,41 @@
--- Demand 3's clauses on the verdict: of what the header check lets through it is the leak rule's, since the invariant ties
--- the words to it; a header that names a VC is no dropped cell's.
-use Prim.Native.Nat.{ℕ, _-_, _≤_}
+-- Demand 3's clauses on the verdict: of what the header check lets through it is the leak rules', since the invariant ties
+-- the words to them; a header that names a VC is no dropped cell's.
+use Prim.Native.Nat.{ℕ, _≤_}
 use mathlib.Core.Path.{_≡_, refl, sym, ap, _∙_}
 use mathlib.Core.Logic.{_≢_, _↔_}
-use mathlib.Core.Bool.{Bool, true, false, _&&_, _||_}
+use mathlib.Core.Bool.{Bool, true, false, not, _&&_, _||_}
 use mathlib.Core.List.{List, [], _∷_}
 use mathlib.Core.Option.{some}
 use native.Mathlib.Omega.{arith}
 use borrow.Author.Tests.{ne-eqb}
 use lib.ListN.{length}
 use Rattle.meaning.specs.Plain.{if_then_else_, _=?_}
-use Rattle.meaning.specs.Numbers.{accepted, excess}
+use Rattle.meaning.specs.Numbers.{accepted, excess, tagged, letsIn}
 use Rattle.meaning.specs.State.{State}
 use Rattle.meaning.specs.Header.{Header, headerOf, headerAt, noUserCell, namesVc}
 use Rattle.meaning.specs.Slot.{slot}
 use Rattle.meaning.proofs.CheckedLaws.{dropped-none}
 use Rattle.meaning_runs.specs.Run.{Event, letIn, served}
-use Rattle.meaning_runs.specs.Leak.{Opening, dueSlot, leakAccepts, openingOf}
-use Rattle.meaning_runs.specs.Judged.{Judged, judgedOf, judgedBy, judged, judgedAs}
+use Rattle.meaning_runs.specs.Leak.{Opening, leakAccepts, sustains, verdictBy, openingOf}
+use Rattle.meaning_runs.specs.Judged.{Judged, judgedOf, judgedUnder, judgedBy, judged, judgedAs}
 use Rattle.theory_invariant.specs.Invariant.{Inv}
 use Rattle.theory_invariant.proofs.ArriveLaws.{names-facts}
 use Rattle.theory_invariant.proofs.CheckLaws.{slot-served}
+use Rattle.promises.specs.Demand3.{admits}
+
+-- accepted or tagged: what the leak rules let in
+pub admits-is : (o : Opening) (clp t : ℕ) → letsIn (verdictBy o clp t) ≡ admits o clp t
+unfolding verdictBy admits letsIn
+admits-is o clp t = go (leakAccepts o t) (clp =? 0) (sustains o t) (o .second .tag =? 0)
+  where
+    go : (a b c d : Bool)
+        → letsIn (if not a then excess else if b && not c then (if d then excess else tagged) else accepted)
+        ≡ a && (not b || c || not d)
+    go false b c d = refl
+    go true false c d = refl
+    go true true true d = refl
+    go true true false true = refl
+    go true true false false = refl
 
 module _ (N z : ℕ) (h : List Event) (s : State) (i : Inv N z h s) where
   pub says : (cell : List ℕ) → length cell =? 0 || length cell =? 53 ≡ true
@@ -49,7 +64,7 @@ module _ (N z : ℕ) (h : List Event) (s : State) (i : Inv N z h s) where
           last false = refl
 
   -- so it is not dropped
-  let-in : (cell : List ℕ) → namesVc z (headerAt (letIn s cell .cell) 0) ≡ true → letIn s cell .dropped ≡ false
+  pub let-in : (cell : List ℕ) → namesVc z (headerAt (letIn s cell .cell) 0) ≡ true → letIn s cell .dropped ≡ false
   let-in cell n = go (letIn s cell .dropped) refl
     where
       go : (b : Bool) → letIn s cell .dropped ≡ b → b ≡ false
@@ -63,28 +78,28 @@ module _ (N z : ℕ) (h : List Event) (s : State) (i : Inv N z h s) where
       → judgedOf (slot s cell .answer .verdict) (slot s cell .answer .vci) (slot s cell .answer .d) ≡ judged z h (letIn s cell .cell)
   through cell e d = says cell (lent cell e) ∙ rw d
 
-  judged-is : (cell : List ℕ) (o : Opening) → namesVc z (headerAt cell 0) ≡ true
+  pub judged-is : (cell : List ℕ) (o : Opening) → namesVc z (headerAt cell 0) ≡ true
       → openingOf (headerAt cell 0 .vci) h ≡ some o
-      → judged z h cell .verdict ≡ (if leakAccepts o (served h) then accepted else excess)
+      → judged z h cell ≡ judgedUnder (served h) (headerAt cell 0 .vci) (headerAt cell 0 .clp) (some o)
   unfolding judgedBy
-  judged-is cell o n q = rw (user cell n, n, q) (go (leakAccepts o (served h)))
-    where
-      go : (b : Bool) → (if b then judgedOf accepted (headerAt cell 0 .vci) (dueSlot o (served h) - served h)
-          else judgedOf excess (headerAt cell 0 .vci) 0) .verdict ≡ (if b then accepted else excess)
-      go true = refl
-      go false = refl
+  judged-is cell o n q = rw (user cell n, n, q)
+
+  -- of a cell of an open VC: what the leak rules say under its opening
+  pub judged-open : (cell : List ℕ) (o : Opening) → length cell ≡ 53 → namesVc z (headerAt (letIn s cell .cell) 0) ≡ true
+      → openingOf (headerAt (letIn s cell .cell) 0 .vci) h ≡ some o
+      → judgedOf (slot s cell .answer .verdict) (slot s cell .answer .vci) (slot s cell .answer .d)
+      ≡ judgedUnder (served h) (headerAt (letIn s cell .cell) 0 .vci) (headerAt (letIn s cell .cell) 0 .clp) (some o)
+  judged-open cell o e n q = through cell e (let-in cell n) ∙ judged-is (letIn s cell .cell) o n q
 
   verdict-is : (cell : List ℕ) (o : Opening) → length cell ≡ 53 → namesVc z (headerAt (letIn s cell .cell) 0) ≡ true
       → openingOf (headerAt (letIn s cell .cell) 0 .vci) h ≡ some o
-      → slot s cell .answer .verdict ≡ (if leakAccepts o (served h) then accepted else excess)
-  verdict-is cell o e n q =
-      ap (λ (j : Judged). j .verdict) (through cell e (let-in cell n)) ∙ judged-is (letIn s cell .cell) o n q
-
-  exactly : (x : ℕ) (b : Bool) → x ≡ (if b then accepted else excess) → (x ≡ accepted) ↔ (b ≡ true)
-  exactly x true e = (λ p. refl, λ p. e)
-  exactly x false e = (λ p. absurd (omega (arith, p, e)), λ p. absurd (let y : _≡_ {A = ℕ} 0 1 = cc in omega arith))
+      → slot s cell .answer .verdict ≡ verdictBy o (headerAt (letIn s cell .cell) 0 .clp) (served h)
+  verdict-is cell o e n q = ap (λ (j : Judged). j .verdict) (judged-open cell o e n q)
 
   pub accepts : (cell : List ℕ) (o : Opening) → length cell ≡ 53 → namesVc z (headerAt (letIn s cell .cell) 0) ≡ true
       → openingOf (headerAt (letIn s cell .cell) 0 .vci) h ≡ some o
-      → (slot s cell .answer .verdict ≡ accepted) ↔ (leakAccepts o (served h) ≡ true)
-  accepts cell o e n q = exactly (slot s cell .answer .verdict) (leakAccepts o (served h)) (verdict-is cell o e n q)
+      → (letsIn (slot s cell .answer .verdict) ≡ true) ↔ (admits o (headerAt (letIn s cell .cell) 0 .clp) (served h) ≡ true)
+  accepts cell o e n q = (λ p. sym same ∙ p, λ p. same ∙ p)
+    where
+      same : letsIn (slot s cell .answer .verdict) ≡ admits o (headerAt (letIn s cell .cell) 0 .clp) (served h)
+      same = ap letsIn (verdict-is cell o e n q) ∙ admits-is o (headerAt (letIn s cell .cell) 0 .clp) (served h)

@@ -4,11 +4,12 @@ use Prim.Native.Nat.{_≤_}
 use mathlib.Core.Path.{_≡_, refl}
 use mathlib.Core.Bool.{false}
 use mathlib.Core.List.{[], _∷_}
-use mathlib.Core.Option.{none, some}
+use mathlib.Core.Option.{some}
 use native.Mathlib.Omega.{arith}
 use lib.ListN.{length}
 use Rattle.meaning_runs.specs.Run.{opened, calls, freshRun, served}
-use Rattle.meaning_runs.specs.Leak.{openingWith}
+use Rattle.meaning.specs.Words.{noSecond}
+use Rattle.meaning_runs.specs.Leak.{openingWith, newOpening}
 use Rattle.meaning_runs.specs.Seen.{departuresOf}
 use Rattle.meaning_runs.specs.Computed.{byComputation}
 use Rattle.promises.specs.Debt.{Across}
@@ -29,7 +30,7 @@ at-its-peak = (refl, refl)
 claimed : Across (callsWiping (freshRun 5 2 false) reopenedAtOnce .events) → 10 ≤ 1
 unfolding byComputation closeWiping callWiping callsWiping
 claimed a =
-    a 1 (openingWith 0 10 10 (some 0)) (openingWith 0 10 10 none) 0 (opened 1 0 10 10 0 ∷ [])
+    a 1 (openingWith 0 10 10 (some 0) noSecond (some 0)) (newOpening 0 10 10 noSecond) 0 (opened 1 0 10 10 noSecond 0 ∷ [])
     (callsWiping (freshRun 5 2 false) beforeClose .events) refl refl refl refl
 
 pub claim-was-false : Across (callsWiping (freshRun 5 2 false) reopenedAtOnce .events) → ⊥

@@ -17,9 +17,10 @@ use Rattle.base_hec.specs.Modes.{Arriving, correction, detection}
 use Rattle.meaning.specs.Plain.{_=?_}
 use Rattle.meaning.specs.Numbers.{octets, dropped}
 use Rattle.meaning.specs.State.{withMode}
+use Rattle.meaning.specs.Words.{Second}
 use Rattle.meaning.specs.Calls.{rawNumber, setup}
 use Rattle.meaning.specs.Slot.{uncheckedSlot, told, slot}
-use Rattle.meaning_runs.specs.Run.{Call, onOpen, onClose, onSlot, ran, Run, runOf, shown, letIn, call, calls}
+use Rattle.meaning_runs.specs.Run.{Call, onOpenWith, onClose, onSlot, ran, Run, runOf, shown, letIn, call, calls}
 use Rattle.meaning_runs.specs.Leak.{openingOf}
 use Rattle.meaning_runs.specs.Seen.{cellsIn}
 
@@ -61,7 +62,7 @@ pub record HeaderCheck (raw : Bool) (r : Run) : Type 0 where
   pub moves : (cell : List ℕ) → Lent cell → modeOf (after r cell) ≡ letIn (r .state) cell .mode
   pub none-keeps : modeOf (after r []) ≡ modeOf r
   pub refused-keeps : (cell : List ℕ) → slot (r .state) cell .answer .number ≢ 0 → modeOf (after r cell) ≡ modeOf r
-  pub open-keeps : (vci m F C : ℕ) → modeOf (call r (onOpen vci m F C)) ≡ modeOf r
+  pub open-keeps : (vci m F C : ℕ) (x : Second) → modeOf (call r (onOpenWith vci m F C x)) ≡ modeOf r
   pub close-keeps : (vci : ℕ) → modeOf (call r (onClose vci)) ≡ modeOf r
   -- "A dropped cell (verdict 4, H)": no octets, VCI 0 and D 0. It is accepted, excess or unknown nowhere: no cell more is
   -- accepted, and no opening moves. No other cell has verdict 4.
@@ -80,7 +81,7 @@ HeaderCheckHolds = (N z : ℕ) (raw : Bool) (cells links calendar words : List �
 
 -- ── "A policer that is not raw behaves octet for octet as before" ──
 unfoldable pub plainCall : Run → Call → Run
-plainCall r (onOpen vci m F C) = call r (onOpen vci m F C)
+plainCall r (onOpenWith vci m F C x) = call r (onOpenWith vci m F C x)
 plainCall r (onClose vci) = call r (onClose vci)
 plainCall r (onSlot cell) =
     let w = uncheckedSlot (r .state) cell in

@@ -8,31 +8,38 @@
 --                        by the leak rule in exact parts of 1/L slot, its due slot. There are `length (cellsOf v h)`
 --   departureAt v k h    the k-th departure of the VC v: its slot, and the octets of the line cell, which are the same
 --                        whatever idle cell is lent. There are `length (departuresOf v h)`
---   openingOf v h        the m, F, C and last due time of the VC v, if it is open
---   leakAccepts o t      the leak rule's verdict on a cell that arrives in slot t
+--   openingOf v h        the m, F, C and last due time of the VC v, if it is open, and those of its second bucket
+--   leakAccepts o t      the leak rule's verdict on a cell that arrives in slot t; sustains o t, the second bucket's
 --   letIn s cell         what the header check of document 02 (i) lets through of the octets lent: all of them, where the
 --                        policer is not raw; of a raw one the cell as it came or mended, or none where it is dropped
---   judgedAs z h a       verdict, VCI and D by the header let through and the exact leak rule; of a dropped cell 4, 0, 0
--- An accepted cell's octets are those let through: the mended ones.
+--   judgedAs z h a       verdict, VCI and D by the header let through and the exact leak rules; of a dropped cell 4, 0, 0
+-- Document 02 (iv): "Demand 3 and the end line count tagged cells as accepted, with the two octets changed as said." An accepted
+-- cell's octets are those let through, the mended ones; a tagged cell's are those too, but for octet 4, whose CLP is 1, and
+-- octet 5, which is recomputed. Such cells are the accepted ones below.
 -- Signs: (v k : ℕ) → .. for all v and k; A → B where A holds, B; × and; ↔ exactly when; ≡ equals; x .due, the due of x.
 use Prim.Native.Nat.{ℕ, _+_, _-_, _≤_, _<_}
 use mathlib.Core.Path.{_≡_}
-use mathlib.Core.Bool.{Bool, true, false, _||_}
+use mathlib.Core.Bool.{Bool, true, false, not, _&&_, _||_}
 use mathlib.Core.List.{List, []}
 use mathlib.Core.Logic.{_↔_}
 use mathlib.Core.Option.{some}
 use lib.ListN.{length}
 use Rattle.meaning.specs.Plain.{_=?_}
-use Rattle.meaning.specs.Numbers.{octets, accepted}
+use Rattle.meaning.specs.Numbers.{octets, letsIn}
 use Rattle.meaning.specs.State.{State, freeList}
 use Rattle.meaning.specs.Header.{headerAt, namesVc}
 use Rattle.meaning.specs.Lists.{isEmpty}
 use Rattle.meaning.specs.Calls.{setup}
 use Rattle.meaning.specs.Slot.{slot}
 use Rattle.meaning_runs.specs.Run.{Call, Event, runOf, letIn, calls, served}
-use Rattle.meaning_runs.specs.Leak.{Opening, leakAccepts, openingOf}
+use Rattle.meaning_runs.specs.Leak.{Opening, leakAccepts, sustains, openingOf}
 use Rattle.meaning_runs.specs.Seen.{cellsOf, departuresOf, cellAt, departureAt}
 use Rattle.meaning_runs.specs.Judged.{judgedOf, judgedAs}
+
+-- "A cell above the peak is excess. A CLP 0 cell within the peak but above the sustainable rate is tagged if the flag is set ..
+-- and otherwise excess": so the leak rules let in a cell with this CLP
+unfoldable pub admits : Opening → ℕ → ℕ → Bool
+admits o clp t = leakAccepts o t && (not (clp =? 0) || sustains o t || not (o .second .tag =? 0))
 
 pub record Demand3 (N z : ℕ) (h : List Event) (s : State) : Type 0 where
   -- 6, 1 and 4: the k-th departure of a VC is its k-th accepted cell. So nothing leaves that was not accepted, no cell
@@ -41,7 +48,7 @@ pub record Demand3 (N z : ℕ) (h : List Event) (s : State) : Type 0 where
   pub in-order : (v j k : ℕ) → j < k → k < length (departuresOf v h)
       → (cellAt v j h .arrival < cellAt v k h .arrival)
       × (departureAt v j h .slot < departureAt v k h .slot)
-  -- 3: with its octets unchanged, as mended, as the line cell shows them in that slot
+  -- 3: with its octets unchanged, as mended and tagged, as the line cell shows them in that slot
   pub unchanged : (v k : ℕ) → k < length (departuresOf v h)
       → departureAt v k h .octets ≡ cellAt v k h .octets
   -- 2: not before its due slot, and at most N-1 slots after it
@@ -58,12 +65,12 @@ pub record Demand3 (N z : ℕ) (h : List Event) (s : State) : Type 0 where
   pub delay : (v k : ℕ) → k < length (cellsOf v h)
       → (cellAt v k h .due ≡ cellAt v k h .arrival + cellAt v k h .D)
       × (cellAt v k h .D ≤ N - 1)
-  -- 8: the next slot accepts a cell that is let through with the header of an open VC exactly when the leak rule does
+  -- 8: the next slot accepts or tags a cell that is let through with the header of an open VC exactly when the leak rules let it in
   pub accepts-exactly : (cell : List ℕ) (o : Opening) → length cell ≡ octets
       → namesVc z (headerAt (letIn s cell .cell) 0) ≡ true
       → openingOf (headerAt (letIn s cell .cell) 0 .vci) h ≡ some o
-      → (slot s cell .answer .verdict ≡ accepted) ↔ (leakAccepts o (served h) ≡ true)
-  -- and whatever arrives, verdict, VCI and D are those of the header let through and the leak rule, or 4, 0 and 0
+      → (letsIn (slot s cell .answer .verdict) ≡ true) ↔ (admits o (headerAt (letIn s cell .cell) 0 .clp) (served h) ≡ true)
+  -- and whatever arrives, verdict, VCI and D are those of the header let through and the leak rules, or 4, 0 and 0
   pub judges : (cell : List ℕ) → length cell =? 0 || length cell =? octets ≡ true
       → judgedOf (slot s cell .answer .verdict) (slot s cell .answer .vci) (slot s cell .answer .d) ≡ judgedAs z h (letIn s cell)
 

@@ -6,3 +6,4 @@ pub mod Quoted
 pub mod Debt
 pub mod Wiped
 pub mod Checked
+pub mod Sustained

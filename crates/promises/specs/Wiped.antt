@@ -14,7 +14,7 @@ use Rattle.meaning.specs.Plain.{if_then_else_, _=?_}
 use Rattle.meaning.specs.State.{withWords}
 use Rattle.meaning.specs.Words.{vcAt, writeVc, closedVc}
 use Rattle.meaning.specs.Calls.{Called, calledOf, sharedRefusal}
-use Rattle.meaning_runs.specs.Run.{Call, onOpen, onClose, onSlot, closed, Run, runOf, call}
+use Rattle.meaning_runs.specs.Run.{Call, onOpenWith, onOpen, onClose, onSlot, closed, Run, runOf, call}
 use Rattle.meaning_runs.specs.Eight.{cellFor}
 
 unfoldable pub closeWiping : Record → List ℕ → ℕ → Called
@@ -26,7 +26,7 @@ closeWiping r words vci =
     else calledOf 0 (writeVc words vci closedVc)
 
 unfoldable pub callWiping : Run → Call → Run
-callWiping r (onOpen vci m F C) = call r (onOpen vci m F C)
+callWiping r (onOpenWith vci m F C x) = call r (onOpenWith vci m F C x)
 callWiping r (onClose vci) =
     let s = r .state in
     let c = closeWiping (s .ctl) (s .words) vci in

@@ -41,7 +41,7 @@ fn accept_end(
     requires { ⌜ Accepted k j (now cell) (now words) ⌝ }
     requires { ⌜ Seated k a ⌝ }
     requires { ⌜ (joins ≡ true → k .outtail < k .n) ⌝ }
-    requires { ⌜ (o .vci < k .v) × (1 ≤ getD (filled (j .vci) (j .s) (k .t) (j .waiting) (rotated k b (now words))) (waitingPlace (o .vci)) 0) ⌝ }
+    requires { ⌜ (o .vci < k .v) × (1 ≤ getD (filled (j .vci) (j .s) (j .second) (k .t) (j .waiting) (rotated k b (now words))) (waitingPlace (o .vci)) 0) ⌝ }
     ensures { λ s. ⌜ servedAfter s cells links calendar words ≡ acceptLeft (before k cells links calendar words) b j a (now (cell .entry)) o joins head clears ⌝ }
 {
     slot_store::store(k, b, j, a, cells, links, calendar, words, cell);
@@ -49,7 +49,7 @@ fn accept_end(
     slot_depart::clear_entry(calendar, clears, k.turn);
     let taken = slot_store::seated(k, a);
     slot_depart::links_leave(taken, joins, head, o.space, links);
-    slot_depart::left(taken, 1, j.vci, j.d, o)
+    slot_depart::left(taken, j.verdict, j.vci, j.d, o)
 }
 
 // What departs once the cell is stored and, where joins, the chain from head to tail has joined the Output List. Field by
@@ -200,7 +200,7 @@ fn accept_none(
         ctl: taken,
         answer: Answer {
             number: 0,
-            verdict: 1,
+            verdict: j.verdict,
             vci: j.vci,
             d: j.d,
             space: 65535,
@@ -294,7 +294,7 @@ fn accept_seated(
     accept_marked(r, k, b, j, a, x, y, cells, links, calendar, words, cell)
 }
 
-// A cell was judged accepted.
+// A cell was judged, and is let in.
 pub fn accept(
     r: Record,
     k: Record,

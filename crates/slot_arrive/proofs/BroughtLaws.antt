@@ -1,56 +1,73 @@
--- Step 2 by cases, as its tests come one after the other; and the bucket of an open VC at this slot, from its words.
-use Prim.Native.Nat.{ℕ, _-_, _*_, _^_}
+-- Step 2 by cases, as its tests come one after the other; and the buckets of an open VC at this slot, from its words.
+use Prim.Native.Nat.{ℕ, _*_}
 use mathlib.Core.Path.{_≡_, refl, sym, _∙_, ap}
 use mathlib.Core.Logic.{_≢_}
 use mathlib.Core.Bool.{true, false}
 use mathlib.Core.List.{List}
+use native.Mathlib.Omega.{arith}
 use borrow.Author.Tests.{eq-eqb, ne-eqb}
 use lib.ListN.{getD}
-use Rattle.meaning.specs.Numbers.{mPlace, fPlace, cPlace, sPlace, lastPlace, wordsPerVc}
-use Rattle.meaning.specs.Bucket.{bucketOf, elapsed, fall}
-use Rattle.meaning.specs.Words.{vcAt, bucketFits}
+use Rattle.meaning.specs.Numbers.{wordsPerVc}
+use Rattle.meaning.specs.Bucket.{withS, elapsed, fall}
+use Rattle.meaning.specs.Words.{Vc, vcAt, bucketFits, secondFits, bucketsFit, fallenTo}
+use Rattle.mem_words.specs.Vcs.{hasNone}
 use Rattle.mem_words.proofs.Fits.{opened-at}
-use Rattle.slot_arrive.specs.Arrival.{fallOf, bucketNow, broughtOf}
+use Rattle.mem_words.proofs.NoneLaws.{none-facts, none-fits}
+use Rattle.slot_arrive.specs.Arrival.{fallOf, vcNow, broughtOf}
+use Rattle.slot_arrive.specs.Both.{broughtBoth}
 
-module _ (t : ℕ) (words : List ℕ) (vci : ℕ) where
-  -- S as it has fallen to slot t
-  abbrev pub fallenS : ℕ
-  fallenS =
-      getD words (sPlace vci) 0 - elapsed t (getD words (lastPlace vci) 0) * 2 ^ getD words (mPlace vci) 0
+-- of a bucket only S falls
+pub now-peak : (t : ℕ) (vc : Vc) → vcNow t vc .bucket ≡ withS (vc .bucket) (vcNow t vc .bucket .S)
+unfolding vcNow fallenTo fall
+now-peak t vc = refl
 
-  pub now-bucket : bucketNow t (vcAt words vci)
-      ≡ bucketOf (getD words (mPlace vci) 0) (getD words (fPlace vci) 0) (getD words (cPlace vci) 0) fallenS
-  unfolding bucketNow vcAt fall
-  now-bucket = refl
+pub now-second : (t : ℕ) (vc : Vc) → vcNow t vc .second ≡ withS (vc .second) (vcNow t vc .second .S)
+unfolding vcNow fallenTo fall
+now-second t vc = refl
 
-  now-S : bucketNow t (vcAt words vci) .S ≡ fallenS
-  unfolding bucketNow vcAt fall
-  now-S = refl
+pub now-waiting : (t : ℕ) (vc : Vc) → vcNow t vc .waiting ≡ vc .waiting
+unfolding vcNow fallenTo
+now-waiting t vc = refl
+
+pub now-tag : (t : ℕ) (vc : Vc) → vcNow t vc .tag ≡ vc .tag
+unfolding vcNow fallenTo
+now-tag t vc = refl
+
+-- nothing falls out of a second bucket that is none
+pub now-none : (t : ℕ) (vc : Vc) → hasNone vc ≡ true → vcNow t vc .second .S ≡ 0
+unfolding vcNow fallenTo fall
+now-none t vc e = omega (arith, none-facts vc e .S-is)
 
 module _ (N t : ℕ) (words : List ℕ) (vci : ℕ) where
-  pub brought-zero : vci ≡ 0 → fallOf true false 0 ≡ broughtOf N t words vci
+  abbrev vc : Vc
+  vc = vcAt words vci
+
+  pub brought-zero : vci ≡ 0 → fallOf true false 0 0 ≡ broughtOf N t words vci
   unfolding broughtOf
   brought-zero e = simp (eq-eqb vci 0 e)
 
-  pub brought-closed : vci ≢ 0 → getD words (wordsPerVc * vci) 0 ≡ 0 → fallOf true false 0 ≡ broughtOf N t words vci
+  pub brought-closed : vci ≢ 0 → getD words (wordsPerVc * vci) 0 ≡ 0 → fallOf true false 0 0 ≡ broughtOf N t words vci
   unfolding broughtOf
   brought-closed ne o = simp (ne-eqb vci 0 ne, eq-eqb _ _ (opened-at words vci ∙ o))
 
-  pub brought-open : (S : ℕ) → vci ≢ 0 → getD words (wordsPerVc * vci) 0 ≡ 1 → bucketFits N (vcAt words vci .bucket) ≡ true
-      → S ≡ fallenS t words vci
-      → fallOf true true S ≡ broughtOf N t words vci
-  unfolding broughtOf
-  brought-open S ne o fits e =
-      simp (ne-eqb vci 0 ne, opened-at words vci ∙ o, fits)
-      (ap (fallOf true true) (e ∙ sym (now-S t words vci)))
+  -- with the peak bucket in range, the second one decides
+  pub brought-both : (s : ℕ) → vci ≢ 0 → getD words (wordsPerVc * vci) 0 ≡ 1 → bucketFits N (vc .bucket) ≡ true
+      → s ≡ vcNow t vc .bucket .S
+      → broughtBoth t vc s ≡ broughtOf N t words vci
+  unfolding broughtOf broughtBoth bucketsFit
+  brought-both s ne o fits e = simp (ne-eqb vci 0 ne, opened-at words vci ∙ o, fits) (rw e)
 
-  pub brought-unfit : vci ≢ 0 → getD words (wordsPerVc * vci) 0 ≡ 1 → bucketFits N (vcAt words vci .bucket) ≡ false
-      → fallOf false false 0 ≡ broughtOf N t words vci
-  unfolding broughtOf
+  pub brought-none : (s : ℕ) → hasNone vc ≡ true → fallOf true true s 0 ≡ broughtBoth t vc s
+  unfolding broughtBoth
+  brought-none s e = rw (none-fits vc (none-facts vc e), now-none t vc e)
+
+  pub brought-unfit : vci ≢ 0 → getD words (wordsPerVc * vci) 0 ≡ 1 → bucketFits N (vc .bucket) ≡ false
+      → fallOf false false 0 0 ≡ broughtOf N t words vci
+  unfolding broughtOf bucketsFit
   brought-unfit ne o fits = simp (ne-eqb vci 0 ne, opened-at words vci ∙ o, fits)
 
   pub brought-other : vci ≢ 0 → getD words (wordsPerVc * vci) 0 ≢ 0 → getD words (wordsPerVc * vci) 0 ≢ 1
-      → fallOf false false 0 ≡ broughtOf N t words vci
+      → fallOf false false 0 0 ≡ broughtOf N t words vci
   unfolding broughtOf
   brought-other ne o₀ o₁ =
       simp (

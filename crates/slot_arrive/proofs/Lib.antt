@@ -1,2 +1,3 @@
 pub mod BroughtLaws
+pub mod BothLaws
 pub mod JudgedLaws

@@ -1,26 +1,35 @@
 // Steps 2 and 3 of a slot, up to the VC words: what is read and decided, before anything is written.
 ghost use mathlib.Core.Path.{_≡_};
-ghost use mathlib.Core.Bool.{true};
-ghost use Prim.Native.Nat.{_-_, _/_, _%_, _^_, _≤_, _<_};
+ghost use mathlib.Core.Bool.{true, false};
+ghost use Prim.Native.Nat.{_%_, _≤_, _<_};
 ghost use lib.ListN.{length, getD};
-ghost use Rattle.meaning.specs.Numbers.{nothing, unknown, waitingPlace, mostV, wordsIn};
+ghost use Rattle.meaning.specs.Numbers.{nothing, excess, unknown, waitingPlace, mostV, wordsIn};
 ghost use Rattle.meaning.specs.State.{HasVc};
 ghost use Rattle.meaning.specs.Header.{headerAt};
-ghost use Rattle.meaning.specs.Bucket.{bucketOf};
-ghost use Rattle.slot_arrive.specs.Arrival.{broughtOf, judgedAs, outOfRange, judgedBucket, judgedVc, cellName, judgedName, fallen, filled, oneLess};
+ghost use Rattle.meaning.specs.Bucket.{withS};
+ghost use Rattle.meaning.specs.Words.{vcAt};
+ghost use Rattle.slot_arrive.specs.Arrival.{fallOf, vcNow, broughtOf, judgedAs, outOfRange, judgedVc, cellName, judgedName, fallen, filled, oneLess};
+ghost use Rattle.slot_arrive.specs.Both.{Peaked, Within, SecondIn, broughtBoth, letInAs, judgedPeak, judgedSecond, judgedBoth};
 use meaning::AT_C;
 use meaning::AT_F;
 use meaning::AT_LAST;
 use meaning::AT_M;
 use meaning::AT_S;
+use meaning::AT_SECOND_C;
+use meaning::AT_SECOND_F;
+use meaning::AT_SECOND_M;
+use meaning::AT_SECOND_S;
+use meaning::AT_TAG;
 use meaning::AT_WAITING;
 use meaning::WORDS_PER_VC;
 
-// What step 2 found: ok where all that it reads is in range; on where S and last are to be written, S being s.
+// What step 2 found: ok where all that it reads is in range; on where S and last are to be written, S being s, and that of the
+// second bucket second.
 pub struct Fall {
     pub ok: bool,
     pub on: bool,
     pub s: u32,
+    pub second: u32,
 }
 
 // What step 3 found: ok where all that it reads of the VC is in range.
@@ -31,44 +40,87 @@ pub struct Judged {
     pub d: u16,
     pub s: u32,
     pub waiting: u32,
+    pub second: u32,
 }
 
-// Step 2: the VC that rotation names, brought up to date to slot t.
+fn no_fall(ok: bool) -> Fall
+    ensures { λ r. ⌜ r ≡ fallOf ok false 0 0 ⌝ }
+{
+    Fall {
+        ok: ok,
+        on: false,
+        s: 0,
+        second: 0,
+    }
+}
+
+// S of a VC's bucket as it has fallen to slot t.
+fn peak_now(words: &[u32], vci: u16, t: u32) -> u32
+    requires { ⌜ (HasVc vci (now words)) × (vcAt (now words) vci .bucket .m ≤ 15) ⌝ }
+    ensures { λ r. ⌜ r ≡ vcNow t (vcAt (now (words .entry)) vci) .bucket .S ⌝ }
+{
+    let b = WORDS_PER_VC * (vci as usize);
+    leaf_bucket::fallen_to(words[b + AT_S], words[b + AT_M], words[b + AT_LAST], t)
+}
+
+// The same of its second bucket.
+fn second_now(words: &[u32], vci: u16, t: u32) -> u32
+    requires { ⌜ (HasVc vci (now words)) × (vcAt (now words) vci .second .m ≤ 15) ⌝ }
+    ensures { λ r. ⌜ r ≡ vcNow t (vcAt (now (words .entry)) vci) .second .S ⌝ }
+{
+    let b = WORDS_PER_VC * (vci as usize);
+    leaf_bucket::fallen_to(
+        words[b + AT_SECOND_S],
+        words[b + AT_SECOND_M],
+        words[b + AT_LAST],
+        t,
+    )
+}
+
+// Step 2 of an open VC that has a second bucket.
+fn bring_both(words: &[u32], vci: u16, t: u32, s: u32) -> Fall
+    requires { ⌜ HasVc vci (now words) ⌝ }
+    ensures { λ r. ⌜ r ≡ broughtBoth t (vcAt (now (words .entry)) vci) s ⌝ }
+{
+    if mem_words::second_fits(words, vci) {
+        let second = second_now(words, vci, t);
+        return Fall {
+            ok: true,
+            on: true,
+            s: s,
+            second: second,
+        };
+    }
+    no_fall(false)
+}
+
+// Step 2: the VC that rotation names, brought up to date to slot t. Without a second bucket there is nothing to fall in it.
 pub fn bring(n: u16, words: &[u32], vci: u16, t: u32) -> Fall
     requires { ⌜ HasVc vci (now words) ⌝ }
     ensures { λ r. ⌜ r ≡ broughtOf n t (now (words .entry)) vci ⌝ }
 {
     if vci == 0 {
-        return Fall {
-            ok: true,
-            on: false,
-            s: 0,
-        };
+        return no_fall(true);
     }
-    let b = WORDS_PER_VC * (vci as usize);
-    let o = words[b];
+    let o = words[WORDS_PER_VC * (vci as usize)];
     if o == 0 {
-        return Fall {
-            ok: true,
-            on: false,
-            s: 0,
-        };
+        return no_fall(true);
     }
     if o == 1 {
         if mem_words::bucket_fits(n, words, vci) {
-            let s = leaf_bucket::fallen_to(words[b + AT_S], words[b + AT_M], words[b + AT_LAST], t);
-            return Fall {
-                ok: true,
-                on: true,
-                s: s,
-            };
+            let s = peak_now(words, vci, t);
+            if mem_words::none_second(words, vci) {
+                return Fall {
+                    ok: true,
+                    on: true,
+                    s: s,
+                    second: 0,
+                };
+            }
+            return bring_both(words, vci, t, s);
         }
     }
-    Fall {
-        ok: false,
-        on: false,
-        s: 0,
-    }
+    no_fall(false)
 }
 
 fn out_of_range() -> Judged
@@ -81,11 +133,12 @@ fn out_of_range() -> Judged
         d: 0,
         s: 0,
         waiting: 0,
+        second: 0,
     }
 }
 
 fn no_cell() -> Judged
-    ensures { λ r. ⌜ r ≡ judgedAs true nothing 0 0 0 0 ⌝ }
+    ensures { λ r. ⌜ r ≡ judgedAs true nothing 0 0 0 0 0 ⌝ }
 {
     Judged {
         ok: true,
@@ -94,11 +147,12 @@ fn no_cell() -> Judged
         d: 0,
         s: 0,
         waiting: 0,
+        second: 0,
     }
 }
 
 fn no_vc(vci: u16) -> Judged
-    ensures { λ r. ⌜ r ≡ judgedAs true unknown vci 0 0 0 ⌝ }
+    ensures { λ r. ⌜ r ≡ judgedAs true unknown vci 0 0 0 0 ⌝ }
 {
     Judged {
         ok: true,
@@ -107,61 +161,122 @@ fn no_vc(vci: u16) -> Judged
         d: 0,
         s: 0,
         waiting: 0,
+        second: 0,
     }
 }
 
-// Step 3 at an open VC whose words but waiting are in range, S as it has fallen.
-fn judge_bucket(n: u16, vci: u16, m: u32, f: u32, c: u32, s: u32, waiting: u32) -> Judged
-    requires { ⌜ (m ≤ 15) × (f ≤ c) × ((c - f) / 2 ^ m < n) ⌝ }
-    ensures { λ r. ⌜ r ≡ judgedBucket n vci (bucketOf m f c s) waiting ⌝ }
+// A cell of this VC is above a rate: what is in the buckets stays.
+fn above(vci: u16, s: u32, second: u32) -> Judged
+    ensures { λ r. ⌜ r ≡ judgedAs true excess vci 0 s 0 second ⌝ }
 {
-    if c - f < s {
-        return Judged {
-            ok: true,
-            verdict: 2,
-            vci: vci,
-            d: 0,
-            s: s,
-            waiting: 0,
-        };
+    Judged {
+        ok: true,
+        verdict: 2,
+        vci: vci,
+        d: 0,
+        s: s,
+        waiting: 0,
+        second: second,
     }
+}
+
+// A cell within the peak is let in with this verdict: s is in the bucket before it, second in the second bucket after it.
+fn let_in(n: u16, words: &[u32], vci: u16, verdict: u16, s: u32, second: u32) -> Judged
+    requires { ⌜ Within n (now words) vci s ⌝ }
+    ensures { λ r. ⌜ r ≡ letInAs n verdict vci (withS (vcAt (now (words .entry)) vci .bucket) s) (vcAt (now (words .entry)) vci .waiting) second ⌝ }
+{
+    let b = WORDS_PER_VC * (vci as usize);
+    let waiting = words[b + AT_WAITING];
     if waiting < n as u32 {
-        let full = s + f;
-        let d = leaf_bucket::delay_of(s, m) as u16;
+        let full = s + words[b + AT_F];
+        let d = leaf_bucket::delay_of(s, words[b + AT_M]) as u16;
         return Judged {
             ok: true,
-            verdict: 1,
+            verdict: verdict,
             vci: vci,
             d: d,
             s: full,
             waiting: waiting + 1,
+            second: second,
         };
     }
     out_of_range()
 }
 
-// Step 3 at the VC vci, from 1 to V-1.
-pub fn judge_vc(n: u16, words: &[u32], vci: u16, t: u32) -> Judged
-    requires { ⌜ HasVc vci (now words) ⌝ }
-    ensures { λ r. ⌜ r ≡ judgedVc n t (now (words .entry)) vci ⌝ }
+// Step 3 at an open VC without a second bucket, s being in its bucket.
+fn judge_peak(n: u16, words: &[u32], vci: u16, s: u32) -> Judged
+    requires { ⌜ Peaked n (now words) vci ⌝ }
+    ensures { λ r. ⌜ r ≡ judgedPeak n vci (withS (vcAt (now (words .entry)) vci .bucket) s) (vcAt (now (words .entry)) vci .waiting) ⌝ }
 {
     let b = WORDS_PER_VC * (vci as usize);
-    let o = words[b];
+    if words[b + AT_C] - words[b + AT_F] < s {
+        return above(vci, s, 0);
+    }
+    let_in(n, words, vci, 1, s, 0)
+}
+
+// Step 3 of a CLP 0 cell within the peak, s and second being in the buckets.
+fn judge_second(n: u16, words: &[u32], vci: u16, s: u32, second: u32) -> Judged
+    requires { ⌜ Within n (now words) vci s ⌝ }
+    requires { ⌜ SecondIn (now words) vci ⌝ }
+    ensures { λ r. ⌜ r ≡ judgedSecond n vci s second (vcAt (now (words .entry)) vci) ⌝ }
+{
+    let b = WORDS_PER_VC * (vci as usize);
+    let f = words[b + AT_SECOND_F];
+    if words[b + AT_SECOND_C] - f < second {
+        if words[b + AT_TAG] == 0 {
+            return above(vci, s, second);
+        }
+        return let_in(n, words, vci, 5, s, second);
+    }
+    let filled = second + f;
+    let_in(n, words, vci, 1, s, filled)
+}
+
+// Step 3 at an open VC with a second bucket, of a cell with this CLP, s being in its bucket.
+fn judge_both(n: u16, words: &[u32], vci: u16, t: u32, clp: u8, s: u32) -> Judged
+    requires { ⌜ Peaked n (now words) vci ⌝ }
+    ensures { λ r. ⌜ r ≡ judgedBoth n t vci clp s (vcAt (now (words .entry)) vci) ⌝ }
+{
+    if !mem_words::second_fits(words, vci) {
+        return out_of_range();
+    }
+    let second = second_now(words, vci, t);
+    let b = WORDS_PER_VC * (vci as usize);
+    if words[b + AT_C] - words[b + AT_F] < s {
+        return above(vci, s, second);
+    }
+    if clp == 0 {
+        return judge_second(n, words, vci, s, second);
+    }
+    let_in(n, words, vci, 1, s, second)
+}
+
+// CLP of a cell: the low bit of octet 4.
+fn clp_of(cell: &[u8]) -> u8
+    requires { ⌜ 4 ≤ length (now cell) ⌝ }
+    ensures { λ r. ⌜ r ≡ headerAt (now (cell .entry)) 0 .clp ⌝ }
+{
+    cell[3] % 2
+}
+
+// Step 3 at the VC vci, from 1 to V-1. The cell's CLP is read only where the VC has a second bucket.
+pub fn judge_vc(n: u16, words: &[u32], vci: u16, t: u32, cell: &[u8]) -> Judged
+    requires { ⌜ (HasVc vci (now words)) × (4 ≤ length (now cell)) ⌝ }
+    ensures { λ r. ⌜ r ≡ judgedVc n t (now (words .entry)) vci (headerAt (now (cell .entry)) 0 .clp) ⌝ }
+{
+    let o = words[WORDS_PER_VC * (vci as usize)];
     if o == 0 {
         return no_vc(vci);
     }
     if o == 1 {
         if mem_words::bucket_fits(n, words, vci) {
-            let s = leaf_bucket::fallen_to(words[b + AT_S], words[b + AT_M], words[b + AT_LAST], t);
-            return judge_bucket(
-                n,
-                vci,
-                words[b + AT_M],
-                words[b + AT_F],
-                words[b + AT_C],
-                s,
-                words[b + AT_WAITING],
-            );
+            let s = peak_now(words, vci, t);
+            if mem_words::none_second(words, vci) {
+                return judge_peak(n, words, vci, s);
+            }
+            let clp = clp_of(cell);
+            return judge_both(n, words, vci, t, clp, s);
         }
     }
     out_of_range()
@@ -180,40 +295,42 @@ pub fn name_of(cell: &[u8]) -> u32
 }
 
 // Step 3 of a cell with this name. Apart from the name's reading, so that each of the two is laid into both of its users.
-pub fn judge(n: u16, v: u16, words: &[u32], name: u32, t: u32) -> Judged
-    requires { ⌜ (wordsIn v ≡ length (now words)) × (v ≤ mostV) ⌝ }
-    ensures { λ r. ⌜ r ≡ judgedName n v t (now (words .entry)) name ⌝ }
+pub fn judge(n: u16, v: u16, words: &[u32], name: u32, t: u32, cell: &[u8]) -> Judged
+    requires { ⌜ (wordsIn v ≡ length (now words)) × (v ≤ mostV) × ((name ≡ 0 → ⊥) → length (now cell) ≡ 53) ⌝ }
+    ensures { λ r. ⌜ r ≡ judgedName n v t (now (words .entry)) name (headerAt (now (cell .entry)) 0 .clp) ⌝ }
 {
     if name == 0 {
         return no_cell();
     }
     if name < v as u32 {
-        return judge_vc(n, words, name as u16, t);
+        return judge_vc(n, words, name as u16, t, cell);
     }
     no_vc((name % 65536) as u16)
 }
 
-// Writes of S and last, where on.
-pub fn put_fall(words: &mut [u32], on: bool, vci: u16, s: u32, t: u32)
+// Writes of both S and last, where on.
+pub fn put_fall(words: &mut [u32], on: bool, vci: u16, s: u32, second: u32, t: u32)
     requires { ⌜ (on ≡ true → HasVc vci (now words)) ⌝ }
-    ensures { λ r. ⌜ now (words .exit) ≡ fallen on vci s t (now (words .entry)) ⌝ }
+    ensures { λ r. ⌜ now (words .exit) ≡ fallen on vci s second t (now (words .entry)) ⌝ }
 {
     if on {
         let b = WORDS_PER_VC * (vci as usize);
         words[b + AT_S] = s;
         words[b + AT_LAST] = t;
+        words[b + AT_SECOND_S] = second;
     }
 }
 
-// The words of an accepted cell's VC.
-pub fn put_fill(words: &mut [u32], vci: u16, s: u32, t: u32, waiting: u32)
+// The words of the VC of a cell that is let in.
+pub fn put_fill(words: &mut [u32], vci: u16, s: u32, second: u32, t: u32, waiting: u32)
     requires { ⌜ HasVc vci (now words) ⌝ }
-    ensures { λ r. ⌜ now (words .exit) ≡ filled vci s t waiting (now (words .entry)) ⌝ }
+    ensures { λ r. ⌜ now (words .exit) ≡ filled vci s second t waiting (now (words .entry)) ⌝ }
 {
     let b = WORDS_PER_VC * (vci as usize);
     words[b + AT_S] = s;
     words[b + AT_LAST] = t;
     words[b + AT_WAITING] = waiting;
+    words[b + AT_SECOND_S] = second;
 }
 
 // Waiting of a VC falls by one.

@@ -1,6 +1,7 @@
 -- The cases in which a cell is accepted, from what was read, the cell and its VC's words being written in thought, to
 -- what the five steps leave.
 use Prim.Native.Nat.{ℕ, _≤_, _<_}
+use lib.ListN.{length}
 use mathlib.Core.Path.{_≡_, sym, _∙_, ap}
 use mathlib.Core.Logic.{_≢_}
 use mathlib.Core.Bool.{Bool, true, false, not}
@@ -14,6 +15,8 @@ use Rattle.meaning.specs.State.{Ends, stateOf, freeList, recordWith, writeCell}
 use Rattle.meaning.specs.Lists.{emptyList, endsFit, entryAt, writeEntry}
 use Rattle.meaning.specs.Work.{Work}
 use Rattle.meaning.specs.Slot.{step4, step5}
+use Rattle.meaning.specs.Arrival.{sentAs}
+use Rattle.meaning.proofs.TaggedLaws.{sent-length, sent-vpi, sent-vci}
 use Rattle.slot_arrive.specs.declared.Fall.{Fall}
 use Rattle.slot_arrive.specs.declared.Judged.{Judged}
 use Rattle.slot_arrive.specs.Arrival.{fallen, filled}
@@ -32,23 +35,27 @@ module _ (k : Record) (b : Fall) (j : Judged) (a : Seat) (cell cells links calen
 
   -- the cells, the links and the words once the cell is accepted
   abbrev cells₃ : List ℕ
-  cells₃ = writeCell cells (a .x) cell
+  cells₃ = writeCell cells (a .x) (sentAs (j .verdict) cell)
 
   abbrev links₃ : List ℕ
   links₃ = linked (not (a .head =? empty)) (a .x) (a .head) links
 
   abbrev words₃ : List ℕ
-  words₃ = filled (j .vci) (j .s) (k .t) (j .waiting) (rotated k b words)
+  words₃ = filled (j .vci) (j .s) (j .second) (k .t) (j .waiting) (rotated k b words)
 
   module _ (z : Sized (stateOf k cells links calendar words)) (acc : Accepted k j cell words) (seat : Seated k a) where
     is-stored : Stored (j .vci) (a .x) cells cells₃
     is-stored =
-        stored (j .vci) (a .x) cells cell (omega (arith, z .cells-long, seat .x-low)) (acc .cell-long) (acc .vpi-is) (acc .vci-is)
+        let long : 4 < length cell = omega (arith, acc .cell-long) in
+        stored (j .vci) (a .x) cells (sentAs (j .verdict) cell) (omega (arith, z .cells-long, seat .x-low))
+        (sent-length (j .verdict) cell ∙ acc .cell-long)
+        (sent-vpi (j .verdict) cell long ∙ acc .vpi-is)
+        (sent-vci (j .verdict) cell long ∙ acc .vci-is)
 
     is-counted : Counted (k .n) (j .vci) words words₃
     unfolding filled rotated fallen
     is-counted =
-        counted (k .n) (j .vci) (j .s) (k .t) (j .waiting) words _ (kept-fall (b .on) (k .rotation) (b .s) (k .t) words)
+        counted (k .n) (j .vci) (j .s) (j .second) (k .t) (j .waiting) words _ (kept-fall (b .on) (k .rotation) (b .s) (b .second) (k .t) words)
         (omega (arith, z .words-long, acc .vci-high)) (acc .is-open) (acc .waiting-low) (acc .waiting-high)
 
     free-fits : endsFit (accept-work .state .ctl .n) (freeList (accept-work .state)) ≡ true

@@ -1,40 +1,63 @@
 -- Step 3, as it was found in numbers: refused, no cell accepted, or a space sought for the accepted cell.
-use Prim.Native.Nat.{ℕ, _+_, _<_}
-use mathlib.Core.Path.{_≡_, refl, ap}
+use Prim.Native.Nat.{ℕ, _+_, _-_, _*_, _^_, _<_}
+use mathlib.Core.Path.{_≡_, refl, ap, _∙_}
 use mathlib.Core.Logic.{_⊎_, inl, inr}
-use mathlib.Core.Bool.{Bool, true, false, _||_}
+use mathlib.Core.Bool.{Bool, true, false, _&&_, _||_}
 use mathlib.Core.List.{List}
 use native.Mathlib.Omega.{arith}
 use borrow.Author.Tests.{eq-eqb, ne-eqb, le-leb, lt-leb}
 use lib.ListN.{length}
 use Rattle.meaning.specs.declared.Record.{Record}
 use Rattle.meaning.specs.Plain.{if_then_else_, _<?_, _=?_, Out, refused, next}
-use Rattle.meaning.specs.Numbers.{accepted, excess}
+use Rattle.meaning.specs.Numbers.{accepted, excess, letsIn}
 use Rattle.meaning.specs.State.{stateOf, withWords}
 use Rattle.meaning.specs.Header.{Header, headerAt, noUserCell, namesVc}
-use Rattle.meaning.specs.Bucket.{fall, isExcess, fill}
-use Rattle.meaning.specs.Words.{Vc, vcAt, writeVc, withBucket, withWaiting, bucketFits, openWordFits, upToDate}
+use Rattle.meaning.specs.Bucket.{Bucket, withS, elapsed, fall, fill}
+use Rattle.meaning.specs.Words.{Vc, vcAt, writeVc, withBuckets, withWaiting, bucketsFit, openWordFits, fallenTo, upToDate}
 use Rattle.meaning.specs.Work.{Work, workOf, answerOf}
-use Rattle.meaning.specs.Arrival.{accept, judge}
+use Rattle.meaning.specs.Arrival.{verdictOn, secondAfter, accept, judge}
 use Rattle.meaning.specs.Slot.{step3}
 use Rattle.meaning.proofs.WordsLaws.{write-fill}
 use Rattle.slot_arrive.specs.declared.Judged.{Judged}
-use Rattle.slot_arrive.specs.Arrival.{bucketNow, judgedBucket, judgedVc, judgedOf, fallen, filled}
+use Rattle.slot_arrive.specs.Arrival.{vcNow, judgedBuckets, judgedVc, judgedOf, fallen, filled}
 use Rattle.slot_plan.specs.Plan.{rotatedWork, quietWork, seekingWork, seating}
-use Rattle.slot_plan.proofs.Rotate.{open-cases, upTo, update-is}
+use Rattle.slot_plan.proofs.Rotate.{open-cases, update-is}
+use Rattle.slot_plan.proofs.Found.{not-excess}
 
--- the words of an accepted cell's VC
-fill-is : (words : List ℕ) (vci t : ℕ)
-    → writeVc words vci (withWaiting (withBucket (upTo t (vcAt words vci)) (fill (bucketNow t (vcAt words vci)))) (vcAt words vci .waiting + 1))
-    ≡ filled vci (fill (bucketNow t (vcAt words vci)) .S) t (vcAt words vci .waiting + 1) words
-unfolding filled fill bucketNow fall
-fill-is words vci t = write-fill words vci _ t _
+-- filled or not, of a second bucket only S is another
+second-is : (clp verdict S : ℕ) (x : Bucket)
+    → secondAfter clp verdict (withS x S) ≡ withS x (secondAfter clp verdict (withS x S) .S)
+unfolding secondAfter fill
+second-is clp verdict S x = go (clp =? 0 && verdict =? accepted)
+  where
+    go : (b : Bool) → (if b then withS x (S + x .F) else withS x S) ≡ withS x ((if b then withS x (S + x .F) else withS x S) .S)
+    go true = refl
+    go false = refl
+
+-- the words of the VC of a cell that is let in
+fill-is : (words : List ℕ) (vci t clp verdict : ℕ)
+    → let vc = vcNow t (vcAt words vci) in
+    writeVc words vci (withWaiting (withBuckets vc (fill (vc .bucket)) (secondAfter clp verdict (vc .second))) (vc .waiting + 1))
+    ≡ filled vci (fill (vc .bucket) .S) (secondAfter clp verdict (vc .second) .S) t (vc .waiting + 1) words
+unfolding filled fill vcNow fallenTo fall
+fill-is words vci t clp verdict =
+    let vc = vcAt words vci in
+    let S = vc .second .S - elapsed t (vc .last) * 2 ^ vc .second .m in
+    ap (λ (x : Bucket). writeVc words vci (record {
+      opened = vc .opened;
+      bucket = withS (vc .bucket) (vc .bucket .S - elapsed t (vc .last) * 2 ^ vc .bucket .m + vc .bucket .F);
+      last = t;
+      waiting = vc .waiting + 1;
+      second = x;
+      tag = vc .tag;
+    })) (second-is clp verdict S (vc .second))
+    ∙ write-fill words vci _ t _ _
 
 -- what step 3 comes to, from what was found
 unfoldable pub arriving : Record → Judged → List ℕ → List ℕ → List ℕ → List ℕ → List ℕ → Out Work
 arriving k j cell cells links calendar words =
     if j .ok
-    then (if j .verdict =? accepted then seating k j cell cells links calendar words
+    then (if letsIn (j .verdict) then seating k j cell cells links calendar words
     else next (quietWork k j cells links calendar words))
     else refused
 
@@ -49,13 +72,20 @@ module _ (k : Record) (cell cells links calendar words : List ℕ) where
   w = rotatedWork k cells links calendar words
 
   -- the VC is open and its words but waiting are in range
-  judge-is : (x a : Bool) → isExcess (bucketNow (k .t) vc) ≡ x → vc .waiting <? k .n ≡ a
-      → judge cell (h .vci) w (upTo (k .t) vc) ≡ arriving k (judgedBucket (k .n) (h .vci) (bucketNow (k .t) vc) (vc .waiting)) cell cells links calendar words
-  unfolding judge accept judgedBucket arriving rotatedWork quietWork fallen seating seekingWork withWords
+  judge-is : (x a : Bool) → (verdictOn (h .clp) (vcNow (k .t) vc) =? excess) ≡ x → vcNow (k .t) vc .waiting <? k .n ≡ a
+      → judge cell (h .vci) w (vcNow (k .t) vc)
+      ≡ arriving k (judgedBuckets (k .n) (h .vci) (h .clp) (vcNow (k .t) vc)) cell cells links calendar words
+  unfolding judge accept judgedBuckets arriving rotatedWork quietWork fallen seating seekingWork withWords letsIn
   judge-is true a ex ea =
       rw ex
       (ap (λ (l : List ℕ). next (workOf (stateOf k cells links calendar l) (answerOf 0 excess (h .vci) 0 65535 0))) (update-is words (h .vci) (k .t)))
-  judge-is false true ex ea = rw (ex, ea, fill-is words (h .vci) (k .t))
+  judge-is false true ex ea =
+      rw (
+        ex,
+        ea,
+        not-excess (h .clp) (vcNow (k .t) vc) ex .lets,
+        fill-is words (h .vci) (k .t) (h .clp) (verdictOn (h .clp) (vcNow (k .t) vc)),
+      )
   judge-is false false ex ea = rw (ex, ea)
 
   abbrev found : Judged
@@ -64,23 +94,23 @@ module _ (k : Record) (cell cells links calendar words : List ℕ) where
   Goal : Type 0
   Goal = step3 cell w ≡ arriving k found cell cells links calendar words
 
-  fits : (f : Bool) → length cell =? 0 || noUserCell h ≡ false → namesVc (k .v) h ≡ true → vc .opened ≡ 1 → bucketFits (k .n) (vc .bucket) ≡ f → Goal
-  unfolding Goal step3 judgedOf judgedVc rotatedWork openWordFits upToDate bucketNow arriving
+  fits : (f : Bool) → length cell =? 0 || noUserCell h ≡ false → namesVc (k .v) h ≡ true → vc .opened ≡ 1 → bucketsFit (k .n) vc ≡ f → Goal
+  unfolding Goal step3 judgedOf judgedVc rotatedWork openWordFits upToDate vcNow arriving
   fits true c n o f =
       rw (c, n, le-leb (vc .opened) 1 (omega arith), ne-eqb (vc .opened) 0 (λ q. omega arith), eq-eqb (vc .opened) 1 o, f)
-      (judge-is (isExcess (bucketNow (k .t) vc)) (vc .waiting <? k .n) refl refl)
+      (judge-is (verdictOn (h .clp) (vcNow (k .t) vc) =? excess) (vcNow (k .t) vc .waiting <? k .n) refl refl)
   fits false c n o f =
       rw (c, n, le-leb (vc .opened) 1 (omega arith), ne-eqb (vc .opened) 0 (λ q. omega arith), eq-eqb (vc .opened) 1 o, f)
 
   at-vc : length cell =? 0 || noUserCell h ≡ false → namesVc (k .v) h ≡ true
       → (vc .opened ≡ 0) ⊎ ((vc .opened ≡ 1) ⊎ (1 < vc .opened)) → Goal
-  unfolding Goal step3 judgedOf judgedVc rotatedWork openWordFits arriving quietWork fallen
+  unfolding Goal step3 judgedOf judgedVc rotatedWork openWordFits arriving quietWork fallen letsIn
   at-vc c n (inl o) = rw (c, n, le-leb (vc .opened) 1 (omega arith), eq-eqb (vc .opened) 0 o)
-  at-vc c n (inr (inl o)) = fits (bucketFits (k .n) (vc .bucket)) c n o refl
+  at-vc c n (inr (inl o)) = fits (bucketsFit (k .n) vc) c n o refl
   at-vc c n (inr (inr o)) = rw (c, n, lt-leb (vc .opened) 1 o, ne-eqb (vc .opened) 0 (λ q. omega arith), ne-eqb (vc .opened) 1 (λ q. omega arith))
 
   at-cell : (c n : Bool) → length cell =? 0 || noUserCell h ≡ c → namesVc (k .v) h ≡ n → Goal
-  unfolding Goal step3 judgedOf rotatedWork arriving quietWork fallen
+  unfolding Goal step3 judgedOf rotatedWork arriving quietWork fallen letsIn
   at-cell true n ec en = rw ec
   at-cell false true ec en = at-vc ec en (open-cases (vc .opened))
   at-cell false false ec en = rw (ec, en)

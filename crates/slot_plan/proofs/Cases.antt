@@ -124,11 +124,11 @@ module _ (k : Record) (b : Fall) (j : Judged) (cells links calendar words : List
   abbrev w : Work
   w = quietWork k j cells links calendar (rotated k b words)
 
-  pub quiet-kept : Kept words (fallen (j .verdict =? excess) (j .vci) (j .s) (k .t) (rotated k b words))
+  pub quiet-kept : Kept words (fallen (j .verdict =? excess) (j .vci) (j .s) (j .second) (k .t) (rotated k b words))
   unfolding fallen rotated
   quiet-kept =
-      let one = kept-fall (b .on) (k .rotation) (b .s) (k .t) words in
-      let two = kept-fall (j .verdict =? excess) (j .vci) (j .s) (k .t) (rotated k b words) in
+      let one = kept-fall (b .on) (k .rotation) (b .s) (b .second) (k .t) words in
+      let two = kept-fall (j .verdict =? excess) (j .vci) (j .s) (j .second) (k .t) (rotated k b words) in
       record {
         long = two .long ∙ one .long;
         opened = λ u. two .opened u ∙ one .opened u;

@@ -15,6 +15,7 @@ use Rattle.meaning.specs.Lists.{writeEntry}
 use Rattle.meaning.specs.Work.{Work, answerOf, bareAnswer}
 use Rattle.meaning.specs.Slot.{finish}
 use Rattle.meaning.proofs.ListsLaws.{fit-tail}
+use Rattle.meaning.specs.Arrival.{sentAs}
 use Rattle.slot_arrive.specs.declared.Fall.{Fall}
 use Rattle.slot_arrive.specs.declared.Judged.{Judged}
 use Rattle.slot_arrive.specs.Arrival.{fallen, filled, oneLess}
@@ -34,7 +35,7 @@ pub quiet-left : (k : Record) (b : Fall) (j : Judged) (o : Off) (cells links cal
     (links₁ links′ calendar′ words₁ words′ : List ℕ)
     → (s .ctl ≡ withEnds k (freed k (o .space)) (endsOf (o .head) (o .tail))) × (s .answer ≡ answerOf 0 (j .verdict) (j .vci) 0 (o .space) (o .vci))
     → links′ ≡ linked (not (k .freehead =? empty)) (k .freetail) (o .space) links₁
-    → words₁ ≡ fallen (j .verdict =? excess) (j .vci) (j .s) (k .t) (rotated k b words)
+    → words₁ ≡ fallen (j .verdict =? excess) (j .vci) (j .s) (j .second) (k .t) (rotated k b words)
     → words′ ≡ oneLess (o .vci) words₁
     → servedWork s cells links′ calendar′ words′ ≡ leftBy (quietWork k j cells links calendar (rotated k b words)) links₁ calendar′ o
 unfolding leftBy quietWork
@@ -63,11 +64,11 @@ seated-tail k a taken e s n =
 pub accept-served : (k : Record) (b : Fall) (j : Judged) (a : Seat) (cell cells links calendar words : List ℕ) (s : Served)
     (cells′ links′ calendar′ words′ : List ℕ)
     → s .ctl ≡ withEnds k (endsOf (a .freehead) (a .freetail)) (endsOf (k .outhead) (k .outtail))
-    → s .answer ≡ answerOf 0 1 (j .vci) (j .d) 65535 0
-    → cells′ ≡ writeCell cells (a .x) cell
+    → s .answer ≡ answerOf 0 (j .verdict) (j .vci) (j .d) 65535 0
+    → cells′ ≡ writeCell cells (a .x) (sentAs (j .verdict) cell)
     → links′ ≡ linked (not (a .head =? empty)) (a .x) (a .head) links
     → calendar′ ≡ writeEntry calendar (a .e) (seatEnds a)
-    → words′ ≡ filled (j .vci) (j .s) (k .t) (j .waiting) (rotated k b words)
+    → words′ ≡ filled (j .vci) (j .s) (j .second) (k .t) (j .waiting) (rotated k b words)
     → servedWork s cells′ links′ calendar′ words′ ≡ acceptWork k j a cell cells links calendar (rotated k b words)
 unfolding acceptWork
 accept-served k b j a cell cells links calendar words s cells′ links′ calendar′ words′ p q c l e f = rw (p, q, c, l, e, f)
@@ -76,12 +77,12 @@ accept-served k b j a cell cells links calendar words s cells′ links′ calend
 pub accept-left : (k : Record) (b : Fall) (j : Judged) (a : Seat) (o : Off) (cell cells links calendar words : List ℕ)
     (s : Served) (taken : Record) (cells′ links₀ links₁ links′ calendar₁ calendar′ words₃ words′ : List ℕ)
     → taken ≡ withEnds k (endsOf (a .freehead) (a .freetail)) (endsOf (k .outhead) (k .outtail))
-    → (s .ctl ≡ withEnds taken (freed taken (o .space)) (endsOf (o .head) (o .tail))) × (s .answer ≡ answerOf 0 1 (j .vci) (j .d) (o .space) (o .vci))
-    → cells′ ≡ writeCell cells (a .x) cell
+    → (s .ctl ≡ withEnds taken (freed taken (o .space)) (endsOf (o .head) (o .tail))) × (s .answer ≡ answerOf 0 (j .verdict) (j .vci) (j .d) (o .space) (o .vci))
+    → cells′ ≡ writeCell cells (a .x) (sentAs (j .verdict) cell)
     → links′ ≡ linked (not (taken .freehead =? empty)) (taken .freetail) (o .space) links₀
     → links₀ ≡ links₁
     → calendar′ ≡ calendar₁
-    → words₃ ≡ filled (j .vci) (j .s) (k .t) (j .waiting) (rotated k b words)
+    → words₃ ≡ filled (j .vci) (j .s) (j .second) (k .t) (j .waiting) (rotated k b words)
     → words′ ≡ oneLess (o .vci) words₃
     → servedWork s cells′ links′ calendar′ words′
     ≡ leftBy (acceptWork k j a cell cells links calendar (rotated k b words)) links₁ calendar₁ o

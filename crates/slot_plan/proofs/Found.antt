@@ -1,6 +1,6 @@
 -- What the tests of a slot have shown, once they passed: of the judged cell, of its seat, and of what departs.
 use Prim.Native.Nat.{ℕ, _+_, _-_, _*_, _/_, _^_, _≤_, _<_}
-use mathlib.Core.Path.{_≡_, refl, sym}
+use mathlib.Core.Path.{_≡_, refl, sym, _∙_}
 use mathlib.Core.Logic.{_⊎_, inl, inr}
 use mathlib.Core.Bool.{Bool, true, false, _&&_, _||_}
 use mathlib.Core.List.{List}
@@ -11,14 +11,15 @@ use lib.ListN.{length, getD}
 use lib.Pow.{pow-pos}
 use Rattle.meaning.specs.declared.Record.{Record}
 use Rattle.meaning.specs.Plain.{if_then_else_, _<?_, _≤?_, _=?_}
-use Rattle.meaning.specs.Numbers.{accepted, excess}
+use Rattle.meaning.specs.Numbers.{excess, letsIn}
 use Rattle.meaning.specs.Header.{Header, headerAt, noUserCell, namesVc}
 use Rattle.meaning.specs.Bucket.{obeysRules, elapsed, fall, isExcess, delay}
-use Rattle.meaning.specs.Words.{Vc, vcAt, bucketFits}
+use Rattle.meaning.specs.Words.{Vc, vcAt, bucketFits, secondFits, bucketsFit, fallenTo}
+use Rattle.meaning.specs.Arrival.{verdictOn}
 use Rattle.meaning.specs.Lists.{endsFit, entryAt}
 use Rattle.meaning.proofs.ListsLaws.{fit-marked, fit-empty}
 use Rattle.slot_arrive.specs.declared.Judged.{Judged}
-use Rattle.slot_arrive.specs.Arrival.{bucketNow, judgedBucket, judgedVc, judgedOf}
+use Rattle.slot_arrive.specs.Arrival.{vcNow, judgedBuckets, judgedVc, judgedOf}
 use Rattle.mem_lists.specs.Spaces.{seatAt, entryOf, seatOf}
 use Rattle.slot_plan.specs.Plan.{freeEnds}
 use Rattle.slot_plan.specs.Facts.{Accepted, Seated}
@@ -31,6 +32,9 @@ pub and : (a b : Bool) → a && b ≡ true → (a ≡ true) × (b ≡ true)
 and true b e = (refl, e)
 and false b e = no e
 
+no-false : {A : Type 0} → true ≡ false → A
+no-false e = no (sym e)
+
 neither : (a b : Bool) → a || b ≡ false → a ≡ true → ⊥
 neither true b e q = no (sym e)
 neither false b e q = no q
@@ -40,13 +44,30 @@ below : (s e p n : ℕ) → 0 < p → s ≤ e → e / p < n → s / p < n
 below s e p n pos le h =
     div-lt-iff-lt-mul {k = p} {x = s} {y = n} pos .1 (let g = div-lt-iff-lt-mul {k = p} {x = e} {y = n} pos .0 h in omega arith)
 
-near : (N t : ℕ) (vc : Vc) → bucketFits N (vc .bucket) ≡ true → isExcess (bucketNow t vc) ≡ false → delay (bucketNow t vc) < N
-unfolding bucketFits obeysRules isExcess delay bucketNow fall
+near : (N t : ℕ) (vc : Vc) → bucketsFit N vc ≡ true → isExcess (vcNow t vc .bucket) ≡ false → delay (vcNow t vc .bucket) < N
+unfolding bucketsFit bucketFits obeysRules isExcess delay vcNow fallenTo fall
 near N t vc f x =
     let b = vc .bucket in
-    let rules = and (obeysRules N b) (b .S ≤? b .C) f .0 in
+    let rules = and (obeysRules N b) (b .S ≤? b .C) (and (bucketFits N b) (secondFits (vc .second) (vc .tag)) f .0) .0 in
     let last = and (b .m ≤? 15 && 2 ^ b .m ≤? b .F && b .F ≤? 16777216 && b .F ≤? b .C) ((b .C - b .F) / 2 ^ b .m <? N) rules .1 in
     below (b .S - elapsed t (vc .last) * 2 ^ b .m) (b .C - b .F) (2 ^ b .m) N (pow-pos (b .m)) (ltb-false _ _ x) (ltb-true _ _ last)
+
+-- a cell that is not excess is within the peak, and let in
+pub record LetIn (clp : ℕ) (vc : Vc) : Type 0 where
+  pub within : isExcess (vc .bucket) ≡ false
+  pub lets : letsIn (verdictOn clp vc) ≡ true
+
+pub not-excess : (clp : ℕ) (vc : Vc) → (verdictOn clp vc =? excess) ≡ false → LetIn clp vc
+unfolding verdictOn letsIn
+not-excess clp vc e = go (isExcess (vc .bucket)) (clp =? 0 && isExcess (vc .second)) (vc .tag =? 0) refl refl refl e
+  where
+    go : (x y g : Bool) → isExcess (vc .bucket) ≡ x → (clp =? 0 && isExcess (vc .second)) ≡ y → (vc .tag =? 0) ≡ g
+        → (verdictOn clp vc =? excess) ≡ false
+        → LetIn clp vc
+    go true y g ex ey eg = rw ex no-false
+    go false true true ex ey eg = rw (ex, ey, eg) no-false
+    go false true false ex ey eg = λ h. record { within = ex; lets = rw (ex, ey, eg) }
+    go false false g ex ey eg = λ h. record { within = ex; lets = rw (ex, ey) }
 
 -- ---- a header that names a VC
 pub names-facts : (z : ℕ) (h : Header) → namesVc z h ≡ true → (h .vpi ≡ 0) × (1 ≤ h .vci) × (h .vci < z)
@@ -68,15 +89,15 @@ module _ (k : Record) (cell words : List ℕ) where
   j = judgedOf (k .n) (k .v) (k .t) words cell
 
   pub record Shows : Type 0 where
-    pub accepted-is : ((length cell ≡ 0 → ⊥) → length cell ≡ 53) → j .ok ≡ true → j .verdict ≡ accepted → Accepted k j cell words
+    pub accepted-is : ((length cell ≡ 0 → ⊥) → length cell ≡ 53) → j .ok ≡ true → letsIn (j .verdict) ≡ true → Accepted k j cell words
     pub excess-is : j .ok ≡ true → j .verdict ≡ excess → j .vci < k .v
 
   in-bucket : (x a : Bool) → length cell =? 0 || noUserCell h ≡ false → namesVc (k .v) h ≡ true → vc .opened ≡ 1
-      → bucketFits (k .n) (vc .bucket) ≡ true → isExcess (bucketNow (k .t) vc) ≡ x → vc .waiting <? k .n ≡ a → Shows
-  unfolding judgedOf judgedVc judgedBucket
+      → bucketsFit (k .n) vc ≡ true → (verdictOn (h .clp) (vcNow (k .t) vc) =? excess) ≡ x → vcNow (k .t) vc .waiting <? k .n ≡ a → Shows
+  unfolding judgedOf judgedVc judgedBuckets letsIn
   in-bucket true a c n o f ex ea =
       record {
-        accepted-is = rw (c, n, ne-eqb (vc .opened) 0 (λ q. omega arith), eq-eqb (vc .opened) 1 o, f, ex) (λ l ok v. absurd (omega arith));
+        accepted-is = rw (c, n, ne-eqb (vc .opened) 0 (λ q. omega arith), eq-eqb (vc .opened) 1 o, f, ex) (λ l ok v. no v);
         excess-is = rw (c, n, ne-eqb (vc .opened) 0 (λ q. omega arith), eq-eqb (vc .opened) 1 o, f, ex) (λ ok v. names-facts (k .v) h n .2);
       }
   in-bucket false true c n o f ex ea =
@@ -84,17 +105,18 @@ module _ (k : Record) (cell words : List ℕ) where
         accepted-is = rw (c, n, ne-eqb (vc .opened) 0 (λ q. omega arith), eq-eqb (vc .opened) 1 o, f, ex, ea)
             (λ l ok v.
             record {
+              let-in = v;
               vci-low = names-facts (k .v) h n .1;
               vci-high = names-facts (k .v) h n .2;
-              near = near (k .n) (k .t) vc f ex;
+              near = near (k .n) (k .t) vc f (not-excess (h .clp) (vcNow (k .t) vc) ex .within);
               waiting-low = omega arith;
-              waiting-high = let low = ltb-true (vc .waiting) (k .n) ea in omega arith;
+              waiting-high = let low = ltb-true (vcNow (k .t) vc .waiting) (k .n) ea in omega arith;
               is-open = o;
               cell-long = l (λ q. neither (length cell =? 0) (noUserCell h) c (eq-eqb (length cell) 0 q));
               vpi-is = names-facts (k .v) h n .0;
               vci-is = refl;
             });
-        excess-is = rw (c, n, ne-eqb (vc .opened) 0 (λ q. omega arith), eq-eqb (vc .opened) 1 o, f, ex, ea) (λ ok v. absurd (omega arith));
+        excess-is = rw (c, n, ne-eqb (vc .opened) 0 (λ q. omega arith), eq-eqb (vc .opened) 1 o, f, ex, ea) (λ ok v. no-false (sym (eq-eqb _ _ v) ∙ ex));
       }
   in-bucket false false c n o f ex ea =
       record {
@@ -103,14 +125,15 @@ module _ (k : Record) (cell words : List ℕ) where
       }
 
   at-vc : length cell =? 0 || noUserCell h ≡ false → namesVc (k .v) h ≡ true
-      → (vc .opened ≡ 0) ⊎ ((vc .opened ≡ 1) ⊎ (1 < vc .opened)) → (f : Bool) → bucketFits (k .n) (vc .bucket) ≡ f → Shows
-  unfolding judgedOf judgedVc
+      → (vc .opened ≡ 0) ⊎ ((vc .opened ≡ 1) ⊎ (1 < vc .opened)) → (f : Bool) → bucketsFit (k .n) vc ≡ f → Shows
+  unfolding judgedOf judgedVc letsIn
   at-vc c n (inl o) f ef =
       record {
-        accepted-is = rw (c, n, eq-eqb (vc .opened) 0 o) (λ l ok v. absurd (omega arith));
+        accepted-is = rw (c, n, eq-eqb (vc .opened) 0 o) (λ l ok v. no v);
         excess-is = rw (c, n, eq-eqb (vc .opened) 0 o) (λ ok v. absurd (omega arith));
       }
-  at-vc c n (inr (inl o)) true ef = in-bucket (isExcess (bucketNow (k .t) vc)) (vc .waiting <? k .n) c n o ef refl refl
+  at-vc c n (inr (inl o)) true ef =
+      in-bucket (verdictOn (h .clp) (vcNow (k .t) vc) =? excess) (vcNow (k .t) vc .waiting <? k .n) c n o ef refl refl
   at-vc c n (inr (inl o)) false ef =
       record {
         accepted-is = rw (c, n, ne-eqb (vc .opened) 0 (λ q. omega arith), eq-eqb (vc .opened) 1 o, ef) (λ l ok v. no ok);
@@ -123,12 +146,12 @@ module _ (k : Record) (cell words : List ℕ) where
       }
 
   at-cell : (c n : Bool) → length cell =? 0 || noUserCell h ≡ c → namesVc (k .v) h ≡ n → Shows
-  unfolding judgedOf
+  unfolding judgedOf letsIn
   at-cell true n ec en =
-      record { accepted-is = rw ec (λ l ok v. absurd (omega arith)); excess-is = rw ec (λ ok v. absurd (omega arith)) }
-  at-cell false true ec en = at-vc ec en (open-cases (vc .opened)) (bucketFits (k .n) (vc .bucket)) refl
+      record { accepted-is = rw ec (λ l ok v. no v); excess-is = rw ec (λ ok v. absurd (omega arith)) }
+  at-cell false true ec en = at-vc ec en (open-cases (vc .opened)) (bucketsFit (k .n) vc) refl
   at-cell false false ec en =
-      record { accepted-is = rw (ec, en) (λ l ok v. absurd (omega arith)); excess-is = rw (ec, en) (λ ok v. absurd (omega arith)) }
+      record { accepted-is = rw (ec, en) (λ l ok v. no v); excess-is = rw (ec, en) (λ ok v. absurd (omega arith)) }
 
   pub judged-shows : Shows
   judged-shows = at-cell (length cell =? 0 || noUserCell h) (namesVc (k .v) h) refl refl

@@ -30,7 +30,7 @@ module _ (k : Record) (b : Fall) (j : Judged) (cells links calendar words : List
 
   -- nothing departs
   pub quiet-served : (s : Served) (words′ : List ℕ) → s .ctl ≡ k → s .answer ≡ answerOf 0 (j .verdict) (j .vci) 0 65535 0
-      → words′ ≡ fallen (j .verdict =? excess) (j .vci) (j .s) (k .t) (rotated k b words)
+      → words′ ≡ fallen (j .verdict =? excess) (j .vci) (j .s) (j .second) (k .t) (rotated k b words)
       → servedWork s cells links calendar words′ ≡ quiet-work
   unfolding quietWork
   quiet-served s words′ p q e = rw (p, q, e)

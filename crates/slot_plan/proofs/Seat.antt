@@ -14,7 +14,7 @@ use Rattle.meaning.specs.Numbers.{empty}
 use Rattle.meaning.specs.State.{Ends, recordWith, withRecord, withCells, withLinks, withCalendar, withFreeList}
 use Rattle.meaning.specs.Lists.{emptyList, isEmpty, endsFit, entryAt, takeHead, Grown, joinHead}
 use Rattle.meaning.specs.Work.{Work}
-use Rattle.meaning.specs.Arrival.{place}
+use Rattle.meaning.specs.Arrival.{sentAs, place}
 use Rattle.slot_arrive.specs.declared.Judged.{Judged}
 use Rattle.mem_lists.specs.declared.Seat.{Seat}
 use Rattle.mem_lists.specs.Spaces.{endsOf, linked, seatAs, noSeat, seatAt, entryOf, seatOf}
@@ -75,7 +75,7 @@ module _ (k : Record) (j : Judged) (cell cells links calendar words : List ℕ) 
 
     -- once a space x is taken and left remains of the Free List
     place-is : (x : ℕ) (left : Ends)
-        → place cell (j .d) (seekingWork k j cells links calendar words) (record { space = x; left = left })
+        → place (sentAs (j .verdict) cell) (j .d) (seekingWork k j cells links calendar words) (record { space = x; left = left })
         ≡ (if endsFit N entry then next (acceptWork k j (seatAs true x left e entry) cell cells links calendar words) else refused)
     unfolding place seekingWork acceptWork seatEnds withEnds withFreeList withCells withLinks withCalendar withRecord recordWith e entry
     place-is x left =
@@ -96,7 +96,7 @@ module _ (k : Record) (j : Judged) (cell cells links calendar words : List ℕ) 
 
     -- from the Free List's ends on
     take-is : (a f : Bool) → k .freehead =? k .freetail ≡ a → getD links (k .freehead) 0 <? N ≡ f
-        → (takeHead N links (freeEnds k) andThen place cell (j .d) (seekingWork k j cells links calendar words))
+        → (takeHead N links (freeEnds k) andThen place (sentAs (j .verdict) cell) (j .d) (seekingWork k j cells links calendar words))
         ≡ seated (seatAt N links calendar (freeEnds k) e)
     unfolding takeHead seatAt entry
     take-is true f ea ef = rw ea (place-is (k .freehead) emptyList ∙ inside (endsFit N entry) (k .freehead) emptyList)
@@ -106,7 +106,7 @@ module _ (k : Record) (j : Judged) (cell cells links calendar words : List ℕ) 
     take-is false false ea ef = rw (ea, ef) (none (endsFit N entry))
 
     find-is : (g : Bool)
-        → needs g (takeHead N links (freeEnds k) andThen place cell (j .d) (seekingWork k j cells links calendar words))
+        → needs g (takeHead N links (freeEnds k) andThen place (sentAs (j .verdict) cell) (j .d) (seekingWork k j cells links calendar words))
         ≡ seated (if g then seatAt N links calendar (freeEnds k) e else noSeat)
     find-is true = take-is (k .freehead =? k .freetail) (getD links (k .freehead) 0 <? N) refl refl
     find-is false = refl

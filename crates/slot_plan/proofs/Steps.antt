@@ -9,7 +9,7 @@ use borrow.Author.Tests.{eq-eqb, ne-eqb}
 use lib.ListN.{length}
 use Rattle.meaning.specs.declared.Record.{Record}
 use Rattle.meaning.specs.Plain.{if_then_else_, Out, refused, next, _andThen_}
-use Rattle.meaning.specs.Numbers.{accepted, wordsPerVc, vcPlace}
+use Rattle.meaning.specs.Numbers.{letsIn, wordsPerVc, vcPlace}
 use Rattle.meaning.specs.State.{stateOf, recordWith}
 use Rattle.meaning.specs.Lists.{endsFit}
 use Rattle.meaning.specs.Work.{Work, workOf, bareAnswer}
@@ -75,12 +75,12 @@ module _ (k : Record) (cell cells links calendar words : List ℕ) (b : Fall) (i
     unfolding arriving
     arriving-none e = arrives ∙ rw e
 
-    pub arriving-accepted : j .ok ≡ true → j .verdict ≡ accepted
+    pub arriving-accepted : j .ok ≡ true → letsIn (j .verdict) ≡ true
         → from2 ≡ (seating k j cell cells links calendar (rotated k b words) andThen step4 andThen step5)
     unfolding arriving
-    arriving-accepted e v = arrives ∙ rw (e, eq-eqb (j .verdict) accepted v)
+    arriving-accepted e v = arrives ∙ rw (e, v)
 
-    pub arriving-quiet : j .ok ≡ true → j .verdict ≢ accepted
+    pub arriving-quiet : j .ok ≡ true → letsIn (j .verdict) ≡ false
         → from2 ≡ (step4 (quietWork k j cells links calendar (rotated k b words)) andThen step5)
     unfolding arriving
-    arriving-quiet e v = arrives ∙ rw (e, ne-eqb (j .verdict) accepted v)
+    arriving-quiet e v = arrives ∙ rw (e, v)

@@ -11,7 +11,7 @@ use mathlib.Core.List.{List}
 use lib.ListN.{length}
 use Rattle.meaning.specs.declared.Record.{Record}
 use Rattle.meaning.specs.Plain.{_=?_}
-use Rattle.meaning.specs.Numbers.{mostN, leastV, mostV, octets, perEntry, wordsPerVc, empty}
+use Rattle.meaning.specs.Numbers.{mostN, leastV, mostV, octets, perEntry, wordsPerVc, empty, letsIn}
 use Rattle.meaning.specs.State.{State, Ends}
 use Rattle.meaning.specs.Header.{headerAt}
 use Rattle.meaning.specs.Words.{vcAt}
@@ -35,6 +35,7 @@ pub record Sized (s : State) : Type 0 where
   pub rotation-low : s .ctl .rotation < s .ctl .v
 
 pub record Accepted (k : Record) (j : Judged) (cell words : List ℕ) : Type 0 where
+  pub let-in : letsIn (j .verdict) ≡ true
   pub vci-low : 1 ≤ j .vci
   pub vci-high : j .vci < k .v
   pub near : j .d < k .n

@@ -15,11 +15,11 @@ use mathlib.Core.List.{List}
 use Rattle.meaning.specs.declared.Record.{Record}
 use Rattle.meaning.specs.declared.Served.{Served}
 use Rattle.meaning.specs.Plain.{if_then_else_, _=?_, Out, refused, next, needs, _andThen_}
-use Rattle.meaning.specs.Numbers.{slotNumbers, empty, accepted, excess}
+use Rattle.meaning.specs.Numbers.{slotNumbers, empty, excess}
 use Rattle.meaning.specs.State.{stateOf, Ends, freeList, recordWith, writeCell}
 use Rattle.meaning.specs.Lists.{emptyList, isEmpty, endsFit, writeEntry, takeHead}
 use Rattle.meaning.specs.Work.{Work, workOf, answerOf, bareAnswer}
-use Rattle.meaning.specs.Arrival.{place}
+use Rattle.meaning.specs.Arrival.{sentAs, place}
 use Rattle.slot_arrive.specs.declared.Fall.{Fall}
 use Rattle.slot_arrive.specs.declared.Judged.{Judged}
 use Rattle.slot_arrive.specs.Arrival.{fallen, filled, oneLess}
@@ -42,11 +42,11 @@ clocked r =
     recordWith r ((r .t + 1) % slotNumbers) ((r .turn + 1) % r .n) ((r .rotation + 1) % r .v) (freeEnds r) (outputEnds r)
 
 unfoldable pub rotated : Record → Fall → List ℕ → List ℕ
-rotated k b words = fallen (b .on) (k .rotation) (b .s) (k .t) words
+rotated k b words = fallen (b .on) (k .rotation) (b .s) (b .second) (k .t) words
 
 unfoldable pub quietWork : Record → Judged → List ℕ → List ℕ → List ℕ → List ℕ → Work
 quietWork k j cells links calendar words =
-    workOf (stateOf k cells links calendar (fallen (j .verdict =? excess) (j .vci) (j .s) (k .t) words))
+    workOf (stateOf k cells links calendar (fallen (j .verdict =? excess) (j .vci) (j .s) (j .second) (k .t) words))
     (answerOf 0 (j .verdict) (j .vci) 0 empty 0)
 
 -- the work after step 2
@@ -56,13 +56,13 @@ rotatedWork k cells links calendar words = workOf (stateOf k cells links calenda
 -- the work in step 3 when a cell is accepted and has no space yet, and the search for one
 unfoldable pub seekingWork : Record → Judged → List ℕ → List ℕ → List ℕ → List ℕ → Work
 seekingWork k j cells links calendar words =
-    workOf (stateOf k cells links calendar (filled (j .vci) (j .s) (k .t) (j .waiting) words))
-    (answerOf 0 accepted (j .vci) (j .d) empty 0)
+    workOf (stateOf k cells links calendar (filled (j .vci) (j .s) (j .second) (k .t) (j .waiting) words))
+    (answerOf 0 (j .verdict) (j .vci) (j .d) empty 0)
 
 unfoldable pub seating : Record → Judged → List ℕ → List ℕ → List ℕ → List ℕ → List ℕ → Out Work
 seating k j cell cells links calendar words =
     needs (endsFit (k .n) (freeEnds k) && not (isEmpty (freeEnds k)))
-    (takeHead (k .n) links (freeEnds k) andThen place cell (j .d) (seekingWork k j cells links calendar words))
+    (takeHead (k .n) links (freeEnds k) andThen place (sentAs (j .verdict) cell) (j .d) (seekingWork k j cells links calendar words))
 
 -- the entry that the cell has joined: at the head, and at the tail where it was empty
 unfoldable pub seatEnds : Seat → Ends
@@ -72,11 +72,11 @@ unfoldable pub acceptWork : Record → Judged → Seat → List ℕ → List ℕ
 acceptWork k j a cell cells links calendar words =
     workOf
     (stateOf (withEnds k (endsOf (a .freehead) (a .freetail)) (outputEnds k))
-    (writeCell cells (a .x) cell)
+    (writeCell cells (a .x) (sentAs (j .verdict) cell))
     (linked (not (a .head =? empty)) (a .x) (a .head) links)
     (writeEntry calendar (a .e) (seatEnds a))
-    (filled (j .vci) (j .s) (k .t) (j .waiting) words))
-    (answerOf 0 accepted (j .vci) (j .d) empty 0)
+    (filled (j .vci) (j .s) (j .second) (k .t) (j .waiting) words))
+    (answerOf 0 (j .verdict) (j .vci) (j .d) empty 0)
 
 -- the Free List once space x has gone to its tail
 unfoldable pub freed : Record → ℕ → Ends

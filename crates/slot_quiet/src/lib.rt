@@ -26,10 +26,10 @@ use slot_arrive::Judged;
 fn words_fall(k: Record, b: Fall, j: Judged, words: &mut [u32])
     requires { ⌜ (b .on ≡ true → HasVc (k .rotation) (now words)) ⌝ }
     requires { ⌜ (j .verdict =? excess ≡ true → HasVc (j .vci) (now words)) ⌝ }
-    ensures { λ r. ⌜ now (words .exit) ≡ fallen (j .verdict =? excess) (j .vci) (j .s) (k .t) (rotated k b (now (words .entry))) ⌝ }
+    ensures { λ r. ⌜ now (words .exit) ≡ fallen (j .verdict =? excess) (j .vci) (j .s) (j .second) (k .t) (rotated k b (now (words .entry))) ⌝ }
 {
-    slot_arrive::put_fall(words, b.on, k.rotation, b.s, k.t);
-    slot_arrive::put_fall(words, j.verdict == 2, j.vci, j.s, k.t);
+    slot_arrive::put_fall(words, b.on, k.rotation, b.s, b.second, k.t);
+    slot_arrive::put_fall(words, j.verdict == 2, j.vci, j.s, j.second, k.t);
 }
 
 // A departure where no cell was accepted: all writes but the entry's.

@@ -11,15 +11,15 @@ use borrow.Author.Tests.{eqb-true, eqb-false, not-false, lt-ltb, ltb-true}
 use lib.ListN.{length, getD, set}
 use Rattle.meaning.specs.declared.Record.{Record}
 use Rattle.meaning.specs.Plain.{if_then_else_, _<?_, _≤?_, _=?_, Out, refused, next, needs, _andThen_}
-use Rattle.meaning.specs.Numbers.{rangesHold, octets, cellStart, empty, unknown}
+use Rattle.meaning.specs.Numbers.{rangesHold, octets, cellStart, empty, unknown, excess}
 use Rattle.meaning.specs.State.{State, Ends, freeList, outputList, lengthsHold, withRecord, withCells, withLinks, withCalendar, withWords}
 use Rattle.meaning.specs.State.{recordWith, withClock, withFreeList, withOutputList}
 use Rattle.meaning.specs.Header.{headerAt, noUserCell, namesVc, namesOpenVc}
-use Rattle.meaning.specs.Bucket.{isExcess, fill, delay}
-use Rattle.meaning.specs.Words.{Vc, vcAt, withWaiting, withBucket, openWordFits, upToDate}
+use Rattle.meaning.specs.Bucket.{delay}
+use Rattle.meaning.specs.Words.{Vc, vcAt, withWaiting, openWordFits, upToDate}
 use Rattle.meaning.specs.Lists.{emptyList, isEmpty, endsFit, entryAt, Taken, takeHead, Grown, joinTail}
 use Rattle.meaning.specs.Work.{Work, workOf, bareAnswer, withVc, withArrival}
-use Rattle.meaning.specs.Arrival.{place, accept, judge}
+use Rattle.meaning.specs.Arrival.{verdictOn, place, accept, judge}
 use Rattle.meaning.specs.Slot.{step1, step2, step3, step4, depart, step5, fiveSteps, finish, uncheckedSlot}
 use Rattle.meaning.proofs.ListsLaws.{fit-head, fit-tail, fit-marked, fit-empty}
 pub use Rattle.meaning.proofs.OutLaws.{AllOut, needs-all, if-all, then-all, any-all}
@@ -138,7 +138,7 @@ module _ (r : Record) where
   unfolding judge accept place withWords withCells withLinks withCalendar withFreeList withRecord recordWith
   judge-going cell v w h vc =
       let s = w .state in
-      if-all Going (isExcess (vc .bucket)) _ _
+      if-all Going (verdictOn (headerAt cell 0 .clp) vc =? excess) _ _
       (λ _. record { ticked = h .ticked; out-is = h .out-is; number = h .number; unsent = h .unsent })
       (λ _. needs-all Going (vc .waiting <? s .ctl .n) _
       (λ _. needs-all Going (endsFit (s .ctl .n) (freeList s) && not (isEmpty (freeList s))) _

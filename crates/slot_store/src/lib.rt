@@ -4,7 +4,8 @@ ghost use mathlib.Core.Bool.{true, not};
 ghost use Prim.Native.Nat.{_+_, _*_, _≤_};
 ghost use lib.ListN.{length};
 ghost use Rattle.meaning.specs.Plain.{_=?_};
-ghost use Rattle.meaning.specs.Numbers.{empty};
+ghost use Rattle.meaning.specs.Numbers.{empty, cellStart, octets};
+ghost use Rattle.meaning.specs.Arrival.{sentAs};
 ghost use Rattle.meaning.specs.State.{writeCell, HasVc};
 ghost use Rattle.meaning.specs.Lists.{writeEntry};
 ghost use Rattle.meaning.specs.Lent.{here};
@@ -21,10 +22,22 @@ use slot_arrive::Judged;
 fn words_fill(k: Record, b: Fall, j: Judged, words: &mut [u32])
     requires { ⌜ (b .on ≡ true → HasVc (k .rotation) (now words)) ⌝ }
     requires { ⌜ HasVc (j .vci) (now words) ⌝ }
-    ensures { λ r. ⌜ now (words .exit) ≡ filled (j .vci) (j .s) (k .t) (j .waiting) (rotated k b (now (words .entry))) ⌝ }
+    ensures { λ r. ⌜ now (words .exit) ≡ filled (j .vci) (j .s) (j .second) (k .t) (j .waiting) (rotated k b (now (words .entry))) ⌝ }
 {
-    slot_arrive::put_fall(words, b.on, k.rotation, b.s, k.t);
-    slot_arrive::put_fill(words, j.vci, j.s, k.t, j.waiting);
+    slot_arrive::put_fall(words, b.on, k.rotation, b.s, b.second, k.t);
+    slot_arrive::put_fill(words, j.vci, j.s, j.second, k.t, j.waiting);
+}
+
+// The cell as it is stored: with CLP 1 where it is tagged.
+fn put_sent(verdict: u16, cells: &mut [u8], x: u16, cell: &[u8])
+    requires { ⌜ (cellStart x + octets ≤ length (now cells)) × (length (now cell) ≡ 53) ⌝ }
+    ensures { λ r. ⌜ now (cells .exit) ≡ writeCell (now (cells .entry)) x (sentAs verdict (now (cell .entry))) ⌝ }
+{
+    if verdict == 5 {
+        mem_cell::put_tagged(cells, x, cell);
+        return;
+    }
+    mem_cell::put_cell(cells, x, cell);
 }
 
 // The tail of an entry that a cell has joined at the head.
@@ -65,13 +78,13 @@ pub fn store(
     requires { ⌜ Sized (here k cells links calendar words) ⌝ }
     requires { ⌜ Accepted k j (now cell) (now words) ⌝ }
     requires { ⌜ Seated k a ⌝ }
-    ensures cells { λ r. ⌜ now (cells .exit) ≡ writeCell (now (cells .entry)) (a .x) (now (cell .entry)) ⌝ }
+    ensures cells { λ r. ⌜ now (cells .exit) ≡ writeCell (now (cells .entry)) (a .x) (sentAs (j .verdict) (now (cell .entry))) ⌝ }
     ensures links { λ r. ⌜ now (links .exit) ≡ linked (not (a .head =? empty)) (a .x) (a .head) (now (links .entry)) ⌝ }
     ensures calendar { λ r. ⌜ now (calendar .exit) ≡ writeEntry (now (calendar .entry)) (a .e) (seatEnds a) ⌝ }
-    ensures words { λ r. ⌜ now (words .exit) ≡ filled (j .vci) (j .s) (k .t) (j .waiting) (rotated k b (now (words .entry))) ⌝ }
+    ensures words { λ r. ⌜ now (words .exit) ≡ filled (j .vci) (j .s) (j .second) (k .t) (j .waiting) (rotated k b (now (words .entry))) ⌝ }
 {
     words_fill(k, b, j, words);
-    mem_cell::put_cell(cells, a.x, cell);
+    put_sent(j.verdict, cells, a.x, cell);
     mem_lists::put_link(links, a.head != 65535, a.x, a.head);
     let tail = tail_of(a);
     mem_lists::put_entry(calendar, a.e, a.x, tail);

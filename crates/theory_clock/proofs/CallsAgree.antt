@@ -12,7 +12,7 @@ use Rattle.meaning.specs.Plain.{_<?_, _≤?_, _=?_}
 use Rattle.meaning.specs.Numbers.{rangesHold, wordsPerVc}
 use Rattle.meaning.specs.State.{State, wordsLong, withRecord, withWords, recordWith, withClock}
 use Rattle.meaning.specs.Bucket.{bucketOf, obeysRules, fall}
-use Rattle.meaning.specs.Words.{Vc, vcAt, writeVc, openedVc, closedVc, openWordFits, vcFits, debt}
+use Rattle.meaning.specs.Words.{Vc, Second, vcAt, writeVc, secondObeys, openedVc, closedVc, openWordFits, bucketsFit, vcFits, debt}
 use Rattle.meaning.specs.Calls.{Called, calledOf, sharedRefusal, openCall, closeCall}
 use Rattle.meaning_runs.proofs.OutLaws.{if-holds}
 use Rattle.theory_clock.specs.Stored.{stored, storedVc, storedWords, storedState, storedCalled}
@@ -30,7 +30,7 @@ in-range z vci p =
     (leb-true 1 vci (q .0), ltb-true vci z (q .1))
 
 fits-stored : (N : ℕ) (vc : Vc) → vcFits N (storedVc vc) ≡ vcFits N vc
-unfolding vcFits openWordFits storedVc
+unfolding vcFits openWordFits bucketsFit storedVc
 fits-stored N vc = refl
 
 -- refusals 1, 2, 4 and 3 read nothing that differs
@@ -60,10 +60,11 @@ shared-low r words vci =
     P : ℕ → Type 0
     P n = n ≡ 0 → (rangesHold (r .n) (r .v) ≡ true) × (1 ≤ vci) × (vci < r .v)
 
-pub open-agrees : (u : State) (vci m F C : ℕ) → Kept u
-    → openCall (storedState u .ctl) (storedState u .words) vci m F C ≡ storedCalled (u .ctl .v) (unwrappedOpen (u .ctl) (u .words) vci m F C)
+pub open-agrees : (u : State) (vci m F C : ℕ) (x : Second) → Kept u
+    → openCall (storedState u .ctl) (storedState u .words) vci m F C x
+    ≡ storedCalled (u .ctl .v) (unwrappedOpen (u .ctl) (u .words) vci m F C x)
 unfolding openCall unwrappedOpen storedCalled storedState withClock withRecord withWords recordWith storedVc openedVc
-open-agrees u vci m F C kept =
+open-agrees u vci m F C x kept =
     let r = u .ctl in
     let k = sharedRefusal r (u .words) vci in
     rw (shared-stored u vci (kept .recent .long))
@@ -72,7 +73,8 @@ open-agrees u vci m F C kept =
     rw (stored-read (r .v) (u .words) vci low (omega (arith, kept .recent .long)))
     (if-both (storedCalled (r .v)) (vcAt (u .words) vci .opened =? 1) _ _ _ _ (λ _. refl)
     (λ _. if-both (storedCalled (r .v)) (not (obeysRules (r .n) (bucketOf m F C 0))) _ _ _ _ (λ _. refl)
-    (λ _. ap (calledOf 0) (sym (stored-write (r .v) (u .words) vci (openedVc (r .t) (bucketOf m F C 0)) low (kept .recent .long))))))))
+    (λ _. if-both (storedCalled (r .v)) (not (secondObeys (bucketOf (x .m) (x .F) (x .C) 0) (x .tag))) _ _ _ _ (λ _. refl)
+    (λ _. ap (calledOf 0) (sym (stored-write (r .v) (u .words) vci (openedVc (r .t) (bucketOf m F C 0) x) low (kept .recent .long)))))))))
 
 -- rotation names every VC at least every V slots
 since-most : (N z k r v : ℕ) → r ≡ (k + z - 1) % z → rangesHold N z ≡ true → 1 ≤ v → v < z → since z r v ≤ longest
@@ -127,16 +129,19 @@ kept-write u vci vc low kept b =
           (λ v p q _. kept .recent .behind v p q) b;
     }
 
-pub open-keeps : (u : State) (vci m F C : ℕ) → Kept u → Kept (withWords u (unwrappedOpen (u .ctl) (u .words) vci m F C .words))
+pub open-keeps : (u : State) (vci m F C : ℕ) (x : Second) → Kept u
+    → Kept (withWords u (unwrappedOpen (u .ctl) (u .words) vci m F C x .words))
 unfolding openCall unwrappedOpen openedVc withWords
-open-keeps u vci m F C kept =
+open-keeps u vci m F C x kept =
     let r = u .ctl in
     let k = sharedRefusal r (u .words) vci in
     if-holds (λ (c : Called). Kept (withWords u (c .words))) (not (k =? 0)) _ _ (λ _. kept)
     (λ e. let low = shared-low r (u .words) vci (eqb-true k 0 (not-false (k =? 0) e)) .2 in
     if-holds (λ (c : Called). Kept (withWords u (c .words))) (vcAt (u .words) vci .opened =? 1) _ _ (λ _. kept)
     (λ _. if-holds (λ (c : Called). Kept (withWords u (c .words))) (not (obeysRules (r .n) (bucketOf m F C 0))) _ _ (λ _. kept)
-    (λ _. kept-write u vci (openedVc (r .t) (bucketOf m F C 0)) low kept (λ o. (omega arith, omega arith)))))
+    (λ _. if-holds (λ (c : Called). Kept (withWords u (c .words))) (not (secondObeys (bucketOf (x .m) (x .F) (x .C) 0) (x .tag))) _ _
+    (λ _. kept)
+    (λ _. kept-write u vci (openedVc (r .t) (bucketOf m F C 0) x) low kept (λ o. (omega arith, omega arith))))))
 
 pub close-keeps : (u : State) (vci : ℕ) → Kept u → Kept (withWords u (unwrappedClose (u .ctl) (u .words) vci .words))
 unfolding unwrappedClose closedVc withWords

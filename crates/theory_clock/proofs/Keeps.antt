@@ -10,15 +10,15 @@ use native.Mathlib.Decide.{ℕ-discrete}
 use borrow.Author.Tests.{eqb-true, not-false}
 use lib.ListN.{length}
 use Rattle.meaning.specs.Plain.{_<?_, _≤?_, _=?_}
-use Rattle.meaning.specs.Numbers.{unknown, cellStart}
+use Rattle.meaning.specs.Numbers.{excess, unknown, cellStart}
 use Rattle.meaning.specs.State.{freeList, outputList, withRecord, withCells, withLinks, withCalendar, withWords}
 use Rattle.meaning.specs.State.{recordWith, withClock, withFreeList, withOutputList}
 use Rattle.meaning.specs.Header.{headerAt, noUserCell, namesVc, namesOpenVc}
-use Rattle.meaning.specs.Bucket.{isExcess, fill, delay}
-use Rattle.meaning.specs.Words.{Vc, vcAt, withWaiting, withBucket, openWordFits, bucketFits}
+use Rattle.meaning.specs.Bucket.{fill, delay}
+use Rattle.meaning.specs.Words.{Vc, vcAt, withWaiting, withBuckets, openWordFits, bucketsFit, fallenTo}
 use Rattle.meaning.specs.Lists.{isEmpty, endsFit, entryAt, takeHead}
 use Rattle.meaning.specs.Work.{Work, withVc, withArrival}
-use Rattle.meaning.specs.Arrival.{place, accept, judge}
+use Rattle.meaning.specs.Arrival.{verdictOn, secondAfter, place, accept, judge}
 use Rattle.meaning.specs.Slot.{step4, depart, step5}
 use Rattle.meaning_runs.proofs.OutLaws.{AllOut, needs-all, if-all, then-all, any-all}
 use Rattle.theory_clock.specs.Unwrapped.{caughtUp, tick, rotate, arrive}
@@ -57,8 +57,8 @@ on-write z k r most w v vc low h b =
 
 -- a VC brought up to date is not behind at all
 caught-near : (N k most : ℕ) (vc : Vc) → AllOut (Behind k most) (caughtUp N k vc)
-unfolding caughtUp
-caught-near N k most vc = needs-all (Behind k most) (bucketFits N (vc .bucket)) _ (λ _ o. (omega arith, omega arith))
+unfolding caughtUp fallenTo
+caught-near N k most vc = needs-all (Behind k most) (bucketsFit N vc) _ (λ _ o. (omega arith, omega arith))
 
 caught-on : (z k r : ℕ) (most : ℕ → ℕ) (w : Work) → On z k r most w → (bound v : ℕ)
     → AllOut (Behind k bound) (caughtUp (w .state .ctl .n) (w .state .ctl .t) (vcAt (w .state .words) v))
@@ -134,10 +134,12 @@ pub judge-on : (z k r : ℕ) (most : ℕ → ℕ) (cell : List ℕ) (v : ℕ) (w
 unfolding judge accept place withWords withCells withLinks withCalendar withFreeList withRecord recordWith
 judge-on z k r most cell v w vc low h b =
     let s = w .state in
-    let filled = withWaiting (withBucket vc (fill (vc .bucket))) (vc .waiting + 1) in
+    let clp = headerAt cell 0 .clp in
+    let verdict = verdictOn clp vc in
+    let filled = withWaiting (withBuckets vc (fill (vc .bucket)) (secondAfter clp verdict (vc .second))) (vc .waiting + 1) in
     let h1 = on-write z k r most w v filled low h b in
     let h2 = on-write z k r most w v vc low h b in
-    if-all Q (isExcess (vc .bucket)) _ _
+    if-all Q (verdict =? excess) _ _
     (λ _. record { v-is = h2 .v-is; t-is = h2 .t-is; r-is = h2 .r-is; done = h2 .done; recent = h2 .recent })
     (λ _. needs-all Q (vc .waiting <? s .ctl .n) _
     (λ _. needs-all Q (endsFit (s .ctl .n) (freeList s) && not (isEmpty (freeList s))) _

@@ -16,7 +16,7 @@ use Rattle.meaning.specs.Calls.{Called, SetUp, freshRecord, freshState, setup}
 use Rattle.meaning.specs.Work.{Work}
 use Rattle.meaning.proofs.WordsLaws.{write-stored}
 use Rattle.meaning.specs.Line.{lineCell}
-use Rattle.meaning_runs.specs.Run.{Call, onOpen, onClose, onSlot, opened, closed, ran, Run, runOf, shown, letIn, call, calls, freshRun, served}
+use Rattle.meaning_runs.specs.Run.{Call, onOpenWith, onClose, onSlot, opened, closed, ran, Run, runOf, shown, letIn, call, calls, freshRun, served}
 use Rattle.meaning_runs.proofs.OutLaws.{if-holds}
 use Rattle.theory_clock.specs.Stored.{storedVc, storedWords, storedState, storedWork, storedCalled}
 use Rattle.theory_clock.specs.Unwrapped.{unwrappedSlot, unwrappedFresh}
@@ -69,9 +69,9 @@ storedRun r = runOf (storedState (r .state)) (r .events)
 
 pub call-agrees : (r : Run) (c : Call) → Kept (r .state) → call (storedRun r) c ≡ storedRun (unwrappedCall r c)
 unfolding call unwrappedCall storedRun storedCalled storedWork storedState withClock withRecord withWords recordWith shown
-call-agrees r (onOpen vci m F C) kept =
-    ap (λ (c : Called). runOf (withWords (storedState (r .state)) (c .words)) (opened vci m F C (c .number) ∷ r .events))
-    (open-agrees (r .state) vci m F C kept)
+call-agrees r (onOpenWith vci m F C x) kept =
+    ap (λ (c : Called). runOf (withWords (storedState (r .state)) (c .words)) (opened vci m F C x (c .number) ∷ r .events))
+    (open-agrees (r .state) vci m F C x kept)
 call-agrees r (onClose vci) kept =
     ap (λ (c : Called). runOf (withWords (storedState (r .state)) (c .words)) (closed vci (c .number) ∷ r .events))
     (close-agrees (r .state) vci kept)
@@ -81,7 +81,7 @@ call-agrees r (onSlot cell) kept =
 
 pub call-keeps : (r : Run) (c : Call) → Kept (r .state) → Kept (unwrappedCall r c .state)
 unfolding unwrappedCall
-call-keeps r (onOpen vci m F C) kept = open-keeps (r .state) vci m F C kept
+call-keeps r (onOpenWith vci m F C x) kept = open-keeps (r .state) vci m F C x kept
 call-keeps r (onClose vci) kept = close-keeps (r .state) vci kept
 call-keeps r (onSlot cell) kept = slot-keeps (r .state) cell kept
 
@@ -89,7 +89,7 @@ call-keeps r (onSlot cell) kept = slot-keeps (r .state) cell kept
 pub call-counts : (r : Run) (c : Call) → Kept (r .state) → r .state .ctl .t ≡ served (r .events)
     → unwrappedCall r c .state .ctl .t ≡ served (unwrappedCall r c .events)
 unfolding unwrappedCall served withWords
-call-counts r (onOpen vci m F C) kept e = e
+call-counts r (onOpenWith vci m F C x) kept e = e
 call-counts r (onClose vci) kept e = e
 call-counts r (onSlot cell) kept e =
     slot-counts (r .state) cell kept ∙ ap (λ (n : ℕ). (if unwrappedSlot (r .state) cell .answer .number =? 0 then 1 else 0) + n) e

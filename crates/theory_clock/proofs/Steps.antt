@@ -8,15 +8,15 @@ use native.Mathlib.Omega.{arith}
 use borrow.Author.Tests.{ltb-true, leb-true, eqb-false, not-false}
 use lib.ListN.{length, getD}
 use Rattle.meaning.specs.Plain.{if_then_else_, _<?_, _≤?_, _=?_, Out, next, needs, _andThen_}
-use Rattle.meaning.specs.Numbers.{excess, accepted, unknown, openPlace, cellStart, wordsPerVc}
+use Rattle.meaning.specs.Numbers.{excess, unknown, openPlace, cellStart, wordsPerVc}
 use Rattle.meaning.specs.State.{withRecord, withCells, withLinks, withCalendar, withWords, recordWith}
 use Rattle.meaning.specs.State.{withClock, withFreeList, withOutputList, freeList, outputList}
 use Rattle.meaning.specs.Header.{Header, headerAt, noUserCell, namesVc, namesOpenVc}
-use Rattle.meaning.specs.Bucket.{isExcess, delay, fill}
-use Rattle.meaning.specs.Words.{Vc, vcAt, withWaiting, withBucket, openWordFits, bucketFits, upToDate}
+use Rattle.meaning.specs.Bucket.{delay, fill}
+use Rattle.meaning.specs.Words.{Vc, vcAt, withWaiting, withBuckets, openWordFits, bucketsFit, fallenTo, upToDate}
 use Rattle.meaning.specs.Lists.{isEmpty, endsFit, entryAt, Taken, takeHead, addTail}
 use Rattle.meaning.specs.Work.{Work, withState, withVc, withArrival, withDeparture}
-use Rattle.meaning.specs.Arrival.{place, accept, judge}
+use Rattle.meaning.specs.Arrival.{verdictOn, secondAfter, sentAs, place, accept, judge}
 use Rattle.meaning.specs.Slot.{step1, step2, step3, step4, depart, step5}
 use Rattle.theory_clock.specs.Stored.{stored, storedVc, storedWords, storedState, storedWork}
 use Rattle.theory_clock.specs.Unwrapped.{caughtUp, tick, rotate, arrive}
@@ -38,9 +38,9 @@ step1-stored w =
 -- an open VC that is not 2^32 slots behind is brought up to date alike
 pub up-stored : (N k : ℕ) (vc : Vc) → vc .opened =? 0 ≡ false → vc .last ≤ k → k ≤ vc .last + longest
     → upToDate N (stored k) (storedVc vc) ≡ mapOut storedVc (caughtUp N k vc)
-unfolding upToDate caughtUp storedVc
+unfolding upToDate caughtUp fallenTo bucketsFit storedVc
 up-stored N k vc o a b =
-    needs-map storedVc (bucketFits N (vc .bucket)) _ _
+    needs-map storedVc (bucketsFit N vc) _ _
     (λ _. rw o (rw (elapsed-true k (vc .last) a b)))
 
 -- a VC's words are written
@@ -105,18 +105,21 @@ place-stored cell D w taken =
 
 pub judge-stored : (cell : List ℕ) (v : ℕ) (w : Work) (vc : Vc) → v < w .state .ctl .v → length (w .state .words) ≡ wordsPerVc * w .state .ctl .v
     → judge cell v (storedWork w) (storedVc vc) ≡ mapOut storedWork (judge cell v w vc)
-unfolding judge accept storedWork storedState storedVc withClock withRecord withWords recordWith
+unfolding judge accept verdictOn storedWork storedState storedVc withClock withRecord withWords recordWith
 judge-stored cell v w vc h long =
     let s = w .state in
     let D = delay (vc .bucket) in
-    let filled = withWaiting (withBucket vc (fill (vc .bucket))) (vc .waiting + 1) in
-    if-map storedWork (isExcess (vc .bucket)) _ _ _ _
+    let clp = headerAt cell 0 .clp in
+    let verdict = verdictOn clp vc in
+    let sent = sentAs verdict cell in
+    let filled = withWaiting (withBuckets vc (fill (vc .bucket)) (secondAfter clp verdict (vc .second))) (vc .waiting + 1) in
+    if-map storedWork (verdict =? excess) _ _ _ _
     (λ _. ap (λ (w′ : Work). next (withArrival w′ excess v 0)) (vc-stored w v vc h long))
     (λ _. needs-map storedWork (vc .waiting <? s .ctl .n) _ _
     (λ _. needs-map storedWork (endsFit (s .ctl .n) (freeList s) && not (isEmpty (freeList s))) _ _
     (λ _. then-same storedWork (takeHead (s .ctl .n) (s .links) (freeList s)) _ _
-    (λ taken. ap (λ (w′ : Work). place cell D (withArrival w′ accepted v D) taken) (vc-stored w v filled h long)
-    ∙ place-stored cell D (withArrival (withVc w v filled) accepted v D) taken))))
+    (λ taken. ap (λ (w′ : Work). place sent D (withArrival w′ verdict v D) taken) (vc-stored w v filled h long)
+    ∙ place-stored sent D (withArrival (withVc w v filled) verdict v D) taken))))
 
 pub step3-stored : (cell : List ℕ) (w : Work) → length (w .state .words) ≡ wordsPerVc * w .state .ctl .v
     → ((vci : ℕ) → 1 ≤ vci → vci < w .state .ctl .v → Behind (w .state .ctl .t) longest (vcAt (w .state .words) vci))

@@ -14,7 +14,10 @@ use Rattle.theory_clock.specs.Stored.{storedVc, storedWords}
 
 -- word k of a VC
 word : ℕ → Vc → ℕ
-word k vc = getD (vc .opened ∷ vc .bucket .m ∷ vc .bucket .F ∷ vc .bucket .C ∷ vc .bucket .S ∷ vc .last ∷ vc .waiting ∷ []) k 0
+word k vc =
+    let b = vc .bucket in
+    let b2 = vc .second in
+    getD (vc .opened ∷ b .m ∷ b .F ∷ b .C ∷ b .S ∷ vc .last ∷ vc .waiting ∷ b2 .m ∷ b2 .F ∷ b2 .C ∷ b2 .S ∷ vc .tag ∷ []) k 0
 
 word-at : (l : List ℕ) (v k : ℕ) → k < wordsPerVc → getD l (wordsPerVc * v + k) 0 ≡ word k (vcAt l v)
 unfolding word vcAt
@@ -25,7 +28,12 @@ word-at l v (suc (suc (suc zero))) h = refl
 word-at l v (suc (suc (suc (suc zero)))) h = refl
 word-at l v (suc (suc (suc (suc (suc zero))))) h = refl
 word-at l v (suc (suc (suc (suc (suc (suc zero)))))) h = refl
-word-at l v (suc (suc (suc (suc (suc (suc (suc k))))))) h = absurd (omega arith)
+word-at l v (suc (suc (suc (suc (suc (suc (suc zero))))))) h = refl
+word-at l v (suc (suc (suc (suc (suc (suc (suc (suc zero)))))))) h = refl
+word-at l v (suc (suc (suc (suc (suc (suc (suc (suc (suc zero))))))))) h = refl
+word-at l v (suc (suc (suc (suc (suc (suc (suc (suc (suc (suc zero)))))))))) h = refl
+word-at l v (suc (suc (suc (suc (suc (suc (suc (suc (suc (suc (suc zero))))))))))) h = refl
+word-at l v (suc (suc (suc (suc (suc (suc (suc (suc (suc (suc (suc (suc k)))))))))))) h = absurd (omega arith)
 
 pub words-same : (z : ℕ) (a b : List ℕ) → length a ≡ wordsPerVc * z → length b ≡ wordsPerVc * z
     → ((v : ℕ) → v < z → vcAt a v ≡ vcAt b v) → a ≡ b

@@ -12,18 +12,16 @@ use Rattle.meaning.specs.Numbers.{rangesHold, octets, unknown}
 use Rattle.meaning.specs.State.{State, lengthsHold, withClock, withMode}
 use Rattle.meaning.specs.Header.{headerAt, noUserCell, namesVc}
 use Rattle.meaning.specs.Bucket.{fall}
-use Rattle.meaning.specs.Words.{Vc, vcAt, writeVc, closedVc, openWordFits, bucketFits}
+use Rattle.meaning.specs.Words.{Vc, vcAt, writeVc, closedVc, openWordFits, bucketsFit, fallenTo}
 use Rattle.meaning.specs.Calls.{Called, calledOf, sharedRefusal}
 use Rattle.meaning.specs.Work.{Work, workOf, bareAnswer, withState, withVc, withArrival}
 use Rattle.meaning.specs.Arrival.{judge}
 use Rattle.meaning.specs.Slot.{step4, step5, finish, told}
 use Rattle.meaning_runs.specs.Run.{letIn}
 
--- "it is brought up to date: S falls by elapsed × L .. last becomes t"
+-- "it is brought up to date: S falls by elapsed × L .. last becomes t", and both buckets do
 abbrev pub upToDateBy : (ℕ → ℕ → ℕ) → ℕ → ℕ → Vc → Out Vc
-upToDateBy elapsedBy N t vc =
-    needs (bucketFits N (vc .bucket))
-    (next (record { opened = vc .opened; bucket = fall (elapsedBy t (vc .last)) (vc .bucket); last = t; waiting = vc .waiting }))
+upToDateBy elapsedBy N t vc = needs (bucketsFit N vc) (next (fallenTo (elapsedBy t (vc .last)) t vc))
 
 -- 1: the clock moves; "T by one modulo N, rotation by one modulo V"
 abbrev pub step1By : (ℕ → ℕ) → Work → Out Work
@@ -78,7 +76,7 @@ slotBy fiveSteps s cell =
 abbrev pub debtBy : (ℕ → ℕ → ℕ) → ℕ → Vc → ℕ
 debtBy elapsedBy t vc = fall (elapsedBy t (vc .last)) (vc .bucket) .S
 
--- "8 is given when waiting or the updated S isn't 0"; "Closing clears all seven words."
+-- "8 is given when waiting or the updated S isn't 0"; "Closing clears all seven words.", and the five of document 02 (iv)
 abbrev pub closeBy : (ℕ → Vc → ℕ) → Record → List ℕ → ℕ → Called
 closeBy debt r words vci =
     let k = sharedRefusal r words vci in

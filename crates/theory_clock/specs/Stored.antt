@@ -21,6 +21,8 @@ storedVc vc =
       bucket = vc .bucket;
       last = (if vc .opened =? 0 then vc .last else stored (vc .last));
       waiting = vc .waiting;
+      second = vc .second;
+      tag = vc .tag;
     }
 
 -- the words of the VCs below z

@@ -9,7 +9,7 @@ use mathlib.Core.List.{List}
 use Rattle.meaning.specs.declared.Record.{Record}
 use Rattle.meaning.specs.Plain.{Out}
 use Rattle.meaning.specs.State.{State, withClock}
-use Rattle.meaning.specs.Words.{Vc}
+use Rattle.meaning.specs.Words.{Vc, Second}
 use Rattle.meaning.specs.Calls.{Called, openCall, freshState}
 use Rattle.meaning.specs.Work.{Work}
 use Rattle.theory_clock.specs.Clocked.{upToDateBy, step1By, step2By, step3By, fiveStepsBy, slotBy, debtBy, closeBy}
@@ -35,8 +35,8 @@ unfoldable pub unwrappedSlot : State → List ℕ → Work
 unwrappedSlot s cell = slotBy unwrappedSteps s cell
 
 -- "Opening sets .. last t": here the number of slots served
-unfoldable pub unwrappedOpen : Record → List ℕ → ℕ → ℕ → ℕ → ℕ → Called
-unwrappedOpen r words vci m F C = openCall r words vci m F C
+unfoldable pub unwrappedOpen : Record → List ℕ → ℕ → ℕ → ℕ → ℕ → Second → Called
+unwrappedOpen r words vci m F C x = openCall r words vci m F C x
 
 unfoldable pub unwrappedDebt : ℕ → Vc → ℕ
 unwrappedDebt k vc = debtBy (λ t last. t - last) k vc

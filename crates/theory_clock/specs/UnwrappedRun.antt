@@ -5,17 +5,17 @@ use mathlib.Core.Bool.{Bool}
 use mathlib.Core.List.{List, [], _∷_}
 use Rattle.meaning.specs.State.{withWords}
 use Rattle.meaning.specs.Line.{lineCell}
-use Rattle.meaning_runs.specs.Run.{Call, onOpen, onClose, onSlot, opened, closed, ran, Run, runOf, shown, served}
+use Rattle.meaning_runs.specs.Run.{Call, onOpenWith, onClose, onSlot, opened, closed, ran, Run, runOf, shown, served}
 use Rattle.meaning_runs.specs.Run.{letIn, calls, freshRun}
 use Rattle.theory_clock.specs.Unwrapped.{unwrappedOpen, unwrappedClose, unwrappedSlot, unwrappedFresh}
 use Rattle.theory_clock.specs.Stored.{storedState}
 use Rattle.theory_clock.specs.Kept.{Kept}
 
 unfoldable pub unwrappedCall : Run → Call → Run
-unwrappedCall r (onOpen vci m F C) =
+unwrappedCall r (onOpenWith vci m F C x) =
     let s = r .state in
-    let c = unwrappedOpen (s .ctl) (s .words) vci m F C in
-    runOf (withWords s (c .words)) (opened vci m F C (c .number) ∷ r .events)
+    let c = unwrappedOpen (s .ctl) (s .words) vci m F C x in
+    runOf (withWords s (c .words)) (opened vci m F C x (c .number) ∷ r .events)
 unwrappedCall r (onClose vci) =
     let s = r .state in
     let c = unwrappedClose (s .ctl) (s .words) vci in

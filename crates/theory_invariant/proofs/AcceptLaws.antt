@@ -1,25 +1,26 @@
--- Step 3 where the leak rule accepts: a space is free, no test of refusal 3 fails, and the cell joins the entry of its
--- due slot.
+-- Step 3 where the leak rules let the cell in, accepted or tagged: a space is free, no test of refusal 3 fails, and the cell
+-- joins the entry of its due slot.
 use Prim.Native.Nat.{ℕ, suc, _+_, _-_, _%_, _≤_, _<_}
 use mathlib.Core.Path.{_≡_, refl, sym, ap, _∙_, subst}
-use mathlib.Core.Bool.{true}
+use mathlib.Core.Bool.{true, _&&_}
 use mathlib.Core.List.{List, [], _∷_, _++_}
 use mathlib.Core.Option.{Option, none, some}
 use native.Mathlib.Decide.{ℕ-discrete}
 use native.Mathlib.Omega.{arith}
 use borrow.Author.Tests.{lt-ltb}
 use lib.ListN.{length}
-use Rattle.meaning.specs.Plain.{next}
-use Rattle.meaning.specs.Numbers.{empty, accepted}
+use Rattle.meaning.specs.Plain.{_=?_, next}
+use Rattle.meaning.specs.Numbers.{empty, accepted, letsIn}
 use Rattle.meaning.specs.State.{State, freeList, outputList, withRecord, recordWith, withCells, withLinks, withCalendar, withWords, withFreeList, writeCell}
 use Rattle.meaning.specs.Header.{headerAt, namesVc}
 use Rattle.meaning.specs.Bucket.{bucketOf, delay, fill}
-use Rattle.meaning.specs.Words.{Vc, vcAt, writeVc, withWaiting, withBucket}
+use Rattle.meaning.specs.Words.{Vc, vcAt, writeVc, withWaiting, withBuckets}
 use Rattle.meaning.specs.Lists.{entryAt, writeEntry, Grown, joinHead}
 use Rattle.meaning.specs.Work.{Work, bareAnswer, withState, withVc, withArrival}
-use Rattle.meaning.specs.Arrival.{place, accept}
+use Rattle.meaning.specs.Arrival.{secondAfter, sentAs, place, accept}
+use Rattle.meaning.proofs.TaggedLaws.{sent-length, sent-vci}
 use Rattle.meaning.proofs.WordsLaws.{write-length, write-read, write-read-other}
-use Rattle.meaning_runs.specs.Leak.{Opening, dueTime, dueSlot, leakAccepts}
+use Rattle.meaning_runs.specs.Leak.{Opening, dueTime, dueSlot, leakAccepts, sustains, verdictBy}
 use Rattle.meaning_runs.specs.Seen.{ofVc}
 use Rattle.meaning_runs.specs.Judged.{judgedOf, judgedBy}
 use Rattle.theory_queues.specs.Queue.{sum, sums, one, All, Alls, turn, put, Good}
@@ -32,12 +33,14 @@ use Rattle.theory_chains.proofs.StrungLaws.{TakenOff}
 use Rattle.theory_chains.proofs.CountLaws.{is-no, is-same}
 use Rattle.theory_table.specs.Stored.{stored, VcIs, OpenVc}
 use Rattle.theory_table.proofs.LeakLaws.{due-grows, rules-are}
+use Rattle.theory_table.proofs.VerdictLaws.{verdict-says}
 use Rattle.theory_table.proofs.VcLaws.{delay-due, delay-low, moved, filled, filled-open}
 use Rattle.theory_memory.specs.Held.{Queued, dueOf, vciOf, Has}
 use Rattle.theory_memory.proofs.HasLaws.{free-fits, entry-fits, SomeFree, some-free, free-marked, free-taken, placed}
 use Rattle.theory_invariant.specs.Invariant.{isOf, waits, Under, Sits, Stage}
-use Rattle.theory_invariant.specs.Came.{after, Came}
+use Rattle.theory_invariant.specs.Came.{onward, Came}
 use Rattle.theory_invariant.proofs.StepLaws.{Goes}
+use Rattle.theory_invariant.proofs.SentLaws.{sent-names}
 use Rattle.theory_invariant.proofs.AfterLaws.{after-own, after-other, sits-after, waits-low}
 
 module _ (now : ℕ) (cell : List ℕ) (op : ℕ → Option Opening) (free : List ℕ) (out : List Queued) (cal : List (List Queued))
@@ -58,8 +61,20 @@ module _ (now : ℕ) (cell : List ℕ) (op : ℕ → Option Opening) (free : Lis
       (u : ℕ) (named : namesVc z (headerAt cell 0) ≡ true) (u-is : headerAt cell 0 .vci ≡ u) (u-low : 1 ≤ u)
       (u-high : u < z)
       (o : Opening) (o-is : op u ≡ some o) (opn : OpenVc N z (suc now) u (vcAt (s .words) u) (waits u out (turn cal)) o)
-      (yes-leak : leakAccepts o now ≡ true)
-      (judges : judgedBy z now op cell ≡ judgedOf accepted u (dueSlot o now - now)) where
+      (verdict : ℕ) (verdict-is : verdictBy o (headerAt cell 0 .clp) now ≡ verdict) (lets : letsIn verdict ≡ true)
+      (judges : judgedBy z now op cell ≡ judgedOf verdict u (dueSlot o now - now)) where
+    abbrev clp : ℕ
+    clp = headerAt cell 0 .clp
+
+    abbrev sent : List ℕ
+    sent = sentAs verdict cell
+
+    within-peak : leakAccepts o now ≡ true
+    within-peak = verdict-says o clp now .0 (rw verdict-is lets)
+
+    within-rate : clp =? 0 && verdict =? accepted ≡ true → sustains o now ≡ true
+    within-rate e = verdict-says o clp now .1 (rw verdict-is e)
+
     abbrev q : ℕ
     q = waits u out (turn cal)
 
@@ -70,7 +85,7 @@ module _ (now : ℕ) (cell : List ℕ) (op : ℕ → Option Opening) (free : Lis
     D = delay (vc .bucket)
 
     abbrev full : Vc
-    full = withWaiting (withBucket vc (fill (vc .bucket))) (q + 1)
+    full = withWaiting (withBuckets vc (fill (vc .bucket)) (secondAfter clp verdict (vc .second))) (q + 1)
 
     abbrev e : ℕ
     e = (s .ctl .turn + D) % N
@@ -82,7 +97,7 @@ module _ (now : ℕ) (cell : List ℕ) (op : ℕ → Option Opening) (free : Lis
     low = omega (arith, st .ranges .N-high)
 
     D-low : D < N
-    D-low = delay-low N z (st .ranges .z-high) o now q (opn .rules) yes-leak
+    D-low = delay-low N z (st .ranges .z-high) o now q (opn .rules) within-peak
 
     D-due : dueSlot o now ≡ now + D
     D-due = delay-due N z (st .ranges .z-high) o now q
@@ -105,19 +120,19 @@ module _ (now : ℕ) (cell : List ℕ) (op : ℕ → Option Opening) (free : Lis
 
     abbrev new : Queued
     new = record {
-      cell = record { vci = u; arrival = now; D = D; time = dueTime o now; due = dueSlot o now; octets = cell };
+      cell = record { vci = u; arrival = now; D = D; time = dueTime o now; due = dueSlot o now; octets = sent };
       space = s .ctl .freehead;
     }
 
     abbrev work : Work
     work =
-        let w1 = withArrival (withVc w u full) accepted u D in
+        let w1 = withArrival (withVc w u full) verdict u D in
         let s1 = withFreeList (w1 .state) (taken .left) in
-        let s2 = withCells s1 (writeCell (s .cells) (s .ctl .freehead) cell) in
+        let s2 = withCells s1 (writeCell (s .cells) (s .ctl .freehead) sent) in
         let s3 = withLinks s2 (grown .links) in
         withState w1 (withCalendar s3 (writeEntry (s .calendar) e (grown .ends)))
 
-    goes : accept cell u w vc ≡ next work
+    goes : accept cell verdict u w vc ≡ next work
     unfolding accept place withFreeList withCells withLinks withCalendar withWords withRecord recordWith
     goes =
         rw (
@@ -132,21 +147,22 @@ module _ (now : ℕ) (cell : List ℕ) (op : ℕ → Option Opening) (free : Lis
     entered = omega (arith, put-sums (isOf u) D new (turn cal) (omega (arith, st .has .wide, D-low)), is-same u)
 
     each : (v : ℕ) → 1 ≤ v → v < z → Dec (v ≡ u) → VcIs N z (suc now) v (vcAt (writeVc (s .words) u full) v)
-        (waits v out (put D new (turn cal))) (after now accepted u op v)
+        (waits v out (put D new (turn cal))) (onward now cell verdict u op v)
     each v h1 h2 (yes p) =
         subst (λ (i : ℕ). VcIs N z (suc now) i (vcAt (writeVc (s .words) u full) i) (waits i out (put D new (turn cal)))
-        (after now accepted u op i)) (sym p)
+        (onward now cell verdict u op i)) (sym p)
         (rw (
           write-read (s .words) u full (omega (arith, st .words-long, u-high)),
-          after-own now u op u refl,
+          after-own now clp verdict u lets op u refl,
           o-is,
-          filled N z (st .ranges .z-high) o now q,
+          filled N z (st .ranges .z-high) o now q clp verdict,
         )
-        (subst (λ (i : ℕ). OpenVc N z (suc now) u (stored (moved N z (st .ranges .z-high) now o) (suc now) (suc q)) i
-        (moved N z (st .ranges .z-high) now o)) (omega (arith, entered))
-        (filled-open N z (st .ranges .z-high) o now (suc now) u q (vcAt (s .words) u) yes-leak opn)))
+        (subst (λ (i : ℕ). OpenVc N z (suc now) u (stored (moved N z (st .ranges .z-high) now clp verdict o) (suc now) (suc q)) i
+        (moved N z (st .ranges .z-high) now clp verdict o)) (omega (arith, entered))
+        (filled-open N z (st .ranges .z-high) o now (suc now) u q clp verdict (vcAt (s .words) u) within-peak within-rate (omega arith)
+        opn)))
     each v h1 h2 (no p) =
-        rw (write-read-other (s .words) u full v p, after-other now u op v (λ y. p (sym y)))
+        rw (write-read-other (s .words) u full v p, after-other now clp verdict u lets op v (λ y. p (sym y)))
         (subst (λ (i : ℕ). VcIs N z (suc now) v (vcAt (s .words) v) i (op v)) same (st .table v h1 h2))
       where
         same : waits v out (turn cal) ≡ waits v out (put D new (turn cal))
@@ -165,30 +181,30 @@ module _ (now : ℕ) (cell : List ℕ) (op : ℕ → Option Opening) (free : Lis
             ended : Under (some o) (b .cell) → dueOf b < dueSlot o now
             ended t = omega (arith, t .0, due-grows o (b .cell .time) now (t .2) (t .1))
 
-    sits-new : Sits z (λ v. after now accepted u op v) new
+    sits-new : Sits z (λ v. onward now cell verdict u op v) new
     unfolding dueSlot
     sits-new = (
-      named,
-      u-is,
-      rw (after-own now u op u refl, o-is)
+      sent-names verdict cell (omega (arith, long)) z ∙ named,
+      sent-vci verdict cell (omega (arith, long)) ∙ u-is,
+      rw (after-own now clp verdict u lets op u refl, o-is)
           (refl, omega arith, rules-are N (bucketOf (o .m) (o .F) (o .C) 0) (opn .rules) .F-low),
     )
 
     less : D ≡ dueSlot o now - now
     less = omega (arith, D-due)
 
-    pub accept-goes : Goes (accept cell u w vc) (Came N z now cell op out cal)
+    pub accept-goes : Goes (accept cell verdict u w vc) (Came N z now cell op out cal)
     unfolding withFreeList withCells withLinks withCalendar withWords withRecord recordWith
     accept-goes =
         record {
           work = work;
           goes = goes;
           holds = record {
-            verdict = accepted;
+            verdict = verdict;
             vci = u;
             D = D;
             says = rw blank;
-            judges = judges ∙ ap (judgedOf accepted u) (sym less);
+            judges = judges ∙ ap (judgedOf verdict u) (sym less);
             free = spare .rest;
             new = new ∷ [];
             r = put D new (turn cal);
@@ -199,22 +215,22 @@ module _ (now : ℕ) (cell : List ℕ) (op : ℕ → Option Opening) (free : Lis
               t-is = st .t-is;
               turn-low = st .turn-low;
               rotation-is = st .rotation-is;
-              has = placed low has D new D-low refl long (taken .left) (taken .rest);
+              has = placed low has D new D-low refl (sent-length verdict cell ∙ long) (taken .left) (taken .rest);
               words-long = write-length (s .words) u full ∙ st .words-long;
               table = λ v h1 h2. each v h1 h2 (ℕ-discrete v u);
             };
             arrived = arrive-some dueOf (N - 1) now cal out D new (omega (arith, D-low)) D-due good;
-            sits-out = all-map (Sits z op) (Sits z (λ v. after now accepted u op v)) (sits-after z now u op) out sits-out;
-            sits-cal = alls-put (Sits z (λ v. after now accepted u op v)) D new (turn cal) sits-new
-                (alls-turn (Sits z (λ v. after now accepted u op v)) cal
-                (alls-map (Sits z op) (Sits z (λ v. after now accepted u op v)) (sits-after z now u op) cal sits-cal));
+            sits-out = all-map (Sits z op) (Sits z (λ v. onward now cell verdict u op v)) (sits-after now clp verdict u lets op z) out sits-out;
+            sits-cal = alls-put (Sits z (λ v. onward now cell verdict u op v)) D new (turn cal) sits-new
+                (alls-turn (Sits z (λ v. onward now cell verdict u op v)) cal
+                (alls-map (Sits z op) (Sits z (λ v. onward now cell verdict u op v)) (sits-after now clp verdict u lets op z) cal sits-cal));
             order =
                 λ v. put-order vciOf dueOf v now D new (turn cal) (omega (arith, st .has .wide, D-low))
                 (timed-turn dueOf now cal (good .timed)) D-due
                 (alls-turn (λ b. vciOf b ≡ u → dueOf b < dueOf new) cal
                 (alls-map (Sits z op) (λ b. vciOf b ≡ u → dueOf b < dueOf new) behind cal sits-cal))
                 ∙ ap (λ l. ofVc vciOf v l ++ ofVc vciOf v (new ∷ [])) (turn-flat cal);
-            notes = rw o-is;
+            notes = rw (lets, o-is);
             delays = ((D-due, D-low), tt);
             rises = λ l k. rising-add (λ c. c .arrival) 0 now l (new .cell) (omega arith) k;
           };

@@ -1,4 +1,4 @@
--- Step 3 of a slot, from the invariant: nothing, unknown, excess or accepted, as the header and the exact leak rule say,
+-- Step 3 of a slot, from the invariant: nothing, unknown, excess, tagged or accepted, as the header and the leak rules say,
 -- and never refused.
 use Prim.Native.Nat.{ℕ, suc, _-_, _≤_, _<_}
 use mathlib.Core.Path.{_≡_, refl, sym, ap, _∙_, subst₂, fun-ext}
@@ -11,7 +11,7 @@ use native.Mathlib.Omega.{arith}
 use borrow.Author.Tests.{eq-eqb, ne-eqb, leb-true, ltb-true, eqb-true}
 use lib.ListN.{length}
 use Rattle.meaning.specs.Plain.{if_then_else_, _<?_, _≤?_, _=?_, next}
-use Rattle.meaning.specs.Numbers.{accepted, excess, unknown, nothing}
+use Rattle.meaning.specs.Numbers.{excess, unknown, nothing, letsIn}
 use Rattle.meaning.specs.State.{State, withWords}
 use Rattle.meaning.specs.Header.{Header, headerAt, noUserCell, namesVc}
 use Rattle.meaning.specs.Words.{Vc, vcAt, writeVc, upToDate}
@@ -19,7 +19,7 @@ use Rattle.meaning.specs.Work.{Work, bareAnswer, withVc, withArrival}
 use Rattle.meaning.specs.Arrival.{judge}
 use Rattle.meaning.specs.Slot.{step3}
 use Rattle.meaning.proofs.WordsLaws.{write-length, write-read, write-read-other}
-use Rattle.meaning_runs.specs.Leak.{Opening, dueSlot, leakAccepts}
+use Rattle.meaning_runs.specs.Leak.{Opening, dueSlot, verdictBy}
 use Rattle.meaning_runs.specs.Seen.{ofVc}
 use Rattle.meaning_runs.specs.Judged.{judgedOf, judgedUnder, judgedBy}
 use Rattle.theory_queues.specs.Queue.{All, Alls, flat, turn, Good}
@@ -29,15 +29,22 @@ use Rattle.theory_queues.proofs.RisingLaws.{rising-up}
 use Rattle.theory_table.specs.Stored.{stored, VcIs, OpenVc}
 use Rattle.theory_table.proofs.ClockLaws.{clock-next}
 use Rattle.theory_table.proofs.LeakLaws.{and-left, and-right}
-use Rattle.theory_table.proofs.VcLaws.{word-fits, up-to-date, now-open, excess-is}
+use Rattle.theory_table.proofs.VerdictLaws.{verdict-is, verdict-says}
+use Rattle.theory_table.proofs.VcLaws.{word-fits, up-to-date, now-open}
 use Rattle.theory_memory.specs.Held.{Queued, dueOf, vciOf}
 use Rattle.theory_invariant.specs.Invariant.{waits, Sits, Stage}
 use Rattle.theory_invariant.specs.Came.{after, half, Came}
 use Rattle.theory_invariant.proofs.StepLaws.{Goes}
 use Rattle.theory_invariant.proofs.AcceptLaws.{accept-goes}
 
-after-none : (now verdict vci : ℕ) (op : ℕ → Option Opening) → verdict ≢ accepted → (λ v. after now verdict vci op v) ≡ op
-after-none now verdict vci op ne = fun-ext (λ v. rw (ne-eqb verdict accepted ne))
+after-none : (now clp verdict vci : ℕ) (op : ℕ → Option Opening) → letsIn verdict ≡ false
+    → (λ v. after now clp verdict vci op v) ≡ op
+after-none now clp verdict vci op ne = fun-ext (λ v. rw ne)
+
+-- an excess cell is not let in
+not-excess : (verdict : ℕ) → letsIn verdict ≡ true → verdict =? excess ≡ false
+unfolding letsIn
+not-excess verdict lets = ne-eqb verdict excess (λ e. absurd (let y : _≡_ {A = Bool} false true = rw e at lets in let z : _≡_ {A = ℕ} 0 1 = cc in omega arith))
 
 pub names-facts : (z : ℕ) (h : Header) → namesVc z h ≡ true → (1 ≤ h .vci) × (h .vci < z)
 unfolding namesVc
@@ -68,8 +75,8 @@ module _ (now : ℕ) (cell : List ℕ) (op : ℕ → Option Opening) (free : Lis
       module _ (st : Stage N z (suc now) (suc now) (s .ctl .turn) s op free out (turn cal))
           (good : Good dueOf (N - 1) now cal out)
           (sits-out : All (Sits z op) out) (sits-cal : Alls (Sits z op) cal) (blank : w .answer ≡ bareAnswer 0) where
-        -- no cell is accepted
-        quiet : (w′ : Work) (verdict vci : ℕ) → verdict ≢ accepted → w′ .answer ≡ half verdict vci 0
+        -- no cell is let in
+        quiet : (w′ : Work) (verdict vci : ℕ) → letsIn verdict ≡ false → w′ .answer ≡ half verdict vci 0
             → judgedBy z now op cell ≡ judgedOf verdict vci 0
             → Stage N z (suc now) (suc now) (w′ .state .ctl .turn) (w′ .state) op free out (turn cal)
             → Came N z now cell op out cal w′
@@ -83,12 +90,12 @@ module _ (now : ℕ) (cell : List ℕ) (op : ℕ → Option Opening) (free : Lis
               free = free;
               new = [];
               r = turn cal;
-              stage = rw (after-none now verdict vci op ne) st′;
+              stage = rw (after-none now (headerAt cell 0 .clp) verdict vci op ne) st′;
               arrived = arrive-none dueOf (N - 1) now cal out good;
-              sits-out = rw (after-none now verdict vci op ne) sits-out;
-              sits-cal = rw (after-none now verdict vci op ne) (alls-turn (Sits z op) cal sits-cal);
+              sits-out = rw (after-none now (headerAt cell 0 .clp) verdict vci op ne) sits-out;
+              sits-cal = rw (after-none now (headerAt cell 0 .clp) verdict vci op ne) (alls-turn (Sits z op) cal sits-cal);
               order = λ v. ap (ofVc vciOf v) (turn-flat cal) ∙ sym (append-nil (ofVc vciOf v (flat cal)));
-              notes = rw (ne-eqb verdict accepted ne);
+              notes = rw ne;
               delays = tt;
               rises = λ l k. rw (append-nil l) (rising-up (λ c. c .arrival) 0 now (suc now) l (omega arith) k);
             }
@@ -109,8 +116,8 @@ module _ (now : ℕ) (cell : List ℕ) (op : ℕ → Option Opening) (free : Lis
 
           over : judgedBy z now op cell ≡ judgedOf excess u 0
               → Came N z now cell op out cal (withArrival (withVc w u vc) excess u 0)
-          unfolding withWords
-          over judges = quiet (withArrival (withVc w u vc) excess u 0) excess u (λ y. omega arith) (rw blank) judges
+          unfolding withWords letsIn
+          over judges = quiet (withArrival (withVc w u vc) excess u 0) excess u refl (rw blank) judges
               (record {
                 ranges = st .ranges;
                 n-is = st .n-is;
@@ -129,25 +136,36 @@ module _ (now : ℕ) (cell : List ℕ) (op : ℕ → Option Opening) (free : Lis
               ∙ up-to-date N z (st .ranges .z-high) now (suc now) u (vcAt (s .words) u) (waits u out (turn cal)) o u-high
               (omega arith) (omega arith) opn
 
-          judge-goes : (b : Bool) → leakAccepts o now ≡ b → length cell ≡ 53 → namesVc z (headerAt cell 0) ≡ true
-              → judgedBy z now op cell ≡ (if b then judgedOf accepted u (dueSlot o now - now) else judgedOf excess u 0)
+          abbrev verdict : ℕ
+          verdict = verdictBy o (headerAt cell 0 .clp) now
+
+          judge-goes : (b : Bool) → letsIn verdict ≡ b → length cell ≡ 53 → namesVc z (headerAt cell 0) ≡ true
+              → judgedBy z now op cell ≡ judgedOf verdict u (if b then dueSlot o now - now else 0)
               → Goes (judge cell u w vc) (Came N z now cell op out cal)
           unfolding judge
           judge-goes true e long named judges =
-              rw (excess-is N z (st .ranges .z-high) o now (waits u out (turn cal)), e)
+              rw (verdict-is o (headerAt cell 0 .clp) now (waits u out (turn cal)), not-excess verdict e)
               (accept-goes now cell op free out cal w st good sits-out sits-cal blank long u named refl u-low u-high o o-is
-              opn e judges)
+              opn verdict refl e judges)
           judge-goes false e long named judges =
-              rw (excess-is N z (st .ranges .z-high) o now (waits u out (turn cal)), e)
-              (record { work = withArrival (withVc w u vc) excess u 0; goes = refl; holds = over judges })
+              rw (verdict-is o (headerAt cell 0 .clp) now (waits u out (turn cal)), eq-eqb verdict excess is)
+              (record {
+                work = withArrival (withVc w u vc) excess u 0;
+                goes = refl;
+                holds = over (judges ∙ ap (λ (k : ℕ). judgedOf k u 0) is);
+              })
+            where
+              is : verdictBy o (headerAt cell 0 .clp) now ≡ excess
+              is = verdict-says o (headerAt cell 0 .clp) now .2 e
 
         strange : judgedBy z now op cell ≡ judgedOf unknown u 0 → Came N z now cell op out cal (withArrival w unknown u 0)
-        strange judges = quiet (withArrival w unknown u 0) unknown u (λ y. omega arith) (rw blank) judges st
+        unfolding letsIn
+        strange judges = quiet (withArrival w unknown u 0) unknown u refl (rw blank) judges st
 
         -- the header names a VC
         module _ (some-cell : length cell =? 0 || noUserCell (headerAt cell 0) ≡ false)
             (named : namesVc z (headerAt cell 0) ≡ true) (long : length cell ≡ 53) where
-          under : judgedBy z now op cell ≡ judgedUnder now u (op u)
+          under : judgedBy z now op cell ≡ judgedUnder now u (headerAt cell 0 .clp) (op u)
           unfolding judgedBy
           under = rw (some-cell, named)
 
@@ -164,7 +182,7 @@ module _ (now : ℕ) (cell : List ℕ) (op : ℕ → Option Opening) (free : Lis
                       (waits u out (turn cal)) none k,
                   eq-eqb (vcAt (s .words) u .opened) 0 k,
                 );
-                holds = strange (under ∙ ap (judgedUnder now u) e);
+                holds = strange (under ∙ ap (judgedUnder now u (headerAt cell 0 .clp)) e);
               }
           known (some o) e k =
               rw (
@@ -174,7 +192,7 @@ module _ (now : ℕ) (cell : List ℕ) (op : ℕ → Option Opening) (free : Lis
                 ne-eqb (vcAt (s .words) u .opened) 0 is-open,
                 brought (names .0) (names .1) o e k,
               )
-              (judge-goes (names .0) (names .1) o e k (leakAccepts o now) refl long named (under ∙ ap (judgedUnder now u) e))
+              (judge-goes (names .0) (names .1) o e k (letsIn (verdictBy o (headerAt cell 0 .clp) now)) refl long named (under ∙ ap (judgedUnder now u (headerAt cell 0 .clp)) e))
             where
               names : (1 ≤ u) × (u < z)
               names = names-facts z (headerAt cell 0) named
@@ -184,8 +202,8 @@ module _ (now : ℕ) (cell : List ℕ) (op : ℕ → Option Opening) (free : Lis
 
         empty-goes : length cell =? 0 || noUserCell (headerAt cell 0) ≡ true
             → Goes (step3 cell w) (Came N z now cell op out cal)
-        unfolding step3 judgedBy
-        empty-goes e = record { work = w; goes = rw e; holds = quiet w nothing 0 (λ y. omega arith) blank (rw e) st }
+        unfolding step3 judgedBy letsIn
+        empty-goes e = record { work = w; goes = rw e; holds = quiet w nothing 0 refl blank (rw e) st }
 
         strange-goes : length cell =? 0 || noUserCell (headerAt cell 0) ≡ false → namesVc z (headerAt cell 0) ≡ false
             → Goes (step3 cell w) (Came N z now cell op out cal)

@@ -7,7 +7,7 @@ use mathlib.Core.List.{List, [], _∷_}
 use lib.ListN.{length}
 use Rattle.base_hec.specs.Modes.{Arriving}
 use Rattle.meaning.specs.Plain.{_=?_}
-use Rattle.meaning.specs.Numbers.{nothing, dropped}
+use Rattle.meaning.specs.Numbers.{nothing, dropped, letsIn}
 use Rattle.meaning.specs.State.{State, withRecord, recordInMode, withMode}
 use Rattle.meaning.specs.Work.{Work, workOf, bareAnswer}
 use Rattle.meaning.specs.Slot.{uncheckedSlot, told, slot}
@@ -63,12 +63,12 @@ pub record Checked (N z : ℕ) (h : List Event) (a : Arriving) (w : Work) : Type
 -- verdict 4 in place of 0: no cell more, no opening moved, the same slots and departures
 still-dropped : (h : List Event) (cell : List ℕ) (w : Work) → w .answer .verdict ≡ nothing
     → Still (eventOf cell w ∷ h) (eventOf cell (told true w) ∷ h)
-unfolding served cellsIn departuresIn shown
+unfolding served cellsIn departuresIn shown letsIn
 still-dropped h cell w e = record { slots = refl; cells = rw e; departures = refl }
 
 opening-dropped : (h : List Event) (cell : List ℕ) (w : Work) → w .answer .verdict ≡ nothing → (v : ℕ)
     → openingOf v (eventOf cell (told true w) ∷ h) ≡ openingOf v (eventOf cell w ∷ h)
-unfolding openingOf accepts
+unfolding openingOf accepts letsIn
 opening-dropped h cell w e v = rw e
 
 -- nothing arrives: verdict 0

@@ -18,7 +18,7 @@ use Rattle.theory_queues.specs.Queue.{All, Moved}
 use Rattle.theory_queues.proofs.LineLaws.{head-in-time}
 use Rattle.theory_memory.specs.Held.{Queued, dueOf, vciOf}
 use Rattle.theory_invariant.specs.Invariant.{seenAs, InTime}
-use Rattle.theory_invariant.specs.Came.{after, half}
+use Rattle.theory_invariant.specs.Came.{onward, half}
 use Rattle.theory_invariant.specs.Gone.{Departs}
 use Rattle.theory_invariant.proofs.KeptLaws.{leaving, served-ran, opening-ran, departures-none, departures-some}
 
@@ -61,7 +61,7 @@ module _ (N : ℕ) (small : N ≤ 1_024) (h : List Event) (cell : List ℕ) (w :
 
   module _ (f : Final verdict vci D w) where
     pub opened-after : _≡_ {A = ℕ → Option Opening} (λ v. openingOf v (eventOf cell w ∷ h))
-        (λ v. after (served h) verdict vci (λ u. openingOf u h) v)
+        (λ v. onward (served h) cell verdict vci (λ u. openingOf u h) v)
     opened-after = fun-ext (λ v.
         ap (λ (a : Answer). openingOf v (ran cell a (shown w) ∷ h)) (f .says)
         ∙ opening-ran h cell verdict vci D (f .x) (f .dep) (shown w) v)

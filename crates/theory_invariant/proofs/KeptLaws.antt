@@ -1,5 +1,5 @@
 -- The order of one VC's cells through a slot: those that left, then the Output List, then the calendar, always in order
--- of arrival; and what the events of a slot add to the accepted cells and departures.
+-- of arrival; and what the events of a slot add to the cells let in and the departures.
 use Prim.Native.Nat.{ℕ, suc}
 use mathlib.Core.Path.{_≡_, refl, sym, ap, _∙_}
 use mathlib.Core.Logic.{_≢_}
@@ -9,9 +9,10 @@ use mathlib.Core.Option.{Option, none, some}
 use native.Mathlib.Omega.{arith}
 use borrow.Author.Tests.{eq-eqb, ne-eqb}
 use Rattle.meaning.specs.declared.Answer.{Answer}
-use Rattle.meaning.specs.Plain.{if_then_else_, _=?_}
-use Rattle.meaning.specs.Numbers.{empty, accepted}
+use Rattle.meaning.specs.Plain.{if_then_else_}
+use Rattle.meaning.specs.Numbers.{empty, letsIn}
 use Rattle.meaning.specs.Work.{answerOf}
+use Rattle.meaning.specs.Arrival.{sentAs}
 use Rattle.meaning_runs.specs.Run.{Event, ran, served}
 use Rattle.meaning_runs.specs.Leak.{Opening, accepts, openingOf}
 use Rattle.meaning_runs.specs.Seen.{Cell, cellUnder, cellsIn, departuresIn, ofVc}
@@ -21,7 +22,7 @@ use Rattle.theory_queues.proofs.RisingLaws.{rising-up, rising-add}
 use Rattle.theory_queues.proofs.OrderLaws.{ofVc-append, ofVc-map}
 use Rattle.theory_memory.specs.Held.{Queued, vciOf}
 use Rattle.theory_invariant.specs.Invariant.{Left, cellLeft, cellIn, vciIn}
-use Rattle.theory_invariant.specs.Came.{after, half, noted}
+use Rattle.theory_invariant.specs.Came.{onward, half, noted}
 
 -- the departure of slot n, if any
 abbrev pub leaving : ℕ → List Queued → List Left
@@ -82,21 +83,24 @@ module _ (h : List Event) (cell : List ℕ) (verdict vci D x out : ℕ) (seen : 
   unfolding served
   served-ran = omega arith
 
-  pub opening-ran : (v : ℕ) → openingOf v (ran cell a seen ∷ h) ≡ after (served h) verdict vci (λ u. openingOf u h) v
+  pub opening-ran : (v : ℕ) → openingOf v (ran cell a seen ∷ h) ≡ onward (served h) cell verdict vci (λ u. openingOf u h) v
   unfolding openingOf accepts
   opening-ran v = refl
 
-  under-same : (o : Option Opening) → cellUnder (served h) a cell o ≡ cellUnder (served h) (half verdict vci D) cell o
+  abbrev sent : List ℕ
+  sent = sentAs verdict cell
+
+  under-same : (o : Option Opening) → cellUnder (served h) a sent o ≡ cellUnder (served h) (half verdict vci D) sent o
   under-same none = refl
   under-same (some o) = refl
 
   pub cells-ran : cellsIn (ran cell a seen ∷ h) ≡ cellsIn h ++ noted (served h) (half verdict vci D) cell
       (λ u. openingOf u h)
   unfolding cellsIn
-  cells-ran = go (verdict =? accepted)
+  cells-ran = go (letsIn verdict)
     where
-      go : (b : Bool) → (if b then cellsIn h ++ (cellUnder (served h) a cell (openingOf vci h) ∷ []) else cellsIn h)
-          ≡ cellsIn h ++ (if b then cellUnder (served h) (half verdict vci D) cell (openingOf vci h) ∷ [] else [])
+      go : (b : Bool) → (if b then cellsIn h ++ (cellUnder (served h) a sent (openingOf vci h) ∷ []) else cellsIn h)
+          ≡ cellsIn h ++ (if b then cellUnder (served h) (half verdict vci D) sent (openingOf vci h) ∷ [] else [])
       go true = ap (λ c. cellsIn h ++ (c ∷ [])) (under-same (openingOf vci h))
       go false = sym (append-nil (cellsIn h))
 

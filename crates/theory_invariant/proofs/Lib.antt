@@ -1,5 +1,6 @@
 pub mod StepLaws
 pub mod AfterLaws
+pub mod SentLaws
 pub mod AcceptLaws
 pub mod ArriveLaws
 pub mod SendLaws

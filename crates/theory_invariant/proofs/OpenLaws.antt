@@ -11,10 +11,10 @@ use borrow.Author.Tests.{eq-eqb, ne-eqb, leb-true, ltb-true, eqb-true, eqb-false
 use Rattle.meaning.specs.Plain.{_<?_, _≤?_, _=?_}
 use Rattle.meaning.specs.State.{State, withWords}
 use Rattle.meaning.specs.Bucket.{bucketOf, obeysRules}
-use Rattle.meaning.specs.Words.{Vc, vcAt, writeVc, openedVc, closedVc, debt}
+use Rattle.meaning.specs.Words.{Vc, Second, vcAt, writeVc, secondObeys, openedVc, closedVc, debt}
 use Rattle.meaning.specs.Calls.{Called, calledOf, openCall, closeCall}
 use Rattle.meaning_runs.specs.Run.{Event, opened, closed, served}
-use Rattle.meaning_runs.specs.Leak.{Opening, openingWith, openingOf}
+use Rattle.meaning_runs.specs.Leak.{Opening, newOpening, openingOf}
 use Rattle.meaning_runs.specs.Seen.{cellsIn, departuresIn}
 use Rattle.theory_queues.specs.Queue.{turn}
 use Rattle.theory_queues.proofs.QueueLaws.{turn-sums, all-map, alls-map}
@@ -39,21 +39,24 @@ module _ (N z : ℕ) (h : List Event) (s : State) (i : Inv N z h s) where
   high u e = ltb-true u z (and-right (1 ≤? u) (u <? z) e)
 
   -- ── open ──
-  module _ (u m F C : ℕ) where
-    still-open : (number : ℕ) → Still h (opened u m F C number ∷ h)
+  module _ (u m F C : ℕ) (x : Second) where
+    abbrev secondFits : Bool
+    secondFits = secondObeys (bucketOf (x .m) (x .F) (x .C) 0) (x .tag)
+
+    still-open : (number : ℕ) → Still h (opened u m F C x number ∷ h)
     unfolding served cellsIn departuresIn
     still-open number = record { slots = refl; cells = refl; departures = refl }
 
-    refused-open : (number : ℕ) → number ≢ 0 → Inv N z (opened u m F C number ∷ h) s
+    refused-open : (number : ℕ) → number ≢ 0 → Inv N z (opened u m F C x number ∷ h) s
     unfolding openingOf
     refused-open number ne =
-        unchanged N z h s i (opened u m F C number ∷ h) (still-open number) (λ v. rw (ne-eqb number 0 ne))
+        unchanged N z h s i (opened u m F C x number ∷ h) (still-open number) (λ v. rw (ne-eqb number 0 ne))
 
-    own-open : openingOf u (opened u m F C 0 ∷ h) ≡ some (openingWith m F C none)
+    own-open : openingOf u (opened u m F C x 0 ∷ h) ≡ some (newOpening m F C x)
     unfolding openingOf
     own-open = rw (eq-eqb u u refl)
 
-    other-open : (v : ℕ) → v ≢ u → openingOf v (opened u m F C 0 ∷ h) ≡ openingOf v h
+    other-open : (v : ℕ) → v ≢ u → openingOf v (opened u m F C x 0 ∷ h) ≡ openingOf v h
     unfolding openingOf
     other-open v ne = rw (ne-eqb u v (λ e. ne (sym e)))
 
@@ -65,13 +68,13 @@ module _ (N z : ℕ) (h : List Event) (s : State) (i : Inv N z h s) where
     away : op u ≡ none → (c : Queued) → Sits z op c → Away u c
     away e c p f = subst (λ (a : Option Opening). Under a (c .cell)) (ap op f ∙ e) (p .2)
 
-    pub opens : 1 ≤ u → u < z → vcAt (s .words) u .opened ≢ 1 → obeysRules N (bucketOf m F C 0) ≡ true
-        → Inv N z (opened u m F C 0 ∷ h) (withWords s (writeVc (s .words) u (openedVc (s .ctl .t) (bucketOf m F C 0))))
-    opens h1 h2 ne rules =
+    pub opens : 1 ≤ u → u < z → vcAt (s .words) u .opened ≢ 1 → obeysRules N (bucketOf m F C 0) ≡ true → secondFits ≡ true
+        → Inv N z (opened u m F C x 0 ∷ h) (withWords s (writeVc (s .words) u (openedVc (s .ctl .t) (bucketOf m F C 0) x)))
+    opens h1 h2 ne rules rules2 =
         renewed N z h s i u h2 (all-map (Sits z op) (Away u) (away none-is) (i .out) (i .sits-out))
         (alls-map (Sits z op) (Away u) (away none-is) (i .cal) (i .sits-cal))
-        (openedVc (s .ctl .t) (bucketOf m F C 0)) (some (openingWith m F C none))
-        (rw (i .stage .t-is) (opened-open N z (i .stage .ranges .z-high) now u m F C rules)) (opened u m F C 0 ∷ h)
+        (openedVc (s .ctl .t) (bucketOf m F C 0) x) (some (newOpening m F C x))
+        (rw (i .stage .t-is) (opened-open N z (i .stage .ranges .z-high) now u m F C x rules rules2)) (opened u m F C x 0 ∷ h)
         (still-open 0) own-open other-open
       where
         none-is : op u ≡ none
@@ -79,37 +82,46 @@ module _ (N z : ℕ) (h : List Event) (s : State) (i : Inv N z h s) where
 
     -- the number, and the invariant
     pub record Opens (c : Called) : Type 0 where
-      pub inv : Inv N z (opened u m F C (c .number) ∷ h) (withWords s (c .words))
+      pub inv : Inv N z (opened u m F C x (c .number) ∷ h) (withWords s (c .words))
       pub not-three : c .number ≢ 3
 
     given : (number : ℕ) → number ≢ 0 → number ≢ 3 → Opens (calledOf number (s .words))
     unfolding withWords
     given number ne three = record { inv = refused-open number ne; not-three = three }
 
-    pub open-kept : Opens (openCall (s .ctl) (s .words) u m F C)
+    pub open-kept : Opens (openCall (s .ctl) (s .words) u m F C x)
     unfolding openCall
-    open-kept = go (1 ≤? u && u <? z) (vcAt (s .words) u .opened =? 1) (obeysRules N (bucketOf m F C 0)) refl refl refl
+    open-kept =
+        go (1 ≤? u && u <? z) (vcAt (s .words) u .opened =? 1) (obeysRules N (bucketOf m F C 0)) secondFits refl refl refl refl
       where
-        go : (a b c : Bool) → 1 ≤? u && u <? z ≡ a → vcAt (s .words) u .opened =? 1 ≡ b
-            → obeysRules N (bucketOf m F C 0) ≡ c → Opens (openCall (s .ctl) (s .words) u m F C)
-        go false b c e f g = rw (shared-out N z h s i u e) (given 4 (λ y. omega arith) (λ y. omega arith))
-        go true true c e f g =
+        go : (a b c d : Bool) → 1 ≤? u && u <? z ≡ a → vcAt (s .words) u .opened =? 1 ≡ b
+            → obeysRules N (bucketOf m F C 0) ≡ c → secondFits ≡ d → Opens (openCall (s .ctl) (s .words) u m F C x)
+        go false b c d e f g k = rw (shared-out N z h s i u e) (given 4 (λ y. omega arith) (λ y. omega arith))
+        go true true c d e f g k =
             rw (shared-in N z h s i u (low u e) (high u e), f) (given 5 (λ y. omega arith) (λ y. omega arith))
-        go true false false e f g =
+        go true false false d e f g k =
             rw (
               shared-in N z h s i u (low u e) (high u e),
               f,
               ap (λ (n : ℕ). obeysRules n (bucketOf m F C 0)) (i .stage .n-is)
                   ∙ g,
             ) (given 6 (λ y. omega arith) (λ y. omega arith))
-        go true false true e f g =
+        go true false true false e f g k =
             rw (
               shared-in N z h s i u (low u e) (high u e),
               f,
               ap (λ (n : ℕ). obeysRules n (bucketOf m F C 0)) (i .stage .n-is) ∙ g,
+              k,
+            ) (given 11 (λ y. omega arith) (λ y. omega arith))
+        go true false true true e f g k =
+            rw (
+              shared-in N z h s i u (low u e) (high u e),
+              f,
+              ap (λ (n : ℕ). obeysRules n (bucketOf m F C 0)) (i .stage .n-is) ∙ g,
+              k,
             )
             (record {
-              inv = opens (low u e) (high u e) (eqb-false (vcAt (s .words) u .opened) 1 f) g;
+              inv = opens (low u e) (high u e) (eqb-false (vcAt (s .words) u .opened) 1 f) g k;
               not-three = λ y. omega arith;
             })
 

@@ -7,12 +7,12 @@ use mathlib.Core.List.{List, [], _∷_}
 use native.Mathlib.Omega.{arith}
 use lib.ListN.{length}
 use Rattle.meaning.specs.Plain.{_=?_}
-use Rattle.meaning.specs.Numbers.{rangesHold}
+use Rattle.meaning.specs.Numbers.{rangesHold, letsIn}
 use Rattle.meaning.specs.State.{State}
 use Rattle.meaning.specs.Calls.{freshState}
 use Rattle.meaning.specs.Work.{Work, workOf, bareAnswer}
 use Rattle.meaning.specs.Slot.{slot}
-use Rattle.meaning_runs.specs.Run.{Call, onOpen, onClose, onSlot, Event, numberOf, Run, runOf, letIn, call, calls, freshRun, served}
+use Rattle.meaning_runs.specs.Run.{Call, onOpenWith, onClose, onSlot, Event, numberOf, Run, runOf, letIn, call, calls, freshRun, served}
 use Rattle.meaning_runs.specs.Leak.{accepts, openingOf}
 use Rattle.meaning_runs.specs.Seen.{cellsIn, departuresIn}
 use Rattle.theory_queues.specs.Queue.{All}
@@ -30,7 +30,7 @@ pub record Kept (N z : ℕ) (r : Run) : Type 0 where
 module _ (N z : ℕ) where
   -- a slot refused with 9 leaves all as it was
   nine : (h : List Event) (s : State) (cell : List ℕ) → Inv N z h s → Inv N z (eventOf cell (workOf s (bareAnswer 9)) ∷ h) s
-  unfolding served cellsIn departuresIn openingOf accepts
+  unfolding served cellsIn departuresIn openingOf accepts letsIn
   nine h s cell i =
       unchanged N z h s i (eventOf cell (workOf s (bareAnswer 9)) ∷ h)
       (record { slots = omega arith; cells = refl; departures = refl }) (λ v. refl)
@@ -51,8 +51,8 @@ module _ (N z : ℕ) where
 
   pub call-kept : (r : Run) (c : Call) → Kept N z r → Kept N z (call r c)
   unfolding call
-  call-kept r (onOpen vci m F C) k =
-      let g = open-kept N z (r .events) (r .state) (k .inv) vci m F C in
+  call-kept r (onOpenWith vci m F C x) k =
+      let g = open-kept N z (r .events) (r .state) (k .inv) vci m F C x in
       record { inv = g .inv; never = (g .not-three, k .never) }
   call-kept r (onClose vci) k =
       let g = close-kept N z (r .events) (r .state) (k .inv) vci in

@@ -1,4 +1,4 @@
--- Document 01's slot keeps the invariant, is never refused with 3, and says of the arrival what the exact leak rule says.
+-- Document 01's slot keeps the invariant, is never refused with 3, and says of the arrival what the exact leak rules say.
 -- Steps 1 to 5 one after the other.
 use Prim.Native.Nat.{ℕ, suc, _+_, _-_}
 use mathlib.Core.Path.{_≡_, refl, sym, ap, _∙_, subst, subst₂}
@@ -25,7 +25,7 @@ use Rattle.theory_queues.proofs.LineLaws.{move, leave}
 use Rattle.theory_queues.proofs.OrderLaws.{ofVc-append}
 use Rattle.theory_memory.specs.Held.{Queued, dueOf}
 use Rattle.theory_invariant.specs.Invariant.{seenAs, cellLeft, cellIn, vciIn, Sits, Stage, InTime, Delayed, Inv}
-use Rattle.theory_invariant.specs.Came.{after, half, Came}
+use Rattle.theory_invariant.specs.Came.{onward, half, Came}
 use Rattle.theory_invariant.specs.Gone.{Departs, Gone}
 use Rattle.theory_invariant.proofs.StepLaws.{Goes, Ticked, step1-goes, step2-goes}
 use Rattle.theory_invariant.proofs.ArriveLaws.{step3-goes}
@@ -64,7 +64,7 @@ module _ (N z : ℕ) (h : List Event) (s : State) (i : Inv N z h s) where
       o1 = i .out ++ first (came .r)
 
       abbrev op′ : ℕ → Option Opening
-      op′ v = after now (came .verdict) (came .vci) op v
+      op′ v = onward now cell (came .verdict) (came .vci) op v
 
       module _ (gone : Gone N z now (λ v. op′ v) o1 (turn (tail (came .r))) w4 w5)
           (moded : Moded (s .ctl .raw) (s .ctl .mode) w5) where
@@ -166,7 +166,7 @@ module _ (N z : ℕ) (h : List Event) (s : State) (i : Inv N z h s) where
         c = g3 .holds
 
         op3 : ℕ → Option Opening
-        op3 v = after now (c .verdict) (c .vci) op v
+        op3 v = onward now cell (c .verdict) (c .vci) op v
 
         g4 : Goes (step4 (g3 .work)) (Sent now op3 (c .free) N z (i .out ++ first (c .r)) (turn (tail (c .r))) (g3 .work))
         g4 = step4-goes now op3 (c .free) (i .out) N z (g3 .work) (c .r) (c .stage)

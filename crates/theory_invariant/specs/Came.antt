@@ -1,4 +1,4 @@
--- What step 3 leaves, whatever arrived: the answer's verdict is the leak rule's, the calendar has the accepted cell, if
+-- What step 3 leaves, whatever arrived: the answer's verdict is the leak rules', the calendar has the cell that was let in, if
 -- there is one, behind all cells of its VC. A proof device.
 use Prim.Native.Nat.{ℕ, suc, _-_}
 use mathlib.Core.Path.{_≡_}
@@ -7,7 +7,9 @@ use mathlib.Core.List.{List, [], _∷_, _++_, map}
 use mathlib.Core.Option.{Option}
 use Rattle.meaning.specs.declared.Answer.{Answer}
 use Rattle.meaning.specs.Plain.{if_then_else_, _=?_}
-use Rattle.meaning.specs.Numbers.{empty, accepted}
+use Rattle.meaning.specs.Numbers.{empty, letsIn}
+use Rattle.meaning.specs.Header.{headerAt}
+use Rattle.meaning.specs.Arrival.{sentAs}
 use Rattle.meaning.specs.Work.{Work, answerOf}
 use Rattle.meaning_runs.specs.Leak.{Opening, afterCell}
 use Rattle.meaning_runs.specs.Seen.{Cell, cellUnder, ofVc}
@@ -16,18 +18,23 @@ use Rattle.theory_queues.specs.Queue.{All, Alls, flat, Rising, Arrived}
 use Rattle.theory_memory.specs.Held.{Queued, dueOf, vciOf}
 use Rattle.theory_invariant.specs.Invariant.{cellIn, Sits, Stage, Delayed}
 
--- the openings after a slot with this verdict on a cell of this VC
-abbrev pub after : ℕ → ℕ → ℕ → (ℕ → Option Opening) → ℕ → Option Opening
-after now verdict vci openings v =
-    if verdict =? accepted && vci =? v then afterCell now (openings v) else openings v
+-- the openings after a slot with this verdict on a cell of this VC, with this CLP
+abbrev pub after : ℕ → ℕ → ℕ → ℕ → (ℕ → Option Opening) → ℕ → Option Opening
+after now clp verdict vci openings v =
+    if letsIn verdict && vci =? v then afterCell now clp verdict (openings v) else openings v
 
 -- the answer as step 3 leaves it
 abbrev pub half : ℕ → ℕ → ℕ → Answer
 half verdict vci D = answerOf 0 verdict vci D empty 0
 
--- the accepted cell, if there is one
+-- the accepted or tagged cell, if there is one, with the octets that are stored
 abbrev pub noted : ℕ → Answer → List ℕ → (ℕ → Option Opening) → List Cell
-noted now a octets openings = if a .verdict =? accepted then cellUnder now a octets (openings (a .vci)) ∷ [] else []
+noted now a octets openings =
+    if letsIn (a .verdict) then cellUnder now a (sentAs (a .verdict) octets) (openings (a .vci)) ∷ [] else []
+
+-- the openings after a slot in which this cell came
+abbrev pub onward : ℕ → List ℕ → ℕ → ℕ → (ℕ → Option Opening) → ℕ → Option Opening
+onward now cell verdict vci openings v = after now (headerAt cell 0 .clp) verdict vci openings v
 
 pub record Came (N z now : ℕ) (cell : List ℕ) (openings : ℕ → Option Opening) (out : List Queued) (cal : List (List Queued))
     (w : Work) : Type 0 where
@@ -39,11 +46,11 @@ pub record Came (N z now : ℕ) (cell : List ℕ) (openings : ℕ → Option Ope
   pub free : List ℕ
   pub new : List Queued
   pub r : List (List Queued)
-  pub stage : Stage N z (suc now) (suc now) (w .state .ctl .turn) (w .state) (λ v. after now verdict vci openings v) free
+  pub stage : Stage N z (suc now) (suc now) (w .state .ctl .turn) (w .state) (λ v. onward now cell verdict vci openings v) free
       out r
   pub arrived : Arrived dueOf (N - 1) now r out
-  pub sits-out : All (Sits z (λ v. after now verdict vci openings v)) out
-  pub sits-cal : Alls (Sits z (λ v. after now verdict vci openings v)) r
+  pub sits-out : All (Sits z (λ v. onward now cell verdict vci openings v)) out
+  pub sits-cal : Alls (Sits z (λ v. onward now cell verdict vci openings v)) r
   pub order : (v : ℕ) → ofVc vciOf v (flat r) ≡ ofVc vciOf v (flat cal) ++ ofVc vciOf v new
   pub notes : noted now (half verdict vci D) cell openings ≡ map cellIn new
   pub delays : All (Delayed N) (map cellIn new)

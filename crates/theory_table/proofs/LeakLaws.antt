@@ -1,19 +1,20 @@
 -- The exact leak rule by the earliest due time of the next cell: due time, verdict, D, and that due slots grow.
 use Prim.Native.Nat.{ℕ, _+_, _-_, _*_, _/_, _≤_, _<_, max}
 use mathlib.Core.Path.{_≡_, refl, sym, ap, _∙_}
-use mathlib.Core.Bool.{Bool, true, false, _&&_}
+use mathlib.Core.Bool.{Bool, true, false, _&&_, _||_}
 use mathlib.Core.Option.{Option, none, some}
 use native.Mathlib.Nat.{mul-add-div-right, add-mul, le-div-iff-mul-le, div-mul-le-self, le-trans}
 use native.Mathlib.Omega.{arith}
 use lib.Pow.{pow-pos}
-use borrow.Author.Tests.{leb-true, ltb-true, le-leb}
-use Rattle.meaning.specs.Plain.{_<?_, _≤?_}
-use Rattle.meaning.specs.Numbers.{mostM, mostF}
-use Rattle.meaning.specs.Bucket.{Bucket, bucketOf, L, obeysRules}
+use borrow.Author.Tests.{leb-true, ltb-true, le-leb, eqb-true}
+use Rattle.meaning.specs.Plain.{_<?_, _≤?_, _=?_}
+use Rattle.meaning.specs.Numbers.{mostM, mostF, mostSecondC}
+use Rattle.meaning.specs.Bucket.{Bucket, bucketOf, L, obeysRules, obeysSecond, isNone}
+use Rattle.meaning.specs.Words.{secondObeys}
 use Rattle.meaning_runs.specs.Leak.{Opening, parts, dueAfter, dueTime, dueSlot, leakAfter, leakAccepts}
 use Rattle.theory_table.specs.Stored.{earliestAfter, earliest}
 
-due-after : (L F t : ℕ) (p : Option ℕ) → dueAfter L F t p ≡ max (t * L) (earliestAfter F p)
+pub due-after : (L F t : ℕ) (p : Option ℕ) → dueAfter L F t p ≡ max (t * L) (earliestAfter F p)
 due-after L F t none = omega arith
 due-after L F t (some p) = refl
 
@@ -21,7 +22,7 @@ pub due-time : (o : Opening) (t : ℕ) → dueTime o t ≡ max (t * parts o) (ea
 unfolding dueTime
 due-time o t = due-after (parts o) (o .F) t (o .previous)
 
-leak-after : (L F C t : ℕ) (p : Option ℕ) → leakAfter L F C t p ≡ (earliestAfter F p - t * L ≤? C - F)
+pub leak-after : (L F C t : ℕ) (p : Option ℕ) → leakAfter L F C t p ≡ (earliestAfter F p - t * L ≤? C - F)
 leak-after L F C t none = sym (le-leb (0 - t * L) (C - F) (omega arith))
 leak-after L F C t (some p) = refl
 
@@ -90,3 +91,22 @@ rules-are N b e =
 pub rules-any : (N m F C S : ℕ) → obeysRules N (bucketOf m F C 0) ≡ true → obeysRules N (bucketOf m F C S) ≡ true
 unfolding obeysRules
 rules-any N m F C S e = e
+
+-- ── those that a second bucket obeys, or none ──
+or-cases : {A : Type 0} (a b : Bool) → a || b ≡ true → (a ≡ true → A) → (b ≡ true → A) → A
+or-cases true b e f g = f refl
+or-cases false b e f g = g e
+
+pub second-C-low : (b : Bucket) (tag : ℕ) → secondObeys b tag ≡ true → b .F ≤ b .C
+unfolding secondObeys obeysSecond isNone
+second-C-low b tag e =
+    or-cases (b .m =? 0 && b .F =? 0 && b .C =? 0 && tag =? 0) _ e
+    (λ none. let z = and-left (b .m =? 0 && b .F =? 0 && b .C =? 0) (tag =? 0) none in
+    omega (arith, eqb-true (b .F) 0 (and-right (b .m =? 0) (b .F =? 0) (and-left (b .m =? 0 && b .F =? 0) (b .C =? 0) z))))
+    (λ some. leb-true (b .F) (b .C) (and-right (b .m ≤? mostM && 1 ≤? b .F && b .F ≤? mostF) (b .F ≤? b .C)
+    (and-left (b .m ≤? mostM && 1 ≤? b .F && b .F ≤? mostF && b .F ≤? b .C) (b .C ≤? mostSecondC)
+    (and-left (b .m ≤? mostM && 1 ≤? b .F && b .F ≤? mostF && b .F ≤? b .C && b .C ≤? mostSecondC) (tag ≤? 1) some))))
+
+pub second-any : (m F C S tag : ℕ) → secondObeys (bucketOf m F C 0) tag ≡ true → secondObeys (bucketOf m F C S) tag ≡ true
+unfolding secondObeys obeysSecond isNone
+second-any m F C S tag e = e

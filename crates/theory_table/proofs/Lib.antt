@@ -1,3 +1,5 @@
 pub mod ClockLaws
 pub mod LeakLaws
+pub mod BucketLaws
+pub mod VerdictLaws
 pub mod VcLaws

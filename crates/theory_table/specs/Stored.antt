@@ -1,28 +1,45 @@
 -- What an opening makes of a VC's words. A proof device.
 --
---   earliest o       == the next cell is due at this time at the earliest, in parts of 1/L slot
---   stored o k q     == the VC's words, where it was last brought up to date when k slots were served, and q cells wait
---   gap z v now      == how many of the `now` slots were served since rotation last named v
---   VcIs             == the words vc of the VC v are those of its opening, if it has one; now slots were served
-use Prim.Native.Nat.{ℕ, suc, _+_, _-_, _*_, _%_, _≤_}
+--   earliestAfter F p    == where p is the last due time, if any, the next cell is due at this time at the earliest
+--   levelAfter m F p k   == S of a bucket with this m and F, k slots being served: what its own leak rule leaves of it. Said once
+--                           for any bucket, and cited for both of a VC
+--   bucketAfter m F C p k == such a bucket
+--   stored o k q         == the VC's words, where it was last brought up to date when k slots were served, and q cells wait
+--   gap z v now          == how many of the `now` slots were served since rotation last named v
+--   VcIs                 == the words vc of the VC v are those of its opening, if it has one; now slots were served
+use Prim.Native.Nat.{ℕ, suc, _+_, _-_, _*_, _%_, _^_, _≤_}
 use mathlib.Core.Path.{_≡_}
 use mathlib.Core.Bool.{true}
 use mathlib.Core.Option.{Option, none, some}
 use Rattle.meaning.specs.Numbers.{slotNumbers}
-use Rattle.meaning.specs.Bucket.{bucketOf, obeysRules}
-use Rattle.meaning.specs.Words.{Vc}
-use Rattle.meaning_runs.specs.Leak.{Opening, parts}
+use Rattle.meaning.specs.Bucket.{Bucket, bucketOf, obeysRules}
+use Rattle.meaning.specs.Words.{Vc, secondObeys}
+use Rattle.meaning_runs.specs.Leak.{Opening}
 
 abbrev pub earliestAfter : ℕ → Option ℕ → ℕ
 earliestAfter F none = 0
 earliestAfter F (some p) = p + F
 
+-- what is left of the bucket at the last of the k slots
+abbrev pub levelAfter : ℕ → ℕ → Option ℕ → ℕ → ℕ
+levelAfter m F p k = earliestAfter F p - (k - 1) * 2 ^ m
+
+abbrev pub bucketAfter : ℕ → ℕ → ℕ → Option ℕ → ℕ → Bucket
+bucketAfter m F C p k = bucketOf m F C (levelAfter m F p k)
+
+-- of the peak bucket, in parts of 1/L slot
 abbrev pub earliest : Opening → ℕ
 earliest o = earliestAfter (o .F) (o .previous)
 
--- S where k slots were served: what is left of the bucket at the last of them
 abbrev pub level : Opening → ℕ → ℕ
-level o k = earliest o - (k - 1) * parts o
+level o k = levelAfter (o .m) (o .F) (o .previous) k
+
+-- of the second bucket
+abbrev pub earliestSecond : Opening → ℕ
+earliestSecond o = earliestAfter (o .second .F) (o .sustained)
+
+abbrev pub levelSecond : Opening → ℕ → ℕ
+levelSecond o k = levelAfter (o .second .m) (o .second .F) (o .sustained) k
 
 -- the slot number after k slots: the first is 0, and before it 2^32-1
 abbrev pub clock : ℕ → ℕ
@@ -30,7 +47,14 @@ clock k = (k + (slotNumbers - 1)) % slotNumbers
 
 abbrev pub stored : Opening → ℕ → ℕ → Vc
 stored o k q =
-    record { opened = 1; bucket = bucketOf (o .m) (o .F) (o .C) (level o k); last = clock k; waiting = q }
+    record {
+      opened = 1;
+      bucket = bucketAfter (o .m) (o .F) (o .C) (o .previous) k;
+      last = clock k;
+      waiting = q;
+      second = bucketAfter (o .second .m) (o .second .F) (o .second .C) (o .sustained) k;
+      tag = o .second .tag;
+    }
 
 abbrev pub gap : ℕ → ℕ → ℕ → ℕ
 gap z v now = (now + (z - suc v)) % z
@@ -39,11 +63,14 @@ pub record OpenVc (N z now v : ℕ) (vc : Vc) (q : ℕ) (o : Opening) : Type 0 w
   pub seen : ℕ
   pub is : vc ≡ stored o seen q
   pub unused : seen ≡ 0 → earliest o ≡ 0
+  pub unused-second : seen ≡ 0 → earliestSecond o ≡ 0
   pub past : seen ≤ now
   -- rotation: "no VC is ever more than V slots behind"
   pub near : now ≤ seen + gap z v now
   pub rules : obeysRules N (bucketOf (o .m) (o .F) (o .C) 0) ≡ true
+  pub rules-second : secondObeys (bucketOf (o .second .m) (o .second .F) (o .second .C) 0) (o .second .tag) ≡ true
   pub full : level o seen ≤ o .C
+  pub full-second : levelSecond o seen ≤ o .second .C
 
 abbrev pub VcIs : ℕ → ℕ → ℕ → ℕ → Vc → ℕ → Option Opening → Type 0
 VcIs N z now v vc q none = vc .opened ≡ 0

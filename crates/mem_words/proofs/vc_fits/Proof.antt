@@ -1,9 +1,9 @@
--- `mem_words::vc_fits` meets its contract: a closed VC fits, and an open one by its open word, its bucket and waiting, in turn.
+-- `mem_words::vc_fits` meets its contract: a closed VC fits, and an open one by its open word, its buckets and waiting, in turn.
 use mathlib.Core.Path.{sym, _∙_}
 use native.Mathlib.Omega.{arith}
 use borrow.Author.Tests.{not-true, not-false}
 use Rattle.meaning.specs.Words.{vcAt}
-use Rattle.mem_words.proofs.Fits.{vc-closed, vc-open-breaks, vc-bucket-breaks, vc-open-fits, opened-at}
+use Rattle.mem_words.proofs.Fits.{vc-closed, vc-open-breaks, vc-bucket-breaks, vc-second-breaks, vc-open-fits, opened-at}
 use borrow.Author.Needs.{needs}
 use Rattle.mem_words.proofs.vc_fits.Statement.{statement}
 use Rattle.mem_words.proofs.vc_fits.Tie as tie
@@ -26,14 +26,27 @@ returns-3 c =
     (sym (c .before .bucket-fits .ensures) ∙ not-true _ (c .if3 .taken))
 
 returns-4 : tie.Need-returns-4
-unfolding vcAt
 returns-4 c =
-    let a = c .before .before .before .before .before .before .before .args in
+    let bucket = c .before .before in
+    let a = bucket .before .before .before .before .before .before .args in
+    vc-second-breaks
+    _
+    _
+    (omega (arith, opened-at (a .words .now) (a .vci)))
+    (sym (bucket .before .bucket-fits .ensures) ∙ not-false _ (bucket .if3 .left))
+    (sym (c .before .second-fits .ensures) ∙ not-true _ (c .if4 .taken))
+
+returns-5 : tie.Need-returns-5
+unfolding vcAt
+returns-5 c =
+    let bucket = c .before .before .before in
+    let a = bucket .before .before .before .before .before .before .args in
     vc-open-fits
     _
     _
     (omega (arith, opened-at (a .words .now) (a .vci)))
-    (sym (c .before .before .bucket-fits .ensures) ∙ not-false _ (c .before .if3 .left))
+    (sym (bucket .before .bucket-fits .ensures) ∙ not-false _ (bucket .if3 .left))
+    (sym (c .before .before .second-fits .ensures) ∙ not-false _ (c .before .if4 .left))
 
 pub vc-fits-spec : {M : Type 1} → statement M
 vc-fits-spec =
@@ -46,7 +59,9 @@ vc-fits-spec =
     returns-2
     (λ c κs. search needs)
     returns-3
+    (λ c κs. search needs)
+    returns-4
     (λ c. search needs)
     (λ c. search needs)
     (λ c. search needs)
-    returns-4)
+    returns-5)

@@ -1,7 +1,7 @@
--- `slot_arrive::put_fall` meets its contract: two stores, where on.
-use Rattle.slot_arrive.specs.Arrival.{fallen}
+-- `slot_arrive::put_fall` meets its contract: three stores, where on.
 use lib.ListN.{length-set}
 use native.Mathlib.Omega.{arith}
+use Rattle.slot_arrive.specs.Arrival.{fallen}
 use borrow.Author.Needs.{needs}
 use Rattle.slot_arrive.proofs.put_fall.Statement.{statement}
 use Rattle.slot_arrive.proofs.put_fall.Tie as tie
@@ -11,6 +11,9 @@ slice-write-words c = let h = c .before .pre (c .if1 .taken) in omega arith
 
 slice-write-words-2 : tie.Need-slice-write-words-2
 slice-write-words-2 c = let h = c .before .pre (c .if1 .taken) in simp length-set (omega arith)
+
+slice-write-words-3 : tie.Need-slice-write-words-3
+slice-write-words-3 c = let h = c .before .pre (c .if1 .taken) in simp length-set (omega arith)
 
 returns : tie.Need-returns
 unfolding fallen
@@ -31,6 +34,9 @@ put-fall-spec =
     (λ c. search needs)
     (λ c. search needs)
     slice-write-words-2
+    (λ c. search needs)
+    (λ c. search needs)
+    slice-write-words-3
     (λ c. search needs)
     returns
     returns-2)

@@ -1,8 +1,8 @@
--- `slot_arrive::put_fill` meets its contract: three stores.
-use Rattle.slot_arrive.specs.Arrival.{filled}
+-- `slot_arrive::put_fill` meets its contract: four stores.
 use lib.ListN.{length-set}
 use native.Mathlib.Omega.{arith}
 use mathlib.Core.Path.{refl}
+use Rattle.slot_arrive.specs.Arrival.{filled}
 use borrow.Author.Needs.{needs}
 use Rattle.slot_arrive.proofs.put_fill.Statement.{statement}
 use Rattle.slot_arrive.proofs.put_fill.Tie as tie
@@ -12,6 +12,9 @@ slice-write-words-2 c = simp length-set (omega arith)
 
 slice-write-words-3 : tie.Need-slice-write-words-3
 slice-write-words-3 c = simp length-set (omega arith)
+
+slice-write-words-4 : tie.Need-slice-write-words-4
+slice-write-words-4 c = simp length-set (omega arith)
 
 returns : tie.Need-returns
 unfolding filled
@@ -31,5 +34,8 @@ put-fill-spec =
     (λ c. search needs)
     (λ c. search needs)
     slice-write-words-3
+    (λ c. search needs)
+    (λ c. search needs)
+    slice-write-words-4
     (λ c. search needs)
     returns)

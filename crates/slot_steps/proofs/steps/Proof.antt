@@ -2,13 +2,15 @@
 use mathlib.Core.Path.{sym, _∙_, ap}
 use native.Mathlib.Omega.{arith}
 use denote.Ref.{now}
-use borrow.Author.Tests.{eqb-true, not-true, not-false}
+use borrow.Author.Tests.{eq-eqb, eqb-true, not-true, not-false}
 use Rattle.meaning.specs.State.{stateOf}
 use Rattle.meaning.specs.Slot.{finish}
 use Rattle.slot_arrive.specs.declared.Judged.{Judged}
 use Rattle.slot_arrive.proofs.JudgedLaws.{judged-cell}
 use Rattle.slot_plan.proofs.Found.{judged-shows}
 use Rattle.slot_plan.proofs.Ends.{as-came}
+use Rattle.meaning.specs.Numbers.{letsIn}
+use Rattle.slot_arrive.specs.Arrival.{cellName}
 use Rattle.slot_plan.proofs.Steps.{rotating-none, arriving-none, arriving-accepted, arriving-quiet}
 use borrow.Author.Needs.{needs}
 use Rattle.slot_steps.proofs.steps.Statement.{statement}
@@ -42,6 +44,14 @@ returns-2 c =
     (at-name .name-of .ensures .0) (at-name .name-of .ensures .1)) (omega (arith, pre .0 .rotation-low, pre .0 .words-long))
     (not-false _ (at-if1 .if1 .left)) (not-true _ (at-if2 .if2 .taken)))
 
+-- a cell that has a name has octets
+judge-requires : tie.Need-judge-requires
+unfolding cellName
+judge-requires c κs =
+    let start = c .before .before .before .before .before .before .before .before .before .before .before in
+    let pre = start .pre in
+    (omega (arith, pre .0 .words-long), pre .0 .v-high, λ ne. pre .1 (λ z. ne (c .before .name-of .ensures .0 ∙ simp (eq-eqb _ _ z))))
+
 accept-requires : tie.Need-accept-requires
 accept-requires c κs =
     let at-if3 = c .before .before .before .before in
@@ -57,7 +67,7 @@ accept-requires c κs =
       pre .0,
       rw e (judged-shows (a .k) (now (a .cell)) (now (a .words)) .accepted-is (pre .1)
           (ap (λ (j : Judged). j .ok) (sym e) ∙ not-false _ (at-if2 .if2 .left))
-          (ap (λ (j : Judged). j .verdict) (sym e) ∙ at-if3 .if3 .taken)),
+          (ap (λ (j : Judged). letsIn (j .verdict)) (sym e) ∙ sym (at-if3 .before .lets-in .ensures) ∙ at-if3 .if3 .taken)),
     )
 
 returns-3 : tie.Need-returns-3
@@ -78,7 +88,7 @@ returns-3 c =
     ∙ judged-cell (a .k .n) (a .k .v) (a .k .t) (now (a .words)) (now (a .cell)) _ (omega (arith, pre .0 .v-high))
     (at-name .name-of .ensures .0) (at-name .name-of .ensures .1))
     (omega (arith, pre .0 .rotation-low, pre .0 .words-long)) (not-false _ (at-if1 .if1 .left))
-    (not-false _ (at-if2 .if2 .left)) (at-if3 .if3 .taken)))
+    (not-false _ (at-if2 .if2 .left)) (sym (at-if3 .before .lets-in .ensures) ∙ at-if3 .if3 .taken)))
 
 quiet-requires : tie.Need-quiet-requires
 quiet-requires c κs =
@@ -115,7 +125,7 @@ returns-4 c =
     ∙ judged-cell (a .k .n) (a .k .v) (a .k .t) (now (a .words)) (now (a .cell)) _ (omega (arith, pre .0 .v-high))
     (at-name .name-of .ensures .0) (at-name .name-of .ensures .1))
     (omega (arith, pre .0 .rotation-low, pre .0 .words-long)) (not-false _ (at-if1 .if1 .left))
-    (not-false _ (at-if2 .if2 .left)) (at-if3 .if3 .left)))
+    (not-false _ (at-if2 .if2 .left)) (sym (at-if3 .before .lets-in .ensures) ∙ at-if3 .if3 .left)))
 
 pub steps-spec : {M : Type 1} → statement M
 steps-spec =
@@ -126,10 +136,11 @@ steps-spec =
     (λ c. search needs)
     returns
     (λ c κs. search needs)
-    (λ c κs. search needs)
+    judge-requires
     (λ c κs. search needs)
     (λ c. search needs)
     returns-2
+    (λ c κs. search needs)
     accept-requires
     (λ c. search needs)
     (λ c. search needs)

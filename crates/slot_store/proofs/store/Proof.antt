@@ -15,10 +15,10 @@ returns c =
     let at-put-entry = c .before .before in
     let at-tail-of = at-put-entry .before .before in
     let at-put-link = at-tail-of .before .before .before in
-    let at-put-cell = at-put-link .before .before .before .before .before in
-    let at-words-fill = at-put-cell .before .before .before .before in
+    let at-put-sent = at-put-link .before .before .before .before .before in
+    let at-words-fill = at-put-sent .before .before .before .before in
     let start = at-words-fill .before .before .before .before .before .before .before in (
-      at-put-cell .put-cell .ensures,
+      at-put-sent .put-sent .ensures,
       (
         at-put-link .put-link .ensures,
         (

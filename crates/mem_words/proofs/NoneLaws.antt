@@ -1,0 +1,74 @@
+-- Words told to be 0 by one test: the bits of several, taken together, are none exactly when each is 0.
+use Prim.Native.Nat.{ℕ, _+_, _≤_}
+use mathlib.Core.Path.{_≡_, refl}
+use mathlib.Core.Bool.{Bool, true, false, _&&_}
+use native.Mathlib.Omega.{arith}
+use native.Mathlib.Decide.{ℕ-discrete}
+use borrow.Author.Tests.{eq-eqb, ne-eqb, eqb-true, le-leb}
+use lib.Bits.{bitOr, bitAnd, or-add-and, and-le-l, and-le-r}
+use Rattle.meaning.specs.Plain.{_=?_}
+use Rattle.meaning.specs.Bucket.{isNone}
+use Rattle.meaning.specs.Words.{Vc, secondObeys, secondFits}
+use Rattle.leaf_bucket.proofs.Rules.{both}
+use Rattle.mem_words.specs.Vcs.{hasNone}
+
+pub or-none : (a b : ℕ) → (bitOr a b =? 0) ≡ (a =? 0 && b =? 0)
+or-none a b = go (ℕ-discrete a 0) (ℕ-discrete b 0)
+  where
+    go : Dec (a ≡ 0) → Dec (b ≡ 0) → (bitOr a b =? 0) ≡ (a =? 0 && b =? 0)
+    go (yes p) (yes q) = rw (p, q)
+    go (yes p) (no q) =
+        simp (
+          ne-eqb (bitOr a b) 0 (λ e. q (omega (arith, or-add-and a b, and-le-l a b))),
+          ne-eqb b 0 q,
+          eq-eqb a 0 p,
+        )
+    go (no p) d = simp (ne-eqb (bitOr a b) 0 (λ e. p (omega (arith, or-add-and a b, and-le-r a b))), ne-eqb a 0 p)
+
+pub none-is : (vc : Vc)
+    → (bitOr (bitOr (bitOr (bitOr (vc .second .m) (vc .second .F)) (vc .second .C)) (vc .second .S)) (vc .tag) =? 0) ≡ hasNone vc
+unfolding hasNone
+none-is vc =
+    let b = vc .second in
+    let m = b .m in
+    rw (
+      or-none (bitOr (bitOr (bitOr m (b .F)) (b .C)) (b .S)) (vc .tag),
+      or-none (bitOr (bitOr m (b .F)) (b .C)) (b .S),
+      or-none (bitOr m (b .F)) (b .C),
+      or-none m (b .F),
+    )
+
+-- what is known of a VC without a second bucket
+pub record None (vc : Vc) : Type 0 where
+  pub m-is : vc .second .m ≡ 0
+  pub F-is : vc .second .F ≡ 0
+  pub C-is : vc .second .C ≡ 0
+  pub S-is : vc .second .S ≡ 0
+  pub tag-is : vc .tag ≡ 0
+
+pub none-facts : (vc : Vc) → hasNone vc ≡ true → None vc
+unfolding hasNone
+none-facts vc e =
+    let b = vc .second in
+    let e4 = both (b .m =? 0 && b .F =? 0 && b .C =? 0 && b .S =? 0) (vc .tag =? 0) e in
+    let e3 = both (b .m =? 0 && b .F =? 0 && b .C =? 0) (b .S =? 0) (e4 .0) in
+    let e2 = both (b .m =? 0 && b .F =? 0) (b .C =? 0) (e3 .0) in
+    let e1 = both (b .m =? 0) (b .F =? 0) (e2 .0) in
+    record {
+      m-is = eqb-true _ _ (e1 .0);
+      F-is = eqb-true _ _ (e1 .1);
+      C-is = eqb-true _ _ (e2 .1);
+      S-is = eqb-true _ _ (e3 .1);
+      tag-is = eqb-true _ _ (e4 .1);
+    }
+
+pub none-fits : (vc : Vc) → None vc → secondFits (vc .second) (vc .tag) ≡ true
+unfolding secondFits secondObeys isNone
+none-fits vc n =
+    simp (
+      eq-eqb _ _ (n .m-is),
+      eq-eqb _ _ (n .F-is),
+      eq-eqb _ _ (n .C-is),
+      eq-eqb _ _ (n .tag-is),
+      le-leb (vc .second .S) (vc .second .C) (omega (arith, n .S-is)),
+    )

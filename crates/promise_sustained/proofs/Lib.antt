@@ -1,0 +1,6 @@
+pub mod RuleLaws
+pub mod SaidLaws
+pub mod PassLaws
+pub mod SourceLaws
+pub mod Top
+pub mod WorkedLaws

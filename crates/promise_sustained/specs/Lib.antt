@@ -1,0 +1,2 @@
+pub mod Sustained
+pub mod Worked
