@@ -12,7 +12,9 @@
  *   family 2, any N       VC 2 is slower than the line by one part in K, the least power of two from N on, and sends
  *                         N K cells; VC 3, at the line's rate, sends the next N-1
  *
- * Several connections of VC 1 are tried at each N, each from a copy of the policer as it stands before slot X.
+ * Several connections of VC 1 are tried at each N, each from a copy of the policer as it stands before slot X. At each
+ * second N VC 1 has a second bucket for one cell in 2^24 slots, and tags: all its cells but the first are tagged, and
+ * leave as the others do.
  */
 #include <stdint.h>
 #include <stdio.h>
@@ -40,7 +42,7 @@ typedef struct {
   uint32_t words[CLURIMOON_VCS(CLURIMOON_V_MAX)];
 } policer;
 
-static unsigned long long runs, slots, windows, fewer;
+static unsigned long long runs, slots, windows, fewer, tagged;
 
 static void fail(const policer *p, const char *what) {
   printf("burst: FAILED, family %u, N %u, slot %llu: %s\n", p->family, (unsigned)p->n, (unsigned long long)p->now, what);
@@ -61,21 +63,24 @@ static void open_vc(policer *p, uint32_t vci, uint8_t m, uint32_t f, uint32_t c)
     fail(p, "an open was refused");
 }
 
-/* A slot in which a cell of this VC comes that is accepted and due so many slots later; VC 0 for no cell. Answers the
-   VC whose cell leaves, 0 for none. */
-static uint32_t serve(policer *p, uint32_t vci, uint32_t due_in) {
+/* A slot in which a cell of this VC comes that gets this verdict and is due so many slots later; VC 0 for no cell.
+   Answers the VC whose cell leaves, 0 for none. */
+static uint32_t serve_with(policer *p, uint32_t vci, uint32_t due_in, uint32_t verdict) {
   uint8_t cell[CLURIMOON_CELL] = {0};
   clurimoon_served s;
   cell[1] = (uint8_t)(vci >> 12), cell[2] = (uint8_t)(vci >> 4), cell[3] = (uint8_t)(vci << 4);
   s = clurimoon_slot(p->record, p->cells, CLURIMOON_CELLS(p->n), p->links, CLURIMOON_LINKS(p->n), p->calendar,
                      CLURIMOON_CALENDAR(p->n), p->words, CLURIMOON_VCS(p->v), cell, vci == 0 ? 0 : CLURIMOON_CELL);
   if (s.answer.number != CLURIMOON_DONE) fail(p, "a slot was refused");
-  if (s.answer.verdict != (vci == 0 ? CLURIMOON_NOTHING : CLURIMOON_ACCEPTED)) fail(p, "a cell was not accepted");
+  if (s.answer.verdict != (vci == 0 ? CLURIMOON_NOTHING : verdict)) fail(p, "a cell was not accepted, or not tagged");
+  tagged += s.answer.verdict == CLURIMOON_TAGGED;
   if (s.answer.d != due_in) fail(p, "a cell is due in another slot");
   p->record = s.record;
   ++p->now, ++slots;
   return s.answer.out_vci;
 }
+
+static uint32_t serve(policer *p, uint32_t vci, uint32_t due_in) { return serve_with(p, vci, due_in, CLURIMOON_ACCEPTED); }
 
 /* Both end before slot X. */
 static void first_family(policer *p, uint32_t n) {
@@ -134,12 +139,16 @@ static void try_one(policer *p, const connection *c) {
   const uint64_t w[MOST_WINDOWS] = {1, 2, 3, 5, n / 3, n / 2, n - 1, n, n + 1, n + n / 2, 2 * n};
   uint64_t sent = 0;
   size_t count = 0, k;
-  open_vc(p, 1, c->m, c->f, c->c);
+  if (n % 2 == 0) open_vc(p, 1, c->m, c->f, c->c);
+  else if (clurimoon_open_sustained(p->record, p->words, CLURIMOON_VCS(p->v), 1, c->m, c->f, c->c, 0, CLURIMOON_F_MAX,
+                                    CLURIMOON_F_MAX, 1) != CLURIMOON_DONE)
+    fail(p, "an open with a second bucket was refused");
   while (p->now < first + 2 * n + 5) {
     const uint64_t slot = p->now;
     const bool comes = slot == x + (sent * c->f >> c->m);
+    const uint32_t verdict = n % 2 == 0 || sent == 0 ? CLURIMOON_ACCEPTED : CLURIMOON_TAGGED;
     if (comes) ++sent;
-    if (serve(p, comes ? 1 : 0, 0) == 1) left[count++] = slot;
+    if (serve_with(p, comes ? 1 : 0, 0, verdict) == 1) left[count++] = slot;
   }
   if (count == 0 || left[0] != first) fail(p, "the first cell of VC 1 is not N-1 slots late");
   for (k = 0; k < MOST_WINDOWS; ++k)
@@ -167,7 +176,7 @@ int main(void) {
     if (!few || n <= 64) second_family(&p, n), try_all(&p);
   }
   printf("burst: every N from 1 to 1,024, %llu runs, %llu slots: the first cell of VC 1 exactly N-1 slots late in each; "
-         "%llu windows hold exactly min(w, bound) cells, %llu of them fewer than w, and none holds more\n",
-         runs, slots, windows, fewer);
+         "%llu windows hold exactly min(w, bound) cells, %llu of them fewer than w, and none holds more; %llu cells tagged\n",
+         runs, slots, windows, fewer, tagged);
   return 0;
 }
