@@ -1,0 +1,1 @@
+// What `unscribe` prints, through `scribe`: definitions in specs/, laws in proofs/. No code.
