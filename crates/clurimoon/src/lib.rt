@@ -2,6 +2,7 @@
 // passes as a pointer and a length, a struct by value. include/clurimoon.h declares them.
 ghost use mathlib.Core.Path.{_≡_};
 ghost use lib.ListN.{length};
+ghost use Rattle.meaning.specs.Words.{secondOf, noSecond};
 ghost use Rattle.meaning.specs.Calls.{zeros};
 ghost use Rattle.meaning.specs.Promises.{setupPromise, openPromise, closePromise, slotPromise, AuditPromise};
 ghost use Rattle.meaning.specs.Lent.{before, after, setUpAfter, servedAfter};
@@ -40,9 +41,27 @@ pub extern "C" fn clurimoon_open(
     f: u32,
     c: u32,
 ) -> u16
-    ensures { λ r. ⌜ openPromise ctl (now (words .entry)) vci m f c r (now (words .exit)) ⌝ }
+    ensures { λ r. ⌜ openPromise ctl (now (words .entry)) vci m f c noSecond r (now (words .exit)) ⌝ }
 {
     call_vc::open(ctl, words, vci, m, f, c)
+}
+
+#[no_mangle]
+pub extern "C" fn clurimoon_open_sustained(
+    ctl: Record,
+    words: &mut [u32],
+    vci: u16,
+    m: u8,
+    f: u32,
+    c: u32,
+    m2: u8,
+    f2: u32,
+    c2: u32,
+    tag: u8,
+) -> u16
+    ensures { λ r. ⌜ openPromise ctl (now (words .entry)) vci m f c (secondOf m2 f2 c2 tag) r (now (words .exit)) ⌝ }
+{
+    call_vc::open_sustained(ctl, words, vci, m, f, c, m2, f2, c2, tag)
 }
 
 #[no_mangle]
