@@ -67,6 +67,9 @@ pub fn met(n: usize, words: &[u32], vci: usize, t: u32) -> Bucketed
     requires { ⌜ (n ≤ mostN) × (HasVc vci (now words)) ⌝ }
     ensures { λ r. ⌜ (r .ok ≡ true → Met n t (now (words .entry)) vci r) ⌝ }
 {
+    if !single(words, vci) {
+        return unmet();
+    }
     let b = WORDS_PER_VC * vci;
     let m = words[b + AT_M];
     if m > 15 {
@@ -86,9 +89,6 @@ pub fn met(n: usize, words: &[u32], vci: usize, t: u32) -> Bucketed
     }
     let s = words[b + AT_S];
     if s > c {
-        return unmet();
-    }
-    if !single(words, vci) {
         return unmet();
     }
     let now = leaf_bucket::fallen_to(s, m, words[b + AT_LAST], t);

@@ -28,42 +28,37 @@ returns-6 c = λ e. no (sym (c .unmet6 .ensures) ∙ e)
 returns-7 : tie.Need-returns-7
 returns-7 c =
     λ ok. let at6 = c .before .before in
-    let at-single = at6 .before in
-    let at5 = at-single .before in
-    let at4 = at5 .before .before in
-    let at-room = at4 .before in
-    let at3 = at-room .before .before in
-    let at2 = at3 .before in
+    let at5 = at6 .before .before in
+    let at-room = at5 .before in
+    let at4 = at-room .before .before in
+    let at3 = at4 .before in
+    let at2 = at3 .before .before in
     let at1 = at2 .before .before in
-    let start = at1 .before .before .before in
+    let at-single = at1 .before in
+    let start = at-single .before .before in
     let a = start .args in
-    met-is (a .n) (a .t) (a .words .now) (a .vci) (at-room .wrapping-sub-u32 .result) (c .fallen-to .result) (start .pre .0) (at1 .if1 .left) (at2 .if2 .left)
-    (at3 .if3 .left) (at-room .wrapping-sub-u32 .ensures) (at4 .if4 .left) (at5 .if5 .left)
-    (sym (at-single .single .ensures) ∙ not-false _ (at6 .if6 .left)) (c .fallen-to .ensures)
+    met-is (a .n) (a .t) (a .words .now) (a .vci) (at-room .wrapping-sub-u32 .result) (c .fallen-to .result) (start .pre .0) (at2 .if2 .left) (at3 .if3 .left)
+    (at4 .if4 .left) (at-room .wrapping-sub-u32 .ensures) (at5 .if5 .left) (at6 .if6 .left)
+    (sym (at-single .single .ensures) ∙ not-false _ (at1 .if1 .left)) (c .fallen-to .ensures)
 
 pub met-spec : {M : Type 1} → statement M
 met-spec =
     tie.close
     (tie.spec
-    (λ c. search needs)
-    (λ c. search needs)
-    (λ c. search needs)
-    (λ c. search needs)
+    (λ c κs. search needs)
     (λ c κs. search needs)
     returns
+    (λ c. search needs)
     (λ c. search needs)
     (λ c. search needs)
     (λ c. search needs)
     (λ c κs. search needs)
     returns-2
     (λ c. search needs)
+    (λ c. search needs)
+    (λ c. search needs)
     (λ c κs. search needs)
     returns-3
-    (λ c. search needs)
-    (λ c. search needs)
-    (λ c. search needs)
-    (λ c κs. search needs)
-    (λ c. search needs)
     (λ c. search needs)
     (λ c κs. search needs)
     returns-4
@@ -71,8 +66,13 @@ met-spec =
     (λ c. search needs)
     (λ c. search needs)
     (λ c κs. search needs)
-    returns-5
+    (λ c. search needs)
+    (λ c. search needs)
     (λ c κs. search needs)
+    returns-5
+    (λ c. search needs)
+    (λ c. search needs)
+    (λ c. search needs)
     (λ c κs. search needs)
     returns-6
     (λ c. search needs)
