@@ -3,7 +3,6 @@ ghost use mathlib.Core.Path.{_≡_};
 ghost use mathlib.Core.List.{[], _∷_, _++_};
 ghost use Prim.Native.Nat.{_+_, _≤_, _<_};
 ghost use lib.ListN.{length};
-ghost use Rattle.meaning.specs.Numbers.{letsIn};
 ghost use Rattle.list_lines.specs.Text.{decimalOf, shown};
 ghost use Rattle.list_lines.specs.Put.{Put, fourOf};
 ghost use Rattle.list_lines.specs.Lines.{setupLine, openLine, closeLine, servedLine, refusedLine, slotLine, stopLine, endLine};
@@ -130,16 +129,6 @@ fn letter(verdict: u16) -> u8
     }
 }
 
-// A cell that is accepted or tagged is let in: its D is shown, and it counts as accepted.
-pub fn lets_in(verdict: u16) -> bool
-    ensures { λ r. ⌜ r ≡ letsIn verdict ⌝ }
-{
-    if verdict == 1 {
-        return true;
-    }
-    verdict == 5
-}
-
 // A VCI is shown unless nothing arrived or the header check dropped it.
 fn shows_vci(verdict: u16) -> bool
     ensures { λ r. ⌜ r ≡ showsVci verdict ⌝ }
@@ -167,7 +156,7 @@ fn served_line(
 {
     let l = letter(verdict);
     let shows = shows_vci(verdict);
-    let shows_d = lets_in(verdict);
+    let shows_d = meaning::lets_in(verdict);
     let b = number(out, at, t, 32);
     let e = pair(out, b, l, 32);
     let f = word(out, e, shows, vci as u32, 32);

@@ -38,7 +38,7 @@ fn counted(t: Tally, a: Answer) -> Tally
     ensures { λ r. ⌜ r ≡ Run·counted t a ⌝ }
 {
     Tally {
-        accepted: counted_if(t.accepted, list_lines::lets_in(a.verdict)),
+        accepted: counted_if(t.accepted, meaning::lets_in(a.verdict)),
         excess: counted_if(t.excess, a.verdict == 2),
         unknown: counted_if(t.unknown, a.verdict == 3),
         sent: counted_if(t.sent, a.space != 65535),

@@ -1,7 +1,8 @@
-// The structs that pass by value, as C sees them too, the builders of a record, and the places of a VC's words; what every
-// call does with them stands in specs/.
+// The structs that pass by value, as C sees them too, the builders of a record, the places of a VC's words, and which verdicts let
+// a cell in; what every call does with them stands in specs/.
 ghost use mathlib.Core.Path.{_≡_};
 ghost use Prim.Native.Nat.{_≤_};
+ghost use Rattle.meaning.specs.Numbers.{letsIn};
 ghost use Rattle.meaning.specs.State.{endsOf, recordWith, recordInMode};
 ghost use Rattle.meaning.specs.Calls.{zeros, freshRecord};
 
@@ -161,4 +162,14 @@ pub fn fresh_record(n: u16, v: u16, raw: bool) -> Record
         raw: raw as u16,
         mode: CORRECTION,
     }
+}
+
+// A cell with this verdict is let in: accepted, or tagged.
+pub fn lets_in(verdict: u16) -> bool
+    ensures { λ r. ⌜ r ≡ letsIn verdict ⌝ }
+{
+    if verdict == 1 {
+        return true;
+    }
+    verdict == 5
 }

@@ -4,7 +4,6 @@ ghost use mathlib.Core.Path.{_≡_};
 ghost use Prim.Native.Nat.{_+_, _%_, _<_};
 ghost use lib.ListN.{length};
 ghost use Rattle.meaning.specs.Plain.{_andThen_};
-ghost use Rattle.meaning.specs.Numbers.{letsIn};
 ghost use Rattle.meaning.specs.Work.{workOf, bareAnswer};
 ghost use Rattle.meaning.specs.Slot.{step2, step3, step4, step5};
 ghost use Rattle.meaning.specs.Lent.{here, before, servedAfter, Gives};
@@ -43,16 +42,6 @@ fn clock(r: Record) -> Record
     )
 }
 
-// A cell with this verdict is let in: accepted, or tagged.
-fn lets_in(verdict: u16) -> bool
-    ensures { λ x. ⌜ x ≡ letsIn verdict ⌝ }
-{
-    if verdict == 1 {
-        return true;
-    }
-    verdict == 5
-}
-
 // Steps 2 to 5, the clock having moved.
 fn steps(
     r: Record,
@@ -76,7 +65,7 @@ fn steps(
     if !j.ok {
         return slot_depart::refuse(r, 3);
     }
-    if lets_in(j.verdict) {
+    if meaning::lets_in(j.verdict) {
         return slot_accept::accept(r, k, b, j, cells, links, calendar, words, cell);
     }
     slot_quiet::quiet(r, k, b, j, cells, links, calendar, words)

@@ -1,8 +1,8 @@
--- `list_lines::lets_in` answers whether a verdict is A or T.
+-- `meaning::lets_in` meets its contract: its two tests are the definition's own.
 use borrow.Author.Tests.{eq-eqb, ne-eqb}
 use Rattle.meaning.specs.Numbers.{letsIn}
-use Rattle.list_lines.proofs.lets_in.Statement.{statement}
-use Rattle.list_lines.proofs.lets_in.Tie as tie
+use Rattle.meaning.proofs.lets_in.Statement.{statement}
+use Rattle.meaning.proofs.lets_in.Tie as tie
 
 returns : tie.Need-returns
 unfolding letsIn
