@@ -1,2 +1,3 @@
 pub mod MetLaws
 pub mod TurnLaws
+pub mod SingleLaws

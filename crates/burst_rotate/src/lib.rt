@@ -54,12 +54,10 @@ fn single(words: &[u32], vci: usize) -> bool
     ensures { λ r. ⌜ r ≡ hasNone (vcAt (now (words .entry)) vci) ⌝ }
 {
     let b = WORDS_PER_VC * vci;
-    let some = words[b + AT_SECOND_M]
-        | words[b + AT_SECOND_F]
-        | words[b + AT_SECOND_C]
-        | words[b + AT_SECOND_S]
-        | words[b + AT_TAG];
-    some == 0
+    if words[b + AT_SECOND_M] | words[b + AT_SECOND_F] | words[b + AT_SECOND_C] != 0 {
+        return false;
+    }
+    words[b + AT_SECOND_S] | words[b + AT_TAG] == 0
 }
 
 // That C is at least F needs no test: if not, C-F on 32 bits is above 2^31, and (C-F)/L far above N.

@@ -1,13 +1,17 @@
--- `burst_rotate::single` meets its contract: one test of all the words' bits together.
+-- `burst_rotate::single` meets its contract: two tests of the words' bits together: as one test they would be loaded as a vector, in more instructions.
 use Rattle.meaning.specs.Words.{vcAt}
-use Rattle.mem_words.proofs.NoneLaws.{none-is}
+use Rattle.burst_rotate.proofs.SingleLaws.{some-rate, no-rate}
 use borrow.Author.Needs.{needs}
 use Rattle.burst_rotate.proofs.single.Statement.{statement}
 use Rattle.burst_rotate.proofs.single.Tie as tie
 
 returns : tie.Need-returns
 unfolding vcAt
-returns c = none-is _
+returns c = some-rate _ (c .if1 .taken)
+
+returns-2 : tie.Need-returns-2
+unfolding vcAt
+returns-2 c = no-rate _ (c .before .before .if1 .left)
 
 pub single-spec : {M : Type 1} → statement M
 single-spec =
@@ -23,10 +27,11 @@ single-spec =
     (λ c. search needs)
     (λ c. search needs)
     (λ c. search needs)
+    returns
     (λ c. search needs)
     (λ c. search needs)
     (λ c. search needs)
     (λ c. search needs)
     (λ c. search needs)
     (λ c. search needs)
-    returns)
+    returns-2)
