@@ -1,3 +1,2 @@
 pub mod MetLaws
 pub mod TurnLaws
-pub mod SingleLaws

@@ -48,7 +48,7 @@ fn unmet() -> Bucketed
     }
 }
 
-// Whether a VC has no second bucket, told by one test. One that has is left to the long way.
+// Whether a VC has no second bucket, told as `mem_words::none_second` tells it. One that has is left to the long way.
 fn single(words: &[u32], vci: usize) -> bool
     requires { ⌜ HasVc vci (now words) ⌝ }
     ensures { λ r. ⌜ r ≡ hasNone (vcAt (now (words .entry)) vci) ⌝ }

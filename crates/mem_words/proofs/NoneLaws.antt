@@ -1,6 +1,7 @@
 -- Words told to be 0 by one test: the bits of several, taken together, are none exactly when each is 0.
 use Prim.Native.Nat.{ℕ, _+_, _≤_}
-use mathlib.Core.Path.{_≡_, refl}
+use mathlib.Core.Path.{_≡_, sym, _∙_}
+use mathlib.Core.Logic.{_≢_}
 use mathlib.Core.Bool.{Bool, true, false, _&&_}
 use native.Mathlib.Omega.{arith}
 use native.Mathlib.Decide.{ℕ-discrete}
@@ -12,7 +13,7 @@ use Rattle.meaning.specs.Words.{Vc, secondObeys, secondFits}
 use Rattle.leaf_bucket.proofs.Rules.{both}
 use Rattle.mem_words.specs.Vcs.{hasNone}
 
-pub or-none : (a b : ℕ) → (bitOr a b =? 0) ≡ (a =? 0 && b =? 0)
+or-none : (a b : ℕ) → (bitOr a b =? 0) ≡ (a =? 0 && b =? 0)
 or-none a b = go (ℕ-discrete a 0) (ℕ-discrete b 0)
   where
     go : Dec (a ≡ 0) → Dec (b ≡ 0) → (bitOr a b =? 0) ≡ (a =? 0 && b =? 0)
@@ -25,18 +26,21 @@ or-none a b = go (ℕ-discrete a 0) (ℕ-discrete b 0)
         )
     go (no p) d = simp (ne-eqb (bitOr a b) 0 (λ e. p (omega (arith, or-add-and a b, and-le-r a b))), ne-eqb a 0 p)
 
-pub none-is : (vc : Vc)
-    → (bitOr (bitOr (bitOr (bitOr (vc .second .m) (vc .second .F)) (vc .second .C)) (vc .second .S)) (vc .tag) =? 0) ≡ hasNone vc
-unfolding hasNone
-none-is vc =
-    let b = vc .second in
-    let m = b .m in
-    rw (
-      or-none (bitOr (bitOr (bitOr m (b .F)) (b .C)) (b .S)) (vc .tag),
-      or-none (bitOr (bitOr m (b .F)) (b .C)) (b .S),
-      or-none (bitOr m (b .F)) (b .C),
-      or-none m (b .F),
-    )
+-- no second bucket: told by its m, F and C, and then by its S and the flag
+module _ (vc : Vc) where
+  abbrev rates : ℕ
+  rates = bitOr (bitOr (vc .second .m) (vc .second .F)) (vc .second .C)
+
+  three : (rates =? 0) ≡ (vc .second .m =? 0 && vc .second .F =? 0 && vc .second .C =? 0)
+  three = or-none (bitOr (vc .second .m) (vc .second .F)) (vc .second .C) ∙ rw (or-none (vc .second .m) (vc .second .F))
+
+  pub some-rate : rates ≢ 0 → false ≡ hasNone vc
+  unfolding hasNone
+  some-rate ne = rw (sym three ∙ ne-eqb rates 0 ne)
+
+  pub no-rate : rates ≡ 0 → (bitOr (vc .second .S) (vc .tag) =? 0) ≡ hasNone vc
+  unfolding hasNone
+  no-rate e = rw (sym three ∙ eq-eqb rates 0 e) (or-none (vc .second .S) (vc .tag))
 
 -- what is known of a VC without a second bucket
 pub record None (vc : Vc) : Type 0 where

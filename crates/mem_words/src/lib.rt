@@ -34,18 +34,17 @@ pub fn bucket_fits(n: u16, words: &[u32], vci: u16) -> bool
     words[base + AT_S] <= c
 }
 
-// Whether a VC has no second bucket, and all words of one are 0: the common case, told by one test.
+// Whether a VC has no second bucket, and all words of one are 0: the common case. Told by two tests of several words at once: as
+// one test they would be loaded as a vector, in more instructions.
 pub fn none_second(words: &[u32], vci: u16) -> bool
     requires { ⌜ HasVc vci (now words) ⌝ }
     ensures { λ r. ⌜ r ≡ hasNone (vcAt (now (words .entry)) vci) ⌝ }
 {
     let base = WORDS_PER_VC * (vci as usize);
-    let some = words[base + AT_SECOND_M]
-        | words[base + AT_SECOND_F]
-        | words[base + AT_SECOND_C]
-        | words[base + AT_SECOND_S]
-        | words[base + AT_TAG];
-    some == 0
+    if words[base + AT_SECOND_M] | words[base + AT_SECOND_F] | words[base + AT_SECOND_C] != 0 {
+        return false;
+    }
+    words[base + AT_SECOND_S] | words[base + AT_TAG] == 0
 }
 
 // A second bucket's words and the flag, as the peak bucket's.

@@ -1,6 +1,6 @@
--- `burst_rotate::single` meets its contract: two tests of the words' bits together: as one test they would be loaded as a vector, in more instructions.
+-- `burst_rotate::single` meets its contract: two tests of the words' bits together.
 use Rattle.meaning.specs.Words.{vcAt}
-use Rattle.burst_rotate.proofs.SingleLaws.{some-rate, no-rate}
+use Rattle.mem_words.proofs.NoneLaws.{some-rate, no-rate}
 use borrow.Author.Needs.{needs}
 use Rattle.burst_rotate.proofs.single.Statement.{statement}
 use Rattle.burst_rotate.proofs.single.Tie as tie
