@@ -23,7 +23,7 @@ pub fn ranges_hold(n: u16, v: u16) -> bool
     v <= 1024
 }
 
-// Refusal 2: "53 × N octets of cells; N links; 2 × N calendar numbers; 7 × V words".
+// Refusal 2: "53 × N octets of cells; N links; 2 × N calendar numbers; 7 × V words", which are 12 × V with a second bucket.
 pub fn lengths_hold(
     n: u16,
     v: u16,
