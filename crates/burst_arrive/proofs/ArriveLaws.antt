@@ -10,14 +10,14 @@ use borrow.Author.Tests.{lt-ltb, le-ltb}
 use lib.ListN.{length, getD, take, drop, length-drop}
 use lib.Seq.{length-take-le, getD-take, getD-drop}
 use Rattle.meaning.specs.declared.Record.{Record}
-use Rattle.meaning.specs.Numbers.{accepted, letsIn, mPlace, fPlace, cPlace, waitingPlace, wordsPerVc}
+use Rattle.meaning.specs.Numbers.{accepted, letsIn, mPlace, fPlace, cPlace, waitingPlace, wordsPerConnection}
 use Rattle.meaning.specs.Bucket.{isExcess, delay, fill, fall}
 use Rattle.meaning.specs.Header.{headerAt}
-use Rattle.meaning.specs.Words.{vcAt, fallenTo}
+use Rattle.meaning.specs.Words.{connectionAt, fallenTo}
 use Rattle.leaf_header.specs.Name.{nameOf}
 use Rattle.mem_words.proofs.Fits.{bucket-facts}
 use Rattle.slot_arrive.specs.declared.Judged.{Judged}
-use Rattle.slot_arrive.specs.Arrival.{Named, vcNow, judgedAs, judgedVc, judgedOf}
+use Rattle.slot_arrive.specs.Arrival.{Named, connectionNow, judgedAs, judgedConnection, judgedOf}
 use Rattle.slot_arrive.specs.Both.{letInAs, judgedPeak}
 use Rattle.slot_arrive.proofs.BothLaws.{none-is}
 use Rattle.slot_arrive.proofs.JudgedLaws.{delay-below, room-low, judged-both, named-known}
@@ -32,21 +32,21 @@ module _ (k : Record) (words : List ℕ) (vci : ℕ) (r : Bucketed) (met : Met (
   m = getD words (mPlace vci) 0
 
   near-is : r .s ≤ r .room → r .s / 2 ^ m < k .n
-  unfolding vcAt
+  unfolding connectionAt
   near-is under =
       delay-below (r .s) (r .room) m (k .n) under
-      (rw (met .room-is) (bucket-facts (k .n) (vcAt words vci .bucket) (met .fits) .rules .delay-low))
+      (rw (met .room-is) (bucket-facts (k .n) (connectionAt words vci .bucket) (met .fits) .rules .delay-low))
 
   full-low : k .n ≤ 1024 → r .s ≤ r .room → r .s + getD words (fPlace vci) 0 < 4294967296
-  unfolding vcAt
+  unfolding connectionAt
   full-low few under =
-      let rules = bucket-facts (k .n) (vcAt words vci .bucket) (met .fits) .rules in
+      let rules = bucket-facts (k .n) (connectionAt words vci .bucket) (met .fits) .rules in
       let room = room-low (k .n) m (getD words (cPlace vci) 0 - getD words (fPlace vci) 0) (met .m-low) (omega arith) (rules .delay-low) in
       omega (arith, room, rules .F-most, met .room-is, under)
 
   pub judges-is : (D : ℕ) → k .n ≤ 1024 → r .s ≤ r .room → getD words (waitingPlace vci) 0 < k .n → D ≡ r .s / 2 ^ m
       → Judges k words vci D (r .s)
-  unfolding judgedPeak letInAs isExcess delay fill vcAt vcNow fallenTo fall
+  unfolding judgedPeak letInAs isExcess delay fill connectionAt connectionNow fallenTo fall
   judges-is D few under waits d =
       record {
         judged = rw (← met .room-is, le-ltb _ _ under, lt-ltb _ _ waits, d);
@@ -90,23 +90,23 @@ module _ (k : Record) (words cell : List ℕ) (vci D S : ℕ) (long : length cel
   j = judgedAs true accepted vci D (S + getD words (fPlace vci) 0) (getD words (waitingPlace vci) 0 + 1) 0
 
   -- without a second bucket the cell's CLP does not matter
-  at-vc : (clp : ℕ) → getD words (wordsPerVc * vci) 0 ≡ 1 → Judges k words vci D S → j ≡ judgedVc (k .n) (k .t) words vci clp
-  at-vc clp o open-is =
+  at-connection : (clp : ℕ) → getD words (wordsPerConnection * vci) 0 ≡ 1 → Judges k words vci D S → j ≡ judgedConnection (k .n) (k .t) words vci clp
+  at-connection clp o open-is =
       open-is .judged
-      ∙ none-is (k .n) (k .t) vci clp S (vcAt words vci) (open-is .single)
+      ∙ none-is (k .n) (k .t) vci clp S (connectionAt words vci) (open-is .single)
       ∙ judged-both (k .n) (k .t) words vci clp S o (open-is .fits) (open-is .s-is)
 
-  arrives-is : Named cell vci → k .v ≤ 1024 → vci ≢ 0 → vci < k .v → getD words (wordsPerVc * vci) 0 ≡ 1 → Judges k words vci D S → Arrives k words cell vci D S
+  arrives-is : Named cell vci → k .v ≤ 1024 → vci ≢ 0 → vci < k .v → getD words (wordsPerConnection * vci) 0 ≡ 1 → Judges k words vci D S → Arrives k words cell vci D S
   unfolding letsIn
   arrives-is named few some low o open-is =
-      let e : j ≡ judgedOf (k .n) (k .v) (k .t) words cell = at-vc (headerAt cell 0 .clp) o open-is ∙ named-known (k .n) (k .v) (k .t) words cell vci named (omega arith) some low in
+      let e : j ≡ judgedOf (k .n) (k .v) (k .t) words cell = at-connection (headerAt cell 0 .clp) o open-is ∙ named-known (k .n) (k .v) (k .t) words cell vci named (omega arith) some low in
       record {
         judged = e;
         is-accepted = rw e (judged-shows k cell words .accepted-is (λ q. long) (ap (λ (x : Judged). x .ok) (sym e)) (ap (λ (x : Judged). letsIn (x .verdict)) (sym e)));
-        at-vc = open-is;
+        at-connection = open-is;
       }
 
-  pub arrives-at : (u : ℕ) → vci ≡ u → Named cell u → k .v ≤ 1024 → u ≢ 0 → u < k .v → getD words (wordsPerVc * u) 0 ≡ 1 → Judges k words vci D S
+  pub arrives-at : (u : ℕ) → vci ≡ u → Named cell u → k .v ≤ 1024 → u ≢ 0 → u < k .v → getD words (wordsPerConnection * u) 0 ≡ 1 → Judges k words vci D S
       → Arrives k words cell vci D S
   arrives-at u e named few some low o open-is =
       arrives-is (rw e named) few (λ q. some (sym e ∙ q)) (omega (arith, e, low)) (rw e o) open-is

@@ -75,6 +75,6 @@ spotted-is k links calendar words cell p vci d s e₁ e₂ e₃ arrives seats =
     record {
       judged = rw (e₁, e₂, e₃) (arrives .judged);
       is-accepted = rw (e₁, e₂, e₃) (arrives .is-accepted);
-      at-vc = rw (e₁, e₂, e₃) (arrives .at-vc);
+      at-connection = rw (e₁, e₂, e₃) (arrives .at-connection);
       seats = seats;
     }

@@ -14,12 +14,12 @@ use lib.ListN.{length, getD}
 use Rattle.meaning.specs.declared.Record.{Record}
 use Rattle.meaning.specs.Numbers.{mostN, mostV, octets, cellStart, perEntry, wordsIn, accepted, fPlace, waitingPlace}
 use Rattle.meaning.specs.Bucket.{withS}
-use Rattle.meaning.specs.Words.{vcAt, bucketFits}
+use Rattle.meaning.specs.Words.{connectionAt, bucketFits}
 use Rattle.meaning.specs.Lists.{endsFit}
 use Rattle.meaning.specs.Lent.{Slice}
-use Rattle.mem_words.specs.Vcs.{hasNone}
+use Rattle.mem_words.specs.Connections.{hasNone}
 use Rattle.slot_arrive.specs.declared.Judged.{Judged}
-use Rattle.slot_arrive.specs.Arrival.{vcNow, judgedAs, judgedOf}
+use Rattle.slot_arrive.specs.Arrival.{connectionNow, judgedAs, judgedOf}
 use Rattle.slot_arrive.specs.Both.{judgedPeak}
 use Rattle.mem_lists.specs.declared.Seat.{Seat}
 use Rattle.mem_lists.specs.Spaces.{endsOf, seatAs, entryOf, seatOf}
@@ -47,10 +47,10 @@ pub record Seats (k : Record) (links calendar : List ℕ) (p : Spot) : Type 0 wh
 -- an open VC without a second bucket that accepts a cell with this D, its S being S before the cell
 pub record Judges (k : Record) (words : List ℕ) (vci D S : ℕ) : Type 0 where
   pub judged : judgedAs true accepted vci D (S + getD words (fPlace vci) 0) (getD words (waitingPlace vci) 0 + 1) 0
-      ≡ judgedPeak (k .n) vci (withS (vcAt words vci .bucket) S) (vcAt words vci .waiting)
-  pub fits : bucketFits (k .n) (vcAt words vci .bucket) ≡ true
-  pub single : hasNone (vcAt words vci) ≡ true
-  pub s-is : S ≡ vcNow (k .t) (vcAt words vci) .bucket .S
+      ≡ judgedPeak (k .n) vci (withS (connectionAt words vci .bucket) S) (connectionAt words vci .waiting)
+  pub fits : bucketFits (k .n) (connectionAt words vci .bucket) ≡ true
+  pub single : hasNone (connectionAt words vci) ≡ true
+  pub s-is : S ≡ connectionNow (k .t) (connectionAt words vci) .bucket .S
   pub full-low : S + getD words (fPlace vci) 0 < 4294967296
   pub near : D < k .n
   pub waiting-high : getD words (waitingPlace vci) 0 < k .n
@@ -60,12 +60,12 @@ pub record Arrives (k : Record) (words cell : List ℕ) (vci D S : ℕ) : Type 0
   pub judged : judgedAs true accepted vci D (S + getD words (fPlace vci) 0) (getD words (waitingPlace vci) 0 + 1) 0
       ≡ judgedOf (k .n) (k .v) (k .t) words cell
   pub is-accepted : Accepted k (judgedAs true accepted vci D (S + getD words (fPlace vci) 0) (getD words (waitingPlace vci) 0 + 1) 0) cell words
-  pub at-vc : Judges k words vci D S
+  pub at-connection : Judges k words vci D S
 
 pub record Spotted (k : Record) (links calendar words cell : List ℕ) (p : Spot) : Type 0 where
   pub judged : judgedAt words p ≡ judgedOf (k .n) (k .v) (k .t) words cell
   pub is-accepted : Accepted k (judgedAt words p) cell words
-  pub at-vc : Judges k words (p .vci) (p .d) (p .s)
+  pub at-connection : Judges k words (p .vci) (p .d) (p .s)
   pub seats : Seats k links calendar p
 
 -- ---- what is asked of lent memories, for contracts: w is the policer in the slot to come

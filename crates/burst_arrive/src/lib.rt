@@ -6,7 +6,7 @@ ghost use mathlib.Core.Bool.{true, false};
 ghost use Prim.Native.Nat.{_+_, _*_, _≤_, _<_};
 ghost use lib.ListN.{length, take, drop};
 ghost use Rattle.meaning.specs.Numbers.{mostN, mostV, octets, cellStart, perEntry, wordsIn};
-ghost use Rattle.meaning.specs.State.{HasVc};
+ghost use Rattle.meaning.specs.State.{HasConnection};
 ghost use Rattle.meaning.specs.Lists.{endsFit};
 ghost use Rattle.mem_lists.specs.Spaces.{endsOf};
 ghost use Rattle.burst_way.specs.Way.{slotRecord};
@@ -14,7 +14,7 @@ ghost use Rattle.burst_arrive.specs.Arriving.{Judges, Arrives, Seats, Sp
 use burst_way::Way;
 use meaning::AT_M;
 use meaning::AT_WAITING;
-use meaning::WORDS_PER_VC;
+use meaning::WORDS_PER_CONNECTION;
 
 // An arrival: ok where its VC is open and in range and the cell is accepted; its VC, D, and S before the cell.
 pub struct Judgement {
@@ -51,7 +51,7 @@ fn not_likely() -> Judgement
 
 // An open VC's own part of it.
 fn judge_open(w: Way, words: &[u32], u: usize) -> Judgement
-    requires { ⌜ (w .n ≤ mostN) × (HasVc u (now words)) ⌝ }
+    requires { ⌜ (w .n ≤ mostN) × (HasConnection u (now words)) ⌝ }
     ensures { λ a. ⌜ (a .ok ≡ true → Judges (slotRecord w) (now (words .entry)) (a .vci) (a .d) (a .s) × (a .vci ≡ u)) ⌝ }
 {
     let j = burst_rotate::met(w.n, words, u, w.t);
@@ -61,7 +61,7 @@ fn judge_open(w: Way, words: &[u32], u: usize) -> Judgement
     if j.s > j.room {
         return not_likely();
     }
-    let b = WORDS_PER_VC * u;
+    let b = WORDS_PER_CONNECTION * u;
     if words[b + AT_WAITING] >= w.n as u32 {
         return not_likely();
     }
@@ -86,7 +86,7 @@ fn arrived(w: Way, words: &[u32], arrivals: &[u8], i: usize) -> Judgement
     if u >= w.v {
         return not_likely();
     }
-    if words[WORDS_PER_VC * u] != 1 {
+    if words[WORDS_PER_CONNECTION * u] != 1 {
         return not_likely();
     }
     judge_open(w, words, u)

@@ -19,7 +19,7 @@ use Rattle.meaning.proofs.ListsLaws.{fit-marked, fit-empty}
 use Rattle.leaf_header.specs.Name.{nameOf}
 use Rattle.mem_lists.specs.declared.Off.{Off}
 use Rattle.mem_lists.specs.Spaces.{endsOf, linked, offAs, offOf}
-use Rattle.mem_lists.specs.Leaver.{mayGo, namedVc, leaverOf, offFrom, leaverAfter, offAfter}
+use Rattle.mem_lists.specs.Leaver.{mayGo, namedConnection, leaverOf, offFrom, leaverAfter, offAfter}
 use Rattle.mem_lists.proofs.LeaverLaws.{leaver-named}
 use Rattle.mem_lists.proofs.LinkLaws.{linked-off, linked-own, linked-other, linked-length}
 use Rattle.mem_lists.proofs.OffLaws.{off-is, from-same}
@@ -66,8 +66,8 @@ module _ (N : ℕ) (links : List ℕ) (x tail next tail′ : ℕ) (l : Left N li
       go false e = let m = l .more (eqb-false x tail e) in rw (m .2) (fit-marked N next tail (m .1) low)
 
 -- ---- the VC that was found, once a cell of VC own stands in another space
-named-is : (N z : ℕ) (words : List ℕ) (name : ℕ) → namedVc N z words name ≢ 0 → namedVc N z words name ≡ name
-unfolding namedVc
+named-is : (N z : ℕ) (words : List ℕ) (name : ℕ) → namedConnection N z words name ≢ 0 → namedConnection N z words name ≡ name
+unfolding namedConnection
 named-is N z words name = go (name =? 0) (name <? z) (mayGo N words name)
   where
     go : (a b c : Bool) → (if a then 0 else if b then (if c then name else 0) else 0) ≢ 0
@@ -85,7 +85,7 @@ module _ (N z own s : ℕ) (cells words : List ℕ) (x : ℕ) where
   unfolding leaverAfter
   leaver-then few ne u is ok = go (name =? own) refl
     where
-      seen : namedVc N z words name ≡ u
+      seen : namedConnection N z words name ≡ u
       seen = leaver-named N z cells words x few ∙ is
 
       go : (b : Bool) → name =? own ≡ b → leaverAfter N z cells words own s x ≡ u

@@ -13,26 +13,26 @@ use Rattle.meaning.specs.declared.Record.{Record}
 use Rattle.meaning.specs.Numbers.{empty}
 use Rattle.meaning.specs.State.{Ends}
 use Rattle.mem_lists.specs.Spaces.{linked}
-use Rattle.mem_lists.specs.Leaver.{mayGo, namedVc}
+use Rattle.mem_lists.specs.Leaver.{mayGo, namedConnection}
 use Rattle.slot_plan.specs.Plan.{joinedLinks, joinedHead}
 use Rattle.burst_depart.specs.Leaving.{Left}
 
 -- ---- the VC that a number names, one test after the other
 module _ (N z : ℕ) (words : List ℕ) (name : ℕ) where
-  pub named-zero : name ≡ 0 → 0 ≡ namedVc N z words name
-  unfolding namedVc
+  pub named-zero : name ≡ 0 → 0 ≡ namedConnection N z words name
+  unfolding namedConnection
   named-zero e = simp (eq-eqb name 0 e)
 
-  pub named-past : name ≢ 0 → z ≤ name → 0 ≡ namedVc N z words name
-  unfolding namedVc
+  pub named-past : name ≢ 0 → z ≤ name → 0 ≡ namedConnection N z words name
+  unfolding namedConnection
   named-past ne past = simp (ne-eqb name 0 ne, le-ltb name z past)
 
-  pub named-stays : name ≢ 0 → name < z → mayGo N words name ≡ false → 0 ≡ namedVc N z words name
-  unfolding namedVc
+  pub named-stays : name ≢ 0 → name < z → mayGo N words name ≡ false → 0 ≡ namedConnection N z words name
+  unfolding namedConnection
   named-stays ne below e = simp (ne-eqb name 0 ne, lt-ltb name z below, e)
 
-  pub named-goes : name ≢ 0 → name < z → mayGo N words name ≡ true → name ≡ namedVc N z words name
-  unfolding namedVc
+  pub named-goes : name ≢ 0 → name < z → mayGo N words name ≡ true → name ≡ namedConnection N z words name
+  unfolding namedConnection
   named-goes ne below e = simp (ne-eqb name 0 ne, lt-ltb name z below, e)
 
 -- ---- a link once it is written

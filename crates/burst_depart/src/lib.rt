@@ -18,7 +18,7 @@ ghost use Rattle.burst_depart.specs.Leaving.{Left, PlannedUnmarked, Plan
 use burst_arrive::Spot;
 use burst_way::Way;
 use meaning::AT_WAITING;
-use meaning::WORDS_PER_VC;
+use meaning::WORDS_PER_CONNECTION;
 
 // What departs: nothing, or the space and its VC, and what is left of the Output List; whether entry T is marked, whether its
 // chain follows the old tail, and the chain's head then.
@@ -46,7 +46,7 @@ fn seen(n: usize, v: usize, cells: &[u8], words: &[u32], x: usize) -> usize
     if u >= v {
         return 0;
     }
-    let b = WORDS_PER_VC * u;
+    let b = WORDS_PER_CONNECTION * u;
     if words[b] != 1 {
         return 0;
     }

@@ -95,9 +95,9 @@ module _ (k : Record) (links calendar words cell : List ℕ) (small : k .n ≤ 1
       × (getD words₁ (secondSPlace (p .vci)) 0 ≡ 0)
   fill-fits words₁ is =
       rw is (
-        rw full-same (spotted .at-vc .full-low),
+        rw full-same (spotted .at-connection .full-low),
         rw waiting-same (let high = spotted .is-accepted .waiting-high in omega (arith, high, small)),
-        second-kept words (k .rotation) (r .s) (r .last) (p .vci) ∙ none-second words (p .vci) (spotted .at-vc .single),
+        second-kept words (k .rotation) (r .s) (r .last) (p .vci) ∙ none-second words (p .vci) (spotted .at-connection .single),
       )
 
   pub fill-writes : (words₁ words₂ : List ℕ) → words₁ ≡ turning

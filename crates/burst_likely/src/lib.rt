@@ -8,7 +8,7 @@ ghost use Prim.Native.Nat.{ℕ, _+_, _*_, _≤_, _<_};
 ghost use lib.ListN.{length, getD, set, take, drop};
 ghost use Rattle.meaning.specs.Plain.{if_then_else_, _=?_};
 ghost use Rattle.meaning.specs.Numbers.{empty, fPlace, sPlace, lastPlace, waitingPlace, secondSPlace, octets, cellStart};
-ghost use Rattle.meaning.specs.State.{writeCell, HasVc};
+ghost use Rattle.meaning.specs.State.{writeCell, HasConnection};
 ghost use Rattle.meaning.specs.Lists.{emptyList, endsFit, entryAt, writeEntry};
 ghost use Rattle.meaning.specs.Work.{answerOf};
 ghost use Rattle.slot_arrive.specs.Arrival.{filled, oneLess};
@@ -29,7 +29,7 @@ use meaning::AT_LAST;
 use meaning::AT_S;
 use meaning::AT_WAITING;
 use meaning::Answer;
-use meaning::WORDS_PER_VC;
+use meaning::WORDS_PER_CONNECTION;
 
 // A slot on a likely way: served, or left as it came.
 pub struct Went {
@@ -39,22 +39,22 @@ pub struct Went {
 
 // Step 2's words.
 fn put_turn(words: &mut [u32], rotation: usize, s: u32, last: u32)
-    requires { ⌜ HasVc rotation (now words) ⌝ }
+    requires { ⌜ HasConnection rotation (now words) ⌝ }
     ensures { λ r. ⌜ now (words .exit) ≡ set (set (now (words .entry)) (sPlace rotation) s) (lastPlace rotation) last ⌝ }
 {
-    let b = WORDS_PER_VC * rotation;
+    let b = WORDS_PER_CONNECTION * rotation;
     words[b + AT_S] = s;
     words[b + AT_LAST] = last;
 }
 
 // The words of an accepted cell's VC: S grows by F, and one more waits. It has no second bucket, so that one's S is 0 and stays.
 fn put_fill(words: &mut [u32], vci: usize, s: u32, t: u32)
-    requires { ⌜ (HasVc vci (now words)) × (s + getD (now words) (fPlace vci) 0 < 4294967296) × (getD (now words) (waitingPlace vci) 0 + 1 < 4294967296)
+    requires { ⌜ (HasConnection vci (now words)) × (s + getD (now words) (fPlace vci) 0 < 4294967296) × (getD (now words) (waitingPlace vci) 0 + 1 < 4294967296)
         × (getD (now words) (secondSPlace vci) 0 ≡ 0) ⌝ }
     ensures { λ r. ⌜ now (words .exit)
         ≡ filled vci (s + getD (now (words .entry)) (fPlace vci) 0) 0 t (getD (now (words .entry)) (waitingPlace vci) 0 + 1) (now (words .entry)) ⌝ }
 {
-    let b = WORDS_PER_VC * vci;
+    let b = WORDS_PER_CONNECTION * vci;
     words[b + AT_S] = s + words[b + AT_F];
     words[b + AT_LAST] = t;
     words[b + AT_WAITING] = words[b + AT_WAITING] + 1;
@@ -62,10 +62,10 @@ fn put_fill(words: &mut [u32], vci: usize, s: u32, t: u32)
 
 // Waiting of a VC falls by one.
 fn put_less(words: &mut [u32], vci: usize)
-    requires { ⌜ (HasVc vci (now words)) × (1 ≤ getD (now words) (waitingPlace vci) 0) ⌝ }
+    requires { ⌜ (HasConnection vci (now words)) × (1 ≤ getD (now words) (waitingPlace vci) 0) ⌝ }
     ensures { λ r. ⌜ now (words .exit) ≡ oneLess vci (now (words .entry)) ⌝ }
 {
-    let b = WORDS_PER_VC * vci;
+    let b = WORDS_PER_CONNECTION * vci;
     words[b + AT_WAITING] = words[b + AT_WAITING] - 1;
 }
 
@@ -138,7 +138,7 @@ fn gone(w: Way) -> Went
 
 // No cell arrived, and nothing departs.
 fn bare_none(w: Way, r: Turn, words: &mut [u32], answers: &mut [u16], i: usize)
-    requires { ⌜ (HasVc (w .rotation) (now words)) × (6 * i + 6 ≤ length (now answers)) ⌝ }
+    requires { ⌜ (HasConnection (w .rotation) (now words)) × (6 * i + 6 ≤ length (now answers)) ⌝ }
     ensures words { λ u. ⌜ now (words .exit) ≡ set (set (now (words .entry)) (sPlace (w .rotation)) (r .s)) (lastPlace (w .rotation)) (r .last) ⌝ }
     ensures answers { λ u. ⌜ now (answers .exit) ≡ writeAnswer (now (answers .entry)) i (answerOf 0 0 0 0 65535 0) ⌝ }
 {

@@ -13,9 +13,9 @@ use lib.ListN.{getD}
 use lib.Pow.{pow-pos, pow-mono}
 use Rattle.meaning.specs.Numbers.{mPlace, fPlace, cPlace, sPlace, lastPlace}
 use Rattle.meaning.specs.Bucket.{elapsed}
-use Rattle.meaning.specs.Words.{vcAt, bucketFits}
+use Rattle.meaning.specs.Words.{connectionAt, bucketFits}
 use Rattle.leaf_bucket.proofs.Rules.{facts-rules}
-use Rattle.mem_words.specs.Vcs.{hasNone}
+use Rattle.mem_words.specs.Connections.{hasNone}
 use Rattle.burst_rotate.specs.Turning.{Met}
 
 -- F is at least L
@@ -48,14 +48,14 @@ module _ (n t : ℕ) (words : List ℕ) (vci : ℕ) where
   abbrev s : ℕ
   s = getD words (sPlace vci) 0
 
-  fits-is : m ≤ 15 → 2 ^ m ≤ f → f ≤ 16777216 → f ≤ c → (c - f) / 2 ^ m < n → s ≤ c → bucketFits n (vcAt words vci .bucket) ≡ true
-  unfolding bucketFits vcAt
+  fits-is : m ≤ 15 → 2 ^ m ≤ f → f ≤ 16777216 → f ≤ c → (c - f) / 2 ^ m < n → s ≤ c → bucketFits n (connectionAt words vci .bucket) ≡ true
+  unfolding bucketFits connectionAt
   fits-is low least most full near under =
-      rw (facts-rules n (vcAt words vci .bucket) (record { m-low = low; F-least = least; F-most = most; C-least = full; delay-low = near }))
+      rw (facts-rules n (connectionAt words vci .bucket) (record { m-low = low; F-least = least; F-most = most; C-least = full; delay-low = near }))
       (le-leb s c under)
 
   pub met-is : (room S : ℕ) → n ≤ 1024 → m ≤ 15 → f ≤ 16777216 → f / 2 ^ m ≢ 0 → (room + f) % 4294967296 ≡ c → room / 2 ^ m < n → s ≤ c
-      → hasNone (vcAt words vci) ≡ true
+      → hasNone (connectionAt words vci) ≡ true
       → S ≡ s - elapsed t (getD words (lastPlace vci) 0) * 2 ^ m
       → Met n t words vci (record { ok = true; s = S; room = room })
   met-is room S few low high some wraps near under none is =

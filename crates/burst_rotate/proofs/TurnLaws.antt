@@ -10,13 +10,13 @@ use native.Mathlib.Decide.{ℕ-discrete}
 use lib.ListN.{getD, set}
 use lib.Seq.{set-getD, getD-set-other}
 use Rattle.meaning.specs.declared.Record.{Record}
-use Rattle.meaning.specs.Numbers.{sPlace, lastPlace, secondSPlace, wordsPerVc}
-use Rattle.meaning.specs.Words.{vcAt, fallenTo}
+use Rattle.meaning.specs.Numbers.{sPlace, lastPlace, secondSPlace, wordsPerConnection}
+use Rattle.meaning.specs.Words.{connectionAt, fallenTo}
 use Rattle.meaning.specs.Bucket.{fall}
-use Rattle.mem_words.specs.Vcs.{hasNone}
+use Rattle.mem_words.specs.Connections.{hasNone}
 use Rattle.mem_words.proofs.NoneLaws.{none-facts}
 use Rattle.slot_arrive.specs.declared.Fall.{Fall}
-use Rattle.slot_arrive.specs.Arrival.{fallOf, vcNow, broughtOf, fallen}
+use Rattle.slot_arrive.specs.Arrival.{fallOf, connectionNow, broughtOf, fallen}
 use Rattle.slot_arrive.proofs.BroughtLaws.{brought-zero, brought-closed, brought-both, brought-none}
 use Rattle.slot_plan.specs.Plan.{rotated}
 use Rattle.burst_rotate.specs.declared.Bucketed.{Bucketed}
@@ -29,9 +29,9 @@ second-kept words r S t vci =
     getD-set-other (set words (sPlace r) S) (lastPlace r) (secondSPlace vci) t 0 (λ q. omega arith)
     ∙ getD-set-other words (sPlace r) (secondSPlace vci) S 0 (λ q. omega arith)
 
-pub none-second : (words : List ℕ) (vci : ℕ) → hasNone (vcAt words vci) ≡ true → getD words (secondSPlace vci) 0 ≡ 0
-unfolding vcAt
-none-second words vci e = none-facts (vcAt words vci) e .S-is
+pub none-second : (words : List ℕ) (vci : ℕ) → hasNone (connectionAt words vci) ≡ true → getD words (secondSPlace vci) 0 ≡ 0
+unfolding connectionAt
+none-second words vci e = none-facts (connectionAt words vci) e .S-is
 
 -- a 0 that stands there is written again
 pub zero-again : (words : List ℕ) (i : ℕ) → getD words i 0 ≡ 0 → set words i 0 ≡ words
@@ -48,20 +48,20 @@ module _ (k : Record) (words : List ℕ) where
   stored : set (set words (sPlace z) (getD words (sPlace z) 0)) (lastPlace z) (getD words (lastPlace z) 0) ≡ words
   stored = rw (set-getD words (sPlace z) 0) (set-getD words (lastPlace z) 0)
 
-  not-zero : (z ≡ 0 → getD words 0 0 ≡ 0) → getD words (wordsPerVc * z) 0 ≡ 1 → z ≢ 0
+  not-zero : (z ≡ 0 → getD words 0 0 ≡ 0) → getD words (wordsPerConnection * z) 0 ≡ 1 → z ≢ 0
   not-zero none o e =
-      let q : getD words (wordsPerVc * z) 0 ≡ getD words 0 0 = ap (λ (i : ℕ). getD words i 0) (omega (arith, e)) in
+      let q : getD words (wordsPerConnection * z) 0 ≡ getD words 0 0 = ap (λ (i : ℕ). getD words i 0) (omega (arith, e)) in
       let y = none e in
       absurd (omega (arith, o, q, y))
 
-  closed : getD words (wordsPerVc * z) 0 ≡ 0 → fallOf true false 0 0 ≡ brought
+  closed : getD words (wordsPerConnection * z) 0 ≡ 0 → fallOf true false 0 0 ≡ brought
   closed o = go (ℕ-discrete z 0)
     where
       go : Dec (z ≡ 0) → fallOf true false 0 0 ≡ brought
       go (yes e) = brought-zero (k .n) (k .t) words z e
       go (no ne) = brought-closed (k .n) (k .t) words z ne o
 
-  pub turned-closed : getD words (wordsPerVc * z) 0 ≡ 0
+  pub turned-closed : getD words (wordsPerConnection * z) 0 ≡ 0
       → Turned k words (record { ok = true; s = getD words (sPlace z) 0; last = getD words (lastPlace z) 0 })
   unfolding rotated fallen
   turned-closed o =
@@ -70,17 +70,17 @@ module _ (k : Record) (words : List ℕ) where
         writes = rw (← closed o) stored;
       }
 
-  fallen-is : (r : Bucketed) → Met (k .n) (k .t) words z r → r .s ≡ vcNow (k .t) (vcAt words z) .bucket .S
-  unfolding vcNow fallenTo fall vcAt
+  fallen-is : (r : Bucketed) → Met (k .n) (k .t) words z r → r .s ≡ connectionNow (k .t) (connectionAt words z) .bucket .S
+  unfolding connectionNow fallenTo fall connectionAt
   fallen-is r met = met .s-is
 
-  opened : (r : Bucketed) → z ≢ 0 → getD words (wordsPerVc * z) 0 ≡ 1 → Met (k .n) (k .t) words z r
+  opened : (r : Bucketed) → z ≢ 0 → getD words (wordsPerConnection * z) 0 ≡ 1 → Met (k .n) (k .t) words z r
       → fallOf true true (r .s) 0 ≡ brought
   opened r some o met =
       brought-none (k .n) (k .t) words z (r .s) (met .single)
       ∙ brought-both (k .n) (k .t) words z (r .s) some o (met .fits) (fallen-is r met)
 
-  pub turned-open : (r : Bucketed) → (z ≡ 0 → getD words 0 0 ≡ 0) → getD words (wordsPerVc * z) 0 ≡ 1 → Met (k .n) (k .t) words z r
+  pub turned-open : (r : Bucketed) → (z ≡ 0 → getD words 0 0 ≡ 0) → getD words (wordsPerConnection * z) 0 ≡ 1 → Met (k .n) (k .t) words z r
       → Turned k words (record { ok = r .ok; s = r .s; last = k .t })
   unfolding rotated fallen
   turned-open r none o met =

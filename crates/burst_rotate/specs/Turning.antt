@@ -11,16 +11,16 @@ use lib.ListN.{getD, set}
 use Rattle.meaning.specs.declared.Record.{Record}
 use Rattle.meaning.specs.Numbers.{mPlace, fPlace, cPlace, sPlace, lastPlace}
 use Rattle.meaning.specs.Bucket.{elapsed}
-use Rattle.meaning.specs.Words.{vcAt, bucketFits}
-use Rattle.mem_words.specs.Vcs.{hasNone}
+use Rattle.meaning.specs.Words.{connectionAt, bucketFits}
+use Rattle.mem_words.specs.Connections.{hasNone}
 use Rattle.slot_arrive.specs.Arrival.{broughtOf}
 use Rattle.slot_plan.specs.Plan.{rotated}
 use Rattle.burst_rotate.specs.declared.Bucketed.{Bucketed}
 use Rattle.burst_rotate.specs.declared.Turn.{Turn}
 
 pub record Met (N t : ℕ) (words : List ℕ) (vci : ℕ) (r : Bucketed) : Type 0 where
-  pub fits : bucketFits N (vcAt words vci .bucket) ≡ true
-  pub single : hasNone (vcAt words vci) ≡ true
+  pub fits : bucketFits N (connectionAt words vci .bucket) ≡ true
+  pub single : hasNone (connectionAt words vci) ≡ true
   pub m-low : getD words (mPlace vci) 0 ≤ 15
   pub full-low : getD words (fPlace vci) 0 ≤ getD words (cPlace vci) 0
   pub s-is : r .s ≡ getD words (sPlace vci) 0 - elapsed t (getD words (lastPlace vci) 0) * 2 ^ getD words (mPlace vci) 0

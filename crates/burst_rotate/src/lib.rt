@@ -6,9 +6,9 @@ ghost use mathlib.Core.Bool.{true, false};
 ghost use Prim.Native.Nat.{_+_, _*_, _≤_};
 ghost use lib.ListN.{length, getD};
 ghost use Rattle.meaning.specs.Numbers.{mostN};
-ghost use Rattle.meaning.specs.State.{HasVc};
-ghost use Rattle.meaning.specs.Words.{vcAt};
-ghost use Rattle.mem_words.specs.Vcs.{hasNone};
+ghost use Rattle.meaning.specs.State.{HasConnection};
+ghost use Rattle.meaning.specs.Words.{connectionAt};
+ghost use Rattle.mem_words.specs.Connections.{hasNone};
 ghost use Rattle.burst_way.specs.Way.{slotRecord};
 ghost use Rattle.burst_rotate.specs.Turning.{Met, Turned};
 use burst_way::Way;
@@ -22,7 +22,7 @@ use meaning::AT_SECOND_F;
 use meaning::AT_SECOND_M;
 use meaning::AT_SECOND_S;
 use meaning::AT_TAG;
-use meaning::WORDS_PER_VC;
+use meaning::WORDS_PER_CONNECTION;
 
 // An open VC's bucket: ok where its words but waiting are in range and it has no second bucket; S as it has fallen, and C-F.
 pub struct Bucketed {
@@ -50,10 +50,10 @@ fn unmet() -> Bucketed
 
 // Whether a VC has no second bucket, told as `mem_words::none_second` tells it. One that has is left to the long way.
 fn single(words: &[u32], vci: usize) -> bool
-    requires { ⌜ HasVc vci (now words) ⌝ }
-    ensures { λ r. ⌜ r ≡ hasNone (vcAt (now (words .entry)) vci) ⌝ }
+    requires { ⌜ HasConnection vci (now words) ⌝ }
+    ensures { λ r. ⌜ r ≡ hasNone (connectionAt (now (words .entry)) vci) ⌝ }
 {
-    let b = WORDS_PER_VC * vci;
+    let b = WORDS_PER_CONNECTION * vci;
     if words[b + AT_SECOND_M] | words[b + AT_SECOND_F] | words[b + AT_SECOND_C] != 0 {
         return false;
     }
@@ -62,13 +62,13 @@ fn single(words: &[u32], vci: usize) -> bool
 
 // That C is at least F needs no test: if not, C-F on 32 bits is above 2^31, and (C-F)/L far above N.
 pub fn met(n: usize, words: &[u32], vci: usize, t: u32) -> Bucketed
-    requires { ⌜ (n ≤ mostN) × (HasVc vci (now words)) ⌝ }
+    requires { ⌜ (n ≤ mostN) × (HasConnection vci (now words)) ⌝ }
     ensures { λ r. ⌜ (r .ok ≡ true → Met n t (now (words .entry)) vci r) ⌝ }
 {
     if !single(words, vci) {
         return unmet();
     }
-    let b = WORDS_PER_VC * vci;
+    let b = WORDS_PER_CONNECTION * vci;
     let m = words[b + AT_M];
     if m > 15 {
         return unmet();
@@ -99,10 +99,10 @@ pub fn met(n: usize, words: &[u32], vci: usize, t: u32) -> Bucketed
 
 // Step 2. VC 0 is never open: its words are not read there, so the caller knows that its open word is 0.
 pub fn turned(w: Way, words: &[u32]) -> Turn
-    requires { ⌜ (w .n ≤ mostN) × (HasVc (w .rotation) (now words)) × (w .rotation ≡ 0 → getD (now words) 0 0 ≡ 0) ⌝ }
+    requires { ⌜ (w .n ≤ mostN) × (HasConnection (w .rotation) (now words)) × (w .rotation ≡ 0 → getD (now words) 0 0 ≡ 0) ⌝ }
     ensures { λ r. ⌜ (r .ok ≡ true → Turned (slotRecord w) (now (words .entry)) r) ⌝ }
 {
-    let b = WORDS_PER_VC * w.rotation;
+    let b = WORDS_PER_CONNECTION * w.rotation;
     let o = words[b];
     if o == 0 {
         return Turn {

@@ -10,7 +10,7 @@ use lib.ListN.{length, getD}
 use Rattle.meaning.specs.declared.Record.{Record}
 use Rattle.meaning.specs.Numbers.{empty}
 use Rattle.meaning.specs.State.{Ends, stateOf}
-use Rattle.meaning.specs.Words.{vcAt, vcFits}
+use Rattle.meaning.specs.Words.{connectionAt, connectionFits}
 use Rattle.meaning.specs.Lists.{entryAt}
 use Rattle.meaning.specs.Audit.{Chain, count, joined, AuditHolds}
 use Rattle.call_audit.specs.Budgets.{inside, waitsAt}
@@ -63,7 +63,7 @@ module _ (r : Record) (cells links calendar words b w : List ℕ)
       Stored links calendar (nameOf cells) (r .n) (endsOf (r .freehead) (r .freetail)) (endsOf (r .outhead) (r .outtail)) b w
 
   pub to-clauses : Shaped r cells links calendar words
-      → ((vci : ℕ) → 1 ≤ vci → vci < r .v → vcFits (r .n) (vcAt words vci) ≡ true)
+      → ((vci : ℕ) → 1 ≤ vci → vci < r .v → connectionFits (r .n) (connectionAt words vci) ≡ true)
       → getD calendar (2 * r .turn) 0 ≡ empty → Kept → AuditHolds (stateOf r cells links calendar words)
   to-clauses h f e s =
       let queued = s .output ++ joined (s .queues) in
@@ -89,7 +89,7 @@ module _ (r : Record) (cells links calendar words b w : List ℕ)
         rotation-low = h .rotation-low;
         raw-low = h .raw-low;
         mode-low = h .mode-low;
-        vcs-fit = f;
+        connections-fit = f;
         free = s .free;
         output = s .output;
         queues = s .queues;

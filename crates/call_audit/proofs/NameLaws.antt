@@ -10,9 +10,9 @@ use lib.ListN.{getD}
 use borrow.Author.Tests.{lt-ltb, le-leb, eq-eqb, ne-eqb, eqb-true, ltb-true, leb-true}
 use Rattle.meaning.specs.Plain.{_<?_, _≤?_, _=?_}
 use Rattle.meaning.specs.Numbers.{empty, cellStart, openPlace}
-use Rattle.meaning.specs.Header.{Header, headerAt, namesVc, namesOpenVc}
-use Rattle.meaning.specs.Words.{vcAt}
-use Rattle.meaning.specs.Audit.{count, vciIn}
+use Rattle.meaning.specs.Header.{Header, headerAt, namesConnection, namesOpen}
+use Rattle.meaning.specs.Words.{connectionAt}
+use Rattle.meaning.specs.Audit.{count, connectionIn}
 use Rattle.call_audit.specs.Budgets.{waitsAt}
 use Rattle.mem_walks.specs.Walk.{nameOf}
 use Rattle.mem_walks.proofs.Choice.{both}
@@ -20,8 +20,8 @@ use Rattle.mem_walks.proofs.BudgetLaws.{is, is-same, is-no}
 use Rattle.call_audit.proofs.WaitsLaws.{MayWait, waits-some, waits-open, waits-shut}
 
 -- "A header names an open VC when its VPI is 0 and its VCI is 1 to V-1 and open."
-names-open : (z : ℕ) (words : List ℕ) (h : Header) → h .vpi ≡ 0 → MayWait words z (h .vci) → namesOpenVc z words h ≡ true
-unfolding namesOpenVc namesVc vcAt
+names-open : (z : ℕ) (words : List ℕ) (h : Header) → h .vpi ≡ 0 → MayWait words z (h .vci) → namesOpen z words h ≡ true
+unfolding namesOpen namesConnection connectionAt
 names-open z words h e m =
     rw (
       eq-eqb (h .vpi) 0 e,
@@ -30,8 +30,8 @@ names-open z words h e m =
       eq-eqb (getD words (openPlace (h .vci)) 0) 1 (m .2),
     )
 
-open-named : (z : ℕ) (words : List ℕ) (h : Header) → namesOpenVc z words h ≡ true → (h .vpi ≡ 0) × MayWait words z (h .vci)
-unfolding namesOpenVc namesVc vcAt
+open-named : (z : ℕ) (words : List ℕ) (h : Header) → namesOpen z words h ≡ true → (h .vpi ≡ 0) × MayWait words z (h .vci)
+unfolding namesOpen namesConnection connectionAt
 open-named z words h t =
     let a = both (h .vpi =? 0 && 1 ≤? h .vci && h .vci <? z) (getD words (openPlace (h .vci)) 0 =? 1) t in
     let b = both (h .vpi =? 0 && 1 ≤? h .vci) (h .vci <? z) (a .0) in
@@ -61,25 +61,25 @@ same-names f g (y ∷ ys) h =
     let t : map f ys ≡ map g ys = same-names f g ys (λ x n. h x (omega arith)) in
     rw (e, t)
 
-name-vci : (cells : List ℕ) (x : ℕ) → headerAt cells (cellStart x) .vpi ≡ 0 → nameOf cells x ≡ vciIn cells x
-unfolding nameOf vciIn
+name-vci : (cells : List ℕ) (x : ℕ) → headerAt cells (cellStart x) .vpi ≡ 0 → nameOf cells x ≡ connectionIn cells x
+unfolding nameOf connectionIn
 name-vci cells x h = rw (eq-eqb (headerAt cells (cellStart x) .vpi) 0 h)
 
 name-bad : (cells : List ℕ) (x : ℕ) → (headerAt cells (cellStart x) .vpi ≡ 0 → ⊥) → nameOf cells x ≡ empty
 unfolding nameOf
 name-bad cells x h = rw (ne-eqb (headerAt cells (cellStart x) .vpi) 0 h)
 
-vci-is : (cells : List ℕ) (x : ℕ) → vciIn cells x ≡ headerAt cells (cellStart x) .vci
-unfolding vciIn
+vci-is : (cells : List ℕ) (x : ℕ) → connectionIn cells x ≡ headerAt cells (cellStart x) .vci
+unfolding connectionIn
 vci-is cells x = refl
 
 module _ (z : ℕ) (cells words xs : List ℕ) where
   abbrev pub Named : Type 0
-  Named = (x : ℕ) → 0 < count x xs → namesOpenVc z words (headerAt cells (cellStart x)) ≡ true
+  Named = (x : ℕ) → 0 < count x xs → namesOpen z words (headerAt cells (cellStart x)) ≡ true
 
   abbrev pub Waits : Type 0
-  Waits = (vci : ℕ) → 1 ≤ vci → vci < z → vcAt words vci .opened ≡ 1
-      → vcAt words vci .waiting ≡ count vci (map (vciIn cells) xs)
+  Waits = (vci : ℕ) → 1 ≤ vci → vci < z → connectionAt words vci .opened ≡ 1
+      → connectionAt words vci .waiting ≡ count vci (map (connectionIn cells) xs)
 
   abbrev pub UsedUp : Type 0
   UsedUp = (k : ℕ) → count k (map (nameOf cells) xs) ≡ waitsAt words z k
@@ -90,15 +90,15 @@ module _ (z : ℕ) (cells words xs : List ℕ) where
       some : 0 < waitsAt words z (nameOf cells x)
       some = omega (arith, named-in (nameOf cells) x xs h, f (nameOf cells x))
 
-      go : Dec (headerAt cells (cellStart x) .vpi ≡ 0) → namesOpenVc z words (headerAt cells (cellStart x)) ≡ true
+      go : Dec (headerAt cells (cellStart x) .vpi ≡ 0) → namesOpen z words (headerAt cells (cellStart x)) ≡ true
       go (yes e) =
           names-open z words (headerAt cells (cellStart x)) e
           (waits-some words z (headerAt cells (cellStart x) .vci) (rw (← vci-is cells x, ← name-vci cells x e) some))
       go (no n) = absurd (omega (arith, small, waits-some words z (nameOf cells x) some, name-bad cells x n))
 
-  names-same : Named → map (nameOf cells) xs ≡ map (vciIn cells) xs
+  names-same : Named → map (nameOf cells) xs ≡ map (connectionIn cells) xs
   names-same f =
-      same-names (nameOf cells) (vciIn cells) xs
+      same-names (nameOf cells) (connectionIn cells) xs
       (λ x h. name-vci cells x (open-named z words (headerAt cells (cellStart x)) (f x h) .0))
 
   pub waits-of : z ≤ empty → UsedUp → Waits
@@ -106,7 +106,7 @@ module _ (z : ℕ) (cells words xs : List ℕ) where
       sym (waits-open words z vci (a, d, e)) ∙ sym (f vci) ∙ ap (count vci) (names-same (named-of small f))
 
   pub used-up : Named → Waits → UsedUp
-  used-up f g u = go (decLt 0 u) (decLt u z) (ℕ-discrete (vcAt words u .opened) 1)
+  used-up f g u = go (decLt 0 u) (decLt u z) (ℕ-discrete (connectionAt words u .opened) 1)
     where
       shut : (MayWait words z u → ⊥) → count u (map (nameOf cells) xs) ≡ waitsAt words z u
       shut n =
@@ -117,7 +117,7 @@ module _ (z : ℕ) (cells words xs : List ℕ) where
           n (rw y at (o .1)))
           ∙ sym (waits-shut words z u n)
 
-      go : Dec (0 < u) → Dec (u < z) → Dec (vcAt words u .opened ≡ 1) → count u (map (nameOf cells) xs) ≡ waitsAt words z u
+      go : Dec (0 < u) → Dec (u < z) → Dec (connectionAt words u .opened ≡ 1) → count u (map (nameOf cells) xs) ≡ waitsAt words z u
       go (yes a) (yes b) (yes d) =
           ap (count u) (names-same f) ∙ sym (waits-open words z u (a, b, d) ∙ g u a b d)
       go (no a) b d = shut (λ h. a (h .0))

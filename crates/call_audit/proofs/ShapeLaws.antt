@@ -8,7 +8,7 @@ use lib.ListN.{length}
 use borrow.Author.Tests.{lt-ltb, le-ltb, le-leb, lt-leb, eqb-true, ltb-true, leb-true, not-true, not-false}
 use Rattle.meaning.specs.declared.Record.{Record}
 use Rattle.meaning.specs.Plain.{_<?_, _≤?_, _=?_}
-use Rattle.meaning.specs.Numbers.{mostN, leastV, mostV, rangesHold, octets, perEntry, wordsPerVc}
+use Rattle.meaning.specs.Numbers.{mostN, leastV, mostV, rangesHold, octets, perEntry, wordsPerConnection}
 use Rattle.meaning.specs.State.{stateOf, wordsLong, lengthsHold}
 use Rattle.meaning.specs.Audit.{AuditHolds}
 use Rattle.call_audit.specs.Shape.{recordFits, shapeHolds}
@@ -29,13 +29,13 @@ module _ (N z : ℕ) where
 
 module _ (N z : ℕ) (cells links calendar words : List ℕ) where
   lengths-facts : lengthsHold N z cells links calendar words ≡ true
-      → (length calendar ≡ perEntry * N) × (length words ≡ wordsPerVc * z)
+      → (length calendar ≡ perEntry * N) × (length words ≡ wordsPerConnection * z)
   unfolding lengthsHold wordsLong
   lengths-facts h =
       let first = length cells =? octets * N && length links =? N in
-      let a = both (first && length calendar =? perEntry * N) (length words =? wordsPerVc * z) h in
+      let a = both (first && length calendar =? perEntry * N) (length words =? wordsPerConnection * z) h in
       let b = both first (length calendar =? perEntry * N) (a .0) in
-      (eqb-true (length calendar) (perEntry * N) (b .1), eqb-true (length words) (wordsPerVc * z) (a .1))
+      (eqb-true (length calendar) (perEntry * N) (b .1), eqb-true (length words) (wordsPerConnection * z) (a .1))
 
 -- The record's other numbers, as the code meets them
 
@@ -72,7 +72,7 @@ module _ (r : Record) where
 
 abbrev lengthsTest : ℕ → ℕ → List ℕ → List ℕ → List ℕ → List ℕ → Bool
 lengthsTest N z cells links calendar words =
-    length cells =? octets * N && length links =? N && length calendar =? perEntry * N && length words =? wordsPerVc * z
+    length cells =? octets * N && length links =? N && length calendar =? perEntry * N && length words =? wordsPerConnection * z
 
 -- All of it, as the code meets it: p and q are what the two tests answer
 
@@ -108,7 +108,7 @@ pub record Shaped (r : Record) (cells links calendar words : List ℕ) : Type 0 
   pub v-least : leastV ≤ r .v
   pub v-most : r .v ≤ mostV
   pub calendar-long : length calendar ≡ perEntry * r .n
-  pub words-long : length words ≡ wordsPerVc * r .v
+  pub words-long : length words ≡ wordsPerConnection * r .v
 
 module _ (r : Record) (cells links calendar words : List ℕ) where
   pub shape-of : (a : Bool) → a ≡ shapeHolds (stateOf r cells links calendar words) → a ≡ true

@@ -10,8 +10,8 @@ use lib.ListN.{length, getD, set}
 use lib.Seq.{getD-set-same, getD-set-other}
 use borrow.Author.Tests.{lt-ltb, le-ltb, le-leb, eq-eqb, ne-eqb, eqb-true, ltb-true, leb-true}
 use Rattle.meaning.specs.Plain.{if_then_else_, _<?_, _≤?_, _=?_}
-use Rattle.meaning.specs.Numbers.{wordsPerVc}
-use Rattle.meaning.specs.Words.{vcAt}
+use Rattle.meaning.specs.Numbers.{wordsPerConnection}
+use Rattle.meaning.specs.Words.{connectionAt}
 use Rattle.call_audit.specs.Budgets.{inside, waitsOf, waitsAt}
 use Rattle.meaning.proofs.WordsLaws.{opened-at, waiting-at}
 use Rattle.mem_walks.proofs.Choice.{if-elim, both}
@@ -51,7 +51,7 @@ inside-turn b i h f k = go (ℕ-discrete k i)
 -- Waiting
 
 module _ (words : List ℕ) where
-  pub waits-in : (z k : ℕ) → 1 ≤ k → k < z → waitsAt words z k ≡ waitsOf (vcAt words k)
+  pub waits-in : (z k : ℕ) → 1 ≤ k → k < z → waitsAt words z k ≡ waitsOf (connectionAt words k)
   unfolding waitsAt
   waits-in z k h g = rw (le-leb 1 k h, lt-ltb k z g)
 
@@ -59,7 +59,7 @@ module _ (words : List ℕ) where
   unfolding waitsAt
   waits-past z k h = rw (le-ltb k z h) (none (1 ≤? k))
     where
-      none : (a : Bool) → (if a && false then waitsOf (vcAt words k) else 0) ≡ 0
+      none : (a : Bool) → (if a && false then waitsOf (connectionAt words k) else 0) ≡ 0
       none true = refl
       none false = refl
 
@@ -68,7 +68,7 @@ module _ (words : List ℕ) where
   waits-zero z = refl
 
   -- a turn of the loop that fills the cells' budget
-  pub waits-turn : (w : List ℕ) (u d : ℕ) → 0 < u → u < length w → d ≡ waitsOf (vcAt words u)
+  pub waits-turn : (w : List ℕ) (u d : ℕ) → 0 < u → u < length w → d ≡ waitsOf (connectionAt words u)
       → ((k : ℕ) → getD w k 0 ≡ waitsAt words u k) → (k : ℕ) → getD (set w u d) k 0 ≡ waitsAt words (u + 1) k
   waits-turn w u d p h e f k = go (ℕ-discrete k u) (ℕ-discrete k 0)
     where
@@ -99,32 +99,32 @@ module _ (words : List ℕ) where
       go (yes z) = ap (λ (j : ℕ). waitsAt words 1 j) z ∙ waits-zero 1
       go (no z) = waits-past 1 k (omega arith)
 
-  pub waits-read : (k : ℕ) → getD words (wordsPerVc * k) 0 ≡ 1 → getD words (wordsPerVc * k + 6) 0 ≡ waitsOf (vcAt words k)
+  pub waits-read : (k : ℕ) → getD words (wordsPerConnection * k) 0 ≡ 1 → getD words (wordsPerConnection * k + 6) 0 ≡ waitsOf (connectionAt words k)
   unfolding waitsOf
-  waits-read k h = rw (eq-eqb (vcAt words k .opened) 1 (opened-at words k ∙ h)) (sym (waiting-at words k))
+  waits-read k h = rw (eq-eqb (connectionAt words k .opened) 1 (opened-at words k ∙ h)) (sym (waiting-at words k))
 
-  pub waits-read-shut : (k : ℕ) → (getD words (wordsPerVc * k) 0 ≡ 1 → ⊥) → 0 ≡ waitsOf (vcAt words k)
+  pub waits-read-shut : (k : ℕ) → (getD words (wordsPerConnection * k) 0 ≡ 1 → ⊥) → 0 ≡ waitsOf (connectionAt words k)
   unfolding waitsOf
-  waits-read-shut k h = rw (ne-eqb (vcAt words k .opened) 1 (λ e. h (sym (opened-at words k) ∙ e)))
+  waits-read-shut k h = rw (ne-eqb (connectionAt words k .opened) 1 (λ e. h (sym (opened-at words k) ∙ e)))
 
   -- a VC that may have cells: open, and 1 to V-1
   abbrev pub MayWait : ℕ → ℕ → Type 0
-  MayWait z k = (1 ≤ k) × (k < z) × (vcAt words k .opened ≡ 1)
+  MayWait z k = (1 ≤ k) × (k < z) × (connectionAt words k .opened ≡ 1)
 
   pub waits-some : (z k : ℕ) → 0 < waitsAt words z k → MayWait z k
   unfolding waitsAt waitsOf
   waits-some z k =
       if-elim (λ (y : ℕ). 0 < y → MayWait z k) (1 ≤? k && k <? z) _ 0
-      (λ a. if-elim (λ (y : ℕ). 0 < y → MayWait z k) (vcAt words k .opened =? 1) (vcAt words k .waiting) 0
+      (λ a. if-elim (λ (y : ℕ). 0 < y → MayWait z k) (connectionAt words k .opened =? 1) (connectionAt words k .waiting) 0
       (λ d _.
       let i = both (1 ≤? k) (k <? z) a in
-      (leb-true 1 k (i .0), ltb-true k z (i .1), eqb-true (vcAt words k .opened) 1 d))
+      (leb-true 1 k (i .0), ltb-true k z (i .1), eqb-true (connectionAt words k .opened) 1 d))
       (λ d h. absurd (omega arith)))
       (λ a h. absurd (omega arith))
 
-  pub waits-open : (z k : ℕ) → MayWait z k → waitsAt words z k ≡ vcAt words k .waiting
+  pub waits-open : (z k : ℕ) → MayWait z k → waitsAt words z k ≡ connectionAt words k .waiting
   unfolding waitsOf
-  waits-open z k h = waits-in z k (h .0) (h .1) ∙ rw (eq-eqb (vcAt words k .opened) 1 (h .2))
+  waits-open z k h = waits-in z k (h .0) (h .1) ∙ rw (eq-eqb (connectionAt words k .opened) 1 (h .2))
 
   pub waits-shut : (z k : ℕ) → (MayWait z k → ⊥) → waitsAt words z k ≡ 0
   waits-shut z k n = go (decLt 0 (waitsAt words z k))

@@ -5,8 +5,8 @@ ghost use mathlib.Core.Bool.{true};
 ghost use Prim.Native.Nat.{ℕ, _+_, _*_, _≤_, _<_};
 ghost use lib.ListN.{length, getD};
 ghost use Rattle.meaning.specs.Numbers.{wordsIn};
-ghost use Rattle.meaning.specs.State.{HasVc};
-ghost use Rattle.meaning.specs.Words.{vcAt};
+ghost use Rattle.meaning.specs.State.{HasConnection};
+ghost use Rattle.meaning.specs.Words.{connectionAt};
 ghost use Rattle.meaning.specs.Promises.{AuditPromise};
 ghost use Rattle.meaning.specs.Lent.{before};
 ghost use Rattle.mem_walks.specs.Budget.{Gone};
@@ -16,9 +16,9 @@ use leaf_refusal::lengths_hold;
 use leaf_refusal::ranges_hold;
 use meaning::AT_WAITING;
 use meaning::Record;
-use meaning::WORDS_PER_VC;
+use meaning::WORDS_PER_CONNECTION;
 use mem_walks::stored;
-use mem_words::vc_fits;
+use mem_words::connection_fits;
 
 // Each of the n spaces may be met once.
 fn fill_spaces(b: &mut [u32], n: u16)
@@ -34,10 +34,10 @@ fn fill_spaces(b: &mut [u32], n: u16)
 
 // The cells that may wait at a VC: none at a closed one, whatever its word says.
 fn waits_of(words: &[u32], vci: u16) -> u32
-    requires { ⌜ HasVc vci (now words) ⌝ }
-    ensures { λ a. ⌜ a ≡ waitsOf (vcAt (now (words .entry)) vci) ⌝ }
+    requires { ⌜ HasConnection vci (now words) ⌝ }
+    ensures { λ a. ⌜ a ≡ waitsOf (connectionAt (now (words .entry)) vci) ⌝ }
 {
-    let base = WORDS_PER_VC * (vci as usize);
+    let base = WORDS_PER_CONNECTION * (vci as usize);
     if words[base] == 1 {
         return words[base + AT_WAITING];
     }
@@ -52,7 +52,7 @@ fn fill_waits(n: u16, v: u16, words: &[u32], waits: &mut [u32]) -> bool
 {
     let mut vci = 1u16;
     while vci < v {
-        if vc_fits(n, words, vci) {
+        if connection_fits(n, words, vci) {
             waits[vci as usize] = waits_of(words, vci);
             vci += 1;
         } else {

@@ -8,12 +8,12 @@ use native.Mathlib.Omega.{arith}
 use borrow.Author.Tests.{eqb-false, not-true}
 use lib.ListN.{length, set, length-set}
 use Rattle.meaning.specs.Plain.{if_then_else_, _<?_, _≤?_, _=?_, refused, _andThen_}
-use Rattle.meaning.specs.Numbers.{cellStart, empty, excess, unknown, wordsPerVc}
+use Rattle.meaning.specs.Numbers.{cellStart, empty, excess, unknown, wordsPerConnection}
 use Rattle.meaning.specs.State.{Ends, freeList, outputList, withRecord, withCells, withLinks, withCalendar, withWords}
 use Rattle.meaning.specs.State.{recordWith, withClock, withFreeList, withOutputList}
-use Rattle.meaning.specs.Header.{headerAt, noUserCell, namesVc, namesOpenVc}
+use Rattle.meaning.specs.Header.{headerAt, noUserCell, namesConnection, namesOpen}
 use Rattle.meaning.specs.Bucket.{delay}
-use Rattle.meaning.specs.Words.{Vc, vcAt, openWordFits, upToDate}
+use Rattle.meaning.specs.Words.{Connection, connectionAt, openWordFits, upToDate}
 use Rattle.meaning.specs.Lists.{isEmpty, endsFit, entryAt, Taken, takeHead, Grown, joinHead, joinTail, addTail}
 use Rattle.meaning.specs.Work.{Work, withArrival}
 use Rattle.meaning.specs.Arrival.{place, verdictOn, sentAs, accept, judge}
@@ -62,7 +62,7 @@ module _ (N z : ℕ) where
     pub cells-long : length (w .state .cells) ≡ 53 * N
     pub links-long : length (w .state .links) ≡ N
     pub calendar-long : length (w .state .calendar) ≡ 2 * N
-    pub words-long : length (w .state .words) ≡ wordsPerVc * z
+    pub words-long : length (w .state .words) ≡ wordsPerConnection * z
 
   step1-long : (w : Work) → Long w → AllOut Long (step1 w)
   unfolding step1 withClock withRecord recordWith
@@ -75,14 +75,14 @@ module _ (N z : ℕ) where
   unfolding step2 withWords
   step2-long w h =
       let s = w .state in
-      let vc = vcAt (s .words) (s .ctl .rotation) in
+      let vc = connectionAt (s .words) (s .ctl .rotation) in
       if-all Long (s .ctl .rotation =? 0) _ _ (λ _. h)
       (λ _. needs-all Long (openWordFits vc) _
       (λ _. if-all Long (vc .opened =? 0) _ _ (λ _. h)
       (λ _. any-all Long (upToDate (s .ctl .n) (s .ctl .t) vc) _
       (λ now. record { n-is = h .n-is; v-is = h .v-is; cells-long = h .cells-long; links-long = h .links-long; calendar-long = h .calendar-long; words-long = write-length (s .words) (s .ctl .rotation) now ∙ h .words-long }))))
 
-  judge-long : (cell : List ℕ) (v : ℕ) (w : Work) → Long w → length cell ≡ 53 → (vc : Vc) → AllOut Long (judge cell v w vc)
+  judge-long : (cell : List ℕ) (v : ℕ) (w : Work) → Long w → length cell ≡ 53 → (vc : Connection) → AllOut Long (judge cell v w vc)
   unfolding judge accept place withWords withCells withLinks withCalendar withFreeList withRecord recordWith
   judge-long cell v w h c vc =
       let s = w .state in
@@ -111,9 +111,9 @@ module _ (N z : ℕ) where
   step3-long cell c w h =
       let s = w .state in
       let a = headerAt cell 0 in
-      let vc = vcAt (s .words) (a .vci) in
+      let vc = connectionAt (s .words) (a .vci) in
       if-all Long (length cell =? 0 || noUserCell a) _ _ (λ _. h)
-      (λ e. if-all Long (not (namesVc (s .ctl .v) a)) _ _ (λ _. same)
+      (λ e. if-all Long (not (namesConnection (s .ctl .v) a)) _ _ (λ _. same)
       (λ _. needs-all Long (openWordFits vc) _
       (λ _. if-all Long (vc .opened =? 0) _ _ (λ _. same)
       (λ _. any-all Long (upToDate (s .ctl .n) (s .ctl .t) vc) _
@@ -145,8 +145,8 @@ module _ (N z : ℕ) where
       if-all Long (isEmpty (outputList s)) _ _ (λ _. h)
       (λ _. any-all Long (takeHead (s .ctl .n) (s .links) (outputList s)) _
       (λ taken. let a = headerAt (s .cells) (cellStart (taken .space)) in
-      let vc = vcAt (s .words) (a .vci) in
-      needs-all Long (namesOpenVc (s .ctl .v) (s .words) a) _
+      let vc = connectionAt (s .words) (a .vci) in
+      needs-all Long (namesOpen (s .ctl .v) (s .words) a) _
       (λ _. needs-all Long (1 ≤? vc .waiting && vc .waiting ≤? s .ctl .n) _
       (λ _. needs-all Long (endsFit (s .ctl .n) (freeList s)) _
       (λ _. record {

@@ -12,7 +12,7 @@ use lib.ListN.{length, getD, drop, length-drop}
 use lib.Seq.{length-take-le}
 use Rattle.meaning.specs.declared.Record.{Record}
 use Rattle.meaning.specs.Plain.{if_then_else_, _<?_, _≤?_, _=?_, Out, next}
-use Rattle.meaning.specs.Numbers.{rangesHold, slotNumbers, wordsPerVc}
+use Rattle.meaning.specs.Numbers.{rangesHold, slotNumbers, wordsPerConnection}
 use Rattle.meaning.specs.State.{State, Ends, stateOf, recordWith, lengthsHold, wordsLong}
 use Rattle.meaning.specs.Work.{Work, workOf}
 use Rattle.meaning.specs.Slot.{uncheckedSlot, slot, finish}
@@ -64,7 +64,7 @@ shape-none r cells links calendar words cell z long =
       eq-eqb (length cells) (53 * r .n) (z .cells-long),
       eq-eqb (length links) (r .n) (z .links-long),
       eq-eqb (length calendar) (2 * r .n) (z .calendar-long),
-      eq-eqb (length words) (wordsPerVc * r .v) (z .words-long),
+      eq-eqb (length words) (wordsPerConnection * r .v) (z .words-long),
       lengths long,
     )
   where
@@ -375,7 +375,7 @@ fit-shaped s f =
     let v2 = both-true (1 ≤? N && N ≤? 1024 && 2 ≤? z) (z ≤? 1024) (f .ranges) in
     let v1 = both-true (1 ≤? N && N ≤? 1024) (2 ≤? z) (v2 .0) in
     let n2 = both-true (1 ≤? N) (N ≤? 1024) (v1 .0) in
-    let w = both-true (length (s .cells) =? 53 * N && length (s .links) =? N && length (s .calendar) =? 2 * N) (length (s .words) =? wordsPerVc * z) (f .lengths) in
+    let w = both-true (length (s .cells) =? 53 * N && length (s .links) =? N && length (s .calendar) =? 2 * N) (length (s .words) =? wordsPerConnection * z) (f .lengths) in
     let c = both-true (length (s .cells) =? 53 * N && length (s .links) =? N) (length (s .calendar) =? 2 * N) (w .0) in
     let l = both-true (length (s .cells) =? 53 * N) (length (s .links) =? N) (c .0) in
     record {

@@ -8,9 +8,9 @@ use borrow.Author.Tests.{eq-eqb}
 use lib.ListN.{length, getD, replicate, length-replicate, getD-replicate, length-append, List·getD-append}
 use Rattle.meaning.specs.declared.Fresh.{Fresh}
 use Rattle.meaning.specs.Plain.{if_then_else_}
-use Rattle.meaning.specs.Numbers.{rangesHold, wordsPerVc}
+use Rattle.meaning.specs.Numbers.{rangesHold, wordsPerConnection}
 use Rattle.meaning.specs.State.{stateOf, wordsLong, lengthsHold}
-use Rattle.meaning.specs.Words.{vcAt, vcFits}
+use Rattle.meaning.specs.Words.{connectionAt, connectionFits}
 use Rattle.meaning.specs.Lists.{entryAt}
 use Rattle.meaning.specs.Calls.{SetUp, setUpOf, zeros, rawNumber, setup, countUp, freshRecord, freshState}
 use Rattle.meaning.specs.Promises.{setupPromise}
@@ -30,14 +30,14 @@ module _ (N z : ℕ) (r : InRange N z) where
   links-long : length links ≡ N
   links-long = length-append (countUp (N - 1) 1) (0 ∷ []) ∙ rw (length-countUp (N - 1) 1) (omega (arith, r .N-least))
 
-  lengths-hold : lengthsHold N z (replicate (53 * N) 0) links (replicate (2 * N) 65535) (replicate (wordsPerVc * z) 0) ≡ true
+  lengths-hold : lengthsHold N z (replicate (53 * N) 0) links (replicate (2 * N) 65535) (replicate (wordsPerConnection * z) 0) ≡ true
   unfolding lengthsHold wordsLong
   lengths-hold =
       simp (
         eq-eqb _ _ (length-replicate {A = ℕ} (53 * N) 0),
         eq-eqb _ _ links-long,
         eq-eqb _ _ (length-replicate {A = ℕ} (2 * N) 65535),
-        eq-eqb _ _ (length-replicate {A = ℕ} (wordsPerVc * z) 0),
+        eq-eqb _ _ (length-replicate {A = ℕ} (wordsPerConnection * z) 0),
       )
 
   -- each space below N-1 is followed by the next
@@ -66,12 +66,12 @@ module _ (N z : ℕ) (r : InRange N z) where
   nothing-queued : (x : ℕ) → 0 < count x queued → ⊥
   nothing-queued x h = omega (arith, ap (count x) (joined-none N))
 
-  closed : (vci : ℕ) → vcAt (replicate (wordsPerVc * z) 0) vci .opened ≡ 0
-  unfolding vcAt
-  closed vci = getD-zeros (wordsPerVc * z) (wordsPerVc * vci + 0)
+  closed : (vci : ℕ) → connectionAt (replicate (wordsPerConnection * z) 0) vci .opened ≡ 0
+  unfolding connectionAt
+  closed vci = getD-zeros (wordsPerConnection * z) (wordsPerConnection * vci + 0)
 
-  fits : (vci : ℕ) → vcFits N (vcAt (replicate (wordsPerVc * z) 0) vci) ≡ true
-  unfolding vcFits
+  fits : (vci : ℕ) → connectionFits N (connectionAt (replicate (wordsPerConnection * z) 0) vci) ≡ true
+  unfolding connectionFits
   fits vci = simp (closed vci)
 
 -- raw is 1 or 0 in the record
@@ -90,7 +90,7 @@ fresh-audit N z raw h =
       rotation-low = omega (arith, r .V-least);
       raw-low = raw-low raw;
       mode-low = omega arith;
-      vcs-fit = λ vci a b. fits N z r vci;
+      connections-fit = λ vci a b. fits N z r vci;
       free = countUp N 0;
       output = [];
       queues = replicate N [];

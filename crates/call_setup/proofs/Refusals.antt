@@ -7,7 +7,7 @@ use borrow.Author.Tests.{eqb-true, not-false}
 use lib.ListN.{length, replicate}
 use Rattle.meaning.specs.declared.Record.{Record}
 use Rattle.meaning.specs.Plain.{_=?_}
-use Rattle.meaning.specs.Numbers.{rangesHold, wordsPerVc}
+use Rattle.meaning.specs.Numbers.{rangesHold, wordsPerConnection}
 use Rattle.meaning.specs.State.{stateOf, wordsLong, lengthsHold}
 use Rattle.meaning.specs.Calls.{SetUp, setUpOf, zeros, freshRecord, countUp, freshState, setup}
 use Rattle.leaf_refusal.specs.Order.{refuseOf, firstOf}
@@ -20,7 +20,7 @@ module _ (N z : ℕ) (cells links calendar words : List ℕ) where
   inRange = rangesHold N z
 
   abbrev long : Bool
-  long = length cells =? 53 * N && length links =? N && length calendar =? 2 * N && length words =? wordsPerVc * z
+  long = length cells =? 53 * N && length links =? N && length calendar =? 2 * N && length words =? wordsPerConnection * z
 
   abbrev pub setupRefusal : ℕ
   setupRefusal = firstOf (refuseOf 1 (not inRange)) (refuseOf 2 (not long))
@@ -42,7 +42,7 @@ module _ (N z : ℕ) (cells links calendar words : List ℕ) where
     pub cells-long : length cells ≡ 53 * N
     pub links-long : length links ≡ N
     pub calendar-long : length calendar ≡ 2 * N
-    pub words-long : length words ≡ wordsPerVc * z
+    pub words-long : length words ≡ wordsPerConnection * z
 
   pub setup-lent : setupRefusal ≡ 0 → Lent
   setup-lent h =
@@ -52,7 +52,7 @@ module _ (N z : ℕ) (cells links calendar words : List ℕ) where
       (length cells =? 53 * N)
       (length links =? N)
       (length calendar =? 2 * N)
-      (length words =? wordsPerVc * z)
+      (length words =? wordsPerConnection * z)
       (not-false long (t .1)) in
       record {
         ranges = ranges-facts N z (not-false inRange (t .0));

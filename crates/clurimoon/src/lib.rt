@@ -43,7 +43,7 @@ pub extern "C" fn clurimoon_open(
 ) -> u16
     ensures { λ r. ⌜ openPromise ctl (now (words .entry)) vci m f c noSecond r (now (words .exit)) ⌝ }
 {
-    call_vc::open(ctl, words, vci, m, f, c)
+    call_connection::open(ctl, words, vci, m, f, c)
 }
 
 #[no_mangle]
@@ -61,14 +61,14 @@ pub extern "C" fn clurimoon_open_sustained(
 ) -> u16
     ensures { λ r. ⌜ openPromise ctl (now (words .entry)) vci m f c (secondOf m2 f2 c2 tag) r (now (words .exit)) ⌝ }
 {
-    call_vc::open_sustained(ctl, words, vci, m, f, c, m2, f2, c2, tag)
+    call_connection::open_sustained(ctl, words, vci, m, f, c, m2, f2, c2, tag)
 }
 
 #[no_mangle]
 pub extern "C" fn clurimoon_close(ctl: Record, words: &mut [u32], vci: u16) -> u16
     ensures { λ r. ⌜ closePromise ctl (now (words .entry)) vci r (now (words .exit)) ⌝ }
 {
-    call_vc::close(ctl, words, vci)
+    call_connection::close(ctl, words, vci)
 }
 
 #[no_mangle]

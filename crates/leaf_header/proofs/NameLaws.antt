@@ -9,7 +9,7 @@ use native.Mathlib.Omega.{arith}
 use borrow.Author.Tests.{ltb-true, leb-true, eqb-true, lt-ltb, le-leb, eq-eqb}
 use lib.ListN.{getD}
 use Rattle.meaning.specs.Plain.{_<?_, _≤?_, _=?_}
-use Rattle.meaning.specs.Header.{Header, headerOf, headerAt, noUserCell, namesVc}
+use Rattle.meaning.specs.Header.{Header, headerOf, headerAt, noUserCell, namesConnection}
 use Rattle.leaf_header.specs.Name.{nameOf}
 
 -- ---- four octets, the first with GFC, the last with PTI and CLP
@@ -68,40 +68,40 @@ name-user h ne = go (noUserCell h) refl
     go false e = e
 
 -- ---- a VC's name, among V of at most 65,536
-pub names-some : (z : ℕ) (h : Header) → namesVc z h ≡ true → 1 ≤ nameOf h
-unfolding nameOf namesVc
+pub names-some : (z : ℕ) (h : Header) → namesConnection z h ≡ true → 1 ≤ nameOf h
+unfolding nameOf namesConnection
 names-some z h e =
     let q = leb-true 1 (h .vci) (second (h .vpi =? 0) (1 ≤? h .vci) (first (h .vpi =? 0 && 1 ≤? h .vci) (h .vci <? z) e)) in
     omega arith
 
-pub names-vci : (z : ℕ) (h : Header) → namesVc z h ≡ true → h .vci ≡ nameOf h
-unfolding nameOf namesVc
+pub names-vci : (z : ℕ) (h : Header) → namesConnection z h ≡ true → h .vci ≡ nameOf h
+unfolding nameOf namesConnection
 names-vci z h e =
     let p = eqb-true (h .vpi) 0 (first (h .vpi =? 0) (1 ≤? h .vci) (first (h .vpi =? 0 && 1 ≤? h .vci) (h .vci <? z) e)) in
     omega arith
 
-pub names-below : (z : ℕ) (h : Header) → namesVc z h ≡ true → nameOf h < z
-unfolding namesVc
+pub names-below : (z : ℕ) (h : Header) → namesConnection z h ≡ true → nameOf h < z
+unfolding namesConnection
 names-below z h e =
     let q = ltb-true (h .vci) z (second (h .vpi =? 0 && 1 ≤? h .vci) (h .vci <? z) e) in
     omega (arith, names-vci z h e)
 
-pub name-names : (z : ℕ) (h : Header) → z ≤ 65536 → 1 ≤ nameOf h → nameOf h < z → namesVc z h ≡ true
-unfolding nameOf namesVc
+pub name-names : (z : ℕ) (h : Header) → z ≤ 65536 → 1 ≤ nameOf h → nameOf h < z → namesConnection z h ≡ true
+unfolding nameOf namesConnection
 name-names z h few some below =
     let p : h .vpi ≡ 0 = omega arith in
     simp (eq-eqb (h .vpi) 0 p, le-leb 1 (h .vci) (omega arith), lt-ltb (h .vci) z (omega arith))
 
-pub name-past : (z : ℕ) (h : Header) → z ≤ nameOf h → namesVc z h ≡ false
-name-past z h past = go (namesVc z h) refl
+pub name-past : (z : ℕ) (h : Header) → z ≤ nameOf h → namesConnection z h ≡ false
+name-past z h past = go (namesConnection z h) refl
   where
-    go : (b : Bool) → namesVc z h ≡ b → namesVc z h ≡ false
+    go : (b : Bool) → namesConnection z h ≡ b → namesConnection z h ≡ false
     go true e = absurd (let q = names-below z h e in omega arith)
     go false e = e
 
-pub name-zero : (z : ℕ) (h : Header) → nameOf h ≡ 0 → namesVc z h ≡ false
-name-zero z h none = go (namesVc z h) refl
+pub name-zero : (z : ℕ) (h : Header) → nameOf h ≡ 0 → namesConnection z h ≡ false
+name-zero z h none = go (namesConnection z h) refl
   where
-    go : (b : Bool) → namesVc z h ≡ b → namesVc z h ≡ false
+    go : (b : Bool) → namesConnection z h ≡ b → namesConnection z h ≡ false
     go true e = absurd (let q = names-some z h e in omega arith)
     go false e = e

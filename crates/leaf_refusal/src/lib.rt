@@ -5,7 +5,7 @@ ghost use Prim.Native.Nat.{_*_};
 ghost use Rattle.meaning.specs.Plain.{_=?_};
 ghost use Rattle.meaning.specs.Numbers.{rangesHold, octets, perEntry, wordsIn};
 ghost use Rattle.leaf_refusal.specs.Order.{refuseOf, firstOf};
-use meaning::WORDS_PER_VC;
+use meaning::WORDS_PER_CONNECTION;
 
 // Refusal 1: "N cell spaces, 1 to 1,024"; "V, 2 to 1,024".
 pub fn ranges_hold(n: u16, v: u16) -> bool
@@ -43,7 +43,7 @@ pub fn lengths_hold(
     if calendar != 2 * (n as usize) {
         return false;
     }
-    words == WORDS_PER_VC * (v as usize)
+    words == WORDS_PER_CONNECTION * (v as usize)
 }
 
 // The number of a refusal, or 0 where it isn't given.

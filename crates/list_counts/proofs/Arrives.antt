@@ -12,10 +12,10 @@ use Rattle.meaning.specs.Plain.{if_then_else_, _<?_, _≤?_, _=?_, Out, refused
 use Rattle.meaning.specs.Numbers.{excess, letsIn}
 use Rattle.meaning.specs.State.{State, freeList, withRecord, withCells, withLinks, withCalendar, withWords, recordWith, withClock, withFreeList, writeCell}
 use Rattle.meaning.specs.Bucket.{isExcess, delay, fill, elapsed}
-use Rattle.meaning.specs.Header.{Header, headerAt, noUserCell, namesVc}
-use Rattle.meaning.specs.Words.{Vc, vcAt, writeVc, withWaiting, withBuckets, fallenTo, upToDate, openWordFits, bucketsFit}
+use Rattle.meaning.specs.Header.{Header, headerAt, noUserCell, namesConnection}
+use Rattle.meaning.specs.Words.{Connection, connectionAt, writeConnection, withWaiting, withBuckets, fallenTo, upToDate, openWordFits, bucketsFit}
 use Rattle.meaning.specs.Lists.{isEmpty, Taken, takeHead, entryAt, writeEntry, joinHead, endsFit}
-use Rattle.meaning.specs.Work.{Work, withState, withVc, withArrival}
+use Rattle.meaning.specs.Work.{Work, withState, withConnection, withArrival}
 use Rattle.meaning.specs.Arrival.{place, verdictOn, secondAfter, sentAs, accept, judge}
 use Rattle.meaning.specs.Slot.{step1, step2, step3}
 use Rattle.list_meaning.specs.Listing.{isAccepted}
@@ -31,13 +31,13 @@ module _ (z base : ℕ) where
       (λ _. record { v-is = f .v-is; words = f .words; bare = f .bare })
 
   -- brought up to date, a VC keeps its open and its waiting word
-  abbrev Kept : Vc → Vc → Type 0
+  abbrev Kept : Connection → Connection → Type 0
   Kept vc now = (now .opened ≡ vc .opened) × (now .waiting ≡ vc .waiting)
 
-  date-kept : (N t : ℕ) (vc : Vc) → Holds (Kept vc) (upToDate N t vc)
+  date-kept : (N t : ℕ) (vc : Connection) → Holds (Kept vc) (upToDate N t vc)
   unfolding upToDate fallenTo
   date-kept N t vc =
-      let now : Vc = fallenTo (elapsed t (vc .last)) t vc in
+      let now : Connection = fallenTo (elapsed t (vc .last)) t vc in
       let kept : Kept vc now = (refl, refl) in
       holds-needs (Kept vc) (bucketsFit N vc) (next now) (λ _. kept)
 
@@ -46,7 +46,7 @@ module _ (z base : ℕ) where
   step2-even w f =
       let s = w .state in
       let vci = s .ctl .rotation in
-      let vc = vcAt (s .words) vci in
+      let vc = connectionAt (s .words) vci in
       holds-if (Holds (Fresh z base)) (vci =? 0) (next w) _ (λ _. f)
       (λ _. holds-needs (Fresh z base) (openWordFits vc) _
       (λ _. holds-if (Holds (Fresh z base)) (vc .opened =? 0) (next w) _ (λ _. f)
@@ -100,7 +100,7 @@ module _ (z base : ℕ) where
       let q′ : Quiet z base (withState w s4) = record { v-is = q .v-is; words = q .words; unsent = q .unsent; number = q .number } in
       holds-needs (Quiet z base) (endsFit (s .ctl .n) entry) (next (withState w s4)) (λ _. q′)
 
-  accept-quiet : (cell : List ℕ) (verdict vci : ℕ) (w : Work) (vc : Vc) → Fresh z base w → vci < z → Kept (vcAt (w .state .words) vci) vc
+  accept-quiet : (cell : List ℕ) (verdict vci : ℕ) (w : Work) (vc : Connection) → Fresh z base w → vci < z → Kept (connectionAt (w .state .words) vci) vc
       → vc .opened ≢ 0 → letsIn verdict ≡ true → Holds (Quiet z base) (accept cell verdict vci w vc)
   unfolding accept withWords
   accept-quiet cell verdict vci w vc f low k o in′ =
@@ -109,11 +109,11 @@ module _ (z base : ℕ) where
       let s = w .state in
       let N = s .ctl .n in
       let D = delay (vc .bucket) in
-      let w1 : Work = withArrival (withVc w vci filled) verdict vci D in
+      let w1 : Work = withArrival (withConnection w vci filled) verdict vci D in
       let q : Quiet z base w1 =
       record {
         v-is = f .v-is;
-        words = subst (Words z base (writeVc (s .words) vci filled)) (sym (ap (λ (b : Bool). base + one b) in′))
+        words = subst (Words z base (writeConnection (s .words) vci filled)) (sym (ap (λ (b : Bool). base + one b) in′))
             (write-words z base (s .words) base vci (base + 1) filled (f .words) low o (omega (arith, k .1)));
         unsent = ap (λ (x : Answer). x .space) (f .bare);
         number = ap (λ (x : Answer). x .number) (f .bare);
@@ -129,7 +129,7 @@ module _ (z base : ℕ) where
       taken (next t) = omega arith
 
   -- what is not excess is let in
-  lets-in : (clp : ℕ) (vc : Vc) → verdictOn clp vc =? excess ≡ false → letsIn (verdictOn clp vc) ≡ true
+  lets-in : (clp : ℕ) (vc : Connection) → verdictOn clp vc =? excess ≡ false → letsIn (verdictOn clp vc) ≡ true
   unfolding verdictOn letsIn
   lets-in clp vc = go (isExcess (vc .bucket)) (clp =? 0 && isExcess (vc .second)) (vc .tag =? 0)
     where
@@ -140,17 +140,17 @@ module _ (z base : ℕ) where
       go false true false e = refl
       go false false c e = refl
 
-  judge-quiet : (cell : List ℕ) (vci : ℕ) (w : Work) (vc : Vc) → Fresh z base w → vci < z → Kept (vcAt (w .state .words) vci) vc
+  judge-quiet : (cell : List ℕ) (vci : ℕ) (w : Work) (vc : Connection) → Fresh z base w → vci < z → Kept (connectionAt (w .state .words) vci) vc
       → vc .opened ≢ 0 → Holds (Quiet z base) (judge cell vci w vc)
   unfolding judge letsIn
   judge-quiet cell vci w vc f low k o =
       let verdict = verdictOn (headerAt cell 0 .clp) vc in
       holds-if (Holds (Quiet z base)) (verdict =? excess) _ _
-      (λ _. not-accepted w (writeVc (w .state .words) vci vc) 2 vci f (write-same z base (w .state .words) base vci vc (f .words) (k .0) (k .1)) refl)
+      (λ _. not-accepted w (writeConnection (w .state .words) vci vc) 2 vci f (write-same z base (w .state .words) base vci vc (f .words) (k .0) (k .1)) refl)
       (λ e. accept-quiet cell verdict vci w vc f low k o (lets-in (headerAt cell 0 .clp) vc e))
 
-  pub names-low : (v : ℕ) (h : Header) → namesVc v h ≡ true → h .vci < v
-  unfolding namesVc
+  pub names-low : (v : ℕ) (h : Header) → namesConnection v h ≡ true → h .vci < v
+  unfolding namesConnection
   names-low v h e = ltb-true (h .vci) v (both (h .vpi =? 0 && 1 ≤? h .vci) (h .vci <? v) e .1)
 
   pub step3-even : (cell : List ℕ) (w : Work) → Fresh z base w → Holds (Quiet z base) (step3 cell w)
@@ -158,12 +158,12 @@ module _ (z base : ℕ) where
   step3-even cell w f =
       let s = w .state in
       let h = headerAt cell 0 in
-      let vc = vcAt (s .words) (h .vci) in
+      let vc = connectionAt (s .words) (h .vci) in
       holds-if (Holds (Quiet z base)) (length cell =? 0 || noUserCell h) (next w) _ (λ _. quiet w f)
-      (λ _. holds-if (Holds (Quiet z base)) (not (namesVc (s .ctl .v) h)) _ _ (λ _. unknown-quiet w 3 (h .vci) f refl)
+      (λ _. holds-if (Holds (Quiet z base)) (not (namesConnection (s .ctl .v) h)) _ _ (λ _. unknown-quiet w 3 (h .vci) f refl)
       (λ n. holds-needs (Quiet z base) (openWordFits vc) _
       (λ _. holds-if (Holds (Quiet z base)) (vc .opened =? 0) _ _ (λ _. unknown-quiet w 3 (h .vci) f refl)
       (λ o. holds-then (Kept vc) (Quiet z base) (upToDate (s .ctl .n) (s .ctl .t) vc) _ (date-kept (s .ctl .n) (s .ctl .t) vc)
       (λ now k. judge-quiet cell (h .vci) w now f
-      (subst (λ (x : ℕ). h .vci < x) (f .v-is) (names-low (s .ctl .v) h (not-not (namesVc (s .ctl .v) h) n)))
+      (subst (λ (x : ℕ). h .vci < x) (f .v-is) (names-low (s .ctl .v) h (not-not (namesConnection (s .ctl .v) h) n)))
       k (λ q. eqb-false _ _ o (sym (k .0) ∙ q)))))))

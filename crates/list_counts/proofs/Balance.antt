@@ -9,8 +9,8 @@ use borrow.Author.Tests.{ltb-true, ltb-false}
 use lib.Dec.{eqb, ltb}
 use lib.ListN.{length}
 use Rattle.meaning.specs.Plain.{if_then_else_, Out, refused, next, needs, _andThen_}
-use Rattle.meaning.specs.Numbers.{empty, wordsPerVc}
-use Rattle.meaning.specs.Words.{Vc, vcAt, writeVc}
+use Rattle.meaning.specs.Numbers.{empty, wordsPerConnection}
+use Rattle.meaning.specs.Words.{Connection, connectionAt, writeConnection}
 use Rattle.meaning.specs.Work.{Work, bareAnswer}
 use Rattle.meaning.proofs.WordsLaws.{write-length, write-read, write-read-other}
 use Rattle.list_meaning.specs.Listing.{isAccepted, hasSent}
@@ -51,11 +51,11 @@ one b = if b then 1 else 0
 module _ (z base : ℕ) where
   -- no closed VC has a cell waiting
   abbrev pub Closed : List ℕ → Type 0
-  Closed words = (vci : ℕ) → vci < z → vcAt words vci .opened ≡ 0 → vcAt words vci .waiting ≡ 0
+  Closed words = (vci : ℕ) → vci < z → connectionAt words vci .opened ≡ 0 → connectionAt words vci .waiting ≡ 0
 
   -- words of VCs below z, of which so many cells wait
   pub record Words (words : List ℕ) (many : ℕ) : Type 0 where
-    pub long : length words ≡ wordsPerVc * z
+    pub long : length words ≡ wordsPerConnection * z
     pub sum : sumWaiting z words ≡ many
     pub closed : Closed words
 
@@ -78,25 +78,25 @@ module _ (z base : ℕ) where
     pub number : w .answer .number ≡ 0
 
   -- a write of one VC's words: of an open VC below z, with a waiting word that is known
-  pub write-words : (l : List ℕ) (many v k : ℕ) (vc : Vc) → Words l many → v < z → vc .opened ≢ 0
-      → k + vcAt l v .waiting ≡ many + vc .waiting → Words (writeVc l v vc) k
+  pub write-words : (l : List ℕ) (many v k : ℕ) (vc : Connection) → Words l many → v < z → vc .opened ≢ 0
+      → k + connectionAt l v .waiting ≡ many + vc .waiting → Words (writeConnection l v vc) k
   write-words l many v k vc w low open-word e =
-      let inside : wordsPerVc * v + wordsPerVc ≤ length l = omega (arith, w .long, low) in
+      let inside : wordsPerConnection * v + wordsPerConnection ≤ length l = omega (arith, w .long, low) in
       record {
         long = write-length l v vc ∙ w .long;
         sum = omega (arith, e, w .sum, sum-after l v vc inside z low);
         closed = λ u h o.
             ⊎-elim
-            (λ (q : u ≡ v). absurd (open-word (sym (ap (λ (x : Vc). x .opened) (ap (vcAt (writeVc l v vc)) q ∙ write-read l v vc inside)) ∙ o)))
+            (λ (q : u ≡ v). absurd (open-word (sym (ap (λ (x : Connection). x .opened) (ap (connectionAt (writeConnection l v vc)) q ∙ write-read l v vc inside)) ∙ o)))
             (λ (q : u ≢ v).
             let r = write-read-other l v vc u q in
-            ap (λ (x : Vc). x .waiting) r ∙ w .closed u h (sym (ap (λ (x : Vc). x .opened) r) ∙ o))
+            ap (λ (x : Connection). x .waiting) r ∙ w .closed u h (sym (ap (λ (x : Connection). x .opened) r) ∙ o))
             (same-or-not u v (eqb u v) refl);
       }
 
   -- a write that keeps the open and the waiting word, of any VC
-  pub write-same : (l : List ℕ) (many v : ℕ) (vc : Vc) → Words l many → vc .opened ≡ vcAt l v .opened → vc .waiting ≡ vcAt l v .waiting
-      → Words (writeVc l v vc) many
+  pub write-same : (l : List ℕ) (many v : ℕ) (vc : Connection) → Words l many → vc .opened ≡ connectionAt l v .opened → vc .waiting ≡ connectionAt l v .waiting
+      → Words (writeConnection l v vc) many
   write-same l many v vc w eo ew =
       record {
         long = write-length l v vc ∙ w .long;
@@ -107,12 +107,12 @@ module _ (z base : ℕ) where
         closed = λ u h o.
             ⊎-elim
             (λ (q : u ≡ v).
-            let r : vcAt (writeVc l v vc) u ≡ vc = ap (vcAt (writeVc l v vc)) q ∙ write-read l v vc (omega (arith, w .long, h, q)) in
-            let p : vcAt l u .opened ≡ 0 = ap (λ (x : ℕ). vcAt l x .opened) q ∙ sym eo ∙ sym (ap (λ (x : Vc). x .opened) r) ∙ o in
-            ap (λ (x : Vc). x .waiting) r ∙ ew ∙ sym (ap (λ (x : ℕ). vcAt l x .waiting) q) ∙ w .closed u h p)
+            let r : connectionAt (writeConnection l v vc) u ≡ vc = ap (connectionAt (writeConnection l v vc)) q ∙ write-read l v vc (omega (arith, w .long, h, q)) in
+            let p : connectionAt l u .opened ≡ 0 = ap (λ (x : ℕ). connectionAt l x .opened) q ∙ sym eo ∙ sym (ap (λ (x : Connection). x .opened) r) ∙ o in
+            ap (λ (x : Connection). x .waiting) r ∙ ew ∙ sym (ap (λ (x : ℕ). connectionAt l x .waiting) q) ∙ w .closed u h p)
             (λ (q : u ≢ v).
             let r = write-read-other l v vc u q in
-            ap (λ (x : Vc). x .waiting) r ∙ w .closed u h (sym (ap (λ (x : Vc). x .opened) r) ∙ o))
+            ap (λ (x : Connection). x .waiting) r ∙ w .closed u h (sym (ap (λ (x : Connection). x .opened) r) ∙ o))
             (same-or-not u v (eqb u v) refl);
       }
     where

@@ -11,14 +11,14 @@ use lib.ListN.{length, replicate, getD}
 use Rattle.meaning.specs.declared.Answer.{Answer}
 use Rattle.meaning.specs.declared.Record.{Record}
 use Rattle.meaning.specs.Plain.{if_then_else_, _<?_, _≤?_, _=?_}
-use Rattle.meaning.specs.Numbers.{rangesHold, slotNumbers, wordsPerVc, waitingPlace}
+use Rattle.meaning.specs.Numbers.{rangesHold, slotNumbers, wordsPerConnection, waitingPlace}
 use Rattle.meaning.specs.State.{State, stateOf, withWords, wordsLong, lengthsHold}
 use Rattle.meaning.specs.Bucket.{bucketOf, obeysRules}
-use Rattle.meaning.specs.Words.{Vc, vcAt, writeVc, openedVc, closedVc, openWordFits, bucketsFit, vcFits, secondObeys, Second, debt}
+use Rattle.meaning.specs.Words.{Connection, connectionAt, writeConnection, openedConnection, closedConnection, openWordFits, bucketsFit, connectionFits, secondObeys, Second, debt}
 use Rattle.meaning.proofs.WordsLaws.{write-read, write-read-other}
 use Rattle.meaning.specs.Calls.{SetUp, setUpOf, zeros, freshRecord, freshState, setup, Called, calledOf, sharedRefusal, openCall, closeCall}
 use Rattle.list_lines.specs.Lines.{stopLine}
-use Rattle.list_meaning.specs.Trace.{Call, setUp, openVc, closeVc, serve, Calls, finished, stopped, call, callsOf}
+use Rattle.list_meaning.specs.Trace.{Call, setUp, openConnection, closeConnection, serve, Calls, finished, stopped, call, callsOf}
 use Rattle.list_meaning.specs.Listing.{manyOf, isAccepted, hasSent, recount, lessModulo, endOf, lineOf, stateAfter, answersAfter, endsRun, linesOf, lentFor, listingOf}
 use Rattle.list_counts.specs.Waiting.{sumWaiting, Balanced, Point, endAt, endOfInput}
 use Rattle.list_counts.proofs.Sums.{same-or-not, sum-after}
@@ -40,30 +40,30 @@ getD-replicate-zero (suc k) zero = refl
 getD-replicate-zero (suc k) (suc i) = getD-replicate-zero k i
 
 -- words of which one VC's are written, where as much waits as before
-module _ (s : State) (h : List Answer) (vci : ℕ) (vc : Vc) (b : Balanced s h) (long : length (s .words) ≡ wordsPerVc * s .ctl .v)
-    (low : vci < s .ctl .v) (same : vc .waiting ≡ vcAt (s .words) vci .waiting) (fit : vc .opened ≡ 0 → vc .waiting ≡ 0) where
-  written-balanced : Balanced (withWords s (writeVc (s .words) vci vc)) h
+module _ (s : State) (h : List Answer) (vci : ℕ) (vc : Connection) (b : Balanced s h) (long : length (s .words) ≡ wordsPerConnection * s .ctl .v)
+    (low : vci < s .ctl .v) (same : vc .waiting ≡ connectionAt (s .words) vci .waiting) (fit : vc .opened ≡ 0 → vc .waiting ≡ 0) where
+  written-balanced : Balanced (withWords s (writeConnection (s .words) vci vc)) h
   unfolding withWords
   written-balanced =
-      let inside : wordsPerVc * vci + wordsPerVc ≤ length (s .words) = omega (arith, long, low) in
+      let inside : wordsPerConnection * vci + wordsPerConnection ≤ length (s .words) = omega (arith, long, low) in
       record {
         even = omega (arith, b .even, same, sum-after (s .words) vci vc inside (s .ctl .v) low);
         closed = λ u l o.
             ⊎-elim
             (λ (q : u ≡ vci).
-            let r : vcAt (writeVc (s .words) vci vc) u ≡ vc = ap (vcAt (writeVc (s .words) vci vc)) q ∙ write-read (s .words) vci vc inside in
-            ap (λ (x : Vc). x .waiting) r ∙ fit (sym (ap (λ (x : Vc). x .opened) r) ∙ o))
+            let r : connectionAt (writeConnection (s .words) vci vc) u ≡ vc = ap (connectionAt (writeConnection (s .words) vci vc)) q ∙ write-read (s .words) vci vc inside in
+            ap (λ (x : Connection). x .waiting) r ∙ fit (sym (ap (λ (x : Connection). x .opened) r) ∙ o))
             (λ (q : u ≢ vci).
             let r = write-read-other (s .words) vci vc u q in
-            ap (λ (x : Vc). x .waiting) r ∙ b .closed u l (sym (ap (λ (x : Vc). x .opened) r) ∙ o))
+            ap (λ (x : Connection). x .waiting) r ∙ b .closed u l (sym (ap (λ (x : Connection). x .opened) r) ∙ o))
             (same-or-not u vci (eqb u vci) refl);
       }
 
 -- what is known where neither 1, 2, 4 nor 3 is given
 pub record Passed (r : Record) (words : List ℕ) (vci : ℕ) : Type 0 where
-  pub long : length words ≡ wordsPerVc * r .v
+  pub long : length words ≡ wordsPerConnection * r .v
   pub low : vci < r .v
-  pub fits : vcFits (r .n) (vcAt words vci) ≡ true
+  pub fits : connectionFits (r .n) (connectionAt words vci) ≡ true
 
 refusal-zero : (b : Bool) (k x : ℕ) → 0 < k → (if not b then k else x) ≡ 0 → (b ≡ true) × (x ≡ 0)
 refusal-zero true k x p e = (refl, e)
@@ -73,9 +73,9 @@ passed : (r : Record) (words : List ℕ) (vci : ℕ) → sharedRefusal r words v
 unfolding sharedRefusal wordsLong
 passed r words vci e =
     let a = refusal-zero (rangesHold (r .n) (r .v)) 1 _ (omega arith) e in
-    let b = refusal-zero (length words =? wordsPerVc * r .v) 2 _ (omega arith) (a .1) in
+    let b = refusal-zero (length words =? wordsPerConnection * r .v) 2 _ (omega arith) (a .1) in
     let c = refusal-zero (1 ≤? vci && vci <? r .v) 4 _ (omega arith) (b .1) in
-    let d = refusal-zero (vcFits (r .n) (vcAt words vci)) 3 0 (omega arith) (c .1) in
+    let d = refusal-zero (connectionFits (r .n) (connectionAt words vci)) 3 0 (omega arith) (c .1) in
     record { long = eqb-true _ _ (b .0); low = ltb-true _ _ (both (1 ≤? vci) (vci <? r .v) (c .0) .1); fits = d .0 }
 
 choose-called : (P : Called → Type 0) (b : Bool) (x y : Called) → (b ≡ true → P x) → (b ≡ false → P y) → P (if b then x else y)
@@ -88,8 +88,8 @@ unfolding withWords
 kept-balanced s h b = record { even = b .even; closed = b .closed }
 
 -- an open word that fits and is neither 0 nor 1 there is none
-zero-opened : (N : ℕ) (vc : Vc) → vcFits N vc ≡ true → vc .opened =? 1 ≡ false → vc .opened ≡ 0
-unfolding vcFits openWordFits
+zero-opened : (N : ℕ) (vc : Connection) → connectionFits N vc ≡ true → vc .opened =? 1 ≡ false → vc .opened ≡ 0
+unfolding connectionFits openWordFits
 zero-opened N vc f o = go (vc .opened =? 0) refl
   where
     go : (b : Bool) → vc .opened =? 0 ≡ b → vc .opened ≡ 0
@@ -103,7 +103,7 @@ zero-opened N vc f o = go (vc .opened =? 0) refl
 
 open-balanced : (s : State) (h : List Answer) (vci m F C : ℕ) (x : Second) → Balanced s h
     → Balanced (withWords s (openCall (s .ctl) (s .words) vci m F C x .words)) h
-unfolding openCall openedVc
+unfolding openCall openedConnection
 open-balanced s h vci m F C x b =
     let r = s .ctl in
     let k = sharedRefusal r (s .words) vci in
@@ -111,18 +111,18 @@ open-balanced s h vci m F C x b =
     let kept = kept-balanced s h b in
     choose-called P (not (k =? 0)) _ _ (λ _. kept) (λ e.
     let p = passed r (s .words) vci (eqb-true k 0 (not-not (k =? 0) e)) in
-    choose-called P (vcAt (s .words) vci .opened =? 1) _ _ (λ _. kept) (λ o.
+    choose-called P (connectionAt (s .words) vci .opened =? 1) _ _ (λ _. kept) (λ o.
     choose-called P (not (obeysRules (r .n) (bucketOf m F C 0))) _ _ (λ _. kept) (λ _.
     choose-called P (not (secondObeys (bucketOf (x .m) (x .F) (x .C) 0) (x .tag))) _ _ (λ _. kept) (λ _.
-    let z = zero-opened (r .n) (vcAt (s .words) vci) (p .fits) o in
-    written-balanced s h vci (openedVc (r .t) (bucketOf m F C 0) x) b (p .long) (p .low) (opened-none r ∙ sym (b .closed vci (p .low) z)) (λ _. opened-none r)))))
+    let z = zero-opened (r .n) (connectionAt (s .words) vci) (p .fits) o in
+    written-balanced s h vci (openedConnection (r .t) (bucketOf m F C 0) x) b (p .long) (p .low) (opened-none r ∙ sym (b .closed vci (p .low) z)) (λ _. opened-none r)))))
   where
-    opened-none : (r : Record) → openedVc (r .t) (bucketOf m F C 0) x .waiting ≡ 0
+    opened-none : (r : Record) → openedConnection (r .t) (bucketOf m F C 0) x .waiting ≡ 0
     opened-none r = refl
 
 close-balanced : (s : State) (h : List Answer) (vci : ℕ) → Balanced s h
     → Balanced (withWords s (closeCall (s .ctl) (s .words) vci .words)) h
-unfolding closeCall closedVc
+unfolding closeCall closedConnection
 close-balanced s h vci b =
     let r = s .ctl in
     let k = sharedRefusal r (s .words) vci in
@@ -130,29 +130,29 @@ close-balanced s h vci b =
     let kept = kept-balanced s h b in
     choose-called P (not (k =? 0)) _ _ (λ _. kept) (λ e.
     let p = passed r (s .words) vci (eqb-true k 0 (not-not (k =? 0) e)) in
-    choose-called P (vcAt (s .words) vci .opened =? 0) _ _ (λ _. kept) (λ _.
-    let none = vcAt (s .words) vci .waiting =? 0 in
-    let paid = debt (r .t) (vcAt (s .words) vci) =? 0 in
+    choose-called P (connectionAt (s .words) vci .opened =? 0) _ _ (λ _. kept) (λ _.
+    let none = connectionAt (s .words) vci .waiting =? 0 in
+    let paid = debt (r .t) (connectionAt (s .words) vci) =? 0 in
     choose-called P (not (none && paid)) _ _ (λ _. kept) (λ w.
-    written-balanced s h vci closedVc b (p .long) (p .low) (sym (eqb-true _ 0 (both none paid (not-not (none && paid) w) .0))) (λ _. refl))))
+    written-balanced s h vci closedConnection b (p .long) (p .low) (sym (eqb-true _ 0 (both none paid (not-not (none && paid) w) .0))) (λ _. refl))))
 
 -- no VC, no cell: a record of zeros
 zeros-balanced : (cells links calendar words : List ℕ) → Balanced (stateOf zeros cells links calendar words) []
 unfolding zeros sumWaiting manyOf
 zeros-balanced cells links calendar words = record { even = refl; closed = λ vci l o. absurd (omega arith) }
 
-cleared-vc : (k vci : ℕ) → vcAt (replicate k 0) vci .waiting ≡ 0
-unfolding vcAt
-cleared-vc k vci = getD-replicate-zero k (waitingPlace vci)
+cleared-connection : (k vci : ℕ) → connectionAt (replicate k 0) vci .waiting ≡ 0
+unfolding connectionAt
+cleared-connection k vci = getD-replicate-zero k (waitingPlace vci)
 
 cleared-sum : (k z : ℕ) → sumWaiting z (replicate k 0) ≡ 0
 unfolding sumWaiting
 cleared-sum k zero = refl
-cleared-sum k (suc z) = omega (arith, cleared-sum k z, cleared-vc k z)
+cleared-sum k (suc z) = omega (arith, cleared-sum k z, cleared-connection k z)
 
 fresh-balanced : (N z : ℕ) (raw : Bool) → Balanced (freshState N z raw) []
 unfolding freshState freshRecord manyOf
-fresh-balanced N z raw = record { even = omega (arith, cleared-sum (wordsPerVc * z) z); closed = λ vci l o. cleared-vc (wordsPerVc * z) vci }
+fresh-balanced N z raw = record { even = omega (arith, cleared-sum (wordsPerConnection * z) z); closed = λ vci l o. cleared-connection (wordsPerConnection * z) vci }
 
 choose-set-up : (P : SetUp → Type 0) (b : Bool) (x y : SetUp) → P x → P y → P (if b then x else y)
 choose-set-up P true x y p q = p
@@ -170,16 +170,16 @@ setup-balanced N z raw cells links calendar words =
 pub call-balanced : (s : State) (h : List Answer) (c : Call) → Balanced s h → Balanced (stateAfter s c) (answersAfter s h c)
 unfolding stateAfter answersAfter
 call-balanced s h (setUp N z raw) b = setup-balanced N z raw (s .cells) (s .links) (s .calendar) (s .words)
-call-balanced s h (openVc vci m F C x) b = open-balanced s h vci m F C x b
-call-balanced s h (closeVc vci) b = close-balanced s h vci b
+call-balanced s h (openConnection vci m F C x) b = open-balanced s h vci m F C x b
+call-balanced s h (closeConnection vci) b = close-balanced s h vci b
 call-balanced s h (serve cell) b = slot-balanced s cell h b
 
 -- a run that ends with a call ends with a refused setup: no slot was served
 ends-balanced : (s : State) (h : List Answer) (c : Call) → Balanced s h → endsRun s c ≡ true → Balanced (stateAfter s c) []
 unfolding endsRun stateAfter
 ends-balanced s h (setUp N z raw) b e = setup-balanced N z raw (s .cells) (s .links) (s .calendar) (s .words)
-ends-balanced s h (openVc vci m F C x) b e = absurd (let z : _≡_ {A = ℕ} 0 1 = cc in omega arith)
-ends-balanced s h (closeVc vci) b e = absurd (let z : _≡_ {A = ℕ} 0 1 = cc in omega arith)
+ends-balanced s h (openConnection vci m F C x) b e = absurd (let z : _≡_ {A = ℕ} 0 1 = cc in omega arith)
+ends-balanced s h (closeConnection vci) b e = absurd (let z : _≡_ {A = ℕ} 0 1 = cc in omega arith)
 ends-balanced s h (serve cell) b e = absurd (let z : _≡_ {A = ℕ} 0 1 = cc in omega arith)
 
 -- the listing's last line is the end line over the answers at its end, and there the balance holds
@@ -208,8 +208,8 @@ unfolding lentFor
 lent-balanced finished = zeros-balanced [] [] [] []
 lent-balanced (stopped place) = zeros-balanced [] [] [] []
 lent-balanced (call (setUp N z raw) rest) = zeros-balanced _ _ _ _
-lent-balanced (call (openVc vci m F C x) rest) = zeros-balanced [] [] [] []
-lent-balanced (call (closeVc vci) rest) = zeros-balanced [] [] [] []
+lent-balanced (call (openConnection vci m F C x) rest) = zeros-balanced [] [] [] []
+lent-balanced (call (closeConnection vci) rest) = zeros-balanced [] [] [] []
 lent-balanced (call (serve cell) rest) = zeros-balanced [] [] [] []
 
 -- THE END LINE of every input's listing

@@ -10,12 +10,12 @@ use lib.ListN.{length, getD}
 use Rattle.base_hec.specs.Modes.{Arriving, arriving, arrivingFits}
 use Rattle.meaning.specs.declared.Answer.{Answer}
 use Rattle.meaning.specs.Plain.{if_then_else_, _<?_, _≤?_, _=?_, Out, refused, next, needs, _andThen_}
-use Rattle.meaning.specs.Numbers.{octets, perEntry, wordsPerVc, empty, nothing, letsIn, rangesHold, cellStart}
+use Rattle.meaning.specs.Numbers.{octets, perEntry, wordsPerConnection, empty, nothing, letsIn, rangesHold, cellStart}
 use Rattle.meaning.specs.State.{State, Ends, freeList, outputList, lengthsHold, wordsLong, withRecord, withLinks, withCalendar, withWords, recordWith, withFreeList, withOutputList, recordInMode, withMode}
-use Rattle.meaning.specs.Header.{headerAt, namesVc, namesOpenVc}
-use Rattle.meaning.specs.Words.{vcAt, withWaiting}
+use Rattle.meaning.specs.Header.{headerAt, namesConnection, namesOpen}
+use Rattle.meaning.specs.Words.{connectionAt, withWaiting}
 use Rattle.meaning.specs.Lists.{emptyList, isEmpty, Taken, takeHead, entryAt, writeEntry, joinTail, addTail, endsFit}
-use Rattle.meaning.specs.Work.{Work, workOf, bareAnswer, withState, withVc, withDeparture}
+use Rattle.meaning.specs.Work.{Work, workOf, bareAnswer, withState, withConnection, withDeparture}
 use Rattle.meaning.specs.Slot.{step1, step2, step3, step4, depart, step5, fiveSteps, finish, told, slot}
 use Rattle.meaning.proofs.CheckedLaws.{dropped-none}
 use Rattle.list_meaning.specs.Listing.{manyOf, isAccepted, hasSent}
@@ -59,22 +59,22 @@ module _ (z base : ℕ) where
       nothing-more = omega arith
 
   depart-even : (w : Work) (t : Taken) → Quiet z base w → t .space ≢ empty → Holds (Done z base) (depart w t)
-  unfolding depart namesOpenVc withLinks withFreeList withOutputList withRecord recordWith withWords vcAt
+  unfolding depart namesOpen withLinks withFreeList withOutputList withRecord recordWith withWords connectionAt
   depart-even w t q x =
       let s = w .state in
       let h = headerAt (s .cells) (cellStart (t .space)) in
-      let vc = vcAt (s .words) (h .vci) in
+      let vc = connectionAt (s .words) (h .vci) in
       let grown = addTail (s .links) (freeList s) (t .space) in
       let s2 : State = withLinks (withFreeList (withOutputList s (t .left)) (grown .ends)) (grown .links) in
-      let w2 : Work = withDeparture (withVc (withState w s2) (h .vci) (withWaiting vc (vc .waiting - 1))) (t .space) (h .vci) in
-      let named = namesOpenVc (s .ctl .v) (s .words) h in
+      let w2 : Work = withDeparture (withConnection (withState w s2) (h .vci) (withWaiting vc (vc .waiting - 1))) (t .space) (h .vci) in
+      let named = namesOpen (s .ctl .v) (s .words) h in
       let waits = 1 ≤? vc .waiting && vc .waiting ≤? s .ctl .n in
       let fits = endsFit (s .ctl .n) (freeList s) in
       let many = base + one (isAccepted (w .answer)) in
       let left : named ≡ true → waits ≡ true → Done z base w2 = λ n m.
-      let low : h .vci < z = subst (λ (y : ℕ). h .vci < y) (q .v-is) (names-low z base (s .ctl .v) h (both (namesVc (s .ctl .v) h) (vc .opened =? 1) n .0)) in
+      let low : h .vci < z = subst (λ (y : ℕ). h .vci < y) (q .v-is) (names-low z base (s .ctl .v) h (both (namesConnection (s .ctl .v) h) (vc .opened =? 1) n .0)) in
       let some : 1 ≤ vc .waiting = leb-true 1 (vc .waiting) (both (1 ≤? vc .waiting) (vc .waiting ≤? s .ctl .n) m .0) in
-      let opened : vc .opened ≡ 1 = eqb-true (vc .opened) 1 (both (namesVc (s .ctl .v) h) (vc .opened =? 1) n .1) in
+      let opened : vc .opened ≡ 1 = eqb-true (vc .opened) 1 (both (namesConnection (s .ctl .v) h) (vc .opened =? 1) n .1) in
       let part : 1 ≤ many = omega (arith, some, sum-part (s .words) (h .vci) z low, q .words .sum) in
       let less : many - 1 + vc .waiting ≡ many + (vc .waiting - 1) = omega (arith, some, part) in
       let l = write-words z base (s .words) many (h .vci) (many - 1) (withWaiting vc (vc .waiting - 1)) (q .words) low (λ e. omega (arith, e, opened)) less in
@@ -109,11 +109,11 @@ module _ (z base : ℕ) where
 
 -- ---- the slot
 
-lengths-words : (N z : ℕ) (cells links calendar words : List ℕ) → lengthsHold N z cells links calendar words ≡ true → length words ≡ wordsPerVc * z
+lengths-words : (N z : ℕ) (cells links calendar words : List ℕ) → lengthsHold N z cells links calendar words ≡ true → length words ≡ wordsPerConnection * z
 unfolding lengthsHold wordsLong
 lengths-words N z cells links calendar words l =
-    eqb-true (length words) (wordsPerVc * z)
-    (both (length cells =? octets * N && length links =? N && length calendar =? perEntry * N) (length words =? wordsPerVc * z) l .1)
+    eqb-true (length words) (wordsPerConnection * z)
+    (both (length cells =? octets * N && length links =? N && length calendar =? perEntry * N) (length words =? wordsPerConnection * z) l .1)
 
 one-more : (test : Answer → Bool) (a : Answer) (h : List Answer) → manyOf test (a ∷ h) ≡ manyOf test h + one (test a)
 unfolding manyOf

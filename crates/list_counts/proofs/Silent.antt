@@ -8,10 +8,10 @@ use native.Mathlib.Omega.{arith}
 use Rattle.meaning.specs.Plain.{if_then_else_, _<?_, _≤?_, _=?_, Out, refused, next, needs, _andThen_}
 use Rattle.meaning.specs.Numbers.{nothing, letsIn, cellStart}
 use Rattle.meaning.specs.State.{State, freeList, outputList, withLinks, withCalendar, withFreeList, withOutputList}
-use Rattle.meaning.specs.Header.{headerAt, namesOpenVc}
-use Rattle.meaning.specs.Words.{Vc, vcAt, withWaiting, openWordFits, upToDate}
+use Rattle.meaning.specs.Header.{headerAt, namesOpen}
+use Rattle.meaning.specs.Words.{Connection, connectionAt, withWaiting, openWordFits, upToDate}
 use Rattle.meaning.specs.Lists.{emptyList, isEmpty, Taken, takeHead, entryAt, writeEntry, joinTail, addTail, endsFit}
-use Rattle.meaning.specs.Work.{Work, withState, withVc, withDeparture}
+use Rattle.meaning.specs.Work.{Work, withState, withConnection, withDeparture}
 use Rattle.meaning.specs.Slot.{step1, step2, step3, step4, depart, step5, fiveSteps, told}
 use Rattle.list_counts.proofs.Balance.{Holds, holds-then, holds-if, holds-needs, one, Done}
 
@@ -33,11 +33,11 @@ unfolding step2
 step2-silent w h =
     let s = w .state in
     let vci = s .ctl .rotation in
-    let vc = vcAt (s .words) vci in
+    let vc = connectionAt (s .words) vci in
     holds-if (Holds Silent) (vci =? 0) (next w) _ (λ _. h)
     (λ _. holds-needs Silent (openWordFits vc) _
     (λ _. holds-if (Holds Silent) (vc .opened =? 0) (next w) _ (λ _. h)
-    (λ _. holds-then (λ (now : Vc). 0 ≤ 0) Silent (upToDate (s .ctl .n) (s .ctl .t) vc) _ (any (upToDate (s .ctl .n) (s .ctl .t) vc)) (λ now _. h))))
+    (λ _. holds-then (λ (now : Connection). 0 ≤ 0) Silent (upToDate (s .ctl .n) (s .ctl .t) vc) _ (any (upToDate (s .ctl .n) (s .ctl .t) vc)) (λ now _. h))))
 
 step3-silent : (w : Work) → Silent w → Holds Silent (step3 [] w)
 unfolding step3
@@ -59,13 +59,13 @@ unfolding depart
 depart-silent w t q =
     let s = w .state in
     let h = headerAt (s .cells) (cellStart (t .space)) in
-    let vc = vcAt (s .words) (h .vci) in
+    let vc = connectionAt (s .words) (h .vci) in
     let grown = addTail (s .links) (freeList s) (t .space) in
     let s2 : State = withLinks (withFreeList (withOutputList s (t .left)) (grown .ends)) (grown .links) in
-    let w2 : Work = withDeparture (withVc (withState w s2) (h .vci) (withWaiting vc (vc .waiting - 1))) (t .space) (h .vci) in
+    let w2 : Work = withDeparture (withConnection (withState w s2) (h .vci) (withWaiting vc (vc .waiting - 1))) (t .space) (h .vci) in
     let waits = 1 ≤? vc .waiting && vc .waiting ≤? s .ctl .n in
     let fits = endsFit (s .ctl .n) (freeList s) in
-    holds-needs Silent (namesOpenVc (s .ctl .v) (s .words) h) (needs waits (needs fits (next w2)))
+    holds-needs Silent (namesOpen (s .ctl .v) (s .words) h) (needs waits (needs fits (next w2)))
     (λ _. holds-needs Silent waits (needs fits (next w2)) (λ _. holds-needs Silent fits (next w2) (λ _. q)))
 
 step5-silent : (w : Work) → Silent w → Holds Silent (step5 w)

@@ -11,19 +11,19 @@ use lib.ListN.{getD}
 use Rattle.meaning.specs.declared.Answer.{Answer}
 use Rattle.meaning.specs.Numbers.{waitingPlace}
 use Rattle.meaning.specs.State.{State}
-use Rattle.meaning.specs.Words.{Vc, vcAt}
+use Rattle.meaning.specs.Words.{Connection, connectionAt}
 use Rattle.meaning.specs.Plain.{if_then_else_}
 use Rattle.list_meaning.specs.Trace.{Calls, finished, stopped, call, callsOf}
 use Rattle.list_meaning.specs.Listing.{manyOf, isAccepted, hasSent, endsRun, stateAfter, answersAfter, lentFor}
 
 unfoldable pub sumWaiting : ℕ → List ℕ → ℕ
 sumWaiting zero words = 0
-sumWaiting (suc k) words = sumWaiting k words + vcAt words k .waiting
+sumWaiting (suc k) words = sumWaiting k words + connectionAt words k .waiting
 
 pub record Balanced (s : State) (h : List Answer) : Type 0 where
   pub even : sumWaiting (s .ctl .v) (s .words) + manyOf hasSent h ≡ manyOf isAccepted h
   -- a VC that isn't open has no cell waiting
-  pub closed : (vci : ℕ) → vci < s .ctl .v → vcAt (s .words) vci .opened ≡ 0 → vcAt (s .words) vci .waiting ≡ 0
+  pub closed : (vci : ℕ) → vci < s .ctl .v → connectionAt (s .words) vci .opened ≡ 0 → connectionAt (s .words) vci .waiting ≡ 0
 
 pub record Point : Type 0 where
   pub state : State

@@ -9,14 +9,14 @@ use mathlib.Core.List.{List, [], _∷_, _++_}
 use lib.ListN.{replicate}
 use Rattle.meaning.specs.declared.Answer.{Answer}
 use Rattle.meaning.specs.Plain.{if_then_else_, _=?_}
-use Rattle.meaning.specs.Numbers.{octets, perEntry, wordsPerVc, empty, slotNumbers, excess, unknown, letsIn}
+use Rattle.meaning.specs.Numbers.{octets, perEntry, wordsPerConnection, empty, slotNumbers, excess, unknown, letsIn}
 use Rattle.meaning.specs.State.{State, stateOf, withWords}
 use Rattle.meaning.specs.Calls.{SetUp, Called, zeros, setup, openCall, closeCall}
 use Rattle.meaning.specs.Work.{Work}
 use Rattle.meaning.specs.Slot.{slot}
 use Rattle.list_lines.specs.Lines.{setupLine, openLine, closeLine, slotLine, stopLine, endLine}
 use Rattle.list_meaning.specs.declared.Tally.{Tally}
-use Rattle.list_meaning.specs.Trace.{Call, setUp, openVc, closeVc, serve, Calls, finished, stopped, call, callsOf}
+use Rattle.list_meaning.specs.Trace.{Call, setUp, openConnection, closeConnection, serve, Calls, finished, stopped, call, callsOf}
 
 -- how many of the answers pass a test
 unfoldable pub manyOf : (Answer → Bool) → List Answer → ℕ
@@ -60,28 +60,28 @@ setupOn s N z raw = setup N z raw (s .cells) (s .links) (s .calendar) (s .words)
 -- the line of a call in state s; whether a policer is raw doesn't show
 unfoldable pub lineOf : State → Call → List ℕ
 lineOf s (setUp N z raw) = setupLine N z (setupOn s N z raw .number)
-lineOf s (openVc vci m F C x) = openLine vci (openCall (s .ctl) (s .words) vci m F C x .number)
-lineOf s (closeVc vci) = closeLine vci (closeCall (s .ctl) (s .words) vci .number)
+lineOf s (openConnection vci m F C x) = openLine vci (openCall (s .ctl) (s .words) vci m F C x .number)
+lineOf s (closeConnection vci) = closeLine vci (closeCall (s .ctl) (s .words) vci .number)
 lineOf s (serve cell) = slotLine (slot s cell .state .ctl .t) (slot s cell .answer)
 
 unfoldable pub stateAfter : State → Call → State
 stateAfter s (setUp N z raw) = setupOn s N z raw .state
-stateAfter s (openVc vci m F C x) = withWords s (openCall (s .ctl) (s .words) vci m F C x .words)
-stateAfter s (closeVc vci) = withWords s (closeCall (s .ctl) (s .words) vci .words)
+stateAfter s (openConnection vci m F C x) = withWords s (openCall (s .ctl) (s .words) vci m F C x .words)
+stateAfter s (closeConnection vci) = withWords s (closeCall (s .ctl) (s .words) vci .words)
 stateAfter s (serve cell) = slot s cell .state
 
 -- the answers of the slots since setup, newest first
 unfoldable pub answersAfter : State → List Answer → Call → List Answer
 answersAfter s h (setUp N z raw) = []
-answersAfter s h (openVc vci m F C x) = h
-answersAfter s h (closeVc vci) = h
+answersAfter s h (openConnection vci m F C x) = h
+answersAfter s h (closeConnection vci) = h
 answersAfter s h (serve cell) = slot s cell .answer ∷ h
 
 -- "After a refused setup .. only the end line follows"; "a refused open or close does not" end the run
 unfoldable pub endsRun : State → Call → Bool
 endsRun s (setUp N z raw) = not (setupOn s N z raw .number =? 0)
-endsRun s (openVc vci m F C x) = false
-endsRun s (closeVc vci) = false
+endsRun s (openConnection vci m F C x) = false
+endsRun s (closeConnection vci) = false
 endsRun s (serve cell) = false
 
 unfoldable pub linesOf : State → List Answer → Calls → List ℕ
@@ -97,9 +97,9 @@ lentFor (call (setUp N z raw) rest) =
     (replicate (octets * N) 0)
     (replicate N 0)
     (replicate (perEntry * N) 0)
-    (replicate (wordsPerVc * z) 0)
-lentFor (call (openVc vci m F C x) rest) = stateOf zeros [] [] [] []
-lentFor (call (closeVc vci) rest) = stateOf zeros [] [] [] []
+    (replicate (wordsPerConnection * z) 0)
+lentFor (call (openConnection vci m F C x) rest) = stateOf zeros [] [] [] []
+lentFor (call (closeConnection vci) rest) = stateOf zeros [] [] [] []
 lentFor (call (serve cell) rest) = stateOf zeros [] [] [] []
 lentFor finished = stateOf zeros [] [] [] []
 lentFor (stopped place) = stateOf zeros [] [] [] []

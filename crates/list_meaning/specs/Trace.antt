@@ -15,8 +15,8 @@ use Rattle.trace_record.specs.Trace.{TraceRecord, GM, VO, VX, CA, SL, VS, Stand
 
 pub data Call : Type 0 where
   setUp : (N z : ℕ) (raw : Bool) → Call
-  openVc : (vci m F C : ℕ) (x : Second) → Call
-  closeVc : (vci : ℕ) → Call
+  openConnection : (vci m F C : ℕ) (x : Second) → Call
+  closeConnection : (vci : ℕ) → Call
   serve : (cell : List ℕ) → Call
 
 pub data Calls : Type 0 where
@@ -36,11 +36,11 @@ cellOf trace start = take octets (drop start trace)
 -- the calls of one record, before the rest: a VO is a VS without a second bucket
 unfoldable pub recordCalls : List ℕ → TraceRecord → Calls → Calls
 recordCalls trace (GM N z raw) rest = call (setUp N z raw) rest
-recordCalls trace (VO vci m F C) rest = call (openVc vci m F C noSecond) rest
-recordCalls trace (VX vci) rest = call (closeVc vci) rest
+recordCalls trace (VO vci m F C) rest = call (openConnection vci m F C noSecond) rest
+recordCalls trace (VX vci) rest = call (closeConnection vci) rest
 recordCalls trace (CA start) rest = call (serve (cellOf trace start)) rest
 recordCalls trace (SL count) rest = pauses count rest
-recordCalls trace (VS vci m F C x) rest = call (openVc vci m F C x) rest
+recordCalls trace (VS vci m F C x) rest = call (openConnection vci m F C x) rest
 
 -- "A record that can't be read ends the run there"; "also one that would start at 65,536 because the input goes on":
 -- more says that the input goes on behind the trace

@@ -20,7 +20,7 @@ use Rattle.list_lines.specs.Put.{Put}
 use Rattle.list_lines.proofs.Puts.{put-is, put-then}
 use Rattle.list_meaning.specs.declared.Tally.{Tally}
 use Rattle.list_whole.specs.declared.Run.{Run}
-use Rattle.list_meaning.specs.Trace.{setUp, openVc, closeVc, serve}
+use Rattle.list_meaning.specs.Trace.{setUp, openConnection, closeConnection, serve}
 use Rattle.list_meaning.specs.Listing.{endOf, lineOf, stateAfter, endsRun}
 use Rattle.list_whole.specs.Run.{World, onward, worldOf, counted, noTally, tallyAfter, called}
 use Rattle.list_whole.specs.Fill.{room, Did}
@@ -63,7 +63,7 @@ module _ (run run′ : Run) (next : ℕ) (cells links calendar words words′ ou
 
   pub open-did : (vci m F C : ℕ) (x : Second) → openPromise (run .ctl) words vci m F C x number words′
       → Put out used (openLine vci number) out′ used′
-      → Did (called (worldOf run cells links calendar words) (openVc vci m F C x) next 0) room out used
+      → Did (called (worldOf run cells links calendar words) (openConnection vci m F C x) next 0) room out used
       (worldOf run′ cells links calendar words′) out′ used′
   unfolding called lineOf stateAfter endsRun tallyAfter
   open-did vci m F C x e p =
@@ -75,7 +75,7 @@ module _ (run run′ : Run) (next : ℕ) (cells links calendar words words′ ou
 
   pub close-did : (vci : ℕ) → closePromise (run .ctl) words vci number words′
       → Put out used (closeLine vci number) out′ used′
-      → Did (called (worldOf run cells links calendar words) (closeVc vci) next 0) room out used
+      → Did (called (worldOf run cells links calendar words) (closeConnection vci) next 0) room out used
       (worldOf run′ cells links calendar words′) out′ used′
   unfolding called lineOf stateAfter endsRun tallyAfter
   close-did vci e p =

@@ -8,7 +8,7 @@ ghost use Rattle.list_lines.specs.Put.{Put};
 ghost use Rattle.list_lines.specs.Lines.{stopLine};
 ghost use Rattle.meaning.specs.Words.{secondOf};
 ghost use Rattle.trace_record.specs.Trace.{recordOf};
-ghost use Rattle.list_meaning.specs.Trace.{setUp, openVc, closeVc, limit};
+ghost use Rattle.list_meaning.specs.Trace.{setUp, openConnection, closeConnection, limit};
 ghost use Rattle.list_meaning.specs.Trace.{serve as Trace·serve};
 ghost use Rattle.list_meaning.specs.Listing.{endOf};
 ghost use Rattle.list_whole.specs.Run.{World, onward, countedIf, called, ended, recordStep, readStep};
@@ -154,7 +154,7 @@ fn moved(run: Run, at: u32, left: u16) -> Run
 }
 
 // An opening with its line; the second bucket's m, F and C and the flag are 0 where there is none.
-fn open_vc(
+fn open_connection(
     run: Run,
     vci: u16,
     m: u8,
@@ -170,9 +170,9 @@ fn open_vc(
     used: usize,
 ) -> Filled
     requires { ⌜ (used + room ≤ length (now out)) × (run .done ≡ false) ⌝ }
-    ensures { λ r. ⌜ DidWords (λ (w : World). called w (openVc vci m f c (secondOf m2 f2 c2 tag)) next 0) room run words out used r ⌝ }
+    ensures { λ r. ⌜ DidWords (λ (w : World). called w (openConnection vci m f c (secondOf m2 f2 c2 tag)) next 0) room run words out used r ⌝ }
 {
-    let answer = call_vc::open_sustained(run.ctl, words, vci, m, f, c, m2, f2, c2, tag);
+    let answer = call_connection::open_sustained(run.ctl, words, vci, m, f, c, m2, f2, c2, tag);
     let line = list_lines::open_line(out, used, vci, answer);
     let next_run = moved(run, next, 0);
     Filled {
@@ -182,11 +182,18 @@ fn open_vc(
 }
 
 // A closing with its line.
-fn close_vc(run: Run, vci: u16, next: u32, words: &mut [u32], out: &mut [u8], used: usize) -> Filled
+fn close_connection(
+    run: Run,
+    vci: u16,
+    next: u32,
+    words: &mut [u32],
+    out: &mut [u8],
+    used: usize,
+) -> Filled
     requires { ⌜ (used + room ≤ length (now out)) × (run .done ≡ false) ⌝ }
-    ensures { λ r. ⌜ DidWords (λ (w : World). called w (closeVc vci) next 0) room run words out used r ⌝ }
+    ensures { λ r. ⌜ DidWords (λ (w : World). called w (closeConnection vci) next 0) room run words out used r ⌝ }
 {
-    let answer = call_vc::close(run.ctl, words, vci);
+    let answer = call_connection::close(run.ctl, words, vci);
     let line = list_lines::close_line(out, used, vci, answer);
     let next_run = moved(run, next, 0);
     Filled {
@@ -256,7 +263,7 @@ fn happen(
         Event::Setup { n, v, raw } => {
             set_up(n, v, raw, next, cells, links, calendar, words, out, used)
         }
-        Event::Open { vci, m, f, c } => open_vc(
+        Event::Open { vci, m, f, c } => open_connection(
             run,
             vci,
             m,
@@ -271,7 +278,7 @@ fn happen(
             out,
             used,
         ),
-        Event::Close { vci } => close_vc(run, vci, next, words, out, used),
+        Event::Close { vci } => close_connection(run, vci, next, words, out, used),
         Event::Cell { start } => {
             let end = start + 53;
             serve(
@@ -303,7 +310,7 @@ fn happen(
             f2,
             c2,
             tag,
-        } => { open_vc(run, vci, m, f, c, m2, f2, c2, tag, next, words, out, used) }
+        } => { open_connection(run, vci, m, f, c, m2, f2, c2, tag, next, words, out, used) }
     }
 }
 

@@ -10,7 +10,7 @@ use Rattle.meaning.specs.Numbers.{slotNumbers}
 use Rattle.meaning.specs.State.{State}
 use Rattle.meaning.specs.Slot.{slot}
 use Rattle.list_meaning.specs.declared.Tally.{Tally}
-use Rattle.list_meaning.specs.Trace.{Call, setUp, openVc, closeVc, serve}
+use Rattle.list_meaning.specs.Trace.{Call, setUp, openConnection, closeConnection, serve}
 use Rattle.list_meaning.specs.Listing.{manyOf, recount, isAccepted, isExcess, isUnknown, hasSent, answersAfter}
 use Rattle.list_whole.specs.Run.{countedIf, counted, noTally, tallyAfter}
 
@@ -32,7 +32,7 @@ pub tally-recount : (s : State) (t : Tally) (h : List Answer) (c : Call) → t �
     → tallyAfter s t c ≡ recount (answersAfter s h c)
 unfolding tallyAfter answersAfter
 tally-recount s t h (setUp N z raw) e = recount-none
-tally-recount s t h (openVc vci m F C x) e = e
-tally-recount s t h (closeVc vci) e = e
+tally-recount s t h (openConnection vci m F C x) e = e
+tally-recount s t h (closeConnection vci) e = e
 tally-recount s t h (serve cell) e =
     ap (λ (x : Tally). counted x (slot s cell .answer)) e ∙ counted-recount (slot s cell .answer) h

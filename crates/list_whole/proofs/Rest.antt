@@ -15,7 +15,7 @@ use Rattle.list_lines.specs.Lines.{stopLine}
 use Rattle.trace_record.specs.Trace.{TraceRecord, GM, VO, VX, CA, SL, VS, Stands, event, finish, refusal, standsAt}
 use Rattle.trace_record.specs.Fits.{Fits, stands-fits}
 use Rattle.list_meaning.specs.declared.Tally.{Tally}
-use Rattle.list_meaning.specs.Trace.{Call, setUp, openVc, closeVc, serve, Calls, finished, stopped, call, pauses, cellOf, recordCalls, callsAt, callsFrom}
+use Rattle.list_meaning.specs.Trace.{Call, setUp, openConnection, closeConnection, serve, Calls, finished, stopped, call, pauses, cellOf, recordCalls, callsAt, callsFrom}
 use Rattle.list_meaning.specs.Listing.{recount, endOf, lineOf, stateAfter, answersAfter, endsRun, linesOf}
 use Rattle.list_whole.specs.Run.{World, Step, noTally, tallyAfter, called, paused, ended, recordStep, standsStep, step, after, textOf}
 use Rattle.list_whole.proofs.Within.{within}
@@ -89,9 +89,9 @@ module _ (more : Bool) (trace : List ℕ) where
         → Left more trace (recordStep trace w r next) (linesOf (w .state) h (recordCalls trace r (callsFrom k more trace next)))
     unfolding recordStep recordCalls pauses paused
     record-left (GM N z raw) next k n = called-left w h (setUp N z raw) next 0 k n counts
-    record-left (VO vci m F C) next k n = called-left w h (openVc vci m F C noSecond) next 0 k n counts
-    record-left (VS vci m F C x) next k n = called-left w h (openVc vci m F C x) next 0 k n counts
-    record-left (VX vci) next k n = called-left w h (closeVc vci) next 0 k n counts
+    record-left (VO vci m F C) next k n = called-left w h (openConnection vci m F C noSecond) next 0 k n counts
+    record-left (VS vci m F C x) next k n = called-left w h (openConnection vci m F C x) next 0 k n counts
+    record-left (VX vci) next k n = called-left w h (closeConnection vci) next 0 k n counts
     record-left (CA start) next k n = called-left w h (serve (cellOf trace start)) next 0 k n counts
     record-left (SL count) next k n =
         record {

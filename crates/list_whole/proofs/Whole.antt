@@ -10,7 +10,7 @@ use lib.Dec.{ltb}
 use lib.ListN.{length, take, replicate, length-take, length-replicate}
 use Rattle.meaning.specs.declared.Answer.{Answer}
 use Rattle.meaning.specs.Plain.{if_then_else_, _=?_}
-use Rattle.meaning.specs.Numbers.{rangesHold, octets, perEntry, wordsPerVc}
+use Rattle.meaning.specs.Numbers.{rangesHold, octets, perEntry, wordsPerConnection}
 use Rattle.meaning.specs.State.{State, stateOf, lengthsHold, wordsLong}
 use Rattle.meaning.specs.Calls.{SetUp, setUpOf, zeros, setup, freshState}
 use Rattle.list_lines.specs.Lines.{setupLine}
@@ -20,7 +20,7 @@ use Rattle.trace_record.specs.Trace.{TraceRecord, GM, VO, VX, CA, SL, VS, Stand
 use Rattle.trace_record.specs.Fits.{Fits, stands-fits}
 use Rattle.list_whole.specs.declared.Run.{Run}
 use Rattle.list_whole.specs.declared.Sizes.{Sizes}
-use Rattle.list_meaning.specs.Trace.{Call, setUp, openVc, closeVc, serve, Calls, finished, stopped, call, pauses, recordCalls, callsAt, callsFrom, callsOf, limit, goesOn}
+use Rattle.list_meaning.specs.Trace.{Call, setUp, openConnection, closeConnection, serve, Calls, finished, stopped, call, pauses, recordCalls, callsAt, callsFrom, callsOf, limit, goesOn}
 use Rattle.list_meaning.specs.Listing.{endOf, recount, lineOf, stateAfter, answersAfter, endsRun, linesOf, lentFor, listingOf}
 use Rattle.list_whole.specs.Run.{World, worldOf, after, textOf}
 use Rattle.list_whole.specs.Fill.{room, Ran, FillOf, FillPromise, Fills, noFill, fillMore, LentFor, startRun, sizesAt, sizesOf}
@@ -74,13 +74,13 @@ module _ (cells links calendar words : List ℕ) where
       let c : List ℕ = replicate (octets * N) 0 in
       let l : List ℕ = replicate N 0 in
       let k : List ℕ = replicate (perEntry * N) 0 in
-      let w : List ℕ = replicate (wordsPerVc * z) 0 in
+      let w : List ℕ = replicate (wordsPerConnection * z) 0 in
       let h : LentFor (record { n = N; v = z }) (worldOf startRun c l k w) =
       record {
         cells-long = length-replicate {A = ℕ} (octets * N) 0;
         links-long = length-replicate {A = ℕ} N 0;
         calendar-long = length-replicate {A = ℕ} (perEntry * N) 0;
-        words-long = length-replicate {A = ℕ} (wordsPerVc * z) 0;
+        words-long = length-replicate {A = ℕ} (wordsPerConnection * z) 0;
       } in
       lines-setup (stateOf zeros cells links calendar words) N z raw rest
       ∙ ap (setupLines N z rest) (setup-fresh N z raw cells links calendar words r (lent-holds N z cells links calendar words s) ∙ sym (setup-fresh N z raw c l k w r (lent-holds N z c l k w h)))
@@ -89,7 +89,7 @@ module _ (cells links calendar words : List ℕ) where
       let c : List ℕ = replicate (octets * N) 0 in
       let l : List ℕ = replicate N 0 in
       let k : List ℕ = replicate (perEntry * N) 0 in
-      let w : List ℕ = replicate (wordsPerVc * z) 0 in
+      let w : List ℕ = replicate (wordsPerConnection * z) 0 in
       lines-setup (stateOf zeros cells links calendar words) N z raw rest
       ∙ ap (setupLines N z rest) (setup-ranges N z raw cells links calendar words r)
       ∙ refused-lines N z rest (stateOf zeros cells links calendar words) (stateOf zeros c l k w)

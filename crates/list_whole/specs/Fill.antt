@@ -8,7 +8,7 @@ use mathlib.Core.Logic.{_⊎_}
 use lib.ListN.{length, take}
 use Rattle.list_lines.specs.Put.{Put}
 use Rattle.meaning.specs.Plain.{if_then_else_}
-use Rattle.meaning.specs.Numbers.{octets, perEntry, wordsPerVc, rangesHold}
+use Rattle.meaning.specs.Numbers.{octets, perEntry, wordsPerConnection, rangesHold}
 use Rattle.meaning.specs.Calls.{zeros}
 use Rattle.trace_record.specs.Trace.{TraceRecord, GM, VO, VX, CA, SL, VS, Stands, event, finish, refusal, standsAt}
 use Rattle.list_whole.specs.declared.Run.{Run}
@@ -92,4 +92,4 @@ pub record LentFor (n : Sizes) (w : World) : Type 0 where
   pub cells-long : length (w .state .cells) ≡ octets * n .n
   pub links-long : length (w .state .links) ≡ n .n
   pub calendar-long : length (w .state .calendar) ≡ perEntry * n .n
-  pub words-long : length (w .state .words) ≡ wordsPerVc * n .v
+  pub words-long : length (w .state .words) ≡ wordsPerConnection * n .v

@@ -19,7 +19,7 @@ use Rattle.list_lines.specs.Lines.{stopLine}
 use Rattle.trace_record.specs.Trace.{TraceRecord, GM, VO, VX, CA, SL, VS, Stands, event, finish, refusal, standsAt}
 use Rattle.list_meaning.specs.declared.Tally.{Tally}
 use Rattle.list_whole.specs.declared.Run.{Run}
-use Rattle.list_meaning.specs.Trace.{Call, setUp, openVc, closeVc, serve, cellOf}
+use Rattle.list_meaning.specs.Trace.{Call, setUp, openConnection, closeConnection, serve, cellOf}
 use Rattle.list_meaning.specs.Listing.{isAccepted, isExcess, isUnknown, hasSent, endOf, lineOf, stateAfter, endsRun}
 
 pub record World : Type 0 where
@@ -61,8 +61,8 @@ noTally = record { accepted = 0; excess = 0; unknown = 0; sent = 0 }
 
 unfoldable pub tallyAfter : State → Tally → Call → Tally
 tallyAfter s t (setUp N z raw) = noTally
-tallyAfter s t (openVc vci m F C x) = t
-tallyAfter s t (closeVc vci) = t
+tallyAfter s t (openConnection vci m F C x) = t
+tallyAfter s t (closeConnection vci) = t
 tallyAfter s t (serve cell) = counted t (slot s cell .answer)
 
 pub record Step : Type 0 where
@@ -101,11 +101,11 @@ ended w before =
 
 unfoldable pub recordStep : List ℕ → World → TraceRecord → ℕ → Step
 recordStep trace w (GM N z raw) next = called w (setUp N z raw) next 0
-recordStep trace w (VO vci m F C) next = called w (openVc vci m F C noSecond) next 0
-recordStep trace w (VX vci) next = called w (closeVc vci) next 0
+recordStep trace w (VO vci m F C) next = called w (openConnection vci m F C noSecond) next 0
+recordStep trace w (VX vci) next = called w (closeConnection vci) next 0
 recordStep trace w (CA start) next = called w (serve (cellOf trace start)) next 0
 recordStep trace w (SL count) next = paused w next count
-recordStep trace w (VS vci m F C x) next = called w (openVc vci m F C x) next 0
+recordStep trace w (VS vci m F C x) next = called w (openConnection vci m F C x) next 0
 
 -- "A record that can't be read ends the run there", with its place on the stop line; so does the trace's end, with a stop
 -- line at that place where the input goes on

@@ -7,7 +7,7 @@ ghost use Rattle.list_write.specs.Listed.{Handed, Ample, Listed};
 ghost use Rattle.list_whole.specs.declared.Run.{Run};
 ghost use Rattle.list_whole.specs.Lent.{worldHere, worldBefore, worldAfter};
 ghost use Rattle.list_whole.specs.Fill.{room, LentFor, startRun, sizesOf};
-use meaning::WORDS_PER_VC;
+use meaning::WORDS_PER_CONNECTION;
 
 // Fills the buffer and writes it out, until the listing is whole, or until a write fails.
 fn hand_over(
@@ -54,7 +54,7 @@ fn lend(
     let v = sizes.v as usize;
     let octets = 53 * n;
     let ends = 2 * n;
-    let many = WORDS_PER_VC * v;
+    let many = WORDS_PER_CONNECTION * v;
     hand_over(
         fd,
         input,

@@ -8,7 +8,7 @@ use mathlib.Core.List.{List, [], _∷_}
 use Rattle.meaning.specs.declared.Record.{Record}
 use Rattle.meaning.specs.Plain.{if_then_else_, _=?_}
 use Rattle.meaning.specs.Bucket.{bucketOf, obeysRules}
-use Rattle.meaning.specs.Words.{Second, vcAt, writeVc, secondObeys, openedVc, closedVc, debt}
+use Rattle.meaning.specs.Words.{Second, connectionAt, writeConnection, secondObeys, openedConnection, closedConnection, debt}
 use Rattle.meaning.specs.Calls.{Called, calledOf, sharedRefusal, openCall, closeCall}
 
 -- refusals in their order, then what is done
@@ -27,16 +27,16 @@ unfolding openCall
 open-refused-keeps r words vci m F C x =
     let b = bucketOf m F C 0 in
     told-keeps ((sharedRefusal r words vci, not (sharedRefusal r words vci =? 0))
-    ∷ (5, vcAt words vci .opened =? 1)
+    ∷ (5, connectionAt words vci .opened =? 1)
     ∷ (6, not (obeysRules (r .n) b))
     ∷ (11, not (secondObeys (bucketOf (x .m) (x .F) (x .C) 0) (x .tag)))
-    ∷ []) words (writeVc words vci (openedVc (r .t) b x))
+    ∷ []) words (writeConnection words vci (openedConnection (r .t) b x))
 
 pub close-refused-keeps : (r : Record) (words : List ℕ) (vci : ℕ) → closeCall r words vci .number ≢ 0
     → closeCall r words vci .words ≡ words
 unfolding closeCall
 close-refused-keeps r words vci =
     told-keeps ((sharedRefusal r words vci, not (sharedRefusal r words vci =? 0))
-    ∷ (7, vcAt words vci .opened =? 0)
-    ∷ (8, not (vcAt words vci .waiting =? 0 && debt (r .t) (vcAt words vci) =? 0))
-    ∷ []) words (writeVc words vci closedVc)
+    ∷ (7, connectionAt words vci .opened =? 0)
+    ∷ (8, not (connectionAt words vci .waiting =? 0 && debt (r .t) (connectionAt words vci) =? 0))
+    ∷ []) words (writeConnection words vci closedConnection)

@@ -6,10 +6,10 @@ use Rattle.meaning.specs.Plain.{if_then_else_, _<?_, _=?_, Out, next, ne
 use Rattle.meaning.specs.Numbers.{accepted, excess, tagged}
 use Rattle.meaning.specs.State.{freeList, withCells, withLinks, withCalendar, withFreeList, writeCell}
 use Rattle.meaning.specs.Bucket.{Bucket, isExcess, delay, fill}
-use Rattle.meaning.specs.Words.{Vc, withWaiting, withBuckets}
+use Rattle.meaning.specs.Words.{Connection, withWaiting, withBuckets}
 use Rattle.meaning.specs.Header.{headerAt, taggedCell}
 use Rattle.meaning.specs.Lists.{isEmpty, endsFit, entryAt, writeEntry, Taken, takeHead, joinHead}
-use Rattle.meaning.specs.Work.{Work, withState, withVc, withArrival}
+use Rattle.meaning.specs.Work.{Work, withState, withConnection, withArrival}
 
 -- 3, once a space is taken: "The cell is written into its own 53 octets .. It joins calendar entry (T+D) modulo N at
 -- the head"
@@ -28,7 +28,7 @@ place cell D w taken =
 
 -- Document 02 (iv): "A cell above the peak is excess. A CLP 0 cell within the peak but above the sustainable rate is tagged if
 -- the flag is set .. and otherwise excess." Both buckets are judged before either is filled.
-unfoldable pub verdictOn : ℕ → Vc → ℕ
+unfoldable pub verdictOn : ℕ → Connection → ℕ
 verdictOn clp vc =
     if isExcess (vc .bucket) then excess
     else if clp =? 0 && isExcess (vc .second) then (if vc .tag =? 0 then excess else tagged)
@@ -44,21 +44,21 @@ sentAs verdict cell = if verdict =? tagged then taggedCell cell else cell
 
 -- 3, not excess: "D = floor(S/L), S grows by F, waiting by one. The head of the Free List is taken." "waiting .. below
 -- N when a cell is accepted"; "the Free List isn't empty when a space is taken". Document 02 (iv): "D from the peak bucket"
-unfoldable pub accept : List ℕ → ℕ → ℕ → Work → Vc → Out Work
+unfoldable pub accept : List ℕ → ℕ → ℕ → Work → Connection → Out Work
 accept cell verdict vci w vc =
     let s = w .state in
     let N = s .ctl .n in
     let D = delay (vc .bucket) in
     let second = secondAfter (headerAt cell 0 .clp) verdict (vc .second) in
     let filled = withWaiting (withBuckets vc (fill (vc .bucket)) second) (vc .waiting + 1) in
-    let w1 = withArrival (withVc w vci filled) verdict vci D in
+    let w1 = withArrival (withConnection w vci filled) verdict vci D in
     needs (vc .waiting <? N)
     (needs (endsFit N (freeList s) && not (isEmpty (freeList s)))
     (takeHead N (s .links) (freeList s) andThen place (sentAs verdict cell) D w1))
 
 -- 3, the VC being up to date: "If S is above C-F the cell is excess and this step changes no more."
-unfoldable pub judge : List ℕ → ℕ → Work → Vc → Out Work
+unfoldable pub judge : List ℕ → ℕ → Work → Connection → Out Work
 judge cell vci w vc =
     let verdict = verdictOn (headerAt cell 0 .clp) vc in
-    if verdict =? excess then next (withArrival (withVc w vci vc) excess vci 0)
+    if verdict =? excess then next (withArrival (withConnection w vci vc) excess vci 0)
     else accept cell verdict vci w vc

@@ -6,7 +6,7 @@
 --   Chain l e xs        == xs are the spaces from head to tail of the list that begins and ends at e
 --   count k xs          == how often k stands in xs
 --   joined queues       == the spaces of all the time slot queues, entry after entry
---   vciIn cells x       == the VCI in the header of the cell in space x
+--   connectionIn cells x       == the VCI in the header of the cell in space x
 --   AuditHolds s        == the audit's clauses, one a field
 use Prim.Native.Nat.{ℕ, _+_, _<_, _≤_}
 use mathlib.Core.Path.{_≡_}
@@ -16,8 +16,8 @@ use lib.ListN.{length, getD}
 use Rattle.meaning.specs.Plain.{if_then_else_, _=?_}
 use Rattle.meaning.specs.Numbers.{rangesHold, empty, cellStart}
 use Rattle.meaning.specs.State.{State, Ends, freeList, outputList, lengthsHold}
-use Rattle.meaning.specs.Header.{headerAt, namesOpenVc}
-use Rattle.meaning.specs.Words.{vcAt, vcFits}
+use Rattle.meaning.specs.Header.{headerAt, namesOpen}
+use Rattle.meaning.specs.Words.{connectionAt, connectionFits}
 use Rattle.meaning.specs.Lists.{entryAt}
 
 abbrev pub Leads : List ℕ → ℕ → ℕ → List ℕ → Type 0
@@ -37,8 +37,8 @@ abbrev pub joined : List (List ℕ) → List ℕ
 joined [] = []
 joined (q ∷ qs) = q ++ joined qs
 
-unfoldable pub vciIn : List ℕ → ℕ → ℕ
-vciIn cells x = headerAt cells (cellStart x) .vci
+unfoldable pub connectionIn : List ℕ → ℕ → ℕ
+connectionIn cells x = headerAt cells (cellStart x) .vci
 
 pub record AuditHolds (s : State) : Type 0 where
   -- "lengths and ranges hold throughout"; "VC 0's words don't matter"
@@ -49,7 +49,7 @@ pub record AuditHolds (s : State) : Type 0 where
   -- document 02 (i): raw and mode are each 0 or 1
   pub raw-low : s .ctl .raw ≤ 1
   pub mode-low : s .ctl .mode ≤ 1
-  pub vcs-fit : (vci : ℕ) → 1 ≤ vci → vci < s .ctl .v → vcFits (s .ctl .n) (vcAt (s .words) vci) ≡ true
+  pub connections-fit : (vci : ℕ) → 1 ≤ vci → vci < s .ctl .v → connectionFits (s .ctl .n) (connectionAt (s .words) vci) ≡ true
   -- the spaces of the Free List, of the Output List and of each time slot queue: "each chain ends at its tail"
   pub free : List ℕ
   pub output : List ℕ
@@ -65,7 +65,7 @@ pub record AuditHolds (s : State) : Type 0 where
   pub turn-empty : getD queues (s .ctl .turn) [] ≡ []
   -- "each queued header names an open VC"
   pub named : (x : ℕ) → 0 < count x (output ++ joined queues)
-      → namesOpenVc (s .ctl .v) (s .words) (headerAt (s .cells) (cellStart x)) ≡ true
+      → namesOpen (s .ctl .v) (s .words) (headerAt (s .cells) (cellStart x)) ≡ true
   -- "each open VC's waiting is the number of its queued cells"
-  pub waits : (vci : ℕ) → 1 ≤ vci → vci < s .ctl .v → vcAt (s .words) vci .opened ≡ 1
-      → vcAt (s .words) vci .waiting ≡ count vci (map (vciIn (s .cells)) (output ++ joined queues))
+  pub waits : (vci : ℕ) → 1 ≤ vci → vci < s .ctl .v → connectionAt (s .words) vci .opened ≡ 1
+      → connectionAt (s .words) vci .waiting ≡ count vci (map (connectionIn (s .cells)) (output ++ joined queues))

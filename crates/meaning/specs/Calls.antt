@@ -10,7 +10,7 @@ use Rattle.meaning.specs.Plain.{if_then_else_, _<?_, _≤?_, _=?_}
 use Rattle.meaning.specs.Numbers.{rangesHold, octets, perEntry, wordsIn, empty, slotNumbers}
 use Rattle.meaning.specs.State.{State, stateOf, wordsLong, lengthsHold}
 use Rattle.meaning.specs.Bucket.{Bucket, bucketOf, obeysRules}
-use Rattle.meaning.specs.Words.{Vc, Second, vcAt, writeVc, vcFits, secondObeys, openedVc, closedVc, debt}
+use Rattle.meaning.specs.Words.{Connection, Second, connectionAt, writeConnection, connectionFits, secondObeys, openedConnection, closedConnection, debt}
 
 -- what setup gives back: the refusal number, and the record and memories afterwards
 pub record SetUp : Type 0 where
@@ -98,7 +98,7 @@ sharedRefusal r words vci =
     if not (rangesHold (r .n) (r .v)) then 1
     else if not (wordsLong (r .v) words) then 2
     else if not (1 ≤? vci && vci <? r .v) then 4
-    else if not (vcFits (r .n) (vcAt words vci)) then 3
+    else if not (connectionFits (r .n) (connectionAt words vci)) then 3
     else 0
 
 -- open: then "5 already open", "6 m, F or C against the rules above", and document 02 (iv): "11, second bucket against its
@@ -108,10 +108,10 @@ openCall r words vci m F C x =
     let b = bucketOf m F C 0 in
     let k = sharedRefusal r words vci in
     if not (k =? 0) then calledOf k words
-    else if vcAt words vci .opened =? 1 then calledOf 5 words
+    else if connectionAt words vci .opened =? 1 then calledOf 5 words
     else if not (obeysRules (r .n) b) then calledOf 6 words
     else if not (secondObeys (bucketOf (x .m) (x .F) (x .C) 0) (x .tag)) then calledOf 11 words
-    else calledOf 0 (writeVc words vci (openedVc (r .t) b x))
+    else calledOf 0 (writeConnection words vci (openedConnection (r .t) b x))
 
 -- close: then "7 not open", and document 02 (ii): "8 is given when waiting or the updated S isn't 0". S is brought up to
 -- date in thought alone: nothing is stored where close is refused.
@@ -119,6 +119,6 @@ unfoldable pub closeCall : Record → List ℕ → ℕ → Called
 closeCall r words vci =
     let k = sharedRefusal r words vci in
     if not (k =? 0) then calledOf k words
-    else if vcAt words vci .opened =? 0 then calledOf 7 words
-    else if not (vcAt words vci .waiting =? 0 && debt (r .t) (vcAt words vci) =? 0) then calledOf 8 words
-    else calledOf 0 (writeVc words vci closedVc)
+    else if connectionAt words vci .opened =? 0 then calledOf 7 words
+    else if not (connectionAt words vci .waiting =? 0 && debt (r .t) (connectionAt words vci) =? 0) then calledOf 8 words
+    else calledOf 0 (writeConnection words vci closedConnection)

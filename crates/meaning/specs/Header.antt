@@ -50,9 +50,9 @@ abbrev pub connection : ℕ → Header → ℕ
 connection z h = h .vci
 
 -- "VPI is 0 and its VCI is 1 to V-1"
-unfoldable pub namesVc : ℕ → Header → Bool
-namesVc z h = h .vpi =? 0 && 1 ≤? h .vci && h .vci <? z
+unfoldable pub namesConnection : ℕ → Header → Bool
+namesConnection z h = h .vpi =? 0 && 1 ≤? h .vci && h .vci <? z
 
 -- "A header names an open VC when its VPI is 0 and its VCI is 1 to V-1 and open."
-unfoldable pub namesOpenVc : ℕ → List ℕ → Header → Bool
-namesOpenVc z words h = namesVc z h && getD words (openPlace (connection z h)) 0 =? 1
+unfoldable pub namesOpen : ℕ → List ℕ → Header → Bool
+namesOpen z words h = namesConnection z h && getD words (openPlace (connection z h)) 0 =? 1

@@ -50,51 +50,51 @@ tailPlace e = perEntry * e + 1
 -- "(per VC: open 0 or 1, m, F, C, S, last, waiting)", and document 02 (iv): "The VC's stored record grows by its m .. F ..
 -- C .., S and a tagging flag". So 7 × V words are 12 × V: how many words a VC has, where its words begin, and how many there
 -- are for V VCs
-abbrev pub wordsPerVc : ℕ
-wordsPerVc = 12
+abbrev pub wordsPerConnection : ℕ
+wordsPerConnection = 12
 
-abbrev pub vcPlace : ℕ → ℕ
-vcPlace vci = wordsPerVc * vci
+abbrev pub connectionPlace : ℕ → ℕ
+connectionPlace vci = wordsPerConnection * vci
 
 abbrev pub wordsIn : ℕ → ℕ
-wordsIn z = wordsPerVc * z
+wordsIn z = wordsPerConnection * z
 
 abbrev pub openPlace : ℕ → ℕ
-openPlace vci = vcPlace vci + 0
+openPlace vci = connectionPlace vci + 0
 
 abbrev pub mPlace : ℕ → ℕ
-mPlace vci = vcPlace vci + 1
+mPlace vci = connectionPlace vci + 1
 
 abbrev pub fPlace : ℕ → ℕ
-fPlace vci = vcPlace vci + 2
+fPlace vci = connectionPlace vci + 2
 
 abbrev pub cPlace : ℕ → ℕ
-cPlace vci = vcPlace vci + 3
+cPlace vci = connectionPlace vci + 3
 
 abbrev pub sPlace : ℕ → ℕ
-sPlace vci = vcPlace vci + 4
+sPlace vci = connectionPlace vci + 4
 
 abbrev pub lastPlace : ℕ → ℕ
-lastPlace vci = vcPlace vci + 5
+lastPlace vci = connectionPlace vci + 5
 
 abbrev pub waitingPlace : ℕ → ℕ
-waitingPlace vci = vcPlace vci + 6
+waitingPlace vci = connectionPlace vci + 6
 
 -- the second bucket's m, F, C and S, and the tagging flag
 abbrev pub secondMPlace : ℕ → ℕ
-secondMPlace vci = vcPlace vci + 7
+secondMPlace vci = connectionPlace vci + 7
 
 abbrev pub secondFPlace : ℕ → ℕ
-secondFPlace vci = vcPlace vci + 8
+secondFPlace vci = connectionPlace vci + 8
 
 abbrev pub secondCPlace : ℕ → ℕ
-secondCPlace vci = vcPlace vci + 9
+secondCPlace vci = connectionPlace vci + 9
 
 abbrev pub secondSPlace : ℕ → ℕ
-secondSPlace vci = vcPlace vci + 10
+secondSPlace vci = connectionPlace vci + 10
 
 abbrev pub tagPlace : ℕ → ℕ
-tagPlace vci = vcPlace vci + 11
+tagPlace vci = connectionPlace vci + 11
 
 -- "65,535 marks an empty head or tail"; also "departing space (65,535 for none)"
 abbrev pub empty : ℕ

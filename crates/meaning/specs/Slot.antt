@@ -9,10 +9,10 @@ use Rattle.meaning.specs.Plain.{if_then_else_, _<?_, _≤?_, _=?_, Out, 
 use Rattle.meaning.specs.Numbers.{rangesHold, octets, cellStart, slotNumbers, unknown, dropped}
 use Rattle.meaning.specs.State.{State, freeList, outputList, lengthsHold}
 use Rattle.meaning.specs.State.{withLinks, withCalendar, withClock, withFreeList, withOutputList, withMode}
-use Rattle.meaning.specs.Header.{headerAt, noUserCell, namesVc, namesOpenVc, connection}
-use Rattle.meaning.specs.Words.{vcAt, withWaiting, openWordFits, upToDate}
+use Rattle.meaning.specs.Header.{headerAt, noUserCell, namesConnection, namesOpen, connection}
+use Rattle.meaning.specs.Words.{connectionAt, withWaiting, openWordFits, upToDate}
 use Rattle.meaning.specs.Lists.{emptyList, isEmpty, endsFit, entryAt, writeEntry, Taken, takeHead, joinTail, addTail}
-use Rattle.meaning.specs.Work.{Work, workOf, bareAnswer, withState, withVc, withArrival, withDeparture}
+use Rattle.meaning.specs.Work.{Work, workOf, bareAnswer, withState, withConnection, withArrival, withDeparture}
 use Rattle.meaning.specs.Arrival.{judge}
 
 -- "1. t grows by one modulo 2^32, T by one modulo N, rotation by one modulo V."
@@ -30,11 +30,11 @@ unfoldable pub step2 : Work → Out Work
 step2 w =
     let s = w .state in
     let vci = s .ctl .rotation in
-    let vc = vcAt (s .words) vci in
+    let vc = connectionAt (s .words) vci in
     if vci =? 0 then next w
     else needs (openWordFits vc)
     (if vc .opened =? 0 then next w
-    else (upToDate (s .ctl .n) (s .ctl .t) vc andThen λ now. next (withVc w vci now)))
+    else (upToDate (s .ctl .n) (s .ctl .t) vc andThen λ now. next (withConnection w vci now)))
 
 -- "3. Arrival at an open VC: it is brought up to date in the same way." "VPI not 0, VCI of V or more, or a VC not
 -- open: unknown."
@@ -43,10 +43,10 @@ step3 cell w =
     let s = w .state in
     let h = headerAt cell 0 in
     let vci = connection (s .ctl .v) h in
-    let vc = vcAt (s .words) vci in
+    let vc = connectionAt (s .words) vci in
     let isUnknown = next (withArrival w unknown (h .vci) 0) in
     if length cell =? 0 || noUserCell h then next w
-    else if not (namesVc (s .ctl .v) h) then isUnknown
+    else if not (namesConnection (s .ctl .v) h) then isUnknown
     else needs (openWordFits vc)
     (if vc .opened =? 0 then isUnknown
     else (upToDate (s .ctl .n) (s .ctl .t) vc andThen judge cell vci w))
@@ -74,12 +74,12 @@ depart w taken =
     let x = taken .space in
     let h = headerAt (s .cells) (cellStart x) in
     let vci = connection (s .ctl .v) h in
-    let vc = vcAt (s .words) vci in
+    let vc = connectionAt (s .words) vci in
     let grown = addTail (s .links) (freeList s) x in
     let s1 = withOutputList s (taken .left) in
     let s2 = withLinks (withFreeList s1 (grown .ends)) (grown .links) in
-    let w1 = withVc (withState w s2) vci (withWaiting vc (vc .waiting - 1)) in
-    needs (namesOpenVc (s .ctl .v) (s .words) h)
+    let w1 = withConnection (withState w s2) vci (withWaiting vc (vc .waiting - 1)) in
+    needs (namesOpen (s .ctl .v) (s .words) h)
     (needs (1 ≤? vc .waiting && vc .waiting ≤? N)
     (needs (endsFit N (freeList s)) (next (withDeparture w1 x vci))))
 

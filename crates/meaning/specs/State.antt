@@ -5,7 +5,7 @@ use mathlib.Core.List.{List, _++_}
 use lib.ListN.{length, take, drop}
 use Rattle.meaning.specs.declared.Record.{Record}
 use Rattle.meaning.specs.Plain.{_=?_}
-use Rattle.meaning.specs.Numbers.{octets, perEntry, wordsPerVc, vcPlace, wordsIn, cellStart}
+use Rattle.meaning.specs.Numbers.{octets, perEntry, wordsPerConnection, connectionPlace, wordsIn, cellStart}
 
 -- "Lent memory: 53 × N octets of cells; N links; 2 × N calendar numbers; 7 × V words. The control record
 -- goes in and out by value"
@@ -39,8 +39,8 @@ unfoldable pub wordsLong : ℕ → List ℕ → Bool
 wordsLong z words = length words =? wordsIn z
 
 -- all words of a VC stand in the lent words
-abbrev pub HasVc : ℕ → List ℕ → Type 0
-HasVc vci words = vcPlace vci + wordsPerVc ≤ length words
+abbrev pub HasConnection : ℕ → List ℕ → Type 0
+HasConnection vci words = connectionPlace vci + wordsPerConnection ≤ length words
 
 unfoldable pub lengthsHold : ℕ → ℕ → List ℕ → List ℕ → List ℕ → List ℕ → Bool
 lengthsHold N z cells links calendar words =

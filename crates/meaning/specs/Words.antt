@@ -10,7 +10,7 @@ use Rattle.meaning.specs.Numbers.{secondMPlace, secondFPlace, secondCPla
 use Rattle.meaning.specs.Bucket.{Bucket, bucketOf, obeysRules, obeysSecond, isNone, elapsed, fall}
 
 -- "per VC: open 0 or 1, m, F, C, S, last, waiting"; document 02 (iv): "grows by its m .., F .., C .., S and a tagging flag"
-pub record Vc : Type 0 where
+pub record Connection : Type 0 where
   pub opened : ℕ
   pub bucket : Bucket
   pub last : ℕ
@@ -33,8 +33,8 @@ abbrev pub noSecond : Second
 noSecond = secondOf 0 0 0 0
 
 -- the words of a VC, as they stand
-unfoldable pub vcAt : List ℕ → ℕ → Vc
-vcAt words vci =
+unfoldable pub connectionAt : List ℕ → ℕ → Connection
+connectionAt words vci =
     record {
       opened = getD words (openPlace vci) 0;
       bucket = record {
@@ -55,8 +55,8 @@ vcAt words vci =
     }
 
 -- the words of a VC set, those of every other VC kept
-unfoldable pub writeVc : List ℕ → ℕ → Vc → List ℕ
-writeVc words vci vc =
+unfoldable pub writeConnection : List ℕ → ℕ → Connection → List ℕ
+writeConnection words vci vc =
     let w1 = set words (openPlace vci) (vc .opened) in
     let w2 = set w1 (mPlace vci) (vc .bucket .m) in
     let w3 = set w2 (fPlace vci) (vc .bucket .F) in
@@ -70,7 +70,7 @@ writeVc words vci vc =
     let w11 = set w10 (secondSPlace vci) (vc .second .S) in
     set w11 (tagPlace vci) (vc .tag)
 
-abbrev pub withWaiting : Vc → ℕ → Vc
+abbrev pub withWaiting : Connection → ℕ → Connection
 withWaiting vc k =
     record {
       opened = vc .opened;
@@ -81,7 +81,7 @@ withWaiting vc k =
       tag = vc .tag;
     }
 
-abbrev pub withBuckets : Vc → Bucket → Bucket → Vc
+abbrev pub withBuckets : Connection → Bucket → Bucket → Connection
 withBuckets vc b second =
     record {
       opened = vc .opened;
@@ -93,8 +93,8 @@ withBuckets vc b second =
     }
 
 -- "Opening sets open 1, the given m, F and C, S 0, last t, waiting 0.", and so for the second bucket
-unfoldable pub openedVc : ℕ → Bucket → Second → Vc
-openedVc t b x =
+unfoldable pub openedConnection : ℕ → Bucket → Second → Connection
+openedConnection t b x =
     record {
       opened = 1;
       bucket = b;
@@ -105,8 +105,8 @@ openedVc t b x =
     }
 
 -- "Closing clears all seven words.", and the five of document 02 (iv)
-unfoldable pub closedVc : Vc
-closedVc =
+unfoldable pub closedConnection : Connection
+closedConnection =
     record {
       opened = 0;
       bucket = bucketOf 0 0 0 0;
@@ -117,7 +117,7 @@ closedVc =
     }
 
 -- "an open word is 0 or 1"
-unfoldable pub openWordFits : Vc → Bool
+unfoldable pub openWordFits : Connection → Bool
 openWordFits vc = vc .opened ≤? 1
 
 -- "an open VC's m, F and C obey the rules, S is at most C" (the stored S, before it falls)
@@ -133,17 +133,17 @@ unfoldable pub secondFits : Bucket → ℕ → Bool
 secondFits b tag = secondObeys b tag && b .S ≤? b .C
 
 -- both buckets, which are read together
-unfoldable pub bucketsFit : ℕ → Vc → Bool
+unfoldable pub bucketsFit : ℕ → Connection → Bool
 bucketsFit N vc = bucketFits N (vc .bucket) && secondFits (vc .second) (vc .tag)
 
 -- "Open and close read only that VC's words (of a closed one, only the open word)."
-unfoldable pub vcFits : ℕ → Vc → Bool
-vcFits N vc =
+unfoldable pub connectionFits : ℕ → Connection → Bool
+connectionFits N vc =
     if vc .opened =? 0 then true
     else (openWordFits vc && bucketsFit N vc && vc .waiting ≤? N)
 
 -- both buckets as they have fallen in so many slots, up to slot t: document 02 (iv), "run in lockstep with the peak bucket"
-unfoldable pub fallenTo : ℕ → ℕ → Vc → Vc
+unfoldable pub fallenTo : ℕ → ℕ → Connection → Connection
 fallenTo slots t vc =
     record {
       opened = vc .opened;
@@ -156,10 +156,10 @@ fallenTo slots t vc =
 
 -- "it is brought up to date: S falls by elapsed × L .. last becomes t"; "Bringing a VC up to date reads all its
 -- words but waiting"
-unfoldable pub upToDate : ℕ → ℕ → Vc → Out Vc
+unfoldable pub upToDate : ℕ → ℕ → Connection → Out Connection
 upToDate N t vc = needs (bucketsFit N vc) (next (fallenTo (elapsed t (vc .last)) t vc))
 
 -- Document 02 (ii): "bring the VC up to date as of t": what is then left in its bucket, the stored S having been judged.
 -- Document 02 (iv): "Closing looks at the peak bucket only."
-unfoldable pub debt : ℕ → Vc → ℕ
+unfoldable pub debt : ℕ → Connection → ℕ
 debt t vc = fall (elapsed t (vc .last)) (vc .bucket) .S

@@ -3,7 +3,7 @@ use Prim.Native.Nat.{ℕ}
 use Rattle.meaning.specs.declared.Answer.{Answer}
 use Rattle.meaning.specs.Numbers.{empty, nothing}
 use Rattle.meaning.specs.State.{State, withWords}
-use Rattle.meaning.specs.Words.{Vc, writeVc}
+use Rattle.meaning.specs.Words.{Connection, writeConnection}
 
 -- "An answer holds: number, verdict, VCI (as read, 0 for nothing), D (0 unless accepted), departing space (65,535 for
 -- none), departing VCI (0 for none)."
@@ -27,8 +27,8 @@ abbrev pub withState : Work → State → Work
 withState w s = workOf s (w .answer)
 
 -- the words of one VC changed
-abbrev pub withVc : Work → ℕ → Vc → Work
-withVc w vci vc = withState w (withWords (w .state) (writeVc (w .state .words) vci vc))
+abbrev pub withConnection : Work → ℕ → Connection → Work
+withConnection w vci vc = withState w (withWords (w .state) (writeConnection (w .state .words) vci vc))
 
 -- what step 3 says in the answer: verdict, VCI and D
 abbrev pub withArrival : Work → ℕ → ℕ → ℕ → Work

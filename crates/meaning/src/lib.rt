@@ -7,7 +7,7 @@ ghost use Rattle.meaning.specs.State.{endsOf, recordWith, recordInMode};
 ghost use Rattle.meaning.specs.Calls.{zeros, freshRecord};
 
 // How many words a VC has in the lent memory, and where among them each but the first stands (the first is the open word).
-pub const WORDS_PER_VC: usize = 12;
+pub const WORDS_PER_CONNECTION: usize = 12;
 
 pub const AT_M: usize = 1;
 

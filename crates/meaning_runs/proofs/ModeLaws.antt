@@ -12,9 +12,9 @@ use Rattle.meaning.specs.Plain.{_<?_, _≤?_, _=?_, Out, refused, next, _andThe
 use Rattle.meaning.specs.Numbers.{rangesHold, octets, cellStart, excess}
 use Rattle.meaning.specs.State.{State, lengthsHold, freeList, outputList, withRecord, withCells, withLinks, withCalendar, withWords}
 use Rattle.meaning.specs.State.{recordWith, withClock, withFreeList, withOutputList, recordInMode, withMode}
-use Rattle.meaning.specs.Header.{headerAt, noUserCell, namesVc, namesOpenVc}
+use Rattle.meaning.specs.Header.{headerAt, noUserCell, namesConnection, namesOpen}
 use Rattle.meaning.specs.Bucket.{delay}
-use Rattle.meaning.specs.Words.{Vc, vcAt, openWordFits, upToDate}
+use Rattle.meaning.specs.Words.{Connection, connectionAt, openWordFits, upToDate}
 use Rattle.meaning.specs.Lists.{isEmpty, endsFit, entryAt, takeHead}
 use Rattle.meaning.specs.Work.{Work, workOf, bareAnswer}
 use Rattle.meaning.specs.Arrival.{place, verdictOn, accept, judge}
@@ -44,14 +44,14 @@ module _ (raw mode : ℕ) where
   step2-moded w h =
       let s = w .state in
       let vci = s .ctl .rotation in
-      let vc = vcAt (s .words) vci in
+      let vc = connectionAt (s .words) vci in
       if-all Q (vci =? 0) _ _ (λ _. h)
       (λ _. needs-all Q (openWordFits vc) _
       (λ _. if-all Q (vc .opened =? 0) _ _ (λ _. h)
       (λ _. any-all Q (upToDate (s .ctl .n) (s .ctl .t) vc) _
       (λ now. record { raw-is = h .raw-is; mode-is = h .mode-is; done = h .done }))))
 
-  judge-moded : (cell : List ℕ) (v : ℕ) (w : Work) (vc : Vc) → Q w → AllOut Q (judge cell v w vc)
+  judge-moded : (cell : List ℕ) (v : ℕ) (w : Work) (vc : Connection) → Q w → AllOut Q (judge cell v w vc)
   unfolding judge accept place withWords withCells withLinks withCalendar withFreeList withRecord recordWith
   judge-moded cell v w vc h =
       let s = w .state in
@@ -67,9 +67,9 @@ module _ (raw mode : ℕ) where
   step3-moded cell w h =
       let s = w .state in
       let a = headerAt cell 0 in
-      let vc = vcAt (s .words) (a .vci) in
+      let vc = connectionAt (s .words) (a .vci) in
       if-all Q (length cell =? 0 || noUserCell a) _ _ (λ _. h)
-      (λ _. if-all Q (not (namesVc (s .ctl .v) a)) _ _
+      (λ _. if-all Q (not (namesConnection (s .ctl .v) a)) _ _
       (λ _. record { raw-is = h .raw-is; mode-is = h .mode-is; done = h .done })
       (λ _. needs-all Q (openWordFits vc) _
       (λ _. if-all Q (vc .opened =? 0) _ _ (λ _. record { raw-is = h .raw-is; mode-is = h .mode-is; done = h .done })
@@ -91,8 +91,8 @@ module _ (raw mode : ℕ) where
       if-all Q (isEmpty (outputList s)) _ _ (λ _. h)
       (λ _. any-all Q (takeHead (s .ctl .n) (s .links) (outputList s)) _
       (λ taken. let a = headerAt (s .cells) (cellStart (taken .space)) in
-      let vc = vcAt (s .words) (a .vci) in
-      needs-all Q (namesOpenVc (s .ctl .v) (s .words) a) _
+      let vc = connectionAt (s .words) (a .vci) in
+      needs-all Q (namesOpen (s .ctl .v) (s .words) a) _
       (λ _. needs-all Q (1 ≤? vc .waiting && vc .waiting ≤? s .ctl .n) _
       (λ _. needs-all Q (endsFit (s .ctl .n) (freeList s)) _
       (λ _. record { raw-is = h .raw-is; mode-is = h .mode-is; done = h .done })))))

@@ -12,7 +12,7 @@ use lib.ListN.{length}
 use Rattle.base_hec.specs.Modes.{Arriving}
 use Rattle.meaning.specs.Plain.{if_then_else_, _=?_}
 use Rattle.meaning.specs.Numbers.{nothing, unknown, dropped, letsIn}
-use Rattle.meaning.specs.Header.{headerAt, noUserCell, namesVc}
+use Rattle.meaning.specs.Header.{headerAt, noUserCell, namesConnection}
 use Rattle.meaning_runs.specs.Run.{Event, served}
 use Rattle.meaning_runs.specs.Leak.{Opening, dueSlot, verdictBy, openingOf}
 
@@ -37,7 +37,7 @@ unfoldable pub judgedBy : ℕ → ℕ → (ℕ → Option Opening) → List ℕ 
 judgedBy z t openings cell =
     let h = headerAt cell 0 in
     if length cell =? 0 || noUserCell h then judgedOf nothing 0 0
-    else if not (namesVc z h) then judgedOf unknown (h .vci) 0
+    else if not (namesConnection z h) then judgedOf unknown (h .vci) 0
     else judgedUnder t (h .vci) (h .clp) (openings (h .vci))
 
 abbrev pub judged : ℕ → List Event → List ℕ → Judged

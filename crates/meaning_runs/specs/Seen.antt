@@ -59,15 +59,15 @@ departuresIn (ran octets a out ∷ h) =
     else departuresIn h ++ (record { slot = served h; vci = a .departing; octets = out } ∷ [])
 
 -- those whose VCI is v, in the same order
-abbrev pub ofVc : {A : Type 0} → (A → ℕ) → ℕ → List A → List A
-ofVc vciOf v [] = []
-ofVc vciOf v (x ∷ xs) = if vciOf x =? v then x ∷ ofVc vciOf v xs else ofVc vciOf v xs
+abbrev pub ofConnection : {A : Type 0} → (A → ℕ) → ℕ → List A → List A
+ofConnection vciOf v [] = []
+ofConnection vciOf v (x ∷ xs) = if vciOf x =? v then x ∷ ofConnection vciOf v xs else ofConnection vciOf v xs
 
 unfoldable pub cellsOf : ℕ → List Event → List Cell
-cellsOf v h = ofVc (λ c. c .vci) v (cellsIn h)
+cellsOf v h = ofConnection (λ c. c .vci) v (cellsIn h)
 
 unfoldable pub departuresOf : ℕ → List Event → List Departure
-departuresOf v h = ofVc (λ d. d .vci) v (departuresIn h)
+departuresOf v h = ofConnection (λ d. d .vci) v (departuresIn h)
 
 abbrev pub noCell : Cell
 noCell = record { vci = 0; arrival = 0; D = 0; time = 0; due = 0; octets = [] }

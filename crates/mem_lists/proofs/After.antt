@@ -9,10 +9,10 @@ use native.Mathlib.Omega.{arith}
 use lib.ListN.{length, getD, set, length-set}
 use lib.Seq.{getD-set-same, getD-set-other}
 use Rattle.meaning.specs.Plain.{if_then_else_}
-use Rattle.meaning.specs.Numbers.{openPlace, sPlace, lastPlace, secondSPlace, waitingPlace, wordsPerVc, vcPlace}
+use Rattle.meaning.specs.Numbers.{openPlace, sPlace, lastPlace, secondSPlace, waitingPlace, wordsPerConnection, connectionPlace}
 use Rattle.meaning.specs.State.{writeCell}
 use Rattle.meaning.specs.Header.{Header, headerAt}
-use Rattle.meaning.specs.Words.{vcAt}
+use Rattle.meaning.specs.Words.{connectionAt}
 use Rattle.meaning.proofs.CellsLaws.{header-own, header-other}
 use Rattle.mem_lists.specs.Spaces.{Stored, Counted}
 
@@ -73,9 +73,9 @@ module _ (N own S S₂ t w : ℕ) (words words₂ : List ℕ) (kept : Kept words
   abbrev waits : List ℕ
   waits = set was (waitingPlace own) w
 
-  pub counted : vcPlace own + wordsPerVc ≤ length words → vcAt words own .opened ≡ 1 → 1 ≤ w → w ≤ N
+  pub counted : connectionPlace own + wordsPerConnection ≤ length words → connectionAt words own .opened ≡ 1 → 1 ≤ w → w ≤ N
       → Counted N own words (set waits (secondSPlace own) S₂)
-  unfolding vcAt
+  unfolding connectionAt
   counted inside opened some most =
       record {
         open-own = open-word own ∙ opened;

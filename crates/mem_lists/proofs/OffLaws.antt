@@ -9,7 +9,7 @@ use borrow.Author.Tests.{ne-eqb, eqb-false}
 use Rattle.meaning.specs.Plain.{_=?_}
 use lib.ListN.{getD}
 use Rattle.meaning.specs.Numbers.{cellStart}
-use Rattle.meaning.specs.Header.{headerAt, namesVc}
+use Rattle.meaning.specs.Header.{headerAt, namesConnection}
 use Rattle.leaf_header.proofs.NameLaws.{names-some, names-vci}
 use Rattle.mem_lists.specs.Spaces.{mayLeave, offOf, Stored, Counted}
 use Rattle.mem_lists.specs.Leaver.{leaverOf, offFrom, offAfter}
@@ -18,9 +18,9 @@ use Rattle.mem_lists.proofs.LeaverLaws.{leave-none, leaver-after-is}
 module _ (N z : ℕ) (cells links words : List ℕ) (x tail : ℕ) where
   -- a VC of which a cell may depart is not VC 0
   leave-some : mayLeave N z cells words x ≡ true → headerAt cells (cellStart x) .vci ≢ 0
-  leave-some e zero = go (namesVc z (headerAt cells (cellStart x))) refl
+  leave-some e zero = go (namesConnection z (headerAt cells (cellStart x))) refl
     where
-      go : (d : Bool) → namesVc z (headerAt cells (cellStart x)) ≡ d → ⊥
+      go : (d : Bool) → namesConnection z (headerAt cells (cellStart x)) ≡ d → ⊥
       go true f = omega (arith, names-some z _ f, names-vci z _ f)
       go false f =
           let y : _≡_ {A = Bool} true false = sym e ∙ leave-none N z cells words x f in

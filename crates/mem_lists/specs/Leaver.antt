@@ -1,7 +1,7 @@
 -- What departs, decided one number after the other.
 --
 --   mayGo N words u   == VC u is open and has 1 to N cells waiting
---   namedVc           == the VC that VPI and VCI as one number name, if a cell of it may depart, else 0
+--   namedConnection           == the VC that VPI and VCI as one number name, if a cell of it may depart, else 0
 --   leaverOf          == the VC whose cell is in space x, if that cell may depart, else 0
 --   offFrom           == what departs with a cell of VC vci (0: none) in space x, before a follower unless x is the tail
 --   leaverAfter, offAfter  == who and what departs once a cell of VC own has been accepted into space s
@@ -12,18 +12,18 @@ use lib.ListN.{getD}
 use Rattle.meaning.specs.Plain.{if_then_else_, _<?_, _≤?_, _=?_}
 use Rattle.meaning.specs.Numbers.{empty, cellStart}
 use Rattle.meaning.specs.Header.{headerAt}
-use Rattle.meaning.specs.Words.{vcAt}
+use Rattle.meaning.specs.Words.{connectionAt}
 use Rattle.leaf_header.specs.Name.{nameOf}
 use Rattle.mem_lists.specs.declared.Off.{Off}
 use Rattle.mem_lists.specs.Spaces.{endsOf, offAs, noneOff, mayLeave}
 
 unfoldable pub mayGo : ℕ → List ℕ → ℕ → Bool
 mayGo N words u =
-    let vc = vcAt words u in
+    let vc = connectionAt words u in
     vc .opened =? 1 && 1 ≤? vc .waiting && vc .waiting ≤? N
 
-unfoldable pub namedVc : ℕ → ℕ → List ℕ → ℕ → ℕ
-namedVc N z words name =
+unfoldable pub namedConnection : ℕ → ℕ → List ℕ → ℕ → ℕ
+namedConnection N z words name =
     if name =? 0 then 0
     else if name <? z then (if mayGo N words name then name else 0)
     else 0
@@ -44,7 +44,7 @@ leaverAfter N z cells words own s x =
     let name = nameOf (headerAt cells (cellStart x)) in
     if x =? s then own
     else if name =? own then own
-    else namedVc N z words name
+    else namedConnection N z words name
 
 -- links are as the cell and the join leave them; cells and words as they came
 unfoldable pub offAfter : ℕ → ℕ → List ℕ → List ℕ → List ℕ → ℕ → ℕ → ℕ → ℕ → Off

@@ -13,8 +13,8 @@ use Rattle.meaning.specs.Plain.{if_then_else_, _<?_, _≤?_, _=?_}
 use Rattle.meaning.specs.Numbers.{empty, cellStart}
 use Rattle.meaning.specs.State.{Ends}
 pub use Rattle.meaning.specs.State.{endsOf}
-use Rattle.meaning.specs.Header.{headerAt, namesOpenVc}
-use Rattle.meaning.specs.Words.{vcAt}
+use Rattle.meaning.specs.Header.{headerAt, namesOpen}
+use Rattle.meaning.specs.Words.{connectionAt}
 use Rattle.meaning.specs.Lists.{endsFit, entryAt}
 use Rattle.mem_lists.specs.declared.Seat.{Seat}
 use Rattle.mem_lists.specs.declared.Off.{Off}
@@ -74,8 +74,8 @@ noneOff = offAs false 0 0 (endsOf 0 0)
 unfoldable pub mayLeave : ℕ → ℕ → List ℕ → List ℕ → ℕ → Bool
 mayLeave N z cells words x =
     let h = headerAt cells (cellStart x) in
-    let waiting = vcAt words (h .vci) .waiting in
-    namesOpenVc z words h && 1 ≤? waiting && waiting ≤? N
+    let waiting = connectionAt words (h .vci) .waiting in
+    namesOpen z words h && 1 ≤? waiting && waiting ≤? N
 
 -- the head of the list from x to tail departs
 unfoldable pub offOf : ℕ → ℕ → List ℕ → List ℕ → List ℕ → ℕ → ℕ → Off
@@ -96,8 +96,8 @@ pub record Stored (own x : ℕ) (cells cells′ : List ℕ) : Type 0 where
 
 -- words′ are the words once that cell is counted: VC own is open and has 1 to N cells waiting
 pub record Counted (N own : ℕ) (words words′ : List ℕ) : Type 0 where
-  pub open-own : vcAt words′ own .opened ≡ 1
-  pub some-own : 1 ≤ vcAt words′ own .waiting
-  pub most-own : vcAt words′ own .waiting ≤ N
-  pub opened-others : (u : ℕ) → u ≢ own → vcAt words′ u .opened ≡ vcAt words u .opened
-  pub waiting-others : (u : ℕ) → u ≢ own → vcAt words′ u .waiting ≡ vcAt words u .waiting
+  pub open-own : connectionAt words′ own .opened ≡ 1
+  pub some-own : 1 ≤ connectionAt words′ own .waiting
+  pub most-own : connectionAt words′ own .waiting ≤ N
+  pub opened-others : (u : ℕ) → u ≢ own → connectionAt words′ u .opened ≡ connectionAt words u .opened
+  pub waiting-others : (u : ℕ) → u ≢ own → connectionAt words′ u .waiting ≡ connectionAt words u .waiting

@@ -4,12 +4,12 @@ ghost use mathlib.Core.Bool.{true};
 ghost use Prim.Native.Nat.{_+_, _*_, _≤_, _<_};
 ghost use lib.ListN.{length, getD, set};
 ghost use Rattle.meaning.specs.Numbers.{mostN, mostV, octets, cellStart, perEntry, wordsIn};
-ghost use Rattle.meaning.specs.State.{HasVc};
+ghost use Rattle.meaning.specs.State.{HasConnection};
 ghost use Rattle.meaning.specs.Lists.{endsFit, writeEntry};
 ghost use Rattle.mem_lists.specs.Spaces.{endsOf, linked, noSeat, seatIn, seatAt, seatOf, offOf};
-ghost use Rattle.mem_lists.specs.Leaver.{mayGo, namedVc, leaverOf, offFrom, leaverAfter, offAfter};
+ghost use Rattle.mem_lists.specs.Leaver.{mayGo, namedConnection, leaverOf, offFrom, leaverAfter, offAfter};
 use meaning::AT_WAITING;
-use meaning::WORDS_PER_VC;
+use meaning::WORDS_PER_CONNECTION;
 
 // Where an accepted cell goes: its space x, the Free List without it, its entry e and that entry's head and tail.
 pub struct Seat {
@@ -153,10 +153,10 @@ pub fn seat_for(
 
 // VC u is open and has 1 to N cells waiting.
 fn may_go(n: u16, words: &[u32], u: u16) -> bool
-    requires { ⌜ HasVc u (now words) ⌝ }
+    requires { ⌜ HasConnection u (now words) ⌝ }
     ensures { λ r. ⌜ r ≡ mayGo n (now (words .entry)) u ⌝ }
 {
-    let b = WORDS_PER_VC * (u as usize);
+    let b = WORDS_PER_CONNECTION * (u as usize);
     if words[b] == 1 {
         let waiting = words[b + AT_WAITING];
         if waiting != 0 {
@@ -167,9 +167,9 @@ fn may_go(n: u16, words: &[u32], u: u16) -> bool
 }
 
 // The VC that VPI and VCI as one number name, if a cell of it may depart, else 0.
-fn named_vc(n: u16, v: u16, words: &[u32], name: u32) -> u16
+fn named_connection(n: u16, v: u16, words: &[u32], name: u32) -> u16
     requires { ⌜ length (now words) ≡ wordsIn v ⌝ }
-    ensures { λ r. ⌜ r ≡ namedVc n v (now (words .entry)) name ⌝ }
+    ensures { λ r. ⌜ r ≡ namedConnection n v (now (words .entry)) name ⌝ }
 {
     if name != 0 {
         if name < v as u32 {
@@ -188,7 +188,7 @@ pub fn leaver(n: u16, v: u16, cells: &[u8], words: &[u32], x: u16) -> u16
     ensures { λ r. ⌜ r ≡ leaverOf n v (now (cells .entry)) (now (words .entry)) x ⌝ }
 {
     let name = leaf_header::name_at(cells, 53 * (x as usize));
-    named_vc(n, v, words, name)
+    named_connection(n, v, words, name)
 }
 
 // The same once a cell of VC own has been accepted into space s: own's words need no reading.
@@ -203,7 +203,7 @@ fn leaver_after(n: u16, v: u16, cells: &[u8], words: &[u32], own: u16, s: u16, x
     if name == own as u32 {
         return own;
     }
-    named_vc(n, v, words, name)
+    named_connection(n, v, words, name)
 }
 
 // Space x departs with a cell of VC vci (0: it may not), follower being the next in its list, if it is not the tail.

@@ -8,9 +8,9 @@ use native.Mathlib.Decide.{ℕ-discrete}
 use borrow.Author.Tests.{lt-leb, eq-eqb, ne-eqb, leb-true, eqb-true}
 use lib.ListN.{getD}
 use Rattle.meaning.specs.Plain.{_≤?_, _=?_}
-use Rattle.meaning.specs.Numbers.{wordsPerVc, mostM, mostF, mostSecondC}
+use Rattle.meaning.specs.Numbers.{wordsPerConnection, mostM, mostF, mostSecondC}
 use Rattle.meaning.specs.Bucket.{Bucket, bucketOf, obeysRules, obeysSecond, isNone}
-use Rattle.meaning.specs.Words.{Vc, vcAt, bucketFits, secondObeys, secondFits, bucketsFit, openWordFits, vcFits}
+use Rattle.meaning.specs.Words.{Connection, connectionAt, bucketFits, secondObeys, secondFits, bucketsFit, openWordFits, connectionFits}
 pub use Rattle.meaning.proofs.WordsLaws.{opened-at}
 use Rattle.leaf_bucket.proofs.Rules.{Obeys, rules-any-S, rules-facts, both}
 use Rattle.leaf_bucket.proofs.SecondRules.{second-none, second-some}
@@ -80,30 +80,30 @@ second-facts b tag e = go (ℕ-discrete (b .F) 0)
         }
 
 -- ---- a VC, of which the open word is tested first
-pub vc-closed : (N : ℕ) (vc : Vc) → vc .opened ≡ 0 → true ≡ vcFits N vc
-unfolding vcFits
-vc-closed N vc e = simp (eq-eqb _ _ e)
+pub connection-closed : (N : ℕ) (vc : Connection) → vc .opened ≡ 0 → true ≡ connectionFits N vc
+unfolding connectionFits
+connection-closed N vc e = simp (eq-eqb _ _ e)
 
-pub vc-open-breaks : (N : ℕ) (vc : Vc) → 1 < vc .opened → false ≡ vcFits N vc
-unfolding vcFits openWordFits
-vc-open-breaks N vc h = simp (ne-eqb (vc .opened) 0 (λ e. omega arith), lt-leb _ _ h)
+pub connection-open-breaks : (N : ℕ) (vc : Connection) → 1 < vc .opened → false ≡ connectionFits N vc
+unfolding connectionFits openWordFits
+connection-open-breaks N vc h = simp (ne-eqb (vc .opened) 0 (λ e. omega arith), lt-leb _ _ h)
 
-pub vc-bucket-breaks : (N : ℕ) (vc : Vc) → vc .opened ≡ 1 → bucketFits N (vc .bucket) ≡ false → false ≡ vcFits N vc
-unfolding vcFits openWordFits bucketsFit
-vc-bucket-breaks N vc h e = simp (h, e)
+pub connection-bucket-breaks : (N : ℕ) (vc : Connection) → vc .opened ≡ 1 → bucketFits N (vc .bucket) ≡ false → false ≡ connectionFits N vc
+unfolding connectionFits openWordFits bucketsFit
+connection-bucket-breaks N vc h e = simp (h, e)
 
-pub vc-second-breaks : (N : ℕ) (vc : Vc)
+pub connection-second-breaks : (N : ℕ) (vc : Connection)
     → vc .opened ≡ 1
     → bucketFits N (vc .bucket) ≡ true
     → secondFits (vc .second) (vc .tag) ≡ false
-    → false ≡ vcFits N vc
-unfolding vcFits openWordFits bucketsFit
-vc-second-breaks N vc h e f = simp (h, e, f)
+    → false ≡ connectionFits N vc
+unfolding connectionFits openWordFits bucketsFit
+connection-second-breaks N vc h e f = simp (h, e, f)
 
-pub vc-open-fits : (N : ℕ) (vc : Vc)
+pub connection-open-fits : (N : ℕ) (vc : Connection)
     → vc .opened ≡ 1
     → bucketFits N (vc .bucket) ≡ true
     → secondFits (vc .second) (vc .tag) ≡ true
-    → (vc .waiting ≤? N) ≡ vcFits N vc
-unfolding vcFits openWordFits bucketsFit
-vc-open-fits N vc h e f = simp (h, e, f)
+    → (vc .waiting ≤? N) ≡ connectionFits N vc
+unfolding connectionFits openWordFits bucketsFit
+connection-open-fits N vc h e f = simp (h, e, f)

@@ -9,9 +9,9 @@ use borrow.Author.Tests.{eq-eqb, ne-eqb, eqb-true, le-leb}
 use lib.Bits.{bitOr, bitAnd, or-add-and, and-le-l, and-le-r}
 use Rattle.meaning.specs.Plain.{_=?_}
 use Rattle.meaning.specs.Bucket.{isNone}
-use Rattle.meaning.specs.Words.{Vc, secondObeys, secondFits}
+use Rattle.meaning.specs.Words.{Connection, secondObeys, secondFits}
 use Rattle.leaf_bucket.proofs.Rules.{both}
-use Rattle.mem_words.specs.Vcs.{hasNone}
+use Rattle.mem_words.specs.Connections.{hasNone}
 
 or-none : (a b : ℕ) → (bitOr a b =? 0) ≡ (a =? 0 && b =? 0)
 or-none a b = go (ℕ-discrete a 0) (ℕ-discrete b 0)
@@ -27,7 +27,7 @@ or-none a b = go (ℕ-discrete a 0) (ℕ-discrete b 0)
     go (no p) d = simp (ne-eqb (bitOr a b) 0 (λ e. p (omega (arith, or-add-and a b, and-le-r a b))), ne-eqb a 0 p)
 
 -- no second bucket: told by its m, F and C, and then by its S and the flag
-module _ (vc : Vc) where
+module _ (vc : Connection) where
   abbrev rates : ℕ
   rates = bitOr (bitOr (vc .second .m) (vc .second .F)) (vc .second .C)
 
@@ -43,14 +43,14 @@ module _ (vc : Vc) where
   no-rate e = rw (sym three ∙ eq-eqb rates 0 e) (or-none (vc .second .S) (vc .tag))
 
 -- what is known of a VC without a second bucket
-pub record None (vc : Vc) : Type 0 where
+pub record None (vc : Connection) : Type 0 where
   pub m-is : vc .second .m ≡ 0
   pub F-is : vc .second .F ≡ 0
   pub C-is : vc .second .C ≡ 0
   pub S-is : vc .second .S ≡ 0
   pub tag-is : vc .tag ≡ 0
 
-pub none-facts : (vc : Vc) → hasNone vc ≡ true → None vc
+pub none-facts : (vc : Connection) → hasNone vc ≡ true → None vc
 unfolding hasNone
 none-facts vc e =
     let b = vc .second in
@@ -66,7 +66,7 @@ none-facts vc e =
       tag-is = eqb-true _ _ (e4 .1);
     }
 
-pub none-fits : (vc : Vc) → None vc → secondFits (vc .second) (vc .tag) ≡ true
+pub none-fits : (vc : Connection) → None vc → secondFits (vc .second) (vc .tag) ≡ true
 unfolding secondFits secondObeys isNone
 none-fits vc n =
     simp (

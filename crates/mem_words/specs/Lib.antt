@@ -1,1 +1,1 @@
-pub mod Vcs
+pub mod Connections

@@ -2,10 +2,10 @@
 ghost use mathlib.Core.Path.{_≡_};
 ghost use Prim.Native.Nat.{_+_, _*_, _≤_};
 ghost use lib.ListN.{length};
-ghost use Rattle.meaning.specs.State.{HasVc};
+ghost use Rattle.meaning.specs.State.{HasConnection};
 ghost use Rattle.meaning.specs.Bucket.{bucketOf};
-ghost use Rattle.meaning.specs.Words.{secondOf, vcAt, writeVc, bucketFits, secondFits, vcFits};
-ghost use Rattle.mem_words.specs.Vcs.{hasNone, bareVc, firstWritten, secondWritten};
+ghost use Rattle.meaning.specs.Words.{secondOf, connectionAt, writeConnection, bucketFits, secondFits, connectionFits};
+ghost use Rattle.mem_words.specs.Connections.{hasNone, bareConnection, firstWritten, secondWritten};
 use leaf_bucket::obeys_rules;
 use leaf_bucket::obeys_second;
 use meaning::AT_C;
@@ -19,14 +19,14 @@ use meaning::AT_SECOND_M;
 use meaning::AT_SECOND_S;
 use meaning::AT_TAG;
 use meaning::AT_WAITING;
-use meaning::WORDS_PER_VC;
+use meaning::WORDS_PER_CONNECTION;
 
 // "an open VC's m, F and C obey the rules, S is at most C"
 pub fn bucket_fits(n: u16, words: &[u32], vci: u16) -> bool
-    requires { ⌜ HasVc vci (now words) ⌝ }
-    ensures { λ r. ⌜ r ≡ bucketFits n (vcAt (now (words .entry)) vci .bucket) ⌝ }
+    requires { ⌜ HasConnection vci (now words) ⌝ }
+    ensures { λ r. ⌜ r ≡ bucketFits n (connectionAt (now (words .entry)) vci .bucket) ⌝ }
 {
-    let base = WORDS_PER_VC * (vci as usize);
+    let base = WORDS_PER_CONNECTION * (vci as usize);
     let c = words[base + AT_C];
     if !obeys_rules(n, words[base + AT_M], words[base + AT_F], c) {
         return false;
@@ -37,10 +37,10 @@ pub fn bucket_fits(n: u16, words: &[u32], vci: u16) -> bool
 // Whether a VC has no second bucket, and all words of one are 0: the common case. Told by two tests of several words at once: as
 // one test they would be loaded as a vector, in more instructions.
 pub fn none_second(words: &[u32], vci: u16) -> bool
-    requires { ⌜ HasVc vci (now words) ⌝ }
-    ensures { λ r. ⌜ r ≡ hasNone (vcAt (now (words .entry)) vci) ⌝ }
+    requires { ⌜ HasConnection vci (now words) ⌝ }
+    ensures { λ r. ⌜ r ≡ hasNone (connectionAt (now (words .entry)) vci) ⌝ }
 {
-    let base = WORDS_PER_VC * (vci as usize);
+    let base = WORDS_PER_CONNECTION * (vci as usize);
     if words[base + AT_SECOND_M] | words[base + AT_SECOND_F] | words[base + AT_SECOND_C] != 0 {
         return false;
     }
@@ -49,10 +49,10 @@ pub fn none_second(words: &[u32], vci: u16) -> bool
 
 // A second bucket's words and the flag, as the peak bucket's.
 pub fn second_fits(words: &[u32], vci: u16) -> bool
-    requires { ⌜ HasVc vci (now words) ⌝ }
-    ensures { λ r. ⌜ r ≡ secondFits (vcAt (now (words .entry)) vci .second) (vcAt (now (words .entry)) vci .tag) ⌝ }
+    requires { ⌜ HasConnection vci (now words) ⌝ }
+    ensures { λ r. ⌜ r ≡ secondFits (connectionAt (now (words .entry)) vci .second) (connectionAt (now (words .entry)) vci .tag) ⌝ }
 {
-    let base = WORDS_PER_VC * (vci as usize);
+    let base = WORDS_PER_CONNECTION * (vci as usize);
     let c = words[base + AT_SECOND_C];
     if !obeys_second(
         words[base + AT_SECOND_M],
@@ -66,11 +66,11 @@ pub fn second_fits(words: &[u32], vci: u16) -> bool
 }
 
 // The words of a closed VC fit whatever they hold, but for the open word; those of an open one by their ranges.
-pub fn vc_fits(n: u16, words: &[u32], vci: u16) -> bool
-    requires { ⌜ HasVc vci (now words) ⌝ }
-    ensures { λ r. ⌜ r ≡ vcFits n (vcAt (now (words .entry)) vci) ⌝ }
+pub fn connection_fits(n: u16, words: &[u32], vci: u16) -> bool
+    requires { ⌜ HasConnection vci (now words) ⌝ }
+    ensures { λ r. ⌜ r ≡ connectionFits n (connectionAt (now (words .entry)) vci) ⌝ }
 {
-    let base = WORDS_PER_VC * (vci as usize);
+    let base = WORDS_PER_CONNECTION * (vci as usize);
     let opened = words[base];
     if opened == 0 {
         return true;
@@ -89,10 +89,10 @@ pub fn vc_fits(n: u16, words: &[u32], vci: u16) -> bool
 
 // The second bucket of a VC set: m, F and C and the flag as given, S 0.
 fn write_second(words: &mut [u32], vci: u16, m: u32, f: u32, c: u32, tag: u32)
-    requires { ⌜ HasVc vci (now words) ⌝ }
+    requires { ⌜ HasConnection vci (now words) ⌝ }
     ensures { λ r. ⌜ now (words .exit) ≡ secondWritten (now (words .entry)) vci (secondOf m f c tag) ⌝ }
 {
-    let base = WORDS_PER_VC * (vci as usize);
+    let base = WORDS_PER_CONNECTION * (vci as usize);
     words[base + AT_SECOND_M] = m;
     words[base + AT_SECOND_F] = f;
     words[base + AT_SECOND_C] = c;
@@ -102,10 +102,10 @@ fn write_second(words: &mut [u32], vci: u16, m: u32, f: u32, c: u32, tag: u32)
 
 // The first words of a VC set: its open word, the peak bucket with S 0, last, waiting 0.
 fn write_first(words: &mut [u32], vci: u16, opened: u32, m: u32, f: u32, c: u32, last: u32)
-    requires { ⌜ HasVc vci (now words) ⌝ }
+    requires { ⌜ HasConnection vci (now words) ⌝ }
     ensures { λ r. ⌜ now (words .exit) ≡ firstWritten (now (words .entry)) vci opened (bucketOf m f c 0) last ⌝ }
 {
-    let base = WORDS_PER_VC * (vci as usize);
+    let base = WORDS_PER_CONNECTION * (vci as usize);
     words[base] = opened;
     words[base + AT_M] = m;
     words[base + AT_F] = f;
@@ -116,7 +116,7 @@ fn write_first(words: &mut [u32], vci: u16, opened: u32, m: u32, f: u32, c: u32,
 }
 
 // All words of a VC set as an opening or a closing has them: nothing in its buckets, and no cell waits.
-pub fn write_vc(
+pub fn write_connection(
     words: &mut [u32],
     vci: u16,
     opened: u32,
@@ -129,8 +129,8 @@ pub fn write_vc(
     c2: u32,
     tag: u32,
 )
-    requires { ⌜ HasVc vci (now words) ⌝ }
-    ensures { λ r. ⌜ now (words .exit) ≡ writeVc (now (words .entry)) vci (bareVc opened (bucketOf m f c 0) last (secondOf m2 f2 c2 tag)) ⌝ }
+    requires { ⌜ HasConnection vci (now words) ⌝ }
+    ensures { λ r. ⌜ now (words .exit) ≡ writeConnection (now (words .entry)) vci (bareConnection opened (bucketOf m f c 0) last (secondOf m2 f2 c2 tag)) ⌝ }
 {
     write_first(words, vci, opened, m, f, c, last);
     write_second(words, vci, m2, f2, c2, tag);

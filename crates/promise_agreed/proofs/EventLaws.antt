@@ -12,7 +12,7 @@ use borrow.Author.Tests.{eq-eqb, ne-eqb}
 use Rattle.meaning.specs.declared.Answer.{Answer}
 use Rattle.meaning.specs.Plain.{_=?_}
 use Rattle.meaning.specs.Numbers.{accepted, letsIn}
-use Rattle.meaning.specs.Header.{headerAt, namesVc}
+use Rattle.meaning.specs.Header.{headerAt, namesConnection}
 use Rattle.meaning.specs.Words.{noSecond}
 use Rattle.meaning_runs.specs.Run.{Event, ran, served}
 use Rattle.meaning_runs.specs.Leak.{Opening, openingWith, dueTime, accepts, sustainedAfter, openingOf}
@@ -68,11 +68,11 @@ module _ (w : Watched) (h : List Event) (cell : List ℕ) (a : Answer) (out : Li
   unfolding openingOf
   opening-still e = rw e
 
-  pub for-it : a .number ≡ 0 → (namesVc (w .z) (headerAt cell 0) && headerAt cell 0 .vci =? w .vci) ≡ true → isFor w cell a ≡ true
+  pub for-it : a .number ≡ 0 → (namesConnection (w .z) (headerAt cell 0) && headerAt cell 0 .vci =? w .vci) ≡ true → isFor w cell a ≡ true
   unfolding isFor
   for-it n e = rw (eq-eqb (a .number) 0 n, e)
 
-  pub not-for-it : (namesVc (w .z) (headerAt cell 0) && headerAt cell 0 .vci =? w .vci) ≡ false → isFor w cell a ≡ false
+  pub not-for-it : (namesConnection (w .z) (headerAt cell 0) && headerAt cell 0 .vci =? w .vci) ≡ false → isFor w cell a ≡ false
   unfolding isFor
   not-for-it e = rw e (and-no (a .number =? 0))
 

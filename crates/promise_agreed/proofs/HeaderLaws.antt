@@ -10,7 +10,7 @@ use borrow.Author.Tests.{ne-eqb}
 use lib.ListN.{length}
 use Rattle.meaning.specs.Plain.{if_then_else_, _=?_}
 use Rattle.meaning.specs.Numbers.{letsIn}
-use Rattle.meaning.specs.Header.{Header, headerOf, headerAt, noUserCell, namesVc}
+use Rattle.meaning.specs.Header.{Header, headerOf, headerAt, noUserCell, namesConnection}
 use Rattle.meaning_runs.specs.Leak.{Opening, verdictBy}
 use Rattle.meaning_runs.specs.Judged.{judgedOf, judgedUnder, judgedBy}
 use Rattle.theory_invariant.proofs.ArriveLaws.{names-facts}
@@ -20,12 +20,12 @@ and-no true = refl
 and-no false = refl
 
 -- a header that names a VC is a user cell's, and no list without octets has it
-some-octets : (z : ℕ) (cell : List ℕ) → namesVc z (headerAt cell 0) ≡ true → length cell ≢ 0
+some-octets : (z : ℕ) (cell : List ℕ) → namesConnection z (headerAt cell 0) ≡ true → length cell ≢ 0
 unfolding headerAt headerOf
 some-octets z [] n e = omega (arith, names-facts z (headerAt [] 0) n .0)
 some-octets z (x ∷ cell) n e = omega arith
 
-pub user : (z : ℕ) (cell : List ℕ) → namesVc z (headerAt cell 0) ≡ true → length cell =? 0 || noUserCell (headerAt cell 0) ≡ false
+pub user : (z : ℕ) (cell : List ℕ) → namesConnection z (headerAt cell 0) ≡ true → length cell =? 0 || noUserCell (headerAt cell 0) ≡ false
 unfolding noUserCell
 user z cell n =
     rw (ne-eqb (length cell) 0 (some-octets z cell n)) (go (headerAt cell 0) (names-facts z (headerAt cell 0) n .0))
@@ -33,7 +33,7 @@ user z cell n =
     go : (h : Header) → 1 ≤ h .vci → h .vpi =? 0 && h .vci =? 0 ≡ false
     go h low = rw (ne-eqb (h .vci) 0 (λ y. omega arith)) (and-no (h .vpi =? 0))
 
-pub named : (z t : ℕ) (op : ℕ → Option Opening) (cell : List ℕ) (o : Opening) → namesVc z (headerAt cell 0) ≡ true
+pub named : (z t : ℕ) (op : ℕ → Option Opening) (cell : List ℕ) (o : Opening) → namesConnection z (headerAt cell 0) ≡ true
     → op (headerAt cell 0 .vci) ≡ some o
     → judgedBy z t op cell ≡ judgedUnder t (headerAt cell 0 .vci) (headerAt cell 0 .clp) (some o)
 unfolding judgedBy
@@ -41,11 +41,11 @@ named z t op cell o n q = rw (user z cell n, n, q) refl
 
 -- no other cell is let in with the VCI v
 pub others : (z t v : ℕ) (op : ℕ → Option Opening) (cell : List ℕ)
-    → (namesVc z (headerAt cell 0) && headerAt cell 0 .vci =? v) ≡ false
+    → (namesConnection z (headerAt cell 0) && headerAt cell 0 .vci =? v) ≡ false
     → (letsIn (judgedBy z t op cell .verdict) && judgedBy z t op cell .vci =? v) ≡ false
 unfolding judgedBy letsIn
 others z t v op cell =
-    go (length cell =? 0 || noUserCell (headerAt cell 0)) (namesVc z (headerAt cell 0)) (op (headerAt cell 0 .vci))
+    go (length cell =? 0 || noUserCell (headerAt cell 0)) (namesConnection z (headerAt cell 0)) (op (headerAt cell 0 .vci))
   where
     under : (o : Option Opening) → (headerAt cell 0 .vci =? v) ≡ false
         → let j = judgedUnder t (headerAt cell 0 .vci) (headerAt cell 0 .clp) o in

@@ -15,8 +15,8 @@ use Rattle.meaning.specs.Plain.{if_then_else_, _=?_}
 use Rattle.meaning.specs.Numbers.{slotNumbers, accepted, excess, letsIn}
 use Rattle.meaning.specs.Bucket.{bucketOf, obeysRules}
 use Rattle.meaning.specs.State.{State}
-use Rattle.meaning.specs.Header.{headerAt, noUserCell, namesVc}
-use Rattle.meaning.specs.Words.{noSecond, vcAt}
+use Rattle.meaning.specs.Header.{headerAt, noUserCell, namesConnection}
+use Rattle.meaning.specs.Words.{noSecond, connectionAt}
 use Rattle.meaning.specs.Work.{Work}
 use Rattle.meaning.specs.Slot.{slot}
 use Rattle.meaning.proofs.CheckedLaws.{dropped-none}
@@ -24,7 +24,7 @@ use Rattle.meaning_runs.specs.Run.{Event, ran, letIn, shown, served}
 use Rattle.meaning_runs.specs.Leak.{Opening, openingWith, dueTime, dueSlot, leakAccepts, accepts, sustainedAfter, openingOf}
 use Rattle.meaning_runs.specs.Judged.{Judged, judgedOf, judgedUnder, judged, judgedAs}
 use Rattle.theory_queues.specs.Queue.{turn}
-use Rattle.theory_table.specs.Stored.{VcIs}
+use Rattle.theory_table.specs.Stored.{ConnectionIs}
 use Rattle.theory_table.proofs.LeakLaws.{and-left, and-right}
 use Rattle.theory_invariant.specs.Invariant.{Inv, waits}
 use Rattle.theory_invariant.proofs.ArriveLaws.{names-facts}
@@ -112,13 +112,13 @@ module _ (w : Watched) (h : List Event) (s : State) (i : Inv (w .N) (w .z) h s) 
   -- the rules that the VC was opened under
   rules : 1 ≤ w .vci → w .vci < w .z → obeysRules (w .N) (bucketOf (w .m) (w .F) (w .C) 0) ≡ true
   rules low high =
-      subst (λ (x : Option Opening). VcIs (w .N) (w .z) (served h) (w .vci) (vcAt (s .words) (w .vci))
+      subst (λ (x : Option Opening). ConnectionIs (w .N) (w .z) (served h) (w .vci) (connectionAt (s .words) (w .vci))
       (waits (w .vci) (i .out) (turn (i .cal))) x)
       (k .is) (i .stage .table (w .vci) low high) .rules
 
   module _ (cell : List ℕ) where
     -- a cell that names the VC is not dropped
-    let-in : namesVc (w .z) (headerAt (letIn s cell .cell) 0) ≡ true → letIn s cell .dropped ≡ false
+    let-in : namesConnection (w .z) (headerAt (letIn s cell .cell) 0) ≡ true → letIn s cell .dropped ≡ false
     let-in n = go (letIn s cell .dropped) refl
       where
         go : (b : Bool) → letIn s cell .dropped ≡ b → b ≡ false
@@ -134,7 +134,7 @@ module _ (w : Watched) (h : List Event) (s : State) (i : Inv (w .N) (w .z) h s) 
           ≡ judgedAs (w .z) h (letIn s cell)
       judges = demanded (w .N) (w .z) h s i .judges cell lent
 
-      mine : served h < slotNumbers → namesVc (w .z) (headerAt (letIn s cell .cell) 0) ≡ true
+      mine : served h < slotNumbers → namesConnection (w .z) (headerAt (letIn s cell .cell) 0) ≡ true
           → headerAt (letIn s cell .cell) 0 .vci ≡ w .vci
           → judgedOf (slot s cell .answer .verdict) (slot s cell .answer .vci) (slot s cell .answer .d)
           ≡ leakSays (served h) (w .vci) (peakOnly (w .m) (w .F) (w .C) (k .previous))
@@ -158,7 +158,7 @@ module _ (w : Watched) (h : List Event) (s : State) (i : Inv (w .N) (w .z) h s) 
           f : (1 ≤ headerAt (letIn s cell .cell) 0 .vci) × (headerAt (letIn s cell .cell) 0 .vci < w .z)
           f = names-facts (w .z) (headerAt (letIn s cell .cell) 0) n
 
-      theirs : (namesVc (w .z) (headerAt (letIn s cell .cell) 0) && headerAt (letIn s cell .cell) 0 .vci =? w .vci) ≡ false
+      theirs : (namesConnection (w .z) (headerAt (letIn s cell .cell) 0) && headerAt (letIn s cell .cell) 0 .vci =? w .vci) ≡ false
           → accepts (w .vci) (slot s cell .answer) ≡ false
       unfolding accepts letsIn
       theirs e =
@@ -172,7 +172,7 @@ module _ (w : Watched) (h : List Event) (s : State) (i : Inv (w .N) (w .z) h s) 
 
       went-served : served h < slotNumbers → Went w h (letIn s cell .cell) (slot s cell .answer) (shown (slot s cell))
       went-served low =
-          go (namesVc (w .z) (headerAt (letIn s cell .cell) 0) && headerAt (letIn s cell .cell) 0 .vci =? w .vci) refl
+          go (namesConnection (w .z) (headerAt (letIn s cell .cell) 0) && headerAt (letIn s cell .cell) 0 .vci =? w .vci) refl
         where
           c : List ℕ
           c = letIn s cell .cell
@@ -181,11 +181,11 @@ module _ (w : Watched) (h : List Event) (s : State) (i : Inv (w .N) (w .z) h s) 
           number = slot-served (w .N) (w .z) h s i cell lent .number
 
           go : (b : Bool)
-              → (namesVc (w .z) (headerAt (letIn s cell .cell) 0) && headerAt (letIn s cell .cell) 0 .vci =? w .vci) ≡ b
+              → (namesConnection (w .z) (headerAt (letIn s cell .cell) 0) && headerAt (letIn s cell .cell) 0 .vci =? w .vci) ≡ b
               → Went w h (letIn s cell .cell) (slot s cell .answer) (shown (slot s cell))
           go true e =
-              let n = and-left (namesVc (w .z) (headerAt c 0)) (headerAt c 0 .vci =? w .vci) e in
-              let v = eqb-true (headerAt c 0 .vci) (w .vci) (and-right (namesVc (w .z) (headerAt c 0)) (headerAt c 0 .vci =? w .vci) e) in
+              let n = and-left (namesConnection (w .z) (headerAt c 0)) (headerAt c 0 .vci =? w .vci) e in
+              let v = eqb-true (headerAt c 0 .vci) (w .vci) (and-right (namesConnection (w .z) (headerAt c 0)) (headerAt c 0 .vci =? w .vci) e) in
               let f = names-facts (w .z) (headerAt c 0) n in
               let st = steps (w .N) (w .m) (w .F) (w .C) (served h) (i .stage .ranges .N-low) (i .stage .ranges .N-high)
               (rules (omega (arith, f .0, v)) (omega (arith, f .1, v))) low (k .previous) (engineAfter w h) (k .state) in

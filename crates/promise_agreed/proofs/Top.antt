@@ -21,7 +21,7 @@ use Rattle.theory_invariant.proofs.FreshLaws.{setup-fresh}
 use Rattle.theory_invariant.proofs.RunLaws.{Kept, call-kept, run-kept}
 use Rattle.call_time.specs.declared.Tat.{Tat}
 use Rattle.call_time.specs.Asked.{notStarted}
-use Rattle.promise_agreed.specs.Agreed.{Watched, watch, engineAfter, Agrees, Apart, AgreedAlways, AgreedOneVc}
+use Rattle.promise_agreed.specs.Agreed.{Watched, watch, engineAfter, Agrees, Apart, AgreedAlways, AgreedOneConnection}
 use Rattle.promise_agreed.proofs.HeaderLaws.{and-no}
 use Rattle.promise_agreed.proofs.EventLaws.{Tied, not-served}
 use Rattle.promise_agreed.proofs.SlotLaws.{went}
@@ -45,8 +45,8 @@ calls-more r [] = le-refl (served (r .events))
 calls-more r (c ∷ cs) = le-trans (call-more r c) (calls-more (call r c) cs)
 
 -- a call that neither opens nor closes the VC leaves its opening
-other-vc : (v vci number : ℕ) → vci ≢ v → (number =? 0 && vci =? v) ≡ false
-other-vc v vci number n = rw (ne-eqb vci v n) (and-no (number =? 0))
+other-connection : (v vci number : ℕ) → vci ≢ v → (number =? 0 && vci =? v) ≡ false
+other-connection v vci number n = rw (ne-eqb vci v n) (and-no (number =? 0))
 
 -- ── one call ──
 module _ (w : Watched) where
@@ -59,12 +59,12 @@ module _ (w : Watched) where
       → Tied w (opened vci m F C x number ∷ h)
   unfolding openingOf served engineAfter
   tied-open h vci m F C x number n k =
-      record { previous = k .previous; sustained = k .sustained; is = rw (other-vc (w .vci) vci number n) (k .is); state = k .state }
+      record { previous = k .previous; sustained = k .sustained; is = rw (other-connection (w .vci) vci number n) (k .is); state = k .state }
 
   tied-close : (h : List Event) (vci number : ℕ) → vci ≢ w .vci → Tied w h → Tied w (closed vci number ∷ h)
   unfolding openingOf served engineAfter
   tied-close h vci number n k =
-      record { previous = k .previous; sustained = k .sustained; is = rw (other-vc (w .vci) vci number n) (k .is); state = k .state }
+      record { previous = k .previous; sustained = k .sustained; is = rw (other-connection (w .vci) vci number n) (k .is); state = k .state }
 
   one-call : (r : Run) (c : Call) → Together r → Apart (w .vci) c → served (call r c .events) ≤ slotNumbers → Together (call r c)
   unfolding call Agrees
@@ -152,8 +152,8 @@ only-slots : (v : ℕ) (lent : List (List ℕ)) → All (Apart v) (map onSlot le
 only-slots v [] = tt
 only-slots v (cell ∷ lent) = (tt, only-slots v lent)
 
-pub agreed-one-vc : AgreedOneVc
+pub agreed-one-connection : AgreedOneConnection
 unfolding call calls served openingOf
-agreed-one-vc N z raw cells links calendar words e v m F C zero lent low =
+agreed-one-connection N z raw cells links calendar words e v m F C zero lent low =
     agreed N z raw cells links calendar words e (onOpen v m F C ∷ []) v m F C refl
     (rw (eq-eqb _ 0 (zero .0), eq-eqb v v refl) refl) (map onSlot lent) (only-slots v lent) low

@@ -25,7 +25,7 @@ use mathlib.Core.Option.{some}
 use Rattle.meaning.specs.declared.Answer.{Answer}
 use Rattle.meaning.specs.Plain.{if_then_else_, _=?_}
 use Rattle.meaning.specs.Numbers.{slotNumbers, accepted}
-use Rattle.meaning.specs.Header.{headerAt, namesVc}
+use Rattle.meaning.specs.Header.{headerAt, namesConnection}
 use Rattle.meaning.specs.Words.{noSecond}
 use Rattle.meaning.specs.Calls.{setup}
 use Rattle.meaning_runs.specs.Run.{Call, onOpenWith, onOpen, onClose, onSlot, Event, opened, closed, ran, numberOf, runOf, call, calls, served}
@@ -48,7 +48,7 @@ abbrev pub watch : ℕ → ℕ → ℕ → ℕ → ℕ → ℕ → Watched
 watch N z vci m F C = record { N = N; z = z; vci = vci; m = m; F = F; C = C }
 
 unfoldable pub isFor : Watched → List ℕ → Answer → Bool
-isFor w cell a = a .number =? 0 && (namesVc (w .z) (headerAt cell 0) && headerAt cell 0 .vci =? w .vci)
+isFor w cell a = a .number =? 0 && (namesConnection (w .z) (headerAt cell 0) && headerAt cell 0 .vci =? w .vci)
 
 abbrev pub ask : Watched → Tat → ℕ → Timed
 ask w s t = timed s (w .N) (w .m) (w .F) (w .C) t
@@ -94,8 +94,8 @@ AgreedAlways = (N z : ℕ) (raw : Bool) (cells links calendar words : List ℕ)
     → Agrees (watch N z v m F C) (calls r after .events)
 
 -- The request's own case: setup, one open that answers 0, then slots and nothing else.
-abbrev pub AgreedOneVc : Type 0
-AgreedOneVc = (N z : ℕ) (raw : Bool) (cells links calendar words : List ℕ)
+abbrev pub AgreedOneConnection : Type 0
+AgreedOneConnection = (N z : ℕ) (raw : Bool) (cells links calendar words : List ℕ)
     → setup N z raw cells links calendar words .number ≡ 0
     → (v m F C : ℕ)
     → let r = call (runOf (setup N z raw cells links calendar words .state) []) (onOpen v m F C) in

@@ -11,7 +11,7 @@ use Rattle.base_hec.specs.Modes.{Arriving}
 use Rattle.meaning.specs.declared.Answer.{Answer}
 use Rattle.meaning.specs.Plain.{if_then_else_, _=?_}
 use Rattle.meaning.specs.Numbers.{nothing, unknown, dropped, letsIn}
-use Rattle.meaning.specs.Header.{headerAt, noUserCell, namesVc}
+use Rattle.meaning.specs.Header.{headerAt, noUserCell, namesConnection}
 use Rattle.meaning.specs.Work.{Work}
 use Rattle.meaning.specs.Slot.{slot}
 use Rattle.meaning_runs.specs.Run.{Call, onOpenWith, onClose, onSlot, Event, opened, closed, ran, Run, letIn, call, calls, served}
@@ -41,7 +41,7 @@ module _ (t : ℕ) (openings : ℕ → Option Opening) where
   by-open : (z : ℕ) (cell : List ℕ) → OpenWhere (judgedBy z t openings cell)
   unfolding judgedBy letsIn
   by-open z cell =
-      go (length cell =? 0 || noUserCell (headerAt cell 0)) (namesVc z (headerAt cell 0)) (under-open u clp (openings u) refl)
+      go (length cell =? 0 || noUserCell (headerAt cell 0)) (namesConnection z (headerAt cell 0)) (under-open u clp (openings u) refl)
     where
       u : ℕ
       u = headerAt cell 0 .vci

@@ -14,8 +14,8 @@ use Rattle.meaning.specs.Words.{Second}
 use Rattle.meaning.specs.Arrival.{sentAs}
 use Rattle.meaning_runs.specs.Run.{Event, opened, closed, ran, served}
 use Rattle.meaning_runs.specs.Leak.{Opening, accepts, openingOf}
-use Rattle.meaning_runs.specs.Seen.{Cell, cellUnder, ofVc, cellsIn, cellsOf}
-use Rattle.theory_queues.proofs.OrderLaws.{ofVc-yes, ofVc-no, ofVc-append}
+use Rattle.meaning_runs.specs.Seen.{Cell, cellUnder, ofConnection, cellsIn, cellsOf}
+use Rattle.theory_queues.proofs.OrderLaws.{ofConnection-yes, ofConnection-no, ofConnection-append}
 use Rattle.theory_table.proofs.LeakLaws.{and-left, and-right}
 
 -- ── what an event adds to the cells of a VC ──
@@ -25,8 +25,8 @@ module _ (v : ℕ) where
   unfolding cellsOf cellsIn accepts
   cells-new h octets a out e =
       rw lets
-      (ofVc-append vciOf v (cellsIn h) (under (a .vci) ∷ [])
-      ∙ ap (λ l. ofVc vciOf v (cellsIn h) ++ l) (ofVc-yes vciOf v (under (a .vci)) [] (named (openingOf (a .vci) h))
+      (ofConnection-append vciOf v (cellsIn h) (under (a .vci) ∷ [])
+      ∙ ap (λ l. ofConnection vciOf v (cellsIn h) ++ l) (ofConnection-yes vciOf v (under (a .vci)) [] (named (openingOf (a .vci) h))
       ∙ ap (λ (u : ℕ). under u ∷ []) vci))
     where
       vciOf : Cell → ℕ
@@ -64,11 +64,11 @@ module _ (v : ℕ) where
       named (some o) ne = ne
 
       go : (b : Bool) → letsIn (a .verdict) ≡ b
-          → ofVc vciOf v (if b then cellsIn h ++ (new ∷ []) else cellsIn h) ≡ ofVc vciOf v (cellsIn h)
+          → ofConnection vciOf v (if b then cellsIn h ++ (new ∷ []) else cellsIn h) ≡ ofConnection vciOf v (cellsIn h)
       go true y =
-          ofVc-append vciOf v (cellsIn h) (new ∷ [])
-          ∙ ap (λ l. ofVc vciOf v (cellsIn h) ++ l) (ofVc-no vciOf v new [] (named (openingOf (a .vci) h) (other y)))
-          ∙ append-nil (ofVc vciOf v (cellsIn h))
+          ofConnection-append vciOf v (cellsIn h) (new ∷ [])
+          ∙ ap (λ l. ofConnection vciOf v (cellsIn h) ++ l) (ofConnection-no vciOf v new [] (named (openingOf (a .vci) h) (other y)))
+          ∙ append-nil (ofConnection vciOf v (cellsIn h))
       go false y = refl
 
   pub cells-open : (h : List Event) (u m F C : ℕ) (x : Second) (number : ℕ) → cellsOf v (opened u m F C x number ∷ h) ≡ cellsOf v h

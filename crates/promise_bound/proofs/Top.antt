@@ -10,7 +10,7 @@ use Rattle.meaning.specs.declared.Record.{Record}
 use Rattle.meaning.specs.Plain.{if_then_else_, _=?_}
 use Rattle.meaning.specs.State.{State}
 use Rattle.meaning.specs.Bucket.{bucketOf, obeysRules}
-use Rattle.meaning.specs.Words.{Second, vcAt, writeVc, secondObeys, openedVc}
+use Rattle.meaning.specs.Words.{Second, connectionAt, writeConnection, secondObeys, openedConnection}
 use Rattle.meaning.specs.Calls.{calledOf, sharedRefusal, setup, openCall}
 use Rattle.meaning_runs.specs.Run.{Call, onOpenWith, onClose, onSlot, Run, runOf, call, calls, freshRun}
 use Rattle.theory_table.proofs.LeakLaws.{rules-are}
@@ -43,8 +43,8 @@ opens : (r : Record) (words : List ℕ) (v m F C : ℕ) (x : Second) → openCal
 unfolding openCall
 opens r words v m F C x e =
     rules-are (r .n) (bucketOf m F C 0)
-    (opens-by (sharedRefusal r words v) (vcAt words v .opened =? 1) (obeysRules (r .n) (bucketOf m F C 0))
-    (secondObeys (bucketOf (x .m) (x .F) (x .C) 0) (x .tag)) words (writeVc words v (openedVc (r .t) (bucketOf m F C 0) x)) e) .F-low
+    (opens-by (sharedRefusal r words v) (connectionAt words v .opened =? 1) (obeysRules (r .n) (bucketOf m F C 0))
+    (secondObeys (bucketOf (x .m) (x .F) (x .C) 0) (x .tag)) words (writeConnection words v (openedConnection (r .t) (bucketOf m F C 0) x)) e) .F-low
 
 call-obey : (r : Run) (c : Call) → OpensObey (r .events) → OpensObey (call r c .events)
 unfolding call

@@ -10,12 +10,12 @@ use Rattle.meaning.specs.Plain.{if_then_else_, _=?_}
 use Rattle.meaning.specs.Numbers.{octets}
 use Rattle.trace_record.specs.Trace.{TraceRecord, GM, VO, VX, CA, SL, VS, Stands, event, finish, refusal, standsAt, markOctets}
 use Rattle.trace_record.specs.Fits.{Fits, stands-fits}
-use Rattle.list_meaning.specs.Trace.{Call, setUp, openVc, closeVc, serve, Calls, finished, stopped, call, pauses, cellOf, recordCalls, callsAt, callsFrom}
+use Rattle.list_meaning.specs.Trace.{Call, setUp, openConnection, closeConnection, serve, Calls, finished, stopped, call, pauses, cellOf, recordCalls, callsAt, callsFrom}
 
 abbrev pub LaterCall : Call → Type 0
 LaterCall (setUp N z raw) = ⊥
-LaterCall (openVc vci m F C x) = 0 ≤ 0
-LaterCall (closeVc vci) = 0 ≤ 0
+LaterCall (openConnection vci m F C x) = 0 ≤ 0
+LaterCall (closeConnection vci) = 0 ≤ 0
 LaterCall (serve cell) = length cell =? 0 || length cell =? octets ≡ true
 
 abbrev pub Later : Calls → Type 0

@@ -17,7 +17,7 @@ use Rattle.promises.specs.Checked.{HeaderCheck, HeaderCheckHolds}
 use Rattle.promises.proofs.Top.{header-check}
 use Rattle.trace_record.specs.Trace.{TraceRecord, GM, VO, VX, CA, SL, VS, Stands, event, finish, refusal, standsAt}
 use Rattle.trace_record.specs.Fits.{Fits, stands-fits}
-use Rattle.list_meaning.specs.Trace.{Call, setUp, openVc, closeVc, serve, Calls, finished, stopped, call, recordCalls, callsAt, callsFrom, callsOf, limit, goesOn}
+use Rattle.list_meaning.specs.Trace.{Call, setUp, openConnection, closeConnection, serve, Calls, finished, stopped, call, recordCalls, callsAt, callsFrom, callsOf, limit, goesOn}
 use Rattle.list_meaning.specs.Listing.{stateAfter, endsRun, lentFor}
 use Rattle.promise_reach.specs.Served.{Serves, AllServe, EverySlotServed}
 use Rattle.promise_reach.proofs.Later.{LaterCall, Later, calls-later}
@@ -52,16 +52,16 @@ module _ (N z : ℕ) (raw : Bool) (cells links calendar words : List ℕ)
   all-served finished pre s e l = omega arith
   all-served (stopped place) pre s e l = omega arith
   all-served (call (setUp N′ z′ raw′) rest) pre s e l = absurd (l .0)
-  all-served (call (openVc vci m F C x) rest) pre s e l = (
+  all-served (call (openConnection vci m F C x) rest) pre s e l = (
     omega arith,
     λ _. all-served rest (pre ++ (runs.onOpenWith vci m F C x ∷ [])) _
-        (same pre s (openVc vci m F C x) (runs.onOpenWith vci m F C x) e (ap (λ (st : State). stateAfter st (openVc vci m F C x)) e))
+        (same pre s (openConnection vci m F C x) (runs.onOpenWith vci m F C x) e (ap (λ (st : State). stateAfter st (openConnection vci m F C x)) e))
         (l .1),
   )
-  all-served (call (closeVc vci) rest) pre s e l = (
+  all-served (call (closeConnection vci) rest) pre s e l = (
     omega arith,
     λ _. all-served rest (pre ++ (runs.onClose vci ∷ [])) _
-        (same pre s (closeVc vci) (runs.onClose vci) e (ap (λ (x : State). stateAfter x (closeVc vci)) e)) (l .1),
+        (same pre s (closeConnection vci) (runs.onClose vci) e (ap (λ (x : State). stateAfter x (closeConnection vci)) e)) (l .1),
   )
   all-served (call (serve cell) rest) pre s e l = (
     ap (λ (x : State). slot x cell .answer .number) e ∙ slot-served pre cell (l .0),

@@ -8,13 +8,13 @@ use mathlib.Core.Bool.{false}
 use mathlib.Core.List.{List}
 use Rattle.meaning.specs.State.{State}
 use Rattle.meaning.specs.Slot.{slot}
-use Rattle.list_meaning.specs.Trace.{Call, setUp, openVc, closeVc, serve, Calls, finished, stopped, call, callsOf}
+use Rattle.list_meaning.specs.Trace.{Call, setUp, openConnection, closeConnection, serve, Calls, finished, stopped, call, callsOf}
 use Rattle.list_meaning.specs.Listing.{stateAfter, endsRun, lentFor}
 
 abbrev pub Serves : State → Call → Type 0
 Serves s (setUp N z raw) = 0 ≤ 0
-Serves s (openVc vci m F C x) = 0 ≤ 0
-Serves s (closeVc vci) = 0 ≤ 0
+Serves s (openConnection vci m F C x) = 0 ≤ 0
+Serves s (closeConnection vci) = 0 ≤ 0
 Serves s (serve cell) = slot s cell .answer .number ≡ 0
 
 abbrev pub AllServe : State → Calls → Type 0

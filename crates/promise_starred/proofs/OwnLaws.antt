@@ -16,9 +16,9 @@ use Rattle.meaning.specs.Arrival.{sentAs}
 use Rattle.theory_invariant.proofs.FreshLaws.{ranges-are}
 use Rattle.meaning_runs.specs.Run.{Call, onOpenWith, onOpen, onClose, onSlot, Event, Run, letIn, call, freshRun, served}
 use Rattle.meaning_runs.specs.Leak.{openingOf}
-use Rattle.meaning_runs.specs.Seen.{Cell, cellUnder, noCell, ofVc, cellsIn, departuresIn, cellsOf, departuresOf, cellAt}
+use Rattle.meaning_runs.specs.Seen.{Cell, cellUnder, noCell, ofConnection, cellsIn, departuresIn, cellsOf, departuresOf, cellAt}
 use Rattle.meaning_runs.specs.Computed.{byComputation}
-use Rattle.theory_queues.proofs.OrderLaws.{ofVc-append}
+use Rattle.theory_queues.proofs.OrderLaws.{ofConnection-append}
 use Rattle.promises.specs.Demand3.{Demand3}
 use Rattle.promise_starred.specs.ShutOut.{Policer}
 use Rattle.promise_starred.specs.Own.{callBy, callsBy, OnEvents, Meets3, SendsNothing, AcceptsNothing, ServesOn, Stores, keeper, swallower, discarder}
@@ -94,7 +94,7 @@ module _ (f : Policer) where
   unfolding cellsOf
   cells-of r m v =
       let g = cells-stay r m in
-      (ofVc (λ (c : Cell). c .vci) v (g .0), ap (ofVc (λ (c : Cell). c .vci) v) (g .1) ∙ ofVc-append (λ (c : Cell). c .vci) v (cellsIn (r .events)) (g .0))
+      (ofConnection (λ (c : Cell). c .vci) v (g .0), ap (ofConnection (λ (c : Cell). c .vci) v) (g .1) ∙ ofConnection-append (λ (c : Cell). c .vci) v (cellsIn (r .events)) (g .0))
 
 -- ── it stores, goes on, and never sends ──
 no-departure : (v : ℕ) (h : List Event) → departuresIn h ≡ [] → length (departuresOf v h) ≡ 0

@@ -10,7 +10,7 @@ use lib.ListN.{getD, replicate}
 use Rattle.meaning.specs.declared.Answer.{Answer}
 use Rattle.meaning.specs.Numbers.{rangesHold, slotNumbers, empty, letsIn, sPlace}
 use Rattle.meaning.specs.State.{State}
-use Rattle.meaning.specs.Words.{vcAt}
+use Rattle.meaning.specs.Words.{connectionAt}
 use Rattle.meaning.specs.Work.{Work, answerOf}
 use Rattle.meaning.specs.Slot.{slot}
 use Rattle.meaning_runs.specs.Run.{onOpen, onSlot, calls, freshRun}
@@ -101,7 +101,7 @@ module _ (raw : Bool) (f : Policer) (meets : Meets raw f) where
 
   pub invents-no-tally : InventsTally raw f → ⊥
   invents-no-tally bad =
-      bad .other (ap (λ (w : Work). vcAt (w .state .words) (bad .vci) .waiting) (meets .promise (bad .state) (bad .reached) (bad .cell)))
+      bad .other (ap (λ (w : Work). connectionAt (w .state .words) (bad .vci) .waiting) (meets .promise (bad .state) (bad .reached) (bad .cell)))
 
   pub sends : NeverSends raw f → ⊥
   sends bad =

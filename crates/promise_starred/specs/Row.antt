@@ -7,7 +7,7 @@ use mathlib.Core.Option.{Option, some}
 use lib.ListN.{replicate}
 use Rattle.meaning.specs.declared.Answer.{Answer}
 use Rattle.meaning.specs.Plain.{if_then_else_}
-use Rattle.meaning.specs.Numbers.{octets, perEntry, wordsPerVc, letsIn}
+use Rattle.meaning.specs.Numbers.{octets, perEntry, wordsPerConnection, letsIn}
 use Rattle.meaning.specs.State.{State, withWords}
 use Rattle.meaning.specs.Words.{noSecond}
 use Rattle.meaning.specs.Calls.{SetUp, setup, openCall, closeCall}
@@ -94,7 +94,7 @@ pub data Row : Type 0 where
 
 -- setup of a policer that is not raw, over memories that held other numbers
 abbrev pub ready : ℕ → ℕ → SetUp
-ready N z = setup N z false (replicate (octets * N) 7) (replicate N 7) (replicate (perEntry * N) 7) (replicate (wordsPerVc * z) 7)
+ready N z = setup N z false (replicate (octets * N) 7) (replicate N 7) (replicate (perEntry * N) 7) (replicate (wordsPerConnection * z) 7)
 
 abbrev pub says : Row → List Said
 says (run N z steps) = number (ready N z .number) ∷ saysFrom (ready N z .state) steps

@@ -10,7 +10,7 @@ use Rattle.meaning.specs.declared.Served.{Served}
 use Rattle.meaning.specs.Numbers.{rangesHold, empty, letsIn, slotNumbers}
 use Rattle.meaning.specs.State.{State, stateOf}
 use Rattle.meaning.specs.Work.{workOf}
-use Rattle.meaning.specs.Words.{vcAt}
+use Rattle.meaning.specs.Words.{connectionAt}
 use Rattle.meaning.specs.Slot.{slot}
 use Rattle.meaning.specs.Promises.{slotPromise}
 use Rattle.meaning_runs.specs.Run.{Call, calls, freshRun}
@@ -62,7 +62,7 @@ pub record InventsTally (raw : Bool) (f : Policer) : Type 0 where
   pub reached : Reached raw state
   pub cell : List ℕ
   pub vci : ℕ
-  pub other : vcAt (f state cell .words) vci .waiting ≢ vcAt (slot state cell .state .words) vci .waiting
+  pub other : connectionAt (f state cell .words) vci .waiting ≢ connectionAt (slot state cell .state .words) vci .waiting
 
 -- "One that stores and never sends"
 abbrev pub NeverSends : Bool → Policer → Type 0

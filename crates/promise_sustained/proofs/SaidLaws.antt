@@ -12,7 +12,7 @@ use lib.ListN.{length}
 use Rattle.meaning.specs.declared.Answer.{Answer}
 use Rattle.meaning.specs.Plain.{if_then_else_, _=?_}
 use Rattle.meaning.specs.Numbers.{nothing, excess, unknown, dropped, letsIn}
-use Rattle.meaning.specs.Header.{headerAt, noUserCell, namesVc}
+use Rattle.meaning.specs.Header.{headerAt, noUserCell, namesConnection}
 use Rattle.meaning.specs.Work.{Work}
 use Rattle.meaning.specs.Slot.{slot}
 use Rattle.meaning_runs.specs.Run.{Call, onOpenWith, onClose, onSlot, Event, opened, closed, ran, Run, letIn, call, calls, served}
@@ -38,10 +38,10 @@ Quiet v j = j .vci ≡ v → (letsIn (j .verdict) ≡ false) × (j .verdict ≢ 
 
 -- a cell that does not name the VC
 quiet-by : (z t v : ℕ) (op : ℕ → Option Opening) (cell : List ℕ)
-    → namesVc z (headerAt cell 0) && headerAt cell 0 .vci =? v ≡ false → Quiet v (judgedBy z t op cell)
+    → namesConnection z (headerAt cell 0) && headerAt cell 0 .vci =? v ≡ false → Quiet v (judgedBy z t op cell)
 unfolding judgedBy letsIn
 quiet-by z t v op cell =
-    go (length cell =? 0 || noUserCell (headerAt cell 0)) (namesVc z (headerAt cell 0)) (op (headerAt cell 0 .vci))
+    go (length cell =? 0 || noUserCell (headerAt cell 0)) (namesConnection z (headerAt cell 0)) (op (headerAt cell 0 .vci))
   where
     u : ℕ
     u = headerAt cell 0 .vci
@@ -70,7 +70,7 @@ module _ (N z : ℕ) (r : Run) (k : Kept N z r) (cell : List ℕ) where
   told = judgedOf (a .verdict) (a .vci) (a .d)
 
   abbrev named : ℕ → Bool
-  named v = namesVc z (headerAt through 0) && headerAt through 0 .vci =? v
+  named v = namesConnection z (headerAt through 0) && headerAt through 0 .vci =? v
 
   -- a cell of it, in a slot that was served
   module _ (lent : length cell =? 0 || length cell =? 53 ≡ true) where
@@ -81,11 +81,11 @@ module _ (N z : ℕ) (r : Run) (k : Kept N z r) (cell : List ℕ) where
         → (a .vci ≡ v) × (a .verdict ≡ verdictBy o (headerAt through 0 .clp) (served h))
     own-says v o e q = (ap (λ (j : Judged). j .vci) is ∙ mine, ap (λ (j : Judged). j .verdict) is)
       where
-        names : namesVc z (headerAt through 0) ≡ true
-        names = and-left (namesVc z (headerAt through 0)) (headerAt through 0 .vci =? v) e
+        names : namesConnection z (headerAt through 0) ≡ true
+        names = and-left (namesConnection z (headerAt through 0)) (headerAt through 0 .vci =? v) e
 
         mine : headerAt through 0 .vci ≡ v
-        mine = eqb-true (headerAt through 0 .vci) v (and-right (namesVc z (headerAt through 0)) (headerAt through 0 .vci =? v) e)
+        mine = eqb-true (headerAt through 0 .vci) v (and-right (namesConnection z (headerAt through 0)) (headerAt through 0 .vci =? v) e)
 
         is : told ≡ judgedUnder (served h) (headerAt through 0 .vci) (headerAt through 0 .clp) (some o)
         is =

@@ -25,7 +25,7 @@ use lib.ListN.{length, getD}
 use Rattle.meaning.specs.declared.Answer.{Answer}
 use Rattle.meaning.specs.Plain.{if_then_else_, _<?_, _≤?_, _=?_}
 use Rattle.meaning.specs.Numbers.{accepted, excess, tagged}
-use Rattle.meaning.specs.Header.{headerAt, namesVc}
+use Rattle.meaning.specs.Header.{headerAt, namesConnection}
 use Rattle.meaning.specs.Words.{Second}
 use Rattle.meaning.specs.Calls.{setup}
 use Rattle.meaning_runs.specs.Run.{Call, Event, opened, closed, ran, runOf, calls, served}
@@ -39,7 +39,7 @@ Keeps m F C l = (i n : ℕ) → i + n < length l → Spans m F C n (getD l (i + 
 
 -- ── which cells ──
 unfoldable pub comes : ℕ → ℕ → List ℕ → Answer → Bool
-comes z v cell a = a .number =? 0 && (namesVc z (headerAt cell 0) && headerAt cell 0 .vci =? v)
+comes z v cell a = a .number =? 0 && (namesConnection z (headerAt cell 0) && headerAt cell 0 .vci =? v)
 
 unfoldable pub comesZero : ℕ → ℕ → List ℕ → Answer → Bool
 comesZero z v cell a = comes z v cell a && headerAt cell 0 .clp =? 0

@@ -17,7 +17,7 @@ use Rattle.meaning.specs.Numbers.{accepted, nothing, letsIn}
 use Rattle.meaning.specs.State.{State}
 use Rattle.meaning.specs.Bucket.{bucketOf, obeysRules, obeysSecond, isNone}
 use Rattle.meaning.specs.Header.{headerAt}
-use Rattle.meaning.specs.Words.{noSecond, secondObeys, vcAt}
+use Rattle.meaning.specs.Words.{noSecond, secondObeys, connectionAt}
 use Rattle.meaning.specs.Arrival.{sentAs}
 use Rattle.meaning.specs.Calls.{openCall}
 use Rattle.meaning.specs.Slot.{slot}
@@ -27,7 +27,7 @@ use Rattle.meaning_runs.specs.Leak.{Opening, openingWith, dueTime, dueSlot, lea
 use Rattle.meaning_runs.specs.Seen.{Cell, cellUnder, cellsOf}
 use Rattle.meaning_runs.specs.Judged.{Judged, judgedOf, judgedUnder, judgedBy, judgedAs}
 use Rattle.meaning_runs.specs.Computed.{byComputation}
-use Rattle.theory_table.specs.Stored.{VcIs}
+use Rattle.theory_table.specs.Stored.{ConnectionIs}
 use Rattle.theory_invariant.proofs.CallLaws.{shared-in}
 use Rattle.theory_invariant.proofs.CheckLaws.{slot-served}
 use Rattle.theory_invariant.proofs.RunLaws.{Kept}
@@ -173,7 +173,7 @@ module _ (N z : ℕ) (r : Run) (kept : Kept N z r) where
   -- ── an open that keeps to the rules ──
   module _ (u m F C : ℕ) (low : 1 ≤ u) (high : u < z) (shut : openingOf u h ≡ none)
       (rules : obeysRules N (bucketOf m F C 0) ≡ true) where
-    closed-word : (x : Option Opening) (q : ℕ) → x ≡ none → VcIs N z (served h) u (vcAt (s .words) u) q x → vcAt (s .words) u .opened ≡ 0
+    closed-word : (x : Option Opening) (q : ℕ) → x ≡ none → ConnectionIs N z (served h) u (connectionAt (s .words) u) q x → connectionAt (s .words) u .opened ≡ 0
     closed-word none q e k = k
     closed-word (some o) q e k = absurd (let y : _≡_ {A = ℕ} 0 1 = cc in omega arith)
 

@@ -9,8 +9,8 @@ use native.Mathlib.Omega.{arith}
 use lib.ListN.{length, getD}
 use Rattle.meaning.specs.State.{State}
 use Rattle.meaning_runs.specs.Run.{Event}
-use Rattle.meaning_runs.specs.Seen.{ofVc, departuresIn, departuresOf, noDeparture}
-use Rattle.theory_queues.proofs.OrderLaws.{ofVc-yes, ofVc-no}
+use Rattle.meaning_runs.specs.Seen.{ofConnection, departuresIn, departuresOf, noDeparture}
+use Rattle.theory_queues.proofs.OrderLaws.{ofConnection-yes, ofConnection-no}
 use Rattle.theory_invariant.specs.Invariant.{Inv}
 use Rattle.promise_bound.specs.Bound.{inWindow}
 use Rattle.promise_bound.proofs.CountLaws.{count}
@@ -37,16 +37,16 @@ module _ {A : Type 0} (p : A → Bool) (d : A) where
           ap (λ (k : ℕ). p (getD (x ∷ l) k d)) e ∙ f j less
 
   -- of two numbers
-  pub two-parts : (g : A → ℕ) (u v : ℕ) → u ≢ v → (l : List A) → count p d (ofVc g u l) + count p d (ofVc g v l) ≤ count p d l
+  pub two-parts : (g : A → ℕ) (u v : ℕ) → u ≢ v → (l : List A) → count p d (ofConnection g u l) + count p d (ofConnection g v l) ≤ count p d l
   two-parts g u v ne [] = omega arith
   two-parts g u v ne (x ∷ l) = go (ℕ-discrete (g x) u) (ℕ-discrete (g x) v) (two-parts g u v ne l)
     where
-      go : Dec (g x ≡ u) → Dec (g x ≡ v) → count p d (ofVc g u l) + count p d (ofVc g v l) ≤ count p d l
-          → count p d (ofVc g u (x ∷ l)) + count p d (ofVc g v (x ∷ l)) ≤ count p d (x ∷ l)
+      go : Dec (g x ≡ u) → Dec (g x ≡ v) → count p d (ofConnection g u l) + count p d (ofConnection g v l) ≤ count p d l
+          → count p d (ofConnection g u (x ∷ l)) + count p d (ofConnection g v (x ∷ l)) ≤ count p d (x ∷ l)
       go (yes e) (yes f) rest = absurd (ne (omega (arith, e, f)))
-      go (yes e) (no f) rest = rw (ofVc-yes g u x l e, ofVc-no g v x l f) (omega (arith, rest))
-      go (no e) (yes f) rest = rw (ofVc-no g u x l e, ofVc-yes g v x l f) (omega (arith, rest))
-      go (no e) (no f) rest = rw (ofVc-no g u x l e, ofVc-no g v x l f) (omega (arith, rest))
+      go (yes e) (no f) rest = rw (ofConnection-yes g u x l e, ofConnection-no g v x l f) (omega (arith, rest))
+      go (no e) (yes f) rest = rw (ofConnection-no g u x l e, ofConnection-yes g v x l f) (omega (arith, rest))
+      go (no e) (no f) rest = rw (ofConnection-no g u x l e, ofConnection-no g v x l f) (omega (arith, rest))
 
 -- ── the departures of a run ──
 -- at most w of two VCs in w slots

@@ -16,7 +16,7 @@ use Rattle.base_hec.specs.Modes.{Arriving, correction, detection, passes, drops
 use Rattle.meaning.specs.Plain.{_=?_}
 use Rattle.meaning.specs.Numbers.{octets, dropped, letsIn}
 use Rattle.meaning.specs.State.{State, withWords}
-use Rattle.meaning.specs.Header.{headerAt, noUserCell, namesVc}
+use Rattle.meaning.specs.Header.{headerAt, noUserCell, namesConnection}
 use Rattle.meaning.specs.Words.{Second}
 use Rattle.meaning.specs.Calls.{rawNumber, freshRecord, freshState}
 use Rattle.meaning.specs.Work.{Work}
@@ -67,7 +67,7 @@ unfolding judgedBy
 judged-other z t openings cell =
     let h = headerAt cell 0 in
     if-holds (λ (j : Judged). j .verdict ≢ dropped) (length cell =? 0 || noUserCell h) _ _ (λ _ e. omega (arith, e))
-    (λ _. if-holds (λ (j : Judged). j .verdict ≢ dropped) (not (namesVc z h)) _ _ (λ _ e. omega (arith, e))
+    (λ _. if-holds (λ (j : Judged). j .verdict ≢ dropped) (not (namesConnection z h)) _ _ (λ _ e. omega (arith, e))
     (λ _. under-other t (h .vci) (h .clp) (openings (h .vci))))
 
 -- ── what the check lets through ──

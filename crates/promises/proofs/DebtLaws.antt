@@ -15,20 +15,20 @@ use borrow.Author.Tests.{eq-eqb, ne-eqb, eqb-true, leb-true, ltb-true}
 use Rattle.meaning.specs.Plain.{if_then_else_, _<?_, _≤?_, _=?_}
 use Rattle.meaning.specs.Numbers.{rangesHold}
 use Rattle.meaning.specs.State.{State}
-use Rattle.meaning.specs.Words.{Vc, vcAt, writeVc, closedVc, debt}
+use Rattle.meaning.specs.Words.{Connection, connectionAt, writeConnection, closedConnection, debt}
 use Rattle.meaning.specs.Calls.{calledOf, closeCall}
 use Rattle.meaning_runs.specs.Run.{Call, onOpenWith, onClose, onSlot, Event, opened, closed, ran, Run, call, calls, freshRun, served}
 use Rattle.meaning_runs.specs.Leak.{Opening, parts, dueTime, openingOf}
-use Rattle.meaning_runs.specs.Seen.{ofVc, cellsOf, departuresOf, cellAt}
+use Rattle.meaning_runs.specs.Seen.{ofConnection, cellsOf, departuresOf, cellAt}
 use Rattle.theory_queues.specs.Queue.{sum, sums, flat, turn}
 use Rattle.theory_queues.proofs.QueueLaws.{sum-append, sums-flat, turn-sums}
-use Rattle.theory_queues.proofs.OrderLaws.{ofVc-yes, ofVc-no}
+use Rattle.theory_queues.proofs.OrderLaws.{ofConnection-yes, ofConnection-no}
 use Rattle.theory_chains.proofs.CountLaws.{is-yes, is-no}
-use Rattle.theory_table.specs.Stored.{earliestAfter, earliest, level, clock, OpenVc, VcIs}
+use Rattle.theory_table.specs.Stored.{earliestAfter, earliest, level, clock, OpenConnection, ConnectionIs}
 use Rattle.theory_table.proofs.LeakLaws.{and-left, and-right, due-time}
-use Rattle.theory_table.proofs.VcLaws.{debt-is}
+use Rattle.theory_table.proofs.ConnectionLaws.{debt-is}
 use Rattle.theory_memory.specs.Held.{Queued, vciOf}
-use Rattle.theory_invariant.specs.Invariant.{cellIn, vciIn, isOf, waits, Inv}
+use Rattle.theory_invariant.specs.Invariant.{cellIn, connectionIn, isOf, waits, Inv}
 use Rattle.theory_invariant.proofs.CallLaws.{shared-in, shared-out}
 use Rattle.theory_invariant.proofs.RunLaws.{Kept, call-kept, calls-kept, run-kept}
 use Rattle.promises.specs.Demand3.{Demand3}
@@ -64,17 +64,17 @@ paid-after L F t none = (λ e. tt, λ e. omega arith)
 paid-after L F t (some p) = (λ e. omega (arith, e), λ e. omega (arith, e))
 
 -- cells of the VC v in a list of queued ones
-count-is : (v : ℕ) (q : List Queued) → length (ofVc vciIn v (map cellIn q)) ≡ sum (isOf v) q
+count-is : (v : ℕ) (q : List Queued) → length (ofConnection connectionIn v (map cellIn q)) ≡ sum (isOf v) q
 count-is v [] = refl
 count-is v (c ∷ q) = go (count-is v q) (ℕ-discrete (vciOf c) v)
   where
-    go : length (ofVc vciIn v (map cellIn q)) ≡ sum (isOf v) q → Dec (vciOf c ≡ v)
-        → length (ofVc vciIn v (cellIn c ∷ map cellIn q)) ≡ isOf v c + sum (isOf v) q
+    go : length (ofConnection connectionIn v (map cellIn q)) ≡ sum (isOf v) q → Dec (vciOf c ≡ v)
+        → length (ofConnection connectionIn v (cellIn c ∷ map cellIn q)) ≡ isOf v c + sum (isOf v) q
     go rest (yes e) =
-        ap length (ofVc-yes vciIn v (cellIn c) (map cellIn q) e)
+        ap length (ofConnection-yes connectionIn v (cellIn c) (map cellIn q) e)
         ∙ omega (arith, rest, is-yes v (vciOf c) (sym e))
     go rest (no ne) =
-        ap length (ofVc-no vciIn v (cellIn c) (map cellIn q) ne)
+        ap length (ofConnection-no connectionIn v (cellIn c) (map cellIn q) ne)
         ∙ omega (arith, rest, is-no v (vciOf c) (λ e. ne (sym e)))
 
 -- ── after one run ──
@@ -90,26 +90,26 @@ module _ (N z : ℕ) (h : List Event) (s : State) (i : Inv N z h s) where
       )
 
   module _ (v : ℕ) (o : Opening) (h1 : 1 ≤ v) (h2 : v < z) (e : openingOf v h ≡ some o) where
-    is-open : OpenVc N z (served h) v (vcAt (s .words) v) (waits v (i .out) (turn (i .cal))) o
+    is-open : OpenConnection N z (served h) v (connectionAt (s .words) v) (waits v (i .out) (turn (i .cal))) o
     is-open =
-        subst (λ (a : Option Opening). VcIs N z (served h) v (vcAt (s .words) v) (waits v (i .out) (turn (i .cal))) a) e
+        subst (λ (a : Option Opening). ConnectionIs N z (served h) v (connectionAt (s .words) v) (waits v (i .out) (turn (i .cal))) a) e
         (i .stage .table v h1 h2)
 
-    pub counted : length (departuresOf v h) + vcAt (s .words) v .waiting ≡ length (cellsOf v h)
+    pub counted : length (departuresOf v h) + connectionAt (s .words) v .waiting ≡ length (cellsOf v h)
     counted =
         omega (
           arith,
           many-left N z h s i v,
           many-cells N z h s i v,
           many-waiting v,
-          ap (λ (c : Vc). c .waiting) (is-open .is),
+          ap (λ (c : Connection). c .waiting) (is-open .is),
         )
 
     -- what is left in the bucket as of the slot served last
-    pub owes : debt (s .ctl .t) (vcAt (s .words) v) ≡ level o (served h)
+    pub owes : debt (s .ctl .t) (connectionAt (s .words) v) ≡ level o (served h)
     owes =
-        ap (λ (t : ℕ). debt t (vcAt (s .words) v)) (i .stage .t-is)
-        ∙ debt-is N z (i .stage .ranges .z-high) (served h) v (vcAt (s .words) v) (waits v (i .out) (turn (i .cal))) o h2
+        ap (λ (t : ℕ). debt t (connectionAt (s .words) v)) (i .stage .t-is)
+        ∙ debt-is N z (i .stage .ranges .z-high) (served h) v (connectionAt (s .words) v) (waits v (i .out) (turn (i .cal))) o h2
         is-open
 
     told : (b : Bool) (x : List ℕ) → (if b then calledOf 8 (s .words) else calledOf 0 x) .number ≡ (if b then 8 else 0)
@@ -117,21 +117,21 @@ module _ (N z : ℕ) (h : List Event) (s : State) (i : Inv N z h s) where
     told false x = refl
 
     number-is : closeCall (s .ctl) (s .words) v .number
-        ≡ answered (vcAt (s .words) v .waiting) (debt (s .ctl .t) (vcAt (s .words) v))
+        ≡ answered (connectionAt (s .words) v .waiting) (debt (s .ctl .t) (connectionAt (s .words) v))
     unfolding closeCall
     number-is =
         rw (
           shared-in N z h s i v h1 h2,
-          ne-eqb (vcAt (s .words) v .opened) 0 (λ y. omega (arith, y, ap (λ (c : Vc). c .opened) (is-open .is))),
+          ne-eqb (connectionAt (s .words) v .opened) 0 (λ y. omega (arith, y, ap (λ (c : Connection). c .opened) (is-open .is))),
         )
-        (told (not (vcAt (s .words) v .waiting =? 0 && debt (s .ctl .t) (vcAt (s .words) v) =? 0))
-        (writeVc (s .words) v closedVc))
+        (told (not (connectionAt (s .words) v .waiting =? 0 && debt (s .ctl .t) (connectionAt (s .words) v) =? 0))
+        (writeConnection (s .words) v closedConnection))
 
     abbrev w : ℕ
-    w = vcAt (s .words) v .waiting
+    w = connectionAt (s .words) v .waiting
 
     abbrev d : ℕ
-    d = debt (s .ctl .t) (vcAt (s .words) v)
+    d = debt (s .ctl .t) (connectionAt (s .words) v)
 
     pub exactly : (closeCall (s .ctl) (s .words) v .number ≡ 0) ↔ (AllLeft v h × Paid o (lastSlot h))
     exactly = (
@@ -317,9 +317,9 @@ module _ (N z : ℕ) (r : Run) (k : Kept N z r) where
 
       lasts : (v : ℕ) (o : Opening) → 1 ≤ v → v < z → openingOf v (r .events) ≡ some o
           → openingOf v (calls r cs .events) ≡ some o
-          → (debt (calls r cs .state .ctl .t) (vcAt (calls r cs .state .words) v) ≢ 0)
+          → (debt (calls r cs .state .ctl .t) (connectionAt (calls r cs .state .words) v) ≢ 0)
           ↔ (served (calls r cs .events)
-          < served (r .events) + roundedUp (debt (r .state .ctl .t) (vcAt (r .state .words) v)) (parts o))
+          < served (r .events) + roundedUp (debt (r .state .ctl .t) (connectionAt (r .state .words) v)) (parts o))
       lasts v o h1 h2 e f =
           rw (
             owes N z (r .events) (r .state) (k .inv) v o h1 h2 e,

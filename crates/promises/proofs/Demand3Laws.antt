@@ -13,15 +13,15 @@ use Rattle.meaning.specs.State.{State, freeList, outputList}
 use Rattle.meaning.specs.Lists.{isEmpty}
 use Rattle.meaning.specs.Slot.{slot}
 use Rattle.meaning_runs.specs.Run.{Event, served}
-use Rattle.meaning_runs.specs.Seen.{Cell, Departure, ofVc, cellsIn, cellsOf, departuresOf, noCell, noDeparture, cellAt, departureAt}
+use Rattle.meaning_runs.specs.Seen.{Cell, Departure, ofConnection, cellsIn, cellsOf, departuresOf, noCell, noDeparture, cellAt, departureAt}
 use Rattle.theory_queues.specs.Queue.{one, All, flat, turn}
 use Rattle.theory_queues.proofs.QueueLaws.{map-length, turn-sums}
 use Rattle.theory_queues.proofs.LineLaws.{still-in-time}
-use Rattle.theory_queues.proofs.OrderLaws.{ofVc-append, ofVc-map, ofVc-all}
+use Rattle.theory_queues.proofs.OrderLaws.{ofConnection-append, ofConnection-map, ofConnection-all}
 use Rattle.theory_queues.proofs.RisingLaws.{rising-of, rising-at}
 use Rattle.theory_memory.specs.Held.{dueOf, Has}
 use Rattle.theory_memory.proofs.HasLaws.{SomeFree, some-free, free-marked}
-use Rattle.theory_invariant.specs.Invariant.{Left, seenAs, cellLeft, cellIn, vciIn, InTime, Delayed, Inv}
+use Rattle.theory_invariant.specs.Invariant.{Left, seenAs, cellLeft, cellIn, connectionIn, InTime, Delayed, Inv}
 use Rattle.promises.specs.Demand3.{Demand3}
 use Rattle.promises.proofs.VerdictLaws.{says, accepts}
 
@@ -43,21 +43,21 @@ noLeft = record { slot = 0; cell = noCell }
 module _ (N z : ℕ) (h : List Event) (s : State) (i : Inv N z h s) where
   -- those of the VC v that left, and the cells of it that wait
   abbrev pub gone : ℕ → List Left
-  gone v = ofVc (λ p. p .cell .vci) v (i .left)
+  gone v = ofConnection (λ p. p .cell .vci) v (i .left)
 
   abbrev pub waiting : ℕ → List Cell
-  waiting v = ofVc vciIn v (map cellIn (i .out ++ flat (i .cal)))
+  waiting v = ofConnection connectionIn v (map cellIn (i .out ++ flat (i .cal)))
 
   departures-are : (v : ℕ) → departuresOf v h ≡ map seenAs (gone v)
   unfolding departuresOf
-  departures-are v = ap (ofVc (λ d. d .vci) v) (i .seen) ∙ ofVc-map (λ d. d .vci) seenAs v (i .left)
+  departures-are v = ap (ofConnection (λ d. d .vci) v) (i .seen) ∙ ofConnection-map (λ d. d .vci) seenAs v (i .left)
 
   cells-are : (v : ℕ) → cellsOf v h ≡ map cellLeft (gone v) ++ waiting v
   unfolding cellsOf
   cells-are v =
       i .order v
-      ∙ ofVc-append vciIn v (map cellLeft (i .left)) (map cellIn (i .out ++ flat (i .cal)))
-      ∙ ap (λ l. l ++ waiting v) (ofVc-map vciIn cellLeft v (i .left))
+      ∙ ofConnection-append connectionIn v (map cellLeft (i .left)) (map cellIn (i .out ++ flat (i .cal)))
+      ∙ ap (λ l. l ++ waiting v) (ofConnection-map connectionIn cellLeft v (i .left))
 
   pub many-left : (v : ℕ) → length (departuresOf v h) ≡ length (gone v)
   many-left v = ap length (departures-are v) ∙ map-length seenAs (gone v)
@@ -82,7 +82,7 @@ module _ (N z : ℕ) (h : List Event) (s : State) (i : Inv N z h s) where
 
     timely : InTime (N - 1) (getD (gone v) k noLeft)
     timely =
-        all-at (InTime (N - 1)) (gone v) k noLeft (ofVc-all (λ p. p .cell .vci) v (InTime (N - 1)) (i .left) (i .in-time))
+        all-at (InTime (N - 1)) (gone v) k noLeft (ofConnection-all (λ p. p .cell .vci) v (InTime (N - 1)) (i .left) (i .in-time))
         here
 
   all-image : {A B : Type 0} (P : B → Type 0) (f : A → B) (l : List A) → All (λ x. P (f x)) l → All P (map f l)
@@ -90,7 +90,7 @@ module _ (N z : ℕ) (h : List Event) (s : State) (i : Inv N z h s) where
   all-image P f (x ∷ l) a = (a .0, all-image P f l (a .1))
 
   waiting-in-time : (v : ℕ) → All (λ c. served h ≤ c .due + (N - 1)) (waiting v)
-  waiting-in-time v = ofVc-all vciIn v (λ c. served h ≤ c .due + (N - 1)) (map cellIn (i .out ++ flat (i .cal)))
+  waiting-in-time v = ofConnection-all connectionIn v (λ c. served h ≤ c .due + (N - 1)) (map cellIn (i .out ++ flat (i .cal)))
       (all-image (λ (c : Cell). served h ≤ c .due + (N - 1)) cellIn (i .out ++ flat (i .cal))
       (still-in-time dueOf (N - 1) (served h) (i .cal) (i .out) (i .good)))
 
@@ -137,13 +137,13 @@ module _ (N z : ℕ) (h : List Event) (s : State) (i : Inv N z h s) where
 
   delays : (v : ℕ) → All (Delayed N) (cellsOf v h)
   unfolding cellsOf
-  delays v = ofVc-all vciIn v (Delayed N) (cellsIn h) (i .delays)
+  delays v = ofConnection-all connectionIn v (Delayed N) (cellsIn h) (i .delays)
 
   arrivals-rise : (v j k : ℕ) → j < k → k < length (cellsOf v h) → cellAt v j h .arrival < cellAt v k h .arrival
   unfolding cellsOf
   arrivals-rise v j k less low =
       rising-at (λ c. c .arrival) 0 (served h) (cellsOf v h) j k noCell less low
-      (rising-of (λ c. c .arrival) vciIn v 0 (served h) (cellsIn h) (i .cells-rise))
+      (rising-of (λ c. c .arrival) connectionIn v 0 (served h) (cellsIn h) (i .cells-rise))
 
   departures-rise : (v j k : ℕ) → j < k → k < length (departuresOf v h) → departureAt v j h .slot < departureAt v k h .slot
   departures-rise v j k less low =

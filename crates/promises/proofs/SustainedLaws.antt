@@ -11,12 +11,12 @@ use Rattle.meaning.specs.Plain.{if_then_else_, _=?_}
 use Rattle.meaning.specs.Numbers.{accepted, excess, tagged, letsIn}
 use Rattle.meaning.specs.State.{State}
 use Rattle.meaning.specs.Header.{headerAt}
-use Rattle.meaning.specs.Words.{Second, noSecond, vcAt}
+use Rattle.meaning.specs.Words.{Second, noSecond, connectionAt}
 use Rattle.meaning_runs.specs.Run.{Event, letIn, served}
 use Rattle.meaning_runs.specs.Leak.{Opening, dueSlot, leakAfter, leakAccepts, sustains, verdictBy, openingOf}
 use Rattle.meaning_runs.specs.Judged.{judgedOf, judgedUnder}
 use Rattle.theory_queues.specs.Queue.{turn}
-use Rattle.theory_table.specs.Stored.{levelAfter, OpenVc, VcIs}
+use Rattle.theory_table.specs.Stored.{levelAfter, OpenConnection, ConnectionIs}
 use Rattle.theory_invariant.specs.Invariant.{waits, Inv}
 use Rattle.theory_invariant.proofs.ArriveLaws.{names-facts}
 use Rattle.promises.specs.Sustained.{byPeak, AsBefore}
@@ -51,9 +51,9 @@ module _ (N z : ℕ) (h : List Event) (s : State) (i : Inv N z h s) where
       (within (served h) (c .seen) (o .sustained) (c .past)
       (subst (λ (x : Second). levelAfter (x .m) (x .F) (o .sustained) (c .seen) ≤ x .C) f (c .full-second)))
     where
-      c : OpenVc N z (served h) v (vcAt (s .words) v) (waits v (i .out) (turn (i .cal))) o
+      c : OpenConnection N z (served h) v (connectionAt (s .words) v) (waits v (i .out) (turn (i .cal))) o
       c =
-          subst (λ (a : Option Opening). VcIs N z (served h) v (vcAt (s .words) v) (waits v (i .out) (turn (i .cal))) a) e
+          subst (λ (a : Option Opening). ConnectionIs N z (served h) v (connectionAt (s .words) v) (waits v (i .out) (turn (i .cal))) a) e
           (i .stage .table v h1 h2)
 
   pub as-before : AsBefore z h s

@@ -12,7 +12,7 @@ use lib.ListN.{length}
 use Rattle.meaning.specs.Plain.{if_then_else_, _=?_}
 use Rattle.meaning.specs.Numbers.{accepted, excess, tagged, letsIn}
 use Rattle.meaning.specs.State.{State}
-use Rattle.meaning.specs.Header.{Header, headerOf, headerAt, noUserCell, namesVc}
+use Rattle.meaning.specs.Header.{Header, headerOf, headerAt, noUserCell, namesConnection}
 use Rattle.meaning.specs.Slot.{slot}
 use Rattle.meaning.proofs.CheckedLaws.{dropped-none}
 use Rattle.meaning_runs.specs.Run.{Event, letIn, served}
@@ -46,12 +46,12 @@ module _ (N z : ℕ) (h : List Event) (s : State) (i : Inv N z h s) where
   lent cell e = rw e
 
   -- a header that names a VC is a user cell's, and no list without octets has it
-  some-octets : (cell : List ℕ) → namesVc z (headerAt cell 0) ≡ true → length cell ≢ 0
+  some-octets : (cell : List ℕ) → namesConnection z (headerAt cell 0) ≡ true → length cell ≢ 0
   unfolding headerAt headerOf
   some-octets [] n e = omega (arith, names-facts z (headerAt [] 0) n .0)
   some-octets (x ∷ cell) n e = omega arith
 
-  user : (cell : List ℕ) → namesVc z (headerAt cell 0) ≡ true → length cell =? 0 || noUserCell (headerAt cell 0) ≡ false
+  user : (cell : List ℕ) → namesConnection z (headerAt cell 0) ≡ true → length cell =? 0 || noUserCell (headerAt cell 0) ≡ false
   unfolding noUserCell
   user cell n =
       rw (ne-eqb (length cell) 0 (some-octets cell n)) (go (headerAt cell 0) (names-facts z (headerAt cell 0) n .0))
@@ -64,7 +64,7 @@ module _ (N z : ℕ) (h : List Event) (s : State) (i : Inv N z h s) where
           last false = refl
 
   -- so it is not dropped
-  pub let-in : (cell : List ℕ) → namesVc z (headerAt (letIn s cell .cell) 0) ≡ true → letIn s cell .dropped ≡ false
+  pub let-in : (cell : List ℕ) → namesConnection z (headerAt (letIn s cell .cell) 0) ≡ true → letIn s cell .dropped ≡ false
   let-in cell n = go (letIn s cell .dropped) refl
     where
       go : (b : Bool) → letIn s cell .dropped ≡ b → b ≡ false
@@ -78,25 +78,25 @@ module _ (N z : ℕ) (h : List Event) (s : State) (i : Inv N z h s) where
       → judgedOf (slot s cell .answer .verdict) (slot s cell .answer .vci) (slot s cell .answer .d) ≡ judged z h (letIn s cell .cell)
   through cell e d = says cell (lent cell e) ∙ rw d
 
-  pub judged-is : (cell : List ℕ) (o : Opening) → namesVc z (headerAt cell 0) ≡ true
+  pub judged-is : (cell : List ℕ) (o : Opening) → namesConnection z (headerAt cell 0) ≡ true
       → openingOf (headerAt cell 0 .vci) h ≡ some o
       → judged z h cell ≡ judgedUnder (served h) (headerAt cell 0 .vci) (headerAt cell 0 .clp) (some o)
   unfolding judgedBy
   judged-is cell o n q = rw (user cell n, n, q)
 
   -- of a cell of an open VC: what the leak rules say under its opening
-  pub judged-open : (cell : List ℕ) (o : Opening) → length cell ≡ 53 → namesVc z (headerAt (letIn s cell .cell) 0) ≡ true
+  pub judged-open : (cell : List ℕ) (o : Opening) → length cell ≡ 53 → namesConnection z (headerAt (letIn s cell .cell) 0) ≡ true
       → openingOf (headerAt (letIn s cell .cell) 0 .vci) h ≡ some o
       → judgedOf (slot s cell .answer .verdict) (slot s cell .answer .vci) (slot s cell .answer .d)
       ≡ judgedUnder (served h) (headerAt (letIn s cell .cell) 0 .vci) (headerAt (letIn s cell .cell) 0 .clp) (some o)
   judged-open cell o e n q = through cell e (let-in cell n) ∙ judged-is (letIn s cell .cell) o n q
 
-  verdict-is : (cell : List ℕ) (o : Opening) → length cell ≡ 53 → namesVc z (headerAt (letIn s cell .cell) 0) ≡ true
+  verdict-is : (cell : List ℕ) (o : Opening) → length cell ≡ 53 → namesConnection z (headerAt (letIn s cell .cell) 0) ≡ true
       → openingOf (headerAt (letIn s cell .cell) 0 .vci) h ≡ some o
       → slot s cell .answer .verdict ≡ verdictBy o (headerAt (letIn s cell .cell) 0 .clp) (served h)
   verdict-is cell o e n q = ap (λ (j : Judged). j .verdict) (judged-open cell o e n q)
 
-  pub accepts : (cell : List ℕ) (o : Opening) → length cell ≡ 53 → namesVc z (headerAt (letIn s cell .cell) 0) ≡ true
+  pub accepts : (cell : List ℕ) (o : Opening) → length cell ≡ 53 → namesConnection z (headerAt (letIn s cell .cell) 0) ≡ true
       → openingOf (headerAt (letIn s cell .cell) 0 .vci) h ≡ some o
       → (letsIn (slot s cell .answer .verdict) ≡ true) ↔ (admits o (headerAt (letIn s cell .cell) 0 .clp) (served h) ≡ true)
   accepts cell o e n q = (λ p. sym same ∙ p, λ p. same ∙ p)

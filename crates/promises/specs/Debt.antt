@@ -15,7 +15,7 @@ use mathlib.Core.Logic.{_≢_, _↔_}
 use mathlib.Core.Option.{Option, none, some}
 use lib.ListN.{length}
 use Rattle.meaning.specs.State.{State}
-use Rattle.meaning.specs.Words.{vcAt, debt}
+use Rattle.meaning.specs.Words.{connectionAt, debt}
 use Rattle.meaning.specs.Calls.{setup, closeCall}
 use Rattle.meaning_runs.specs.Run.{Call, Event, closed, Run, runOf, calls, served}
 use Rattle.meaning_runs.specs.Leak.{Opening, parts, dueTime, openingOf}
@@ -54,7 +54,7 @@ pub record Debt (N z : ℕ) (h : List Event) (s : State) : Type 0 where
       → closeCall (s .ctl) (s .words) v .number ≢ 0 → closeCall (s .ctl) (s .words) v .number ≡ 8
   -- waiting counts the accepted cells that have not left
   pub waiting-is : (v : ℕ) (o : Opening) → 1 ≤ v → v < z → openingOf v h ≡ some o
-      → length (departuresOf v h) + vcAt (s .words) v .waiting ≡ length (cellsOf v h)
+      → length (departuresOf v h) + connectionAt (s .words) v .waiting ≡ length (cellsOf v h)
   pub across : Across h
   -- the waiting half of 8 is over at the latest D + N-1 slots after the arrival of the last accepted cell, the k-th
   pub waiting-half : (v k : ℕ) → length (cellsOf v h) ≡ suc k
@@ -71,9 +71,9 @@ pub record Refused (z : ℕ) (r : Run) (cs : List Call) : Type 0 where
   pub s-half : (v : ℕ) (o : Opening) → 1 ≤ v → v < z
       → openingOf v (r .events) ≡ some o
       → openingOf v (calls r cs .events) ≡ some o
-      → (debt (calls r cs .state .ctl .t) (vcAt (calls r cs .state .words) v) ≢ 0)
+      → (debt (calls r cs .state .ctl .t) (connectionAt (calls r cs .state .words) v) ≢ 0)
       ↔ (served (calls r cs .events)
-      < served (r .events) + roundedUp (debt (r .state .ctl .t) (vcAt (r .state .words) v)) (parts o))
+      < served (r .events) + roundedUp (debt (r .state .ctl .t) (connectionAt (r .state .words) v)) (parts o))
 
 abbrev pub DebtHolds : Type 0
 DebtHolds = (N z : ℕ) (raw : Bool) (cells links calendar words : List ℕ)

@@ -27,7 +27,7 @@ use lib.ListN.{length}
 use Rattle.meaning.specs.Plain.{_=?_}
 use Rattle.meaning.specs.Numbers.{octets, letsIn}
 use Rattle.meaning.specs.State.{State, freeList}
-use Rattle.meaning.specs.Header.{headerAt, namesVc}
+use Rattle.meaning.specs.Header.{headerAt, namesConnection}
 use Rattle.meaning.specs.Lists.{isEmpty}
 use Rattle.meaning.specs.Calls.{setup}
 use Rattle.meaning.specs.Slot.{slot}
@@ -67,7 +67,7 @@ pub record Demand3 (N z : ℕ) (h : List Event) (s : State) : Type 0 where
       × (cellAt v k h .D ≤ N - 1)
   -- 8: the next slot accepts or tags a cell that is let through with the header of an open VC exactly when the leak rules let it in
   pub accepts-exactly : (cell : List ℕ) (o : Opening) → length cell ≡ octets
-      → namesVc z (headerAt (letIn s cell .cell) 0) ≡ true
+      → namesConnection z (headerAt (letIn s cell .cell) 0) ≡ true
       → openingOf (headerAt (letIn s cell .cell) 0 .vci) h ≡ some o
       → (letsIn (slot s cell .answer .verdict) ≡ true) ↔ (admits o (headerAt (letIn s cell .cell) 0 .clp) (served h) ≡ true)
   -- and whatever arrives, verdict, VCI and D are those of the header let through and the leak rules, or 4, 0 and 0

@@ -15,7 +15,7 @@ use lib.ListN.{length}
 use Rattle.meaning.specs.Plain.{if_then_else_}
 use Rattle.meaning.specs.Numbers.{octets, accepted, excess}
 use Rattle.meaning.specs.State.{State}
-use Rattle.meaning.specs.Header.{headerAt, namesVc}
+use Rattle.meaning.specs.Header.{headerAt, namesConnection}
 use Rattle.meaning.specs.Words.{noSecond}
 use Rattle.meaning.specs.Calls.{setup}
 use Rattle.meaning.specs.Slot.{slot}
@@ -28,7 +28,7 @@ byPeak t vci o = if leakAccepts o t then judgedOf accepted vci (dueSlot o t - t)
 
 pub record AsBefore (z : ℕ) (h : List Event) (s : State) : Type 0 where
   pub by-peak-alone : (cell : List ℕ) (o : Opening) → length cell ≡ octets
-      → namesVc z (headerAt (letIn s cell .cell) 0) ≡ true
+      → namesConnection z (headerAt (letIn s cell .cell) 0) ≡ true
       → openingOf (headerAt (letIn s cell .cell) 0 .vci) h ≡ some o
       → o .second ≡ noSecond
       → judgedOf (slot s cell .answer .verdict) (slot s cell .answer .vci) (slot s cell .answer .d)

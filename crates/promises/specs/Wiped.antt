@@ -12,7 +12,7 @@ use lib.ListN.{replicate}
 use Rattle.meaning.specs.declared.Record.{Record}
 use Rattle.meaning.specs.Plain.{if_then_else_, _=?_}
 use Rattle.meaning.specs.State.{withWords}
-use Rattle.meaning.specs.Words.{vcAt, writeVc, closedVc}
+use Rattle.meaning.specs.Words.{connectionAt, writeConnection, closedConnection}
 use Rattle.meaning.specs.Calls.{Called, calledOf, sharedRefusal}
 use Rattle.meaning_runs.specs.Run.{Call, onOpenWith, onOpen, onClose, onSlot, closed, Run, runOf, call}
 use Rattle.meaning_runs.specs.Eight.{cellFor}
@@ -21,9 +21,9 @@ unfoldable pub closeWiping : Record → List ℕ → ℕ → Called
 closeWiping r words vci =
     let k = sharedRefusal r words vci in
     if not (k =? 0) then calledOf k words
-    else if vcAt words vci .opened =? 0 then calledOf 7 words
-    else if not (vcAt words vci .waiting =? 0) then calledOf 8 words
-    else calledOf 0 (writeVc words vci closedVc)
+    else if connectionAt words vci .opened =? 0 then calledOf 7 words
+    else if not (connectionAt words vci .waiting =? 0) then calledOf 8 words
+    else calledOf 0 (writeConnection words vci closedConnection)
 
 unfoldable pub callWiping : Run → Call → Run
 callWiping r (onOpenWith vci m F C x) = call r (onOpenWith vci m F C x)

@@ -7,17 +7,17 @@ use borrow.Author.Tests.{le-ltb}
 use Rattle.meaning.specs.Plain.{if_then_else_, _<?_, _=?_}
 use Rattle.meaning.specs.Numbers.{accepted, excess, tagged}
 use Rattle.meaning.specs.Bucket.{withS, isExcess, fall, fill}
-use Rattle.meaning.specs.Words.{Vc, secondFits, fallenTo}
+use Rattle.meaning.specs.Words.{Connection, secondFits, fallenTo}
 use Rattle.meaning.specs.Arrival.{verdictOn, secondAfter}
-use Rattle.mem_words.specs.Vcs.{hasNone}
+use Rattle.mem_words.specs.Connections.{hasNone}
 use Rattle.mem_words.proofs.NoneLaws.{None, none-facts, none-fits}
 use Rattle.slot_arrive.specs.declared.Judged.{Judged}
-use Rattle.slot_arrive.specs.Arrival.{vcNow, judgedAs, outOfRange, judgedBuckets}
+use Rattle.slot_arrive.specs.Arrival.{connectionNow, judgedAs, outOfRange, judgedBuckets}
 use Rattle.slot_arrive.specs.Both.{letInAs, judgedPeak, judgedSecond, judgedBoth}
 use Rattle.slot_arrive.proofs.BroughtLaws.{now-none}
 
 -- the tests one after the other, of a VC with its buckets at this slot
-abbrev byTests : ℕ → ℕ → Vc → Bool → Bool → Bool → Bool → Judged
+abbrev byTests : ℕ → ℕ → Connection → Bool → Bool → Bool → Bool → Judged
 byTests N vci vc over zero above untagged =
     if over then judgedAs true excess vci 0 (vc .bucket .S) 0 (vc .second .S)
     else if zero
@@ -27,7 +27,7 @@ byTests N vci vc over zero above untagged =
     else letInAs N accepted vci (vc .bucket) (vc .waiting) (fill (vc .second) .S))
     else letInAs N accepted vci (vc .bucket) (vc .waiting) (vc .second .S)
 
-tests-are : (N vci clp : ℕ) (vc : Vc) (over zero above untagged : Bool) → isExcess (vc .bucket) ≡ over → (clp =? 0) ≡ zero
+tests-are : (N vci clp : ℕ) (vc : Connection) (over zero above untagged : Bool) → isExcess (vc .bucket) ≡ over → (clp =? 0) ≡ zero
     → isExcess (vc .second) ≡ above
     → (vc .tag =? 0) ≡ untagged
     → byTests N vci vc over zero above untagged ≡ judgedBuckets N vci clp vc
@@ -39,27 +39,27 @@ tests-are N vci clp vc false true false untagged p q x g = rw (p, q, x)
 tests-are N vci clp vc false false above untagged p q x g = rw (p, q)
 
 -- nothing is above a second bucket that is none, and nothing fills it
-never : (vc : Vc) → None vc → isExcess (withS (vc .second) 0) ≡ false
+never : (vc : Connection) → None vc → isExcess (withS (vc .second) 0) ≡ false
 unfolding isExcess
 never vc n = le-ltb (vc .second .C - vc .second .F) 0 (omega arith)
 
-nothing : (vc : Vc) → None vc → fill (withS (vc .second) 0) .S ≡ 0
+nothing : (vc : Connection) → None vc → fill (withS (vc .second) 0) .S ≡ 0
 unfolding fill
 nothing vc n = omega (arith, n .F-is)
 
 -- the same of the VC's words and s, as the peak bucket has fallen
-pub both-is : (N t vci clp s : ℕ) (vc : Vc) → s ≡ vcNow t vc .bucket .S
+pub both-is : (N t vci clp s : ℕ) (vc : Connection) → s ≡ connectionNow t vc .bucket .S
     → judgedBoth N t vci clp s vc
-    ≡ (if secondFits (vc .second) (vc .tag) then judgedBuckets N vci clp (vcNow t vc) else outOfRange)
-unfolding judgedBoth judgedSecond vcNow fallenTo fall
+    ≡ (if secondFits (vc .second) (vc .tag) then judgedBuckets N vci clp (connectionNow t vc) else outOfRange)
+unfolding judgedBoth judgedSecond connectionNow fallenTo fall
 both-is N t vci clp s vc e =
     rw e
     (ap (λ (j : Judged). if secondFits (vc .second) (vc .tag) then j else outOfRange)
-    (tests-are N vci clp (vcNow t vc) (isExcess (vcNow t vc .bucket)) (clp =? 0) (isExcess (vcNow t vc .second)) (vcNow t vc .tag =? 0)
+    (tests-are N vci clp (connectionNow t vc) (isExcess (connectionNow t vc .bucket)) (clp =? 0) (isExcess (connectionNow t vc .second)) (connectionNow t vc .tag =? 0)
     refl refl refl refl))
 
 -- without a second bucket, whatever the CLP
-pub none-is : (N t vci clp s : ℕ) (vc : Vc) → hasNone vc ≡ true
+pub none-is : (N t vci clp s : ℕ) (vc : Connection) → hasNone vc ≡ true
     → judgedPeak N vci (withS (vc .bucket) s) (vc .waiting) ≡ judgedBoth N t vci clp s vc
 unfolding judgedBoth judgedSecond judgedPeak
 none-is N t vci clp s vc e =

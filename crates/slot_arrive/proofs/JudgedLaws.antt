@@ -10,13 +10,13 @@ use native.Mathlib.Nat.{div-lt-iff-lt-mul, mul-le-mul}
 use borrow.Author.Tests.{eq-eqb, ne-eqb, lt-ltb, le-ltb}
 use lib.ListN.{length, getD}
 use lib.Pow.{pow-pos, pow-mono}
-use Rattle.meaning.specs.Numbers.{nothing, unknown, wordsPerVc}
+use Rattle.meaning.specs.Numbers.{nothing, unknown, wordsPerConnection}
 use Rattle.meaning.specs.Header.{Header, headerAt}
-use Rattle.meaning.specs.Words.{vcAt, bucketFits, bucketsFit}
+use Rattle.meaning.specs.Words.{connectionAt, bucketFits, bucketsFit}
 use Rattle.leaf_header.specs.Name.{nameOf}
 use Rattle.leaf_header.proofs.NameLaws.{name-none, name-user, name-names, name-past, names-vci}
 use Rattle.mem_words.proofs.Fits.{opened-at}
-use Rattle.slot_arrive.specs.Arrival.{Named, vcNow, judgedAs, outOfRange, judgedVc, cellName, judgedName, judgedOf}
+use Rattle.slot_arrive.specs.Arrival.{Named, connectionNow, judgedAs, outOfRange, judgedConnection, cellName, judgedName, judgedOf}
 use Rattle.slot_arrive.specs.Both.{judgedBoth}
 use Rattle.slot_arrive.proofs.BothLaws.{both-is}
 
@@ -34,30 +34,30 @@ room-low N m room low small near =
 
 -- ---- a VC
 module _ (N t : ℕ) (words : List ℕ) (vci clp : ℕ) where
-  pub judged-closed : getD words (wordsPerVc * vci) 0 ≡ 0 → judgedAs true unknown vci 0 0 0 0 ≡ judgedVc N t words vci clp
-  unfolding judgedVc
+  pub judged-closed : getD words (wordsPerConnection * vci) 0 ≡ 0 → judgedAs true unknown vci 0 0 0 0 ≡ judgedConnection N t words vci clp
+  unfolding judgedConnection
   judged-closed o = simp (eq-eqb _ _ (opened-at words vci ∙ o))
 
   -- with the peak bucket in range, the second one decides
-  pub judged-both : (s : ℕ) → getD words (wordsPerVc * vci) 0 ≡ 1 → bucketFits N (vcAt words vci .bucket) ≡ true
-      → s ≡ vcNow t (vcAt words vci) .bucket .S
-      → judgedBoth N t vci clp s (vcAt words vci) ≡ judgedVc N t words vci clp
-  unfolding judgedVc bucketsFit
+  pub judged-both : (s : ℕ) → getD words (wordsPerConnection * vci) 0 ≡ 1 → bucketFits N (connectionAt words vci .bucket) ≡ true
+      → s ≡ connectionNow t (connectionAt words vci) .bucket .S
+      → judgedBoth N t vci clp s (connectionAt words vci) ≡ judgedConnection N t words vci clp
+  unfolding judgedConnection bucketsFit
   judged-both s o fits e =
-      simp (opened-at words vci ∙ o, fits) (both-is N t vci clp s (vcAt words vci) e)
+      simp (opened-at words vci ∙ o, fits) (both-is N t vci clp s (connectionAt words vci) e)
 
-  pub judged-unfit : getD words (wordsPerVc * vci) 0 ≡ 1 → bucketFits N (vcAt words vci .bucket) ≡ false
-      → outOfRange ≡ judgedVc N t words vci clp
-  unfolding judgedVc bucketsFit
+  pub judged-unfit : getD words (wordsPerConnection * vci) 0 ≡ 1 → bucketFits N (connectionAt words vci .bucket) ≡ false
+      → outOfRange ≡ judgedConnection N t words vci clp
+  unfolding judgedConnection bucketsFit
   judged-unfit o fits = simp (opened-at words vci ∙ o, fits)
 
-  pub judged-other : getD words (wordsPerVc * vci) 0 ≢ 0 → getD words (wordsPerVc * vci) 0 ≢ 1
-      → outOfRange ≡ judgedVc N t words vci clp
-  unfolding judgedVc
+  pub judged-other : getD words (wordsPerConnection * vci) 0 ≢ 0 → getD words (wordsPerConnection * vci) 0 ≢ 1
+      → outOfRange ≡ judgedConnection N t words vci clp
+  unfolding judgedConnection
   judged-other o₀ o₁ =
       simp (
-        ne-eqb (vcAt words vci .opened) 0 (λ e. o₀ (sym (opened-at words vci) ∙ e)),
-        ne-eqb (vcAt words vci .opened) 1 (λ e. o₁ (sym (opened-at words vci) ∙ e)),
+        ne-eqb (connectionAt words vci .opened) 0 (λ e. o₀ (sym (opened-at words vci) ∙ e)),
+        ne-eqb (connectionAt words vci .opened) 1 (λ e. o₁ (sym (opened-at words vci) ∙ e)),
       )
 
 -- ---- a name
@@ -66,9 +66,9 @@ module _ (N z t : ℕ) (words : List ℕ) (name clp : ℕ) where
   unfolding judgedName
   by-none e = simp (eq-eqb _ _ e)
 
-  pub by-vc : name ≢ 0 → name < z → judgedVc N t words name clp ≡ judgedName N z t words name clp
+  pub by-connection : name ≢ 0 → name < z → judgedConnection N t words name clp ≡ judgedName N z t words name clp
   unfolding judgedName
-  by-vc user below = simp (ne-eqb _ _ user, lt-ltb _ _ below)
+  by-connection user below = simp (ne-eqb _ _ user, lt-ltb _ _ below)
 
   pub by-unknown : name ≢ 0 → z ≤ name → judgedAs true unknown (name % 65536) 0 0 0 0 ≡ judgedName N z t words name clp
   unfolding judgedName
@@ -88,11 +88,11 @@ module _ (N z t : ℕ) (words cell : List ℕ) where
   judged-idle some e = simp (ne-eqb _ _ some, name-none h e)
 
   pub judged-known : length cell ≢ 0 → z ≤ 65536 → nameOf h ≢ 0 → nameOf h < z
-      → judgedVc N t words (nameOf h) (h .clp) ≡ judgedOf N z t words cell
+      → judgedConnection N t words (nameOf h) (h .clp) ≡ judgedOf N z t words cell
   unfolding judgedOf
   judged-known some few user below =
       let names = name-names z h few (omega arith) below in
-      ap (λ (u : ℕ). judgedVc N t words u (h .clp)) (sym (names-vci z h names))
+      ap (λ (u : ℕ). judgedConnection N t words u (h .clp)) (sym (names-vci z h names))
       ∙ simp (ne-eqb _ _ some, name-user h user, names)
 
   pub judged-unknown : length cell ≢ 0 → nameOf h ≢ 0 → z ≤ nameOf h
@@ -112,11 +112,11 @@ module _ (N z t : ℕ) (words cell : List ℕ) where
   named-there name named user none = user (named .absent none)
 
   pub named-known : (name : ℕ) → Named cell name → z ≤ 65536 → name ≢ 0 → name < z
-      → judgedVc N t words name (h .clp) ≡ judgedOf N z t words cell
+      → judgedConnection N t words name (h .clp) ≡ judgedOf N z t words cell
   named-known name named few user below =
       let some = named-there name named user in
       let is = named .present some .0 in
-      ap (λ (u : ℕ). judgedVc N t words u (h .clp)) is
+      ap (λ (u : ℕ). judgedConnection N t words u (h .clp)) is
       ∙ judged-known some few (λ e. user (is ∙ e)) (omega (arith, is, below))
 
   pub named-unknown : (name : ℕ) → Named cell name → name ≢ 0 → z ≤ name
@@ -145,6 +145,6 @@ module _ (N z t : ℕ) (words cell : List ℕ) where
 
       go : Dec (name ≡ 0) → Dec (name < z) → judgedName N z t words name (h .clp) ≡ judgedOf N z t words cell
       go (yes e) d = sym (by-none N z t words name (h .clp) e) ∙ named-none name named e
-      go (no user) (yes below) = sym (by-vc N z t words name (h .clp) user below) ∙ named-known name named few user below
+      go (no user) (yes below) = sym (by-connection N z t words name (h .clp) user below) ∙ named-known name named few user below
       go (no user) (no past) =
           sym (by-unknown N z t words name (h .clp) user (omega arith)) ∙ named-unknown name named user (omega arith)

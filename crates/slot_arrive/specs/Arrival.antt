@@ -12,10 +12,10 @@ use mathlib.Core.List.{List}
 use lib.ListN.{length, getD, set}
 use Rattle.meaning.specs.Plain.{if_then_else_, _<?_, _=?_}
 use Rattle.meaning.specs.Numbers.{nothing, excess, unknown, sPlace, lastPlace, waitingPlace, secondSPlace}
-use Rattle.meaning.specs.Header.{headerAt, noUserCell, namesVc}
+use Rattle.meaning.specs.Header.{headerAt, noUserCell, namesConnection}
 use Rattle.leaf_header.specs.Name.{nameOf}
 use Rattle.meaning.specs.Bucket.{elapsed, delay, fill}
-use Rattle.meaning.specs.Words.{Vc, vcAt, bucketsFit, fallenTo}
+use Rattle.meaning.specs.Words.{Connection, connectionAt, bucketsFit, fallenTo}
 use Rattle.meaning.specs.Arrival.{verdictOn, secondAfter}
 use Rattle.slot_arrive.specs.declared.Fall.{Fall}
 use Rattle.slot_arrive.specs.declared.Judged.{Judged}
@@ -24,16 +24,16 @@ abbrev pub fallOf : Bool → Bool → ℕ → ℕ → Fall
 fallOf ok on S second = record { ok = ok; on = on; s = S; second = second }
 
 -- an open VC with its buckets at slot t
-unfoldable pub vcNow : ℕ → Vc → Vc
-vcNow t vc = fallenTo (elapsed t (vc .last)) t vc
+unfoldable pub connectionNow : ℕ → Connection → Connection
+connectionNow t vc = fallenTo (elapsed t (vc .last)) t vc
 
 unfoldable pub broughtOf : ℕ → ℕ → List ℕ → ℕ → Fall
 broughtOf N t words vci =
-    let vc = vcAt words vci in
+    let vc = connectionAt words vci in
     if vci =? 0 then fallOf true false 0 0
     else if vc .opened =? 0 then fallOf true false 0 0
     else if vc .opened =? 1
-    then (if bucketsFit N vc then fallOf true true (vcNow t vc .bucket .S) (vcNow t vc .second .S) else fallOf false false 0 0)
+    then (if bucketsFit N vc then fallOf true true (connectionNow t vc .bucket .S) (connectionNow t vc .second .S) else fallOf false false 0 0)
     else fallOf false false 0 0
 
 abbrev pub judgedAs : Bool → ℕ → ℕ → ℕ → ℕ → ℕ → ℕ → Judged
@@ -44,7 +44,7 @@ abbrev pub outOfRange : Judged
 outOfRange = judgedAs false 0 0 0 0 0 0
 
 -- the VC is open, its words but waiting are in range, and its buckets are those at this slot
-unfoldable pub judgedBuckets : ℕ → ℕ → ℕ → Vc → Judged
+unfoldable pub judgedBuckets : ℕ → ℕ → ℕ → Connection → Judged
 judgedBuckets N vci clp vc =
     let verdict = verdictOn clp vc in
     if verdict =? excess then judgedAs true excess vci 0 (vc .bucket .S) 0 (vc .second .S)
@@ -52,12 +52,12 @@ judgedBuckets N vci clp vc =
     then judgedAs true verdict vci (delay (vc .bucket)) (fill (vc .bucket) .S) (vc .waiting + 1) (secondAfter clp verdict (vc .second) .S)
     else outOfRange
 
-unfoldable pub judgedVc : ℕ → ℕ → List ℕ → ℕ → ℕ → Judged
-judgedVc N t words vci clp =
-    let vc = vcAt words vci in
+unfoldable pub judgedConnection : ℕ → ℕ → List ℕ → ℕ → ℕ → Judged
+judgedConnection N t words vci clp =
+    let vc = connectionAt words vci in
     if vc .opened =? 0 then judgedAs true unknown vci 0 0 0 0
     else if vc .opened =? 1
-    then (if bucketsFit N vc then judgedBuckets N vci clp (vcNow t vc) else outOfRange)
+    then (if bucketsFit N vc then judgedBuckets N vci clp (connectionNow t vc) else outOfRange)
     else outOfRange
 
 -- the number that stands for a cell: VPI and VCI of its header, or 0 where it has no octets
@@ -68,7 +68,7 @@ cellName cell = if length cell =? 0 then 0 else nameOf (headerAt cell 0)
 unfoldable pub judgedName : ℕ → ℕ → ℕ → List ℕ → ℕ → ℕ → Judged
 judgedName N z t words name clp =
     if name =? 0 then judgedAs true nothing 0 0 0 0 0
-    else if name <? z then judgedVc N t words name clp
+    else if name <? z then judgedConnection N t words name clp
     else judgedAs true unknown (name % 65536) 0 0 0 0
 
 -- what is known of a cell's name where it is made of octets
@@ -80,8 +80,8 @@ unfoldable pub judgedOf : ℕ → ℕ → ℕ → List ℕ → List ℕ → Judg
 judgedOf N z t words cell =
     let h = headerAt cell 0 in
     if length cell =? 0 || noUserCell h then judgedAs true nothing 0 0 0 0 0
-    else if not (namesVc z h) then judgedAs true unknown (h .vci) 0 0 0 0
-    else judgedVc N t words (h .vci) (h .clp)
+    else if not (namesConnection z h) then judgedAs true unknown (h .vci) 0 0 0 0
+    else judgedConnection N t words (h .vci) (h .clp)
 
 -- both S and last of a VC written, where on
 unfoldable pub fallen : Bool → ℕ → ℕ → ℕ → ℕ → List ℕ → List ℕ

@@ -4,11 +4,11 @@ ghost use mathlib.Core.Bool.{true, false};
 ghost use Prim.Native.Nat.{_%_, _≤_, _<_};
 ghost use lib.ListN.{length, getD};
 ghost use Rattle.meaning.specs.Numbers.{nothing, excess, unknown, waitingPlace, mostV, wordsIn};
-ghost use Rattle.meaning.specs.State.{HasVc};
+ghost use Rattle.meaning.specs.State.{HasConnection};
 ghost use Rattle.meaning.specs.Header.{headerAt};
 ghost use Rattle.meaning.specs.Bucket.{withS};
-ghost use Rattle.meaning.specs.Words.{vcAt};
-ghost use Rattle.slot_arrive.specs.Arrival.{fallOf, vcNow, broughtOf, judgedAs, outOfRange, judgedVc, cellName, judgedName, fallen, filled, oneLess};
+ghost use Rattle.meaning.specs.Words.{connectionAt};
+ghost use Rattle.slot_arrive.specs.Arrival.{fallOf, connectionNow, broughtOf, judgedAs, outOfRange, judgedConnection, cellName, judgedName, fallen, filled, oneLess};
 ghost use Rattle.slot_arrive.specs.Both.{Peaked, Within, SecondIn, broughtBoth, letInAs, judgedPeak, judgedSecond, judgedBoth};
 use meaning::AT_C;
 use meaning::AT_F;
@@ -21,7 +21,7 @@ use meaning::AT_SECOND_M;
 use meaning::AT_SECOND_S;
 use meaning::AT_TAG;
 use meaning::AT_WAITING;
-use meaning::WORDS_PER_VC;
+use meaning::WORDS_PER_CONNECTION;
 
 // What step 2 found: ok where all that it reads is in range; on where S and last are to be written, S being s, and that of the
 // second bucket second.
@@ -56,19 +56,19 @@ fn no_fall(ok: bool) -> Fall
 
 // S of a VC's bucket as it has fallen to slot t.
 fn peak_now(words: &[u32], vci: u16, t: u32) -> u32
-    requires { ⌜ (HasVc vci (now words)) × (vcAt (now words) vci .bucket .m ≤ 15) ⌝ }
-    ensures { λ r. ⌜ r ≡ vcNow t (vcAt (now (words .entry)) vci) .bucket .S ⌝ }
+    requires { ⌜ (HasConnection vci (now words)) × (connectionAt (now words) vci .bucket .m ≤ 15) ⌝ }
+    ensures { λ r. ⌜ r ≡ connectionNow t (connectionAt (now (words .entry)) vci) .bucket .S ⌝ }
 {
-    let b = WORDS_PER_VC * (vci as usize);
+    let b = WORDS_PER_CONNECTION * (vci as usize);
     leaf_bucket::fallen_to(words[b + AT_S], words[b + AT_M], words[b + AT_LAST], t)
 }
 
 // The same of its second bucket.
 fn second_now(words: &[u32], vci: u16, t: u32) -> u32
-    requires { ⌜ (HasVc vci (now words)) × (vcAt (now words) vci .second .m ≤ 15) ⌝ }
-    ensures { λ r. ⌜ r ≡ vcNow t (vcAt (now (words .entry)) vci) .second .S ⌝ }
+    requires { ⌜ (HasConnection vci (now words)) × (connectionAt (now words) vci .second .m ≤ 15) ⌝ }
+    ensures { λ r. ⌜ r ≡ connectionNow t (connectionAt (now (words .entry)) vci) .second .S ⌝ }
 {
-    let b = WORDS_PER_VC * (vci as usize);
+    let b = WORDS_PER_CONNECTION * (vci as usize);
     leaf_bucket::fallen_to(
         words[b + AT_SECOND_S],
         words[b + AT_SECOND_M],
@@ -79,8 +79,8 @@ fn second_now(words: &[u32], vci: u16, t: u32) -> u32
 
 // Step 2 of an open VC that has a second bucket.
 fn bring_both(words: &[u32], vci: u16, t: u32, s: u32) -> Fall
-    requires { ⌜ HasVc vci (now words) ⌝ }
-    ensures { λ r. ⌜ r ≡ broughtBoth t (vcAt (now (words .entry)) vci) s ⌝ }
+    requires { ⌜ HasConnection vci (now words) ⌝ }
+    ensures { λ r. ⌜ r ≡ broughtBoth t (connectionAt (now (words .entry)) vci) s ⌝ }
 {
     if mem_words::second_fits(words, vci) {
         let second = second_now(words, vci, t);
@@ -96,13 +96,13 @@ fn bring_both(words: &[u32], vci: u16, t: u32, s: u32) -> Fall
 
 // Step 2: the VC that rotation names, brought up to date to slot t. Without a second bucket there is nothing to fall in it.
 pub fn bring(n: u16, words: &[u32], vci: u16, t: u32) -> Fall
-    requires { ⌜ HasVc vci (now words) ⌝ }
+    requires { ⌜ HasConnection vci (now words) ⌝ }
     ensures { λ r. ⌜ r ≡ broughtOf n t (now (words .entry)) vci ⌝ }
 {
     if vci == 0 {
         return no_fall(true);
     }
-    let o = words[WORDS_PER_VC * (vci as usize)];
+    let o = words[WORDS_PER_CONNECTION * (vci as usize)];
     if o == 0 {
         return no_fall(true);
     }
@@ -151,7 +151,7 @@ fn no_cell() -> Judged
     }
 }
 
-fn no_vc(vci: u16) -> Judged
+fn no_connection(vci: u16) -> Judged
     ensures { λ r. ⌜ r ≡ judgedAs true unknown vci 0 0 0 0 ⌝ }
 {
     Judged {
@@ -183,9 +183,9 @@ fn above(vci: u16, s: u32, second: u32) -> Judged
 // A cell within the peak is let in with this verdict: s is in the bucket before it, second in the second bucket after it.
 fn let_in(n: u16, words: &[u32], vci: u16, verdict: u16, s: u32, second: u32) -> Judged
     requires { ⌜ Within n (now words) vci s ⌝ }
-    ensures { λ r. ⌜ r ≡ letInAs n verdict vci (withS (vcAt (now (words .entry)) vci .bucket) s) (vcAt (now (words .entry)) vci .waiting) second ⌝ }
+    ensures { λ r. ⌜ r ≡ letInAs n verdict vci (withS (connectionAt (now (words .entry)) vci .bucket) s) (connectionAt (now (words .entry)) vci .waiting) second ⌝ }
 {
-    let b = WORDS_PER_VC * (vci as usize);
+    let b = WORDS_PER_CONNECTION * (vci as usize);
     let waiting = words[b + AT_WAITING];
     if waiting < n as u32 {
         let full = s + words[b + AT_F];
@@ -206,9 +206,9 @@ fn let_in(n: u16, words: &[u32], vci: u16, verdict: u16, s: u32, second: u32) ->
 // Step 3 at an open VC without a second bucket, s being in its bucket.
 fn judge_peak(n: u16, words: &[u32], vci: u16, s: u32) -> Judged
     requires { ⌜ Peaked n (now words) vci ⌝ }
-    ensures { λ r. ⌜ r ≡ judgedPeak n vci (withS (vcAt (now (words .entry)) vci .bucket) s) (vcAt (now (words .entry)) vci .waiting) ⌝ }
+    ensures { λ r. ⌜ r ≡ judgedPeak n vci (withS (connectionAt (now (words .entry)) vci .bucket) s) (connectionAt (now (words .entry)) vci .waiting) ⌝ }
 {
-    let b = WORDS_PER_VC * (vci as usize);
+    let b = WORDS_PER_CONNECTION * (vci as usize);
     if words[b + AT_C] - words[b + AT_F] < s {
         return above(vci, s, 0);
     }
@@ -219,9 +219,9 @@ fn judge_peak(n: u16, words: &[u32], vci: u16, s: u32) -> Judged
 fn judge_second(n: u16, words: &[u32], vci: u16, s: u32, second: u32) -> Judged
     requires { ⌜ Within n (now words) vci s ⌝ }
     requires { ⌜ SecondIn (now words) vci ⌝ }
-    ensures { λ r. ⌜ r ≡ judgedSecond n vci s second (vcAt (now (words .entry)) vci) ⌝ }
+    ensures { λ r. ⌜ r ≡ judgedSecond n vci s second (connectionAt (now (words .entry)) vci) ⌝ }
 {
-    let b = WORDS_PER_VC * (vci as usize);
+    let b = WORDS_PER_CONNECTION * (vci as usize);
     let f = words[b + AT_SECOND_F];
     if words[b + AT_SECOND_C] - f < second {
         if words[b + AT_TAG] == 0 {
@@ -236,13 +236,13 @@ fn judge_second(n: u16, words: &[u32], vci: u16, s: u32, second: u32) -> Judged
 // Step 3 at an open VC with a second bucket, of a cell with this CLP, s being in its bucket.
 fn judge_both(n: u16, words: &[u32], vci: u16, t: u32, clp: u8, s: u32) -> Judged
     requires { ⌜ Peaked n (now words) vci ⌝ }
-    ensures { λ r. ⌜ r ≡ judgedBoth n t vci clp s (vcAt (now (words .entry)) vci) ⌝ }
+    ensures { λ r. ⌜ r ≡ judgedBoth n t vci clp s (connectionAt (now (words .entry)) vci) ⌝ }
 {
     if !mem_words::second_fits(words, vci) {
         return out_of_range();
     }
     let second = second_now(words, vci, t);
-    let b = WORDS_PER_VC * (vci as usize);
+    let b = WORDS_PER_CONNECTION * (vci as usize);
     if words[b + AT_C] - words[b + AT_F] < s {
         return above(vci, s, second);
     }
@@ -261,13 +261,13 @@ fn clp_of(cell: &[u8]) -> u8
 }
 
 // Step 3 at the VC vci, from 1 to V-1. The cell's CLP is read only where the VC has a second bucket.
-pub fn judge_vc(n: u16, words: &[u32], vci: u16, t: u32, cell: &[u8]) -> Judged
-    requires { ⌜ (HasVc vci (now words)) × (4 ≤ length (now cell)) ⌝ }
-    ensures { λ r. ⌜ r ≡ judgedVc n t (now (words .entry)) vci (headerAt (now (cell .entry)) 0 .clp) ⌝ }
+pub fn judge_connection(n: u16, words: &[u32], vci: u16, t: u32, cell: &[u8]) -> Judged
+    requires { ⌜ (HasConnection vci (now words)) × (4 ≤ length (now cell)) ⌝ }
+    ensures { λ r. ⌜ r ≡ judgedConnection n t (now (words .entry)) vci (headerAt (now (cell .entry)) 0 .clp) ⌝ }
 {
-    let o = words[WORDS_PER_VC * (vci as usize)];
+    let o = words[WORDS_PER_CONNECTION * (vci as usize)];
     if o == 0 {
-        return no_vc(vci);
+        return no_connection(vci);
     }
     if o == 1 {
         if mem_words::bucket_fits(n, words, vci) {
@@ -303,18 +303,18 @@ pub fn judge(n: u16, v: u16, words: &[u32], name: u32, t: u32, cell: &[u8]) -> J
         return no_cell();
     }
     if name < v as u32 {
-        return judge_vc(n, words, name as u16, t, cell);
+        return judge_connection(n, words, name as u16, t, cell);
     }
-    no_vc((name % 65536) as u16)
+    no_connection((name % 65536) as u16)
 }
 
 // Writes of both S and last, where on.
 pub fn put_fall(words: &mut [u32], on: bool, vci: u16, s: u32, second: u32, t: u32)
-    requires { ⌜ (on ≡ true → HasVc vci (now words)) ⌝ }
+    requires { ⌜ (on ≡ true → HasConnection vci (now words)) ⌝ }
     ensures { λ r. ⌜ now (words .exit) ≡ fallen on vci s second t (now (words .entry)) ⌝ }
 {
     if on {
-        let b = WORDS_PER_VC * (vci as usize);
+        let b = WORDS_PER_CONNECTION * (vci as usize);
         words[b + AT_S] = s;
         words[b + AT_LAST] = t;
         words[b + AT_SECOND_S] = second;
@@ -323,10 +323,10 @@ pub fn put_fall(words: &mut [u32], on: bool, vci: u16, s: u32, second: u32, t: u
 
 // The words of the VC of a cell that is let in.
 pub fn put_fill(words: &mut [u32], vci: u16, s: u32, second: u32, t: u32, waiting: u32)
-    requires { ⌜ HasVc vci (now words) ⌝ }
+    requires { ⌜ HasConnection vci (now words) ⌝ }
     ensures { λ r. ⌜ now (words .exit) ≡ filled vci s second t waiting (now (words .entry)) ⌝ }
 {
-    let b = WORDS_PER_VC * (vci as usize);
+    let b = WORDS_PER_CONNECTION * (vci as usize);
     words[b + AT_S] = s;
     words[b + AT_LAST] = t;
     words[b + AT_WAITING] = waiting;
@@ -335,9 +335,9 @@ pub fn put_fill(words: &mut [u32], vci: u16, s: u32, second: u32, t: u32, waitin
 
 // Waiting of a VC falls by one.
 pub fn put_less(words: &mut [u32], vci: u16)
-    requires { ⌜ (HasVc vci (now words)) × (1 ≤ getD (now words) (waitingPlace vci) 0) ⌝ }
+    requires { ⌜ (HasConnection vci (now words)) × (1 ≤ getD (now words) (waitingPlace vci) 0) ⌝ }
     ensures { λ r. ⌜ now (words .exit) ≡ oneLess vci (now (words .entry)) ⌝ }
 {
-    let b = WORDS_PER_VC * (vci as usize);
+    let b = WORDS_PER_CONNECTION * (vci as usize);
     words[b + AT_WAITING] = words[b + AT_WAITING] - 1;
 }

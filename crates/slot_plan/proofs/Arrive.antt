@@ -11,15 +11,15 @@ use Rattle.meaning.specs.declared.Record.{Record}
 use Rattle.meaning.specs.Plain.{if_then_else_, _<?_, _=?_, Out, refused, next}
 use Rattle.meaning.specs.Numbers.{accepted, excess, letsIn}
 use Rattle.meaning.specs.State.{stateOf, withWords}
-use Rattle.meaning.specs.Header.{Header, headerAt, noUserCell, namesVc}
+use Rattle.meaning.specs.Header.{Header, headerAt, noUserCell, namesConnection}
 use Rattle.meaning.specs.Bucket.{Bucket, withS, elapsed, fall, fill}
-use Rattle.meaning.specs.Words.{Vc, vcAt, writeVc, withBuckets, withWaiting, bucketsFit, openWordFits, fallenTo, upToDate}
+use Rattle.meaning.specs.Words.{Connection, connectionAt, writeConnection, withBuckets, withWaiting, bucketsFit, openWordFits, fallenTo, upToDate}
 use Rattle.meaning.specs.Work.{Work, workOf, answerOf}
 use Rattle.meaning.specs.Arrival.{verdictOn, secondAfter, accept, judge}
 use Rattle.meaning.specs.Slot.{step3}
 use Rattle.meaning.proofs.WordsLaws.{write-fill}
 use Rattle.slot_arrive.specs.declared.Judged.{Judged}
-use Rattle.slot_arrive.specs.Arrival.{vcNow, judgedBuckets, judgedVc, judgedOf, fallen, filled}
+use Rattle.slot_arrive.specs.Arrival.{connectionNow, judgedBuckets, judgedConnection, judgedOf, fallen, filled}
 use Rattle.slot_plan.specs.Plan.{rotatedWork, quietWork, seekingWork, seating}
 use Rattle.slot_plan.proofs.Rotate.{open-cases, update-is}
 use Rattle.slot_plan.proofs.Found.{not-excess}
@@ -36,14 +36,14 @@ second-is clp verdict S x = go (clp =? 0 && verdict =? accepted)
 
 -- the words of the VC of a cell that is let in
 fill-is : (words : List ℕ) (vci t clp verdict : ℕ)
-    → let vc = vcNow t (vcAt words vci) in
-    writeVc words vci (withWaiting (withBuckets vc (fill (vc .bucket)) (secondAfter clp verdict (vc .second))) (vc .waiting + 1))
+    → let vc = connectionNow t (connectionAt words vci) in
+    writeConnection words vci (withWaiting (withBuckets vc (fill (vc .bucket)) (secondAfter clp verdict (vc .second))) (vc .waiting + 1))
     ≡ filled vci (fill (vc .bucket) .S) (secondAfter clp verdict (vc .second) .S) t (vc .waiting + 1) words
-unfolding filled fill vcNow fallenTo fall
+unfolding filled fill connectionNow fallenTo fall
 fill-is words vci t clp verdict =
-    let vc = vcAt words vci in
+    let vc = connectionAt words vci in
     let S = vc .second .S - elapsed t (vc .last) * 2 ^ vc .second .m in
-    ap (λ (x : Bucket). writeVc words vci (record {
+    ap (λ (x : Bucket). writeConnection words vci (record {
       opened = vc .opened;
       bucket = withS (vc .bucket) (vc .bucket .S - elapsed t (vc .last) * 2 ^ vc .bucket .m + vc .bucket .F);
       last = t;
@@ -65,16 +65,16 @@ module _ (k : Record) (cell cells links calendar words : List ℕ) where
   abbrev h : Header
   h = headerAt cell 0
 
-  abbrev vc : Vc
-  vc = vcAt words (h .vci)
+  abbrev vc : Connection
+  vc = connectionAt words (h .vci)
 
   abbrev w : Work
   w = rotatedWork k cells links calendar words
 
   -- the VC is open and its words but waiting are in range
-  judge-is : (x a : Bool) → (verdictOn (h .clp) (vcNow (k .t) vc) =? excess) ≡ x → vcNow (k .t) vc .waiting <? k .n ≡ a
-      → judge cell (h .vci) w (vcNow (k .t) vc)
-      ≡ arriving k (judgedBuckets (k .n) (h .vci) (h .clp) (vcNow (k .t) vc)) cell cells links calendar words
+  judge-is : (x a : Bool) → (verdictOn (h .clp) (connectionNow (k .t) vc) =? excess) ≡ x → connectionNow (k .t) vc .waiting <? k .n ≡ a
+      → judge cell (h .vci) w (connectionNow (k .t) vc)
+      ≡ arriving k (judgedBuckets (k .n) (h .vci) (h .clp) (connectionNow (k .t) vc)) cell cells links calendar words
   unfolding judge accept judgedBuckets arriving rotatedWork quietWork fallen seating seekingWork withWords letsIn
   judge-is true a ex ea =
       rw ex
@@ -83,8 +83,8 @@ module _ (k : Record) (cell cells links calendar words : List ℕ) where
       rw (
         ex,
         ea,
-        not-excess (h .clp) (vcNow (k .t) vc) ex .lets,
-        fill-is words (h .vci) (k .t) (h .clp) (verdictOn (h .clp) (vcNow (k .t) vc)),
+        not-excess (h .clp) (connectionNow (k .t) vc) ex .lets,
+        fill-is words (h .vci) (k .t) (h .clp) (verdictOn (h .clp) (connectionNow (k .t) vc)),
       )
   judge-is false false ex ea = rw (ex, ea)
 
@@ -94,27 +94,27 @@ module _ (k : Record) (cell cells links calendar words : List ℕ) where
   Goal : Type 0
   Goal = step3 cell w ≡ arriving k found cell cells links calendar words
 
-  fits : (f : Bool) → length cell =? 0 || noUserCell h ≡ false → namesVc (k .v) h ≡ true → vc .opened ≡ 1 → bucketsFit (k .n) vc ≡ f → Goal
-  unfolding Goal step3 judgedOf judgedVc rotatedWork openWordFits upToDate vcNow arriving
+  fits : (f : Bool) → length cell =? 0 || noUserCell h ≡ false → namesConnection (k .v) h ≡ true → vc .opened ≡ 1 → bucketsFit (k .n) vc ≡ f → Goal
+  unfolding Goal step3 judgedOf judgedConnection rotatedWork openWordFits upToDate connectionNow arriving
   fits true c n o f =
       rw (c, n, le-leb (vc .opened) 1 (omega arith), ne-eqb (vc .opened) 0 (λ q. omega arith), eq-eqb (vc .opened) 1 o, f)
-      (judge-is (verdictOn (h .clp) (vcNow (k .t) vc) =? excess) (vcNow (k .t) vc .waiting <? k .n) refl refl)
+      (judge-is (verdictOn (h .clp) (connectionNow (k .t) vc) =? excess) (connectionNow (k .t) vc .waiting <? k .n) refl refl)
   fits false c n o f =
       rw (c, n, le-leb (vc .opened) 1 (omega arith), ne-eqb (vc .opened) 0 (λ q. omega arith), eq-eqb (vc .opened) 1 o, f)
 
-  at-vc : length cell =? 0 || noUserCell h ≡ false → namesVc (k .v) h ≡ true
+  at-connection : length cell =? 0 || noUserCell h ≡ false → namesConnection (k .v) h ≡ true
       → (vc .opened ≡ 0) ⊎ ((vc .opened ≡ 1) ⊎ (1 < vc .opened)) → Goal
-  unfolding Goal step3 judgedOf judgedVc rotatedWork openWordFits arriving quietWork fallen letsIn
-  at-vc c n (inl o) = rw (c, n, le-leb (vc .opened) 1 (omega arith), eq-eqb (vc .opened) 0 o)
-  at-vc c n (inr (inl o)) = fits (bucketsFit (k .n) vc) c n o refl
-  at-vc c n (inr (inr o)) = rw (c, n, lt-leb (vc .opened) 1 o, ne-eqb (vc .opened) 0 (λ q. omega arith), ne-eqb (vc .opened) 1 (λ q. omega arith))
+  unfolding Goal step3 judgedOf judgedConnection rotatedWork openWordFits arriving quietWork fallen letsIn
+  at-connection c n (inl o) = rw (c, n, le-leb (vc .opened) 1 (omega arith), eq-eqb (vc .opened) 0 o)
+  at-connection c n (inr (inl o)) = fits (bucketsFit (k .n) vc) c n o refl
+  at-connection c n (inr (inr o)) = rw (c, n, lt-leb (vc .opened) 1 o, ne-eqb (vc .opened) 0 (λ q. omega arith), ne-eqb (vc .opened) 1 (λ q. omega arith))
 
-  at-cell : (c n : Bool) → length cell =? 0 || noUserCell h ≡ c → namesVc (k .v) h ≡ n → Goal
+  at-cell : (c n : Bool) → length cell =? 0 || noUserCell h ≡ c → namesConnection (k .v) h ≡ n → Goal
   unfolding Goal step3 judgedOf rotatedWork arriving quietWork fallen letsIn
   at-cell true n ec en = rw ec
-  at-cell false true ec en = at-vc ec en (open-cases (vc .opened))
+  at-cell false true ec en = at-connection ec en (open-cases (vc .opened))
   at-cell false false ec en = rw (ec, en)
 
   pub arrive-is : step3 cell w ≡ arriving k found cell cells links calendar words
   unfolding Goal
-  arrive-is = at-cell (length cell =? 0 || noUserCell h) (namesVc (k .v) h) refl refl
+  arrive-is = at-cell (length cell =? 0 || noUserCell h) (namesConnection (k .v) h) refl refl

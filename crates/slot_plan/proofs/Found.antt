@@ -12,14 +12,14 @@ use lib.Pow.{pow-pos}
 use Rattle.meaning.specs.declared.Record.{Record}
 use Rattle.meaning.specs.Plain.{if_then_else_, _<?_, _≤?_, _=?_}
 use Rattle.meaning.specs.Numbers.{excess, letsIn}
-use Rattle.meaning.specs.Header.{Header, headerAt, noUserCell, namesVc}
+use Rattle.meaning.specs.Header.{Header, headerAt, noUserCell, namesConnection}
 use Rattle.meaning.specs.Bucket.{obeysRules, elapsed, fall, isExcess, delay}
-use Rattle.meaning.specs.Words.{Vc, vcAt, bucketFits, secondFits, bucketsFit, fallenTo}
+use Rattle.meaning.specs.Words.{Connection, connectionAt, bucketFits, secondFits, bucketsFit, fallenTo}
 use Rattle.meaning.specs.Arrival.{verdictOn}
 use Rattle.meaning.specs.Lists.{endsFit, entryAt}
 use Rattle.meaning.proofs.ListsLaws.{fit-marked, fit-empty}
 use Rattle.slot_arrive.specs.declared.Judged.{Judged}
-use Rattle.slot_arrive.specs.Arrival.{vcNow, judgedBuckets, judgedVc, judgedOf}
+use Rattle.slot_arrive.specs.Arrival.{connectionNow, judgedBuckets, judgedConnection, judgedOf}
 use Rattle.mem_lists.specs.Spaces.{seatAt, entryOf, seatOf}
 use Rattle.slot_plan.specs.Plan.{freeEnds}
 use Rattle.slot_plan.specs.Facts.{Accepted, Seated}
@@ -44,8 +44,8 @@ below : (s e p n : ℕ) → 0 < p → s ≤ e → e / p < n → s / p < n
 below s e p n pos le h =
     div-lt-iff-lt-mul {k = p} {x = s} {y = n} pos .1 (let g = div-lt-iff-lt-mul {k = p} {x = e} {y = n} pos .0 h in omega arith)
 
-near : (N t : ℕ) (vc : Vc) → bucketsFit N vc ≡ true → isExcess (vcNow t vc .bucket) ≡ false → delay (vcNow t vc .bucket) < N
-unfolding bucketsFit bucketFits obeysRules isExcess delay vcNow fallenTo fall
+near : (N t : ℕ) (vc : Connection) → bucketsFit N vc ≡ true → isExcess (connectionNow t vc .bucket) ≡ false → delay (connectionNow t vc .bucket) < N
+unfolding bucketsFit bucketFits obeysRules isExcess delay connectionNow fallenTo fall
 near N t vc f x =
     let b = vc .bucket in
     let rules = and (obeysRules N b) (b .S ≤? b .C) (and (bucketFits N b) (secondFits (vc .second) (vc .tag)) f .0) .0 in
@@ -53,11 +53,11 @@ near N t vc f x =
     below (b .S - elapsed t (vc .last) * 2 ^ b .m) (b .C - b .F) (2 ^ b .m) N (pow-pos (b .m)) (ltb-false _ _ x) (ltb-true _ _ last)
 
 -- a cell that is not excess is within the peak, and let in
-pub record LetIn (clp : ℕ) (vc : Vc) : Type 0 where
+pub record LetIn (clp : ℕ) (vc : Connection) : Type 0 where
   pub within : isExcess (vc .bucket) ≡ false
   pub lets : letsIn (verdictOn clp vc) ≡ true
 
-pub not-excess : (clp : ℕ) (vc : Vc) → (verdictOn clp vc =? excess) ≡ false → LetIn clp vc
+pub not-excess : (clp : ℕ) (vc : Connection) → (verdictOn clp vc =? excess) ≡ false → LetIn clp vc
 unfolding verdictOn letsIn
 not-excess clp vc e = go (isExcess (vc .bucket)) (clp =? 0 && isExcess (vc .second)) (vc .tag =? 0) refl refl refl e
   where
@@ -70,8 +70,8 @@ not-excess clp vc e = go (isExcess (vc .bucket)) (clp =? 0 && isExcess (vc .seco
     go false false g ex ey eg = λ h. record { within = ex; lets = rw (ex, ey) }
 
 -- ---- a header that names a VC
-pub names-facts : (z : ℕ) (h : Header) → namesVc z h ≡ true → (h .vpi ≡ 0) × (1 ≤ h .vci) × (h .vci < z)
-unfolding namesVc
+pub names-facts : (z : ℕ) (h : Header) → namesConnection z h ≡ true → (h .vpi ≡ 0) × (1 ≤ h .vci) × (h .vci < z)
+unfolding namesConnection
 names-facts z h e =
     let p = and (h .vpi =? 0 && 1 ≤? h .vci) (h .vci <? z) e in
     let q = and (h .vpi =? 0) (1 ≤? h .vci) (p .0) in
@@ -82,8 +82,8 @@ module _ (k : Record) (cell words : List ℕ) where
   abbrev h : Header
   h = headerAt cell 0
 
-  abbrev vc : Vc
-  vc = vcAt words (h .vci)
+  abbrev vc : Connection
+  vc = connectionAt words (h .vci)
 
   abbrev j : Judged
   j = judgedOf (k .n) (k .v) (k .t) words cell
@@ -92,9 +92,9 @@ module _ (k : Record) (cell words : List ℕ) where
     pub accepted-is : ((length cell ≡ 0 → ⊥) → length cell ≡ 53) → j .ok ≡ true → letsIn (j .verdict) ≡ true → Accepted k j cell words
     pub excess-is : j .ok ≡ true → j .verdict ≡ excess → j .vci < k .v
 
-  in-bucket : (x a : Bool) → length cell =? 0 || noUserCell h ≡ false → namesVc (k .v) h ≡ true → vc .opened ≡ 1
-      → bucketsFit (k .n) vc ≡ true → (verdictOn (h .clp) (vcNow (k .t) vc) =? excess) ≡ x → vcNow (k .t) vc .waiting <? k .n ≡ a → Shows
-  unfolding judgedOf judgedVc judgedBuckets letsIn
+  in-bucket : (x a : Bool) → length cell =? 0 || noUserCell h ≡ false → namesConnection (k .v) h ≡ true → vc .opened ≡ 1
+      → bucketsFit (k .n) vc ≡ true → (verdictOn (h .clp) (connectionNow (k .t) vc) =? excess) ≡ x → connectionNow (k .t) vc .waiting <? k .n ≡ a → Shows
+  unfolding judgedOf judgedConnection judgedBuckets letsIn
   in-bucket true a c n o f ex ea =
       record {
         accepted-is = rw (c, n, ne-eqb (vc .opened) 0 (λ q. omega arith), eq-eqb (vc .opened) 1 o, f, ex) (λ l ok v. no v);
@@ -108,9 +108,9 @@ module _ (k : Record) (cell words : List ℕ) where
               let-in = v;
               vci-low = names-facts (k .v) h n .1;
               vci-high = names-facts (k .v) h n .2;
-              near = near (k .n) (k .t) vc f (not-excess (h .clp) (vcNow (k .t) vc) ex .within);
+              near = near (k .n) (k .t) vc f (not-excess (h .clp) (connectionNow (k .t) vc) ex .within);
               waiting-low = omega arith;
-              waiting-high = let low = ltb-true (vcNow (k .t) vc .waiting) (k .n) ea in omega arith;
+              waiting-high = let low = ltb-true (connectionNow (k .t) vc .waiting) (k .n) ea in omega arith;
               is-open = o;
               cell-long = l (λ q. neither (length cell =? 0) (noUserCell h) c (eq-eqb (length cell) 0 q));
               vpi-is = names-facts (k .v) h n .0;
@@ -124,37 +124,37 @@ module _ (k : Record) (cell words : List ℕ) where
         excess-is = rw (c, n, ne-eqb (vc .opened) 0 (λ q. omega arith), eq-eqb (vc .opened) 1 o, f, ex, ea) (λ ok v. no ok);
       }
 
-  at-vc : length cell =? 0 || noUserCell h ≡ false → namesVc (k .v) h ≡ true
+  at-connection : length cell =? 0 || noUserCell h ≡ false → namesConnection (k .v) h ≡ true
       → (vc .opened ≡ 0) ⊎ ((vc .opened ≡ 1) ⊎ (1 < vc .opened)) → (f : Bool) → bucketsFit (k .n) vc ≡ f → Shows
-  unfolding judgedOf judgedVc letsIn
-  at-vc c n (inl o) f ef =
+  unfolding judgedOf judgedConnection letsIn
+  at-connection c n (inl o) f ef =
       record {
         accepted-is = rw (c, n, eq-eqb (vc .opened) 0 o) (λ l ok v. no v);
         excess-is = rw (c, n, eq-eqb (vc .opened) 0 o) (λ ok v. absurd (omega arith));
       }
-  at-vc c n (inr (inl o)) true ef =
-      in-bucket (verdictOn (h .clp) (vcNow (k .t) vc) =? excess) (vcNow (k .t) vc .waiting <? k .n) c n o ef refl refl
-  at-vc c n (inr (inl o)) false ef =
+  at-connection c n (inr (inl o)) true ef =
+      in-bucket (verdictOn (h .clp) (connectionNow (k .t) vc) =? excess) (connectionNow (k .t) vc .waiting <? k .n) c n o ef refl refl
+  at-connection c n (inr (inl o)) false ef =
       record {
         accepted-is = rw (c, n, ne-eqb (vc .opened) 0 (λ q. omega arith), eq-eqb (vc .opened) 1 o, ef) (λ l ok v. no ok);
         excess-is = rw (c, n, ne-eqb (vc .opened) 0 (λ q. omega arith), eq-eqb (vc .opened) 1 o, ef) (λ ok v. no ok);
       }
-  at-vc c n (inr (inr o)) f ef =
+  at-connection c n (inr (inr o)) f ef =
       record {
         accepted-is = rw (c, n, ne-eqb (vc .opened) 0 (λ q. omega arith), ne-eqb (vc .opened) 1 (λ q. omega arith)) (λ l ok v. no ok);
         excess-is = rw (c, n, ne-eqb (vc .opened) 0 (λ q. omega arith), ne-eqb (vc .opened) 1 (λ q. omega arith)) (λ ok v. no ok);
       }
 
-  at-cell : (c n : Bool) → length cell =? 0 || noUserCell h ≡ c → namesVc (k .v) h ≡ n → Shows
+  at-cell : (c n : Bool) → length cell =? 0 || noUserCell h ≡ c → namesConnection (k .v) h ≡ n → Shows
   unfolding judgedOf letsIn
   at-cell true n ec en =
       record { accepted-is = rw ec (λ l ok v. no v); excess-is = rw ec (λ ok v. absurd (omega arith)) }
-  at-cell false true ec en = at-vc ec en (open-cases (vc .opened)) (bucketsFit (k .n) vc) refl
+  at-cell false true ec en = at-connection ec en (open-cases (vc .opened)) (bucketsFit (k .n) vc) refl
   at-cell false false ec en =
       record { accepted-is = rw (ec, en) (λ l ok v. no v); excess-is = rw (ec, en) (λ ok v. absurd (omega arith)) }
 
   pub judged-shows : Shows
-  judged-shows = at-cell (length cell =? 0 || noUserCell h) (namesVc (k .v) h) refl refl
+  judged-shows = at-cell (length cell =? 0 || noUserCell h) (namesConnection (k .v) h) refl refl
 
 -- ---- the seat
 entry-low : (N T D : ℕ) → T < N → D < N → entryOf N T D < N

@@ -7,8 +7,8 @@ use lib.ListN.{getD, set}
 use Rattle.meaning.specs.Plain.{if_then_else_, _<?_, _≤?_, _=?_, refused, next, needs, _andThen_}
 use Rattle.meaning.specs.Numbers.{empty, cellStart, waitingPlace}
 use Rattle.meaning.specs.State.{State, stateOf, Ends, freeList, outputList, recordWith, withRecord, withLinks, withCalendar, withWords, withFreeList, withOutputList}
-use Rattle.meaning.specs.Header.{Header, headerAt, namesOpenVc}
-use Rattle.meaning.specs.Words.{Vc, vcAt, writeVc, withWaiting}
+use Rattle.meaning.specs.Header.{Header, headerAt, namesOpen}
+use Rattle.meaning.specs.Words.{Connection, connectionAt, writeConnection, withWaiting}
 use Rattle.meaning.specs.Lists.{emptyList, isEmpty, endsFit, entryAt, writeEntry, takeHead, Grown, joinTail, addTail}
 use Rattle.meaning.specs.Work.{Work, workOf, answerOf}
 use Rattle.meaning.specs.Slot.{step4, depart, step5}
@@ -22,8 +22,8 @@ abbrev grown : Ends → List ℕ → Grown
 grown ends links = record { ends = ends; links = links }
 
 -- waiting, one less, as the departure writes it
-less-is : (words : List ℕ) (v : ℕ) → writeVc words v (withWaiting (vcAt words v) (vcAt words v .waiting - 1)) ≡ oneLess v words
-unfolding oneLess vcAt
+less-is : (words : List ℕ) (v : ℕ) → writeConnection words v (withWaiting (connectionAt words v) (connectionAt words v .waiting - 1)) ≡ oneLess v words
+unfolding oneLess connectionAt
 less-is words v = write-waiting words v (getD words (waitingPlace v) 0 - 1)
 
 -- a space given back, as numbers
@@ -50,7 +50,7 @@ depart-is : (w : Work) (x : ℕ) (left : Ends)
     else refused)
 unfolding depart mayLeave leaving leftBy freed withEnds withOutputList withFreeList withLinks withWords withRecord recordWith
 depart-is w x left =
-    go (namesOpenVc (s .ctl .v) (s .words) h) (1 ≤? vc .waiting) (vc .waiting ≤? s .ctl .n) (endsFit (s .ctl .n) (freeList s))
+    go (namesOpen (s .ctl .v) (s .words) h) (1 ≤? vc .waiting) (vc .waiting ≤? s .ctl .n) (endsFit (s .ctl .n) (freeList s))
   where
     s : State
     s = w .state
@@ -58,8 +58,8 @@ depart-is w x left =
     h : Header
     h = headerAt (s .cells) (cellStart x)
 
-    vc : Vc
-    vc = vcAt (s .words) (h .vci)
+    vc : Connection
+    vc = connectionAt (s .words) (h .vci)
 
     -- the work after the departure, from the Free List and the words as they then are
     made : Grown → List ℕ → Work
@@ -68,14 +68,14 @@ depart-is w x left =
         (stateOf (recordWith (s .ctl) (s .ctl .t) (s .ctl .turn) (s .ctl .rotation) (g .ends) left) (s .cells) (g .links) (s .calendar) words)
         (answerOf (w .answer .number) (w .answer .verdict) (w .answer .vci) (w .answer .d) x (h .vci))
 
-    same : made (addTail (s .links) (freeList s) x) (writeVc (s .words) (h .vci) (withWaiting vc (vc .waiting - 1)))
+    same : made (addTail (s .links) (freeList s) x) (writeConnection (s .words) (h .vci) (withWaiting vc (vc .waiting - 1)))
         ≡ leftBy w (s .links) (s .calendar) (offAs true x (h .vci) left)
     same =
-        ap (λ (g : Grown). made g (writeVc (s .words) (h .vci) (withWaiting vc (vc .waiting - 1)))) (add-tail-is (s .links) (freeList s) x)
+        ap (λ (g : Grown). made g (writeConnection (s .words) (h .vci) (withWaiting vc (vc .waiting - 1)))) (add-tail-is (s .links) (freeList s) x)
         ∙ ap (λ (l : List ℕ). made (grown (endsOf (if s .ctl .freehead =? empty then x else s .ctl .freehead) x) (linked (not (s .ctl .freehead =? empty)) (s .ctl .freetail) x (s .links))) l) (less-is (s .words) (h .vci))
 
     go : (a p q e : Bool)
-        → needs a (needs (p && q) (needs e (next (made (addTail (s .links) (freeList s) x) (writeVc (s .words) (h .vci) (withWaiting vc (vc .waiting - 1)))))))
+        → needs a (needs (p && q) (needs e (next (made (addTail (s .links) (freeList s) x) (writeConnection (s .words) (h .vci) (withWaiting vc (vc .waiting - 1)))))))
         ≡ (if a && p && q then (if e then next (leftBy w (s .links) (s .calendar) (offAs true x (h .vci) left)) else refused) else refused)
     go true true true true = ap next same
     go true true true false = refl

@@ -7,8 +7,8 @@ use borrow.Author.Tests.{leb-true}
 use lib.ListN.{getD}
 use Rattle.meaning.specs.Plain.{if_then_else_, _<?_, _≤?_, _=?_}
 use Rattle.meaning.specs.Numbers.{empty, openPlace, waitingPlace, cellStart}
-use Rattle.meaning.specs.Header.{Header, headerAt, namesVc, namesOpenVc}
-use Rattle.meaning.specs.Words.{vcAt}
+use Rattle.meaning.specs.Header.{Header, headerAt, namesConnection, namesOpen}
+use Rattle.meaning.specs.Words.{connectionAt}
 use Rattle.mem_lists.specs.declared.Off.{Off}
 use Rattle.mem_lists.specs.Spaces.{endsOf, offAs, noneOff, mayLeave, offOf}
 use Rattle.mem_lists.proofs.After.{Kept}
@@ -22,11 +22,11 @@ module _ (N z : ℕ) (cells links words : List ℕ) (x tail : ℕ) where
   off = offOf N z cells links words x tail
 
   may-shows : mayLeave N z cells words x ≡ true → (h .vci < z) × (1 ≤ getD words (waitingPlace (h .vci)) 0)
-  unfolding mayLeave namesOpenVc vcAt
+  unfolding mayLeave namesOpen connectionAt
   may-shows e =
-      let p = and (namesVc z h && getD words (openPlace (h .vci)) 0 =? 1 && 1 ≤? getD words (waitingPlace (h .vci)) 0) (getD words (waitingPlace (h .vci)) 0 ≤? N) e in
-      let q = and (namesVc z h && getD words (openPlace (h .vci)) 0 =? 1) (1 ≤? getD words (waitingPlace (h .vci)) 0) (p .0) in
-      let r = and (namesVc z h) (getD words (openPlace (h .vci)) 0 =? 1) (q .0) in
+      let p = and (namesConnection z h && getD words (openPlace (h .vci)) 0 =? 1 && 1 ≤? getD words (waitingPlace (h .vci)) 0) (getD words (waitingPlace (h .vci)) 0 ≤? N) e in
+      let q = and (namesConnection z h && getD words (openPlace (h .vci)) 0 =? 1) (1 ≤? getD words (waitingPlace (h .vci)) 0) (p .0) in
+      let r = and (namesConnection z h) (getD words (openPlace (h .vci)) 0 =? 1) (q .0) in
       (names-facts z h (r .0) .2, leb-true _ _ (q .1))
 
   pub off-shows : off .ok ≡ true → (off .vci < z) × (1 ≤ getD words (waitingPlace (off .vci)) 0)
@@ -42,5 +42,5 @@ module _ (N z : ℕ) (cells links words : List ℕ) (x tail : ℕ) where
       go false a f e = λ ok. no ok
 
   pub off-kept : (words′ : List ℕ) → Kept words words′ → offOf N z cells links words′ x tail ≡ off
-  unfolding offOf mayLeave namesOpenVc vcAt
+  unfolding offOf mayLeave namesOpen connectionAt
   off-kept words′ kept = rw (kept .opened (h .vci), kept .waiting (h .vci))

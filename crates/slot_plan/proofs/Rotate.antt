@@ -12,17 +12,17 @@ use borrow.Author.Tests.{eq-eqb, ne-eqb, le-leb, lt-leb, leb-true}
 use lib.ListN.{length}
 use Rattle.meaning.specs.declared.Record.{Record}
 use Rattle.meaning.specs.Plain.{if_then_else_, _≤?_, _=?_, refused, next}
-use Rattle.meaning.specs.Numbers.{slotNumbers, unknown, wordsPerVc, vcPlace}
+use Rattle.meaning.specs.Numbers.{slotNumbers, unknown, wordsPerConnection, connectionPlace}
 use Rattle.meaning.specs.State.{stateOf, withWords}
 use Rattle.meaning.specs.Header.{headerAt}
 use Rattle.meaning.specs.Bucket.{Bucket, withS, elapsed, fall, obeysRules, obeysSecond, isNone}
-use Rattle.meaning.specs.Words.{Vc, vcAt, writeVc, bucketFits, secondObeys, secondFits, bucketsFit, openWordFits, fallenTo, upToDate}
+use Rattle.meaning.specs.Words.{Connection, connectionAt, writeConnection, bucketFits, secondObeys, secondFits, bucketsFit, openWordFits, fallenTo, upToDate}
 use Rattle.meaning.specs.Work.{workOf, bareAnswer}
 use Rattle.meaning.specs.Slot.{step2}
 use Rattle.meaning.proofs.WordsLaws.{write-fall, write-read, write-read-other}
 use Rattle.slot_arrive.specs.declared.Fall.{Fall}
 use Rattle.slot_arrive.specs.declared.Judged.{Judged}
-use Rattle.slot_arrive.specs.Arrival.{vcNow, broughtOf, judgedAs, outOfRange, judgedBuckets, judgedVc, judgedOf, fallen}
+use Rattle.slot_arrive.specs.Arrival.{connectionNow, broughtOf, judgedAs, outOfRange, judgedBuckets, judgedConnection, judgedOf, fallen}
 use Rattle.slot_plan.specs.Plan.{rotated, rotatedWork}
 
 -- an open word is 0, 1, or out of range
@@ -36,9 +36,9 @@ open-cases o = go (ℕ-discrete o 0) (ℕ-discrete o 1)
 
 -- a VC brought up to date at t is written as S of both buckets and last
 pub update-is : (words : List ℕ) (vci t : ℕ)
-    → writeVc words vci (vcNow t (vcAt words vci))
-    ≡ fallen true vci (vcNow t (vcAt words vci) .bucket .S) (vcNow t (vcAt words vci) .second .S) t words
-unfolding fallen vcNow fallenTo fall
+    → writeConnection words vci (connectionNow t (connectionAt words vci))
+    ≡ fallen true vci (connectionNow t (connectionAt words vci) .bucket .S) (connectionNow t (connectionAt words vci) .second .S) t words
+unfolding fallen connectionNow fallenTo fall
 update-is words vci t = write-fall words vci _ t _
 
 -- step 2 of a work whose record is k
@@ -46,14 +46,14 @@ pub rotate-is : (k : Record) (cells links calendar words : List ℕ) (b : Fall)
     → b ≡ broughtOf (k .n) (k .t) words (k .rotation)
     → step2 (workOf (stateOf k cells links calendar words) (bareAnswer 0))
     ≡ (if b .ok then next (rotatedWork k cells links calendar (rotated k b words)) else refused)
-unfolding step2 broughtOf vcNow rotatedWork rotated fallen openWordFits upToDate withWords
+unfolding step2 broughtOf connectionNow rotatedWork rotated fallen openWordFits upToDate withWords
 rotate-is k cells links calendar words b e = rw e (first (ℕ-discrete vci 0))
   where
     vci : ℕ
     vci = k .rotation
 
-    vc : Vc
-    vc = vcAt words vci
+    vc : Connection
+    vc = connectionAt words vci
 
     Goal : Type 0
     Goal =
@@ -80,22 +80,22 @@ rotate-is k cells links calendar words b e = rw e (first (ℕ-discrete vci 0))
     first (no h) = second h (open-cases (vc .opened))
 
 -- what step 2 found of an open VC
-pub record Brought (N t : ℕ) (vc : Vc) (b : Fall) : Type 0 where
+pub record Brought (N t : ℕ) (vc : Connection) (b : Fall) : Type 0 where
   pub opened-one : vc .opened ≡ 1
   pub fits : bucketsFit N vc ≡ true
-  pub falls-to : b .s ≡ vcNow t vc .bucket .S
-  pub second-to : b .second ≡ vcNow t vc .second .S
+  pub falls-to : b .s ≡ connectionNow t vc .bucket .S
+  pub second-to : b .second ≡ connectionNow t vc .second .S
 
 no-fall : {A : Type 0} → false ≡ true → A
 no-fall e = let y : _≡_ {A = ℕ} 0 1 = cc in absurd (omega arith)
 
 pub brought-on : (N t : ℕ) (words : List ℕ) (vci : ℕ) → broughtOf N t words vci .on ≡ true
-    → Brought N t (vcAt words vci) (broughtOf N t words vci)
+    → Brought N t (connectionAt words vci) (broughtOf N t words vci)
 unfolding broughtOf
 brought-on N t words vci = first (ℕ-discrete vci 0)
   where
-    vc : Vc
-    vc = vcAt words vci
+    vc : Connection
+    vc = connectionAt words vci
 
     Goal : Type 0
     Goal = broughtOf N t words vci .on ≡ true → Brought N t vc (broughtOf N t words vci)
@@ -121,8 +121,8 @@ elapsed-none : (t : ℕ) → elapsed t t ≡ 0
 unfolding elapsed
 elapsed-none t = ap (λ (n : ℕ). n % slotNumbers) (omega arith) ∙ mod-self slotNumbers
 
-again : (t : ℕ) (vc : Vc) → vcNow t (vcNow t vc) ≡ vcNow t vc
-unfolding vcNow fallenTo fall
+again : (t : ℕ) (vc : Connection) → connectionNow t (connectionNow t vc) ≡ connectionNow t vc
+unfolding connectionNow fallenTo fall
 again t vc =
     rw (elapsed-none t) (λ i.
     record {
@@ -161,8 +161,8 @@ unfolding secondFits secondObeys isNone obeysSecond fall
 second-fits slots b tag e =
     rw (and-left (secondObeys b tag) (b .S ≤? b .C) e) (still-below slots b (and-right (secondObeys b tag) (b .S ≤? b .C) e))
 
-still-fits : (N t : ℕ) (vc : Vc) → bucketsFit N vc ≡ true → bucketsFit N (vcNow t vc) ≡ true
-unfolding bucketsFit vcNow fallenTo
+still-fits : (N t : ℕ) (vc : Connection) → bucketsFit N vc ≡ true → bucketsFit N (connectionNow t vc) ≡ true
+unfolding bucketsFit connectionNow fallenTo
 still-fits N t vc e =
     let peak = bucketFits N (vc .bucket) in
     let more = secondFits (vc .second) (vc .tag) in
@@ -170,73 +170,73 @@ still-fits N t vc e =
     rw (peak-fits N slots (vc .bucket) (and-left peak more e)) (second-fits slots (vc .second) (vc .tag) (and-right peak more e))
 
 -- a VC as step 3 sees it, before and after step 2
-abbrev judgedAt : ℕ → ℕ → ℕ → ℕ → Vc → Judged
+abbrev judgedAt : ℕ → ℕ → ℕ → ℕ → Connection → Judged
 judgedAt N t vci clp vc =
     if vc .opened =? 0 then judgedAs true unknown vci 0 0 0 0
     else if vc .opened =? 1
-    then (if bucketsFit N vc then judgedBuckets N vci clp (vcNow t vc) else outOfRange)
+    then (if bucketsFit N vc then judgedBuckets N vci clp (connectionNow t vc) else outOfRange)
     else outOfRange
 
-opened-now : (t : ℕ) (vc : Vc) → vcNow t vc .opened ≡ vc .opened
-unfolding vcNow fallenTo
+opened-now : (t : ℕ) (vc : Connection) → connectionNow t vc .opened ≡ vc .opened
+unfolding connectionNow fallenTo
 opened-now t vc = refl
 
-judged-open : (N t vci clp : ℕ) (vc : Vc) → vc .opened ≡ 1 → bucketsFit N vc ≡ true
-    → judgedAt N t vci clp vc ≡ judgedBuckets N vci clp (vcNow t vc)
+judged-open : (N t vci clp : ℕ) (vc : Connection) → vc .opened ≡ 1 → bucketsFit N vc ≡ true
+    → judgedAt N t vci clp vc ≡ judgedBuckets N vci clp (connectionNow t vc)
 judged-open N t vci clp vc o f = rw (ne-eqb (vc .opened) 0 (λ q. omega arith), eq-eqb (vc .opened) 1 o, f)
 
-judged-again : (N t vci clp : ℕ) (vc : Vc) → vc .opened ≡ 1 → bucketsFit N vc ≡ true
-    → judgedAt N t vci clp (vcNow t vc) ≡ judgedAt N t vci clp vc
+judged-again : (N t vci clp : ℕ) (vc : Connection) → vc .opened ≡ 1 → bucketsFit N vc ≡ true
+    → judgedAt N t vci clp (connectionNow t vc) ≡ judgedAt N t vci clp vc
 judged-again N t vci clp vc o f =
-    judged-open N t vci clp (vcNow t vc) (opened-now t vc ∙ o) (still-fits N t vc f)
+    judged-open N t vci clp (connectionNow t vc) (opened-now t vc ∙ o) (still-fits N t vc f)
     ∙ ap (judgedBuckets N vci clp) (again t vc)
     ∙ sym (judged-open N t vci clp vc o f)
 
 -- what step 3 finds at a VC is what it would have found before step 2
-pub judged-vc-same : (k : Record) (words : List ℕ) (vci clp : ℕ) (b : Fall)
+pub judged-connection-same : (k : Record) (words : List ℕ) (vci clp : ℕ) (b : Fall)
     → b ≡ broughtOf (k .n) (k .t) words (k .rotation)
-    → vcPlace (k .rotation) + wordsPerVc ≤ length words
-    → judgedVc (k .n) (k .t) (rotated k b words) vci clp ≡ judgedVc (k .n) (k .t) words vci clp
-unfolding judgedVc rotated fallen
-judged-vc-same k words vci clp b e inside = go (b .on) refl (ℕ-discrete vci (k .rotation))
+    → connectionPlace (k .rotation) + wordsPerConnection ≤ length words
+    → judgedConnection (k .n) (k .t) (rotated k b words) vci clp ≡ judgedConnection (k .n) (k .t) words vci clp
+unfolding judgedConnection rotated fallen
+judged-connection-same k words vci clp b e inside = go (b .on) refl (ℕ-discrete vci (k .rotation))
   where
     at : ℕ
     at = k .rotation
 
-    vc : Vc
-    vc = vcAt words at
+    vc : Connection
+    vc = connectionAt words at
 
-    seen : Vc → Judged
+    seen : Connection → Judged
     seen = judgedAt (k .n) (k .t) vci clp
 
     found : b .on ≡ true → Brought (k .n) (k .t) vc (broughtOf (k .n) (k .t) words at)
     found on = brought-on (k .n) (k .t) words at (sym (ap (λ (f : Fall). f .on) e) ∙ on)
 
-    wrote : b .on ≡ true → rotated k b words ≡ writeVc words at (vcNow (k .t) vc)
+    wrote : b .on ≡ true → rotated k b words ≡ writeConnection words at (connectionNow (k .t) vc)
     wrote on =
         ap (λ (f : Bool). fallen f at (b .s) (b .second) (k .t) words) on
         ∙ ap (λ (S : ℕ). fallen true at S (b .second) (k .t) words) (ap (λ (f : Fall). f .s) e ∙ found on .falls-to)
-        ∙ ap (λ (S : ℕ). fallen true at (vcNow (k .t) vc .bucket .S) S (k .t) words)
+        ∙ ap (λ (S : ℕ). fallen true at (connectionNow (k .t) vc .bucket .S) S (k .t) words)
         (ap (λ (f : Fall). f .second) e ∙ found on .second-to)
         ∙ sym (update-is words at (k .t))
 
     go : (on : Bool) → b .on ≡ on → Dec (vci ≡ at)
-        → judgedVc (k .n) (k .t) (rotated k b words) vci clp ≡ judgedVc (k .n) (k .t) words vci clp
-    go false off d = ap (λ (f : Bool). seen (vcAt (fallen f at (b .s) (b .second) (k .t) words) vci)) off
+        → judgedConnection (k .n) (k .t) (rotated k b words) vci clp ≡ judgedConnection (k .n) (k .t) words vci clp
+    go false off d = ap (λ (f : Bool). seen (connectionAt (fallen f at (b .s) (b .second) (k .t) words) vci)) off
     go true on (yes q) =
-        ap (λ (l : List ℕ). seen (vcAt l vci)) (wrote on)
-        ∙ ap (λ (v : ℕ). seen (vcAt (writeVc words at (vcNow (k .t) vc)) v)) q
-        ∙ ap seen (write-read words at (vcNow (k .t) vc) inside)
+        ap (λ (l : List ℕ). seen (connectionAt l vci)) (wrote on)
+        ∙ ap (λ (v : ℕ). seen (connectionAt (writeConnection words at (connectionNow (k .t) vc)) v)) q
+        ∙ ap seen (write-read words at (connectionNow (k .t) vc) inside)
         ∙ judged-again (k .n) (k .t) vci clp vc (found on .opened-one) (found on .fits)
-        ∙ ap (λ (v : ℕ). seen (vcAt words v)) (sym q)
+        ∙ ap (λ (v : ℕ). seen (connectionAt words v)) (sym q)
     go true on (no q) =
-        ap (λ (l : List ℕ). seen (vcAt l vci)) (wrote on)
-        ∙ ap seen (write-read-other words at (vcNow (k .t) vc) vci q)
+        ap (λ (l : List ℕ). seen (connectionAt l vci)) (wrote on)
+        ∙ ap seen (write-read-other words at (connectionNow (k .t) vc) vci q)
 
 -- and so of every cell
 pub judged-same : (k : Record) (words cell : List ℕ) (b : Fall)
     → b ≡ broughtOf (k .n) (k .t) words (k .rotation)
-    → vcPlace (k .rotation) + wordsPerVc ≤ length words
+    → connectionPlace (k .rotation) + wordsPerConnection ≤ length words
     → judgedOf (k .n) (k .v) (k .t) (rotated k b words) cell ≡ judgedOf (k .n) (k .v) (k .t) words cell
 unfolding judgedOf
-judged-same k words cell b e inside = rw (judged-vc-same k words (headerAt cell 0 .vci) (headerAt cell 0 .clp) b e inside)
+judged-same k words cell b e inside = rw (judged-connection-same k words (headerAt cell 0 .vci) (headerAt cell 0 .clp) b e inside)

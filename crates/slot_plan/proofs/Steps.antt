@@ -9,7 +9,7 @@ use borrow.Author.Tests.{eq-eqb, ne-eqb}
 use lib.ListN.{length}
 use Rattle.meaning.specs.declared.Record.{Record}
 use Rattle.meaning.specs.Plain.{if_then_else_, Out, refused, next, _andThen_}
-use Rattle.meaning.specs.Numbers.{letsIn, wordsPerVc, vcPlace}
+use Rattle.meaning.specs.Numbers.{letsIn, wordsPerConnection, connectionPlace}
 use Rattle.meaning.specs.State.{stateOf, recordWith}
 use Rattle.meaning.specs.Lists.{endsFit}
 use Rattle.meaning.specs.Work.{Work, workOf, bareAnswer}
@@ -57,7 +57,7 @@ module _ (k : Record) (cell cells links calendar words : List ℕ) (b : Fall) (i
   pub rotating-none : b .ok ≡ false → from2 ≡ refused
   rotating-none e = rw (rotate-is k cells links calendar words b is, e)
 
-  module _ (j : Judged) (found : j ≡ judgedOf (k .n) (k .v) (k .t) words cell) (inside : vcPlace (k .rotation) + wordsPerVc ≤ length words) (ok : b .ok ≡ true) where
+  module _ (j : Judged) (found : j ≡ judgedOf (k .n) (k .v) (k .t) words cell) (inside : connectionPlace (k .rotation) + wordsPerConnection ≤ length words) (ok : b .ok ≡ true) where
     rotates : step2 (workOf (stateOf k cells links calendar words) (bareAnswer 0)) ≡ next (rotatedWork k cells links calendar (rotated k b words))
     rotates = rw (rotate-is k cells links calendar words b is, ok)
 

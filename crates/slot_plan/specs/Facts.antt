@@ -11,10 +11,10 @@ use mathlib.Core.List.{List}
 use lib.ListN.{length}
 use Rattle.meaning.specs.declared.Record.{Record}
 use Rattle.meaning.specs.Plain.{_=?_}
-use Rattle.meaning.specs.Numbers.{mostN, leastV, mostV, octets, perEntry, wordsPerVc, empty, letsIn}
+use Rattle.meaning.specs.Numbers.{mostN, leastV, mostV, octets, perEntry, wordsPerConnection, empty, letsIn}
 use Rattle.meaning.specs.State.{State, Ends}
 use Rattle.meaning.specs.Header.{headerAt}
-use Rattle.meaning.specs.Words.{vcAt}
+use Rattle.meaning.specs.Words.{connectionAt}
 use Rattle.meaning.specs.Lists.{endsFit}
 use Rattle.slot_arrive.specs.declared.Judged.{Judged}
 use Rattle.mem_lists.specs.declared.Seat.{Seat}
@@ -31,7 +31,7 @@ pub record Sized (s : State) : Type 0 where
   pub cells-long : length (s .cells) ≡ octets * s .ctl .n
   pub links-long : length (s .links) ≡ s .ctl .n
   pub calendar-long : length (s .calendar) ≡ perEntry * s .ctl .n
-  pub words-long : length (s .words) ≡ wordsPerVc * s .ctl .v
+  pub words-long : length (s .words) ≡ wordsPerConnection * s .ctl .v
   pub turn-low : s .ctl .turn < s .ctl .n
   pub rotation-low : s .ctl .rotation < s .ctl .v
 
@@ -42,7 +42,7 @@ pub record Accepted (k : Record) (j : Judged) (cell words : List ℕ) : Type 0 w
   pub near : j .d < k .n
   pub waiting-low : 1 ≤ j .waiting
   pub waiting-high : j .waiting ≤ k .n
-  pub is-open : vcAt words (j .vci) .opened ≡ 1
+  pub is-open : connectionAt words (j .vci) .opened ≡ 1
   pub cell-long : length cell ≡ octets
   pub vpi-is : headerAt cell 0 .vpi ≡ 0
   pub vci-is : headerAt cell 0 .vci ≡ j .vci

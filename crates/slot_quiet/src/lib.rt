@@ -6,7 +6,7 @@ ghost use Prim.Native.Nat.{ℕ, _+_, _*_, _≤_, _<_};
 ghost use lib.ListN.{length, getD};
 ghost use Rattle.meaning.specs.Plain.{_=?_};
 ghost use Rattle.meaning.specs.Numbers.{excess, waitingPlace, mostN, mostV, octets, wordsIn};
-ghost use Rattle.meaning.specs.State.{HasVc};
+ghost use Rattle.meaning.specs.State.{HasConnection};
 ghost use Rattle.meaning.specs.Lists.{endsFit};
 ghost use Rattle.meaning.specs.Lent.{here, before, Gives};
 ghost use Rattle.slot_arrive.specs.Arrival.{fallen};
@@ -24,8 +24,8 @@ use slot_arrive::Judged;
 
 // Steps 2 and 3 in the words where no cell is accepted.
 fn words_fall(k: Record, b: Fall, j: Judged, words: &mut [u32])
-    requires { ⌜ (b .on ≡ true → HasVc (k .rotation) (now words)) ⌝ }
-    requires { ⌜ (j .verdict =? excess ≡ true → HasVc (j .vci) (now words)) ⌝ }
+    requires { ⌜ (b .on ≡ true → HasConnection (k .rotation) (now words)) ⌝ }
+    requires { ⌜ (j .verdict =? excess ≡ true → HasConnection (j .vci) (now words)) ⌝ }
     ensures { λ r. ⌜ now (words .exit) ≡ fallen (j .verdict =? excess) (j .vci) (j .s) (j .second) (k .t) (rotated k b (now (words .entry))) ⌝ }
 {
     slot_arrive::put_fall(words, b.on, k.rotation, b.s, b.second, k.t);

@@ -14,11 +14,11 @@ use Rattle.meaning.specs.Plain.{if_then_else_, _<?_, _≤?_, _=?_, Out, refused
 use Rattle.meaning.specs.Numbers.{rangesHold, octets, cellStart, empty, unknown, excess}
 use Rattle.meaning.specs.State.{State, Ends, freeList, outputList, lengthsHold, withRecord, withCells, withLinks, withCalendar, withWords}
 use Rattle.meaning.specs.State.{recordWith, withClock, withFreeList, withOutputList}
-use Rattle.meaning.specs.Header.{headerAt, noUserCell, namesVc, namesOpenVc}
+use Rattle.meaning.specs.Header.{headerAt, noUserCell, namesConnection, namesOpen}
 use Rattle.meaning.specs.Bucket.{delay}
-use Rattle.meaning.specs.Words.{Vc, vcAt, withWaiting, openWordFits, upToDate}
+use Rattle.meaning.specs.Words.{Connection, connectionAt, withWaiting, openWordFits, upToDate}
 use Rattle.meaning.specs.Lists.{emptyList, isEmpty, endsFit, entryAt, Taken, takeHead, Grown, joinTail}
-use Rattle.meaning.specs.Work.{Work, workOf, bareAnswer, withVc, withArrival}
+use Rattle.meaning.specs.Work.{Work, workOf, bareAnswer, withConnection, withArrival}
 use Rattle.meaning.specs.Arrival.{verdictOn, place, accept, judge}
 use Rattle.meaning.specs.Slot.{step1, step2, step3, step4, depart, step5, fiveSteps, finish, uncheckedSlot}
 use Rattle.meaning.proofs.ListsLaws.{fit-head, fit-tail, fit-marked, fit-empty}
@@ -121,7 +121,7 @@ module _ (r : Record) where
   unfolding step2 withWords
   step2-going w h =
       let s = w .state in
-      let vc = vcAt (s .words) (s .ctl .rotation) in
+      let vc = connectionAt (s .words) (s .ctl .rotation) in
       if-all Going (s .ctl .rotation =? 0) _ _ (λ _. h)
       (λ _. needs-all Going (openWordFits vc) _
       (λ _. if-all Going (vc .opened =? 0) _ _ (λ _. h)
@@ -134,7 +134,7 @@ module _ (r : Record) where
   again k free output h =
       record { n-is = h .n-is; v-is = h .v-is; raw-is = h .raw-is; began = h .began; turn-low = h .turn-low; rotation-low = h .rotation-low }
 
-  judge-going : (cell : List ℕ) (v : ℕ) (w : Work) → Going w → (vc : Vc) → AllOut Going (judge cell v w vc)
+  judge-going : (cell : List ℕ) (v : ℕ) (w : Work) → Going w → (vc : Connection) → AllOut Going (judge cell v w vc)
   unfolding judge accept place withWords withCells withLinks withCalendar withFreeList withRecord recordWith
   judge-going cell v w h vc =
       let s = w .state in
@@ -156,9 +156,9 @@ module _ (r : Record) where
   step3-going cell w h =
       let s = w .state in
       let a = headerAt cell 0 in
-      let vc = vcAt (s .words) (a .vci) in
+      let vc = connectionAt (s .words) (a .vci) in
       if-all Going (length cell =? 0 || noUserCell a) _ _ (λ _. h)
-      (λ _. if-all Going (not (namesVc (s .ctl .v) a)) _ _ (λ _. same)
+      (λ _. if-all Going (not (namesConnection (s .ctl .v) a)) _ _ (λ _. same)
       (λ _. needs-all Going (openWordFits vc) _
       (λ _. if-all Going (vc .opened =? 0) _ _ (λ _. same)
       (λ _. any-all Going (upToDate (s .ctl .n) (s .ctl .t) vc) _ (judge-going cell (a .vci) w h)))))
@@ -238,8 +238,8 @@ module _ (r : Record) where
       (λ some. then-all (Took (outputList s)) Ended (takeHead (s .ctl .n) (s .links) (outputList s)) _
       (rw (j .ticked .n-is) (took (s .links) (outputList s) (j .fits) some))
       (λ taken is. let a = headerAt (s .cells) (cellStart (taken .space)) in
-      let vc = vcAt (s .words) (a .vci) in
-      needs-all Ended (namesOpenVc (s .ctl .v) (s .words) a) _
+      let vc = connectionAt (s .words) (a .vci) in
+      needs-all Ended (namesOpen (s .ctl .v) (s .words) a) _
       (λ _. needs-all Ended (1 ≤? vc .waiting && vc .waiting ≤? s .ctl .n) _
       (λ _. needs-all Ended (endsFit (s .ctl .n) (freeList s)) _
       (λ _. record {

@@ -11,7 +11,7 @@ use lib.ListN.{length}
 use Rattle.meaning.specs.declared.Record.{Record}
 use Rattle.meaning.specs.declared.Served.{Served}
 use Rattle.meaning.specs.Plain.{if_then_else_, _≤?_, _=?_, Out, refused, _andThen_}
-use Rattle.meaning.specs.Numbers.{rangesHold, wordsPerVc}
+use Rattle.meaning.specs.Numbers.{rangesHold, wordsPerConnection}
 use Rattle.meaning.specs.State.{State, stateOf, recordWith, withRecord, withClock, wordsLong, lengthsHold}
 use Rattle.meaning.specs.Work.{Work, workOf, bareAnswer}
 use Rattle.meaning.specs.Slot.{step1, step2, step3, step4, step5, fiveSteps, finish, uncheckedSlot}
@@ -72,7 +72,7 @@ module _ (r : Record) (cell cells links calendar words : List ℕ) where
     pub cells-long : length cells ≡ 53 * r .n
     pub links-long : length links ≡ r .n
     pub calendar-long : length calendar ≡ 2 * r .n
-    pub words-long : length words ≡ wordsPerVc * r .v
+    pub words-long : length words ≡ wordsPerConnection * r .v
     pub cell-long : (length cell ≡ 0 → ⊥) → length cell ≡ 53
 
   either : (a b : Bool) → a || b ≡ true → a ≡ false → b ≡ true
@@ -85,7 +85,7 @@ module _ (r : Record) (cell cells links calendar words : List ℕ) where
       let v2 = and (1 ≤? r .n && r .n ≤? 1024 && 2 ≤? r .v) (r .v ≤? 1024) a in
       let v1 = and (1 ≤? r .n && r .n ≤? 1024) (2 ≤? r .v) (v2 .0) in
       let n2 = and (1 ≤? r .n) (r .n ≤? 1024) (v1 .0) in
-      let w = and (length cells =? 53 * r .n && length links =? r .n && length calendar =? 2 * r .n) (length words =? wordsPerVc * r .v) b in
+      let w = and (length cells =? 53 * r .n && length links =? r .n && length calendar =? 2 * r .n) (length words =? wordsPerConnection * r .v) b in
       let c = and (length cells =? 53 * r .n && length links =? r .n) (length calendar =? 2 * r .n) (w .0) in
       let l = and (length cells =? 53 * r .n) (length links =? r .n) (c .0) in
       record {

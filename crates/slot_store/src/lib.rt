@@ -6,7 +6,7 @@ ghost use lib.ListN.{length};
 ghost use Rattle.meaning.specs.Plain.{_=?_};
 ghost use Rattle.meaning.specs.Numbers.{empty, cellStart, octets};
 ghost use Rattle.meaning.specs.Arrival.{sentAs};
-ghost use Rattle.meaning.specs.State.{writeCell, HasVc};
+ghost use Rattle.meaning.specs.State.{writeCell, HasConnection};
 ghost use Rattle.meaning.specs.Lists.{writeEntry};
 ghost use Rattle.meaning.specs.Lent.{here};
 ghost use Rattle.slot_arrive.specs.Arrival.{filled};
@@ -20,8 +20,8 @@ use slot_arrive::Judged;
 
 // Steps 2 and 3 in the words where a cell is accepted.
 fn words_fill(k: Record, b: Fall, j: Judged, words: &mut [u32])
-    requires { ⌜ (b .on ≡ true → HasVc (k .rotation) (now words)) ⌝ }
-    requires { ⌜ HasVc (j .vci) (now words) ⌝ }
+    requires { ⌜ (b .on ≡ true → HasConnection (k .rotation) (now words)) ⌝ }
+    requires { ⌜ HasConnection (j .vci) (now words) ⌝ }
     ensures { λ r. ⌜ now (words .exit) ≡ filled (j .vci) (j .s) (j .second) (k .t) (j .waiting) (rotated k b (now (words .entry))) ⌝ }
 {
     slot_arrive::put_fall(words, b.on, k.rotation, b.s, b.second, k.t);

@@ -6,13 +6,13 @@ use Rattle.meaning.specs.declared.Record.{Record}
 use Rattle.meaning.specs.Numbers.{slotNumbers}
 use Rattle.meaning.specs.State.{State}
 use Rattle.meaning.specs.Bucket.{elapsed}
-use Rattle.meaning.specs.Words.{Vc, upToDate, debt}
+use Rattle.meaning.specs.Words.{Connection, upToDate, debt}
 use Rattle.meaning.specs.Calls.{closeCall}
 use Rattle.meaning.specs.Work.{Work}
 use Rattle.meaning.specs.Slot.{step1, step2, step3, fiveSteps, slot}
 use Rattle.theory_clock.specs.Clocked.{upToDateBy, step1By, step2By, step3By, fiveStepsBy, slotBy, debtBy, closeBy}
 
-pub up-to-date-is : (N t : ℕ) (vc : Vc) → upToDateBy elapsed N t vc ≡ upToDate N t vc
+pub up-to-date-is : (N t : ℕ) (vc : Connection) → upToDateBy elapsed N t vc ≡ upToDate N t vc
 unfolding upToDate
 up-to-date-is N t vc = refl
 
@@ -36,7 +36,7 @@ pub slot-is : (s : State) (cell : List ℕ) → slotBy fiveSteps s cell ≡ slot
 unfolding slot
 slot-is s cell = refl
 
-pub debt-is : (t : ℕ) (vc : Vc) → debtBy elapsed t vc ≡ debt t vc
+pub debt-is : (t : ℕ) (vc : Connection) → debtBy elapsed t vc ≡ debt t vc
 unfolding debt
 debt-is t vc = refl
 

@@ -13,11 +13,11 @@ use Rattle.meaning.specs.Plain.{_<?_, _≤?_, _=?_}
 use Rattle.meaning.specs.Numbers.{excess, unknown, cellStart}
 use Rattle.meaning.specs.State.{freeList, outputList, withRecord, withCells, withLinks, withCalendar, withWords}
 use Rattle.meaning.specs.State.{recordWith, withClock, withFreeList, withOutputList}
-use Rattle.meaning.specs.Header.{headerAt, noUserCell, namesVc, namesOpenVc}
+use Rattle.meaning.specs.Header.{headerAt, noUserCell, namesConnection, namesOpen}
 use Rattle.meaning.specs.Bucket.{fill, delay}
-use Rattle.meaning.specs.Words.{Vc, vcAt, withWaiting, withBuckets, openWordFits, bucketsFit, fallenTo}
+use Rattle.meaning.specs.Words.{Connection, connectionAt, withWaiting, withBuckets, openWordFits, bucketsFit, fallenTo}
 use Rattle.meaning.specs.Lists.{isEmpty, endsFit, entryAt, takeHead}
-use Rattle.meaning.specs.Work.{Work, withVc, withArrival}
+use Rattle.meaning.specs.Work.{Work, withConnection, withArrival}
 use Rattle.meaning.specs.Arrival.{verdictOn, secondAfter, place, accept, judge}
 use Rattle.meaning.specs.Slot.{step4, depart, step5}
 use Rattle.meaning_runs.proofs.OutLaws.{AllOut, needs-all, if-all, then-all, any-all}
@@ -36,15 +36,15 @@ pub record On (z k r : ℕ) (most : ℕ → ℕ) (w : Work) : Type 0 where
 
 pub on-near : (z k r : ℕ) (most : ℕ → ℕ) (w : Work) → On z k r most w
     → ((v : ℕ) → 1 ≤ v → v < z → most v ≤ longest)
-    → (v : ℕ) → 1 ≤ v → v < w .state .ctl .v → Behind (w .state .ctl .t) longest (vcAt (w .state .words) v)
+    → (v : ℕ) → 1 ≤ v → v < w .state .ctl .v → Behind (w .state .ctl .t) longest (connectionAt (w .state .words) v)
 on-near z k r most w h low v a b o =
     let c : v < z = omega (arith, h .v-is) in
     let d = h .recent .behind v a c o in
     (omega (arith, h .t-is, d), omega (arith, h .t-is, d, low v a c))
 
 -- a VC that is written, no further behind than it may be
-on-write : (z k r : ℕ) (most : ℕ → ℕ) (w : Work) (v : ℕ) (vc : Vc) → v < z → On z k r most w → Behind k (most v) vc
-    → On z k r most (withVc w v vc)
+on-write : (z k r : ℕ) (most : ℕ → ℕ) (w : Work) (v : ℕ) (vc : Connection) → v < z → On z k r most w → Behind k (most v) vc
+    → On z k r most (withConnection w v vc)
 unfolding withWords
 on-write z k r most w v vc low h b =
     record {
@@ -56,13 +56,13 @@ on-write z k r most w v vc low h b =
     }
 
 -- a VC brought up to date is not behind at all
-caught-near : (N k most : ℕ) (vc : Vc) → AllOut (Behind k most) (caughtUp N k vc)
+caught-near : (N k most : ℕ) (vc : Connection) → AllOut (Behind k most) (caughtUp N k vc)
 unfolding caughtUp fallenTo
 caught-near N k most vc = needs-all (Behind k most) (bucketsFit N vc) _ (λ _ o. (omega arith, omega arith))
 
 caught-on : (z k r : ℕ) (most : ℕ → ℕ) (w : Work) → On z k r most w → (bound v : ℕ)
-    → AllOut (Behind k bound) (caughtUp (w .state .ctl .n) (w .state .ctl .t) (vcAt (w .state .words) v))
-caught-on z k r most w h bound v = rw (h .t-is) (caught-near (w .state .ctl .n) k bound (vcAt (w .state .words) v))
+    → AllOut (Behind k bound) (caughtUp (w .state .ctl .n) (w .state .ctl .t) (connectionAt (w .state .words) v))
+caught-on z k r most w h bound v = rw (h .t-is) (caught-near (w .state .ctl .n) k bound (connectionAt (w .state .words) v))
 
 -- 1: one slot further behind
 pub tick-on : (z k r : ℕ) (most : ℕ → ℕ) (w : Work) → On z k r most w
@@ -89,11 +89,11 @@ unfolding rotate withWords openWordFits
 rotate-on z k r₀ w low h =
     let s = w .state in
     let vci = s .ctl .rotation in
-    let vc = vcAt (s .words) vci in
+    let vc = connectionAt (s .words) vci in
     if-all Q (vci =? 0) _ _ (λ e. kept (λ v a b same. absurd (omega (arith, h .r-is, eqb-true vci 0 e))))
     (λ _. needs-all Q (vc .opened ≤? 1) _
     (λ _. if-all Q (vc .opened =? 0) _ _
-    (λ e. kept (λ v a b same o. absurd (o (ap (λ (u : ℕ). vcAt (s .words) u .opened) (same ∙ sym (h .r-is)) ∙ eqb-true (vc .opened) 0 e))))
+    (λ e. kept (λ v a b same o. absurd (o (ap (λ (u : ℕ). connectionAt (s .words) u .opened) (same ∙ sym (h .r-is)) ∙ eqb-true (vc .opened) 0 e))))
     (λ _. then-all (Behind k (since z r vci)) Q (caughtUp (s .ctl .n) (s .ctl .t) vc) _
     (caught-on z k r (λ v. since z r₀ v + 1) w h (since z r vci) vci)
     (λ now b. record {
@@ -111,10 +111,10 @@ rotate-on z k r₀ w low h =
     Q : Work → Type 0
     Q = On z k r (since z r)
 
-    others : (u : ℕ) → 1 ≤ u → u < z → u ≢ r → Behind k (since z r u) (vcAt (w .state .words) u)
+    others : (u : ℕ) → 1 ≤ u → u < z → u ≢ r → Behind k (since z r u) (connectionAt (w .state .words) u)
     others u p q ne = rw (since-next z r₀ u low p q ne) (h .recent .behind u p q)
 
-    kept : ((u : ℕ) → 1 ≤ u → u < z → u ≡ r → Behind k (since z r u) (vcAt (w .state .words) u)) → Q w
+    kept : ((u : ℕ) → 1 ≤ u → u < z → u ≡ r → Behind k (since z r u) (connectionAt (w .state .words) u)) → Q w
     kept named =
         record {
           v-is = h .v-is;
@@ -124,12 +124,12 @@ rotate-on z k r₀ w low h =
           recent = record { long = h .recent .long; behind = λ u p q. go u p q (ℕ-discrete u r) };
         }
       where
-        go : (u : ℕ) → 1 ≤ u → u < z → Dec (u ≡ r) → Behind k (since z r u) (vcAt (w .state .words) u)
+        go : (u : ℕ) → 1 ≤ u → u < z → Dec (u ≡ r) → Behind k (since z r u) (connectionAt (w .state .words) u)
         go u p q (yes e) = named u p q e
         go u p q (no ne) = others u p q ne
 
 -- 3: an arrival brings its VC up to date, and else keeps `last`
-pub judge-on : (z k r : ℕ) (most : ℕ → ℕ) (cell : List ℕ) (v : ℕ) (w : Work) (vc : Vc) → v < z → On z k r most w
+pub judge-on : (z k r : ℕ) (most : ℕ → ℕ) (cell : List ℕ) (v : ℕ) (w : Work) (vc : Connection) → v < z → On z k r most w
     → Behind k (most v) vc → AllOut (On z k r most) (judge cell v w vc)
 unfolding judge accept place withWords withCells withLinks withCalendar withFreeList withRecord recordWith
 judge-on z k r most cell v w vc low h b =
@@ -156,10 +156,10 @@ unfolding arrive
 arrive-on z k r most cell w h =
     let s = w .state in
     let a = headerAt cell 0 in
-    let vc = vcAt (s .words) (a .vci) in
+    let vc = connectionAt (s .words) (a .vci) in
     if-all Q (length cell =? 0 || noUserCell a) _ _ (λ _. h)
-    (λ _. if-all Q (not (namesVc (s .ctl .v) a)) _ _ (λ _. same)
-    (λ e. let low = names-low (s .ctl .v) a (not-false (namesVc (s .ctl .v) a) e) in
+    (λ _. if-all Q (not (namesConnection (s .ctl .v) a)) _ _ (λ _. same)
+    (λ e. let low = names-low (s .ctl .v) a (not-false (namesConnection (s .ctl .v) a) e) in
     needs-all Q (openWordFits vc) _
     (λ _. if-all Q (vc .opened =? 0) _ _ (λ _. same)
     (λ _. then-all (Behind k (most (a .vci))) Q (caughtUp (s .ctl .n) (s .ctl .t) vc) _
@@ -190,8 +190,8 @@ step5-on z k r most w h =
     if-all Q (isEmpty (outputList s)) _ _ (λ _. h)
     (λ _. any-all Q (takeHead (s .ctl .n) (s .links) (outputList s)) _
     (λ taken. let a = headerAt (s .cells) (cellStart (taken .space)) in
-    let vc = vcAt (s .words) (a .vci) in
-    needs-all Q (namesOpenVc (s .ctl .v) (s .words) a) _
+    let vc = connectionAt (s .words) (a .vci) in
+    needs-all Q (namesOpen (s .ctl .v) (s .words) a) _
     (λ e. let low = open-low (s .ctl .v) (s .words) a e in
     let h1 = on-write z k r most w (a .vci) (withWaiting vc (vc .waiting - 1)) (omega (arith, h .v-is)) h
     (h .recent .behind (a .vci) (low .0) (omega (arith, h .v-is))) in

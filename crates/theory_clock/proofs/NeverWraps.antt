@@ -9,16 +9,16 @@ use native.Mathlib.Nat.{mod-eq-of-lt}
 use borrow.Author.Tests.{eq-eqb, not-false}
 use lib.ListN.{getD, replicate, length-replicate}
 use Rattle.meaning.specs.Plain.{if_then_else_, _=?_}
-use Rattle.meaning.specs.Numbers.{rangesHold, openPlace, wordsPerVc}
+use Rattle.meaning.specs.Numbers.{rangesHold, openPlace, wordsPerConnection}
 use Rattle.meaning.specs.State.{State, lengthsHold, withRecord, withWords, recordWith, withClock}
-use Rattle.meaning.specs.Words.{Vc, vcAt, writeVc}
+use Rattle.meaning.specs.Words.{Connection, connectionAt, writeConnection}
 use Rattle.meaning.specs.Calls.{Called, SetUp, freshRecord, freshState, setup}
 use Rattle.meaning.specs.Work.{Work}
 use Rattle.meaning.proofs.WordsLaws.{write-stored}
 use Rattle.meaning.specs.Line.{lineCell}
 use Rattle.meaning_runs.specs.Run.{Call, onOpenWith, onClose, onSlot, opened, closed, ran, Run, runOf, shown, letIn, call, calls, freshRun, served}
 use Rattle.meaning_runs.proofs.OutLaws.{if-holds}
-use Rattle.theory_clock.specs.Stored.{storedVc, storedWords, storedState, storedWork, storedCalled}
+use Rattle.theory_clock.specs.Stored.{storedConnection, storedWords, storedState, storedWork, storedCalled}
 use Rattle.theory_clock.specs.Unwrapped.{unwrappedSlot, unwrappedFresh}
 use Rattle.theory_clock.specs.Kept.{Kept}
 use Rattle.theory_clock.specs.UnwrappedRun.{unwrappedCall, unwrappedCalls, unwrappedFreshRun, NeverWraps}
@@ -36,31 +36,31 @@ zeros-at zero i = refl
 zeros-at (suc k) zero = refl
 zeros-at (suc k) (suc i) = zeros-at k i
 
-closed-stored : (vc : Vc) → vc .opened ≡ 0 → storedVc vc ≡ vc
-unfolding storedVc
+closed-stored : (vc : Connection) → vc .opened ≡ 0 → storedConnection vc ≡ vc
+unfolding storedConnection
 closed-stored vc e = rw (eq-eqb (vc .opened) 0 e)
 
 fresh-words : (z k : ℕ) → storedWords z (zeros k) ≡ zeros k
-unfolding storedWords vcAt
+unfolding storedWords connectionAt
 fresh-words zero k = refl
 fresh-words (suc z) k =
-    ap (λ (l : List ℕ). writeVc l z (storedVc (vcAt (zeros k) z))) (fresh-words z k)
-    ∙ ap (writeVc (zeros k) z) (closed-stored (vcAt (zeros k) z) (zeros-at k (openPlace z)))
+    ap (λ (l : List ℕ). writeConnection l z (storedConnection (connectionAt (zeros k) z))) (fresh-words z k)
+    ∙ ap (writeConnection (zeros k) z) (closed-stored (connectionAt (zeros k) z) (zeros-at k (openPlace z)))
     ∙ write-stored (zeros k) z
 
 -- after setup t is 2^32-1, which is what is stored of 0 slots served
 pub fresh-agrees : (N z : ℕ) (raw : Bool) → storedState (unwrappedFresh N z raw) ≡ freshState N z raw
 unfolding storedState unwrappedFresh freshState freshRecord withClock withRecord withWords recordWith zeros
-fresh-agrees N z raw = rw (stored-zero, fresh-words z (wordsPerVc * z))
+fresh-agrees N z raw = rw (stored-zero, fresh-words z (wordsPerConnection * z))
 
 pub fresh-kept : (N z : ℕ) (raw : Bool) → 2 ≤ z → Kept (unwrappedFresh N z raw)
-unfolding unwrappedFresh freshState freshRecord withClock withRecord recordWith vcAt zeros
+unfolding unwrappedFresh freshState freshRecord withClock withRecord recordWith connectionAt zeros
 fresh-kept N z raw h =
     record {
       turns = omega (arith, mod-eq-of-lt {n = 0 + z - 1} {m = z} (omega arith));
       recent = record {
-        long = length-replicate (wordsPerVc * z) 0;
-        behind = λ vci a b o. absurd (o (zeros-at (wordsPerVc * z) (openPlace vci)));
+        long = length-replicate (wordsPerConnection * z) 0;
+        behind = λ vci a b o. absurd (o (zeros-at (wordsPerConnection * z) (openPlace vci)));
       };
     }
 

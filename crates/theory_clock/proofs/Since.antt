@@ -8,8 +8,8 @@ use native.Mathlib.Nat.{mod-lt, mod-eq-of-lt, mod-self, mod-add-mod}
 use native.Mathlib.Decide.{decLt, decLe, ℕ-discrete}
 use borrow.Author.Tests.{le-leb, lt-leb}
 use lib.ListN.{length}
-use Rattle.meaning.specs.Numbers.{wordsPerVc}
-use Rattle.meaning.specs.Words.{Vc, vcAt, writeVc}
+use Rattle.meaning.specs.Numbers.{wordsPerConnection}
+use Rattle.meaning.specs.Words.{Connection, connectionAt, writeConnection}
 use Rattle.meaning.proofs.WordsLaws.{write-length, write-read, write-read-other}
 use Rattle.theory_clock.specs.Kept.{since, Behind, Recent}
 
@@ -52,12 +52,12 @@ pub rotation-next : (z k : ℕ) → 1 ≤ z → ((k + z - 1) % z + 1) % z ≡ (k
 rotation-next z k h = mod-add-mod (k + z - 1) z 1 ∙ ap (λ (n : ℕ). n % z) (omega arith)
 
 -- one VC's words are written: it and the others are as near as they may be
-pub recent-write : (z k : ℕ) (most : ℕ → ℕ) (l : List ℕ) (v : ℕ) (vc : Vc) → v < z → length l ≡ wordsPerVc * z
-    → ((u : ℕ) → 1 ≤ u → u < z → u ≢ v → Behind k (most u) (vcAt l u))
-    → Behind k (most v) vc → Recent z k most (writeVc l v vc)
+pub recent-write : (z k : ℕ) (most : ℕ → ℕ) (l : List ℕ) (v : ℕ) (vc : Connection) → v < z → length l ≡ wordsPerConnection * z
+    → ((u : ℕ) → 1 ≤ u → u < z → u ≢ v → Behind k (most u) (connectionAt l u))
+    → Behind k (most v) vc → Recent z k most (writeConnection l v vc)
 recent-write z k most l v vc h long others b =
     record { long = write-length l v vc ∙ long; behind = λ u p q. go u p q (ℕ-discrete u v) }
   where
-    go : (u : ℕ) → 1 ≤ u → u < z → Dec (u ≡ v) → Behind k (most u) (vcAt (writeVc l v vc) u)
+    go : (u : ℕ) → 1 ≤ u → u < z → Dec (u ≡ v) → Behind k (most u) (connectionAt (writeConnection l v vc) u)
     go u p q (yes e) = rw (e, write-read l v vc (omega arith)) b
     go u p q (no ne) = rw (write-read-other l v vc u ne) (others u p q ne)

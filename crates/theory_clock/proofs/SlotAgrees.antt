@@ -9,7 +9,7 @@ use borrow.Author.Tests.{leb-true, not-false, ne-eqb}
 use lib.ListN.{length}
 use Rattle.base_hec.specs.Modes.{Arriving, arrivingFits}
 use Rattle.meaning.specs.Plain.{if_then_else_, _≤?_, _=?_, Out, refused, next, needs, _andThen_}
-use Rattle.meaning.specs.Numbers.{rangesHold, octets, leastV, mostV, mostN, wordsPerVc}
+use Rattle.meaning.specs.Numbers.{rangesHold, octets, leastV, mostV, mostN, wordsPerConnection}
 use Rattle.meaning.specs.State.{State, wordsLong, lengthsHold, withRecord, withWords, recordWith, withClock}
 use Rattle.meaning.specs.State.{recordInMode, withMode}
 use Rattle.meaning.specs.Work.{Work, workOf, bareAnswer}
@@ -64,8 +64,8 @@ module _ (cell : List ℕ) (w : Work) (z k r : ℕ) (begun : On z k r (since z r
       (λ w′ h. step5-on z (k + 1) next-r (since z next-r) w′ h)
 
   -- "no VC is ever more than V slots behind": just after the tick the VC that rotation names may be V behind
-  long-of : (most : ℕ → ℕ) (w′ : Work) → On z (k + 1) next-r most w′ → length (w′ .state .words) ≡ wordsPerVc * w′ .state .ctl .v
-  long-of most w′ h = h .recent .long ∙ ap (λ (n : ℕ). wordsPerVc * n) (sym (h .v-is))
+  long-of : (most : ℕ → ℕ) (w′ : Work) → On z (k + 1) next-r most w′ → length (w′ .state .words) ≡ wordsPerConnection * w′ .state .ctl .v
+  long-of most w′ h = h .recent .long ∙ ap (λ (n : ℕ). wordsPerConnection * n) (sym (h .v-is))
 
   gap₁ : (v : ℕ) → 1 ≤ v → v < z → since z r v + 1 ≤ longest
   unfolding longest

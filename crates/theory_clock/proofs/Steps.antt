@@ -8,17 +8,17 @@ use native.Mathlib.Omega.{arith}
 use borrow.Author.Tests.{ltb-true, leb-true, eqb-false, not-false}
 use lib.ListN.{length, getD}
 use Rattle.meaning.specs.Plain.{if_then_else_, _<?_, _≤?_, _=?_, Out, next, needs, _andThen_}
-use Rattle.meaning.specs.Numbers.{excess, unknown, openPlace, cellStart, wordsPerVc}
+use Rattle.meaning.specs.Numbers.{excess, unknown, openPlace, cellStart, wordsPerConnection}
 use Rattle.meaning.specs.State.{withRecord, withCells, withLinks, withCalendar, withWords, recordWith}
 use Rattle.meaning.specs.State.{withClock, withFreeList, withOutputList, freeList, outputList}
-use Rattle.meaning.specs.Header.{Header, headerAt, noUserCell, namesVc, namesOpenVc}
+use Rattle.meaning.specs.Header.{Header, headerAt, noUserCell, namesConnection, namesOpen}
 use Rattle.meaning.specs.Bucket.{delay, fill}
-use Rattle.meaning.specs.Words.{Vc, vcAt, withWaiting, withBuckets, openWordFits, bucketsFit, fallenTo, upToDate}
+use Rattle.meaning.specs.Words.{Connection, connectionAt, withWaiting, withBuckets, openWordFits, bucketsFit, fallenTo, upToDate}
 use Rattle.meaning.specs.Lists.{isEmpty, endsFit, entryAt, Taken, takeHead, addTail}
-use Rattle.meaning.specs.Work.{Work, withState, withVc, withArrival, withDeparture}
+use Rattle.meaning.specs.Work.{Work, withState, withConnection, withArrival, withDeparture}
 use Rattle.meaning.specs.Arrival.{verdictOn, secondAfter, sentAs, place, accept, judge}
 use Rattle.meaning.specs.Slot.{step1, step2, step3, step4, depart, step5}
-use Rattle.theory_clock.specs.Stored.{stored, storedVc, storedWords, storedState, storedWork}
+use Rattle.theory_clock.specs.Stored.{stored, storedConnection, storedWords, storedState, storedWork}
 use Rattle.theory_clock.specs.Unwrapped.{caughtUp, tick, rotate, arrive}
 use Rattle.theory_clock.specs.Kept.{longest, Behind}
 use Rattle.theory_clock.proofs.Wrap.{stored-next, elapsed-true}
@@ -36,64 +36,64 @@ step1-stored w =
     (stored-next (r .t)))
 
 -- an open VC that is not 2^32 slots behind is brought up to date alike
-pub up-stored : (N k : ℕ) (vc : Vc) → vc .opened =? 0 ≡ false → vc .last ≤ k → k ≤ vc .last + longest
-    → upToDate N (stored k) (storedVc vc) ≡ mapOut storedVc (caughtUp N k vc)
-unfolding upToDate caughtUp fallenTo bucketsFit storedVc
+pub up-stored : (N k : ℕ) (vc : Connection) → vc .opened =? 0 ≡ false → vc .last ≤ k → k ≤ vc .last + longest
+    → upToDate N (stored k) (storedConnection vc) ≡ mapOut storedConnection (caughtUp N k vc)
+unfolding upToDate caughtUp fallenTo bucketsFit storedConnection
 up-stored N k vc o a b =
-    needs-map storedVc (bucketsFit N vc) _ _
+    needs-map storedConnection (bucketsFit N vc) _ _
     (λ _. rw o (rw (elapsed-true k (vc .last) a b)))
 
 -- a VC's words are written
-pub vc-stored : (w : Work) (v : ℕ) (vc : Vc) → v < w .state .ctl .v → length (w .state .words) ≡ wordsPerVc * w .state .ctl .v
-    → withVc (storedWork w) v (storedVc vc) ≡ storedWork (withVc w v vc)
+pub connection-stored : (w : Work) (v : ℕ) (vc : Connection) → v < w .state .ctl .v → length (w .state .words) ≡ wordsPerConnection * w .state .ctl .v
+    → withConnection (storedWork w) v (storedConnection vc) ≡ storedWork (withConnection w v vc)
 unfolding storedWork storedState withClock withRecord withWords recordWith
-vc-stored w v vc h long =
+connection-stored w v vc h long =
     ap (λ (l : List ℕ). withState (storedWork w) (withWords (storedState (w .state)) l))
     (sym (stored-write (w .state .ctl .v) (w .state .words) v vc h long))
 
 -- "VPI is 0 and its VCI is 1 to V-1"
-pub names-low : (z : ℕ) (h : Header) → namesVc z h ≡ true → (1 ≤ h .vci) × (h .vci < z)
-unfolding namesVc
+pub names-low : (z : ℕ) (h : Header) → namesConnection z h ≡ true → (1 ≤ h .vci) × (h .vci < z)
+unfolding namesConnection
 names-low z h p =
     let q = both-true (h .vpi =? 0 && 1 ≤? h .vci) (h .vci <? z) p in
     (leb-true 1 (h .vci) (both-true (h .vpi =? 0) (1 ≤? h .vci) (q .0) .1), ltb-true (h .vci) z (q .1))
 
 -- what steps 2 and 3 do with a VC: nothing of their own (x) where it is closed, and f or g of it up to date where it is open
-at-stored : (w : Work) (v : ℕ) (x : Out Work) (f g : Vc → Out Work) → v < w .state .ctl .v
-    → length (w .state .words) ≡ wordsPerVc * w .state .ctl .v
-    → Behind (w .state .ctl .t) longest (vcAt (w .state .words) v)
-    → ((vc : Vc) → f (storedVc vc) ≡ mapOut storedWork (g vc))
-    → needs (openWordFits (vcAt (storedWords (w .state .ctl .v) (w .state .words)) v))
-    (if vcAt (storedWords (w .state .ctl .v) (w .state .words)) v .opened =? 0 then mapOut storedWork x
-    else (upToDate (w .state .ctl .n) (stored (w .state .ctl .t)) (vcAt (storedWords (w .state .ctl .v) (w .state .words)) v) andThen f))
+at-stored : (w : Work) (v : ℕ) (x : Out Work) (f g : Connection → Out Work) → v < w .state .ctl .v
+    → length (w .state .words) ≡ wordsPerConnection * w .state .ctl .v
+    → Behind (w .state .ctl .t) longest (connectionAt (w .state .words) v)
+    → ((vc : Connection) → f (storedConnection vc) ≡ mapOut storedWork (g vc))
+    → needs (openWordFits (connectionAt (storedWords (w .state .ctl .v) (w .state .words)) v))
+    (if connectionAt (storedWords (w .state .ctl .v) (w .state .words)) v .opened =? 0 then mapOut storedWork x
+    else (upToDate (w .state .ctl .n) (stored (w .state .ctl .t)) (connectionAt (storedWords (w .state .ctl .v) (w .state .words)) v) andThen f))
     ≡ mapOut storedWork
-    (needs (openWordFits (vcAt (w .state .words) v))
-    (if vcAt (w .state .words) v .opened =? 0 then x
-    else (caughtUp (w .state .ctl .n) (w .state .ctl .t) (vcAt (w .state .words) v) andThen g)))
-unfolding openWordFits storedVc
+    (needs (openWordFits (connectionAt (w .state .words) v))
+    (if connectionAt (w .state .words) v .opened =? 0 then x
+    else (caughtUp (w .state .ctl .n) (w .state .ctl .t) (connectionAt (w .state .words) v) andThen g)))
+unfolding openWordFits storedConnection
 at-stored w v x f g low long near same =
     let s = w .state in
-    let vc = vcAt (s .words) v in
+    let vc = connectionAt (s .words) v in
     rw (stored-read (s .ctl .v) (s .words) v low (omega arith))
     (needs-map storedWork (vc .opened ≤? 1) _ _
     (λ _. if-map storedWork (vc .opened =? 0) _ _ _ _ (λ _. refl)
     (λ o. let b = near (eqb-false (vc .opened) 0 o) in
-    ap (λ (y : Out Vc). y andThen f) (up-stored (s .ctl .n) (s .ctl .t) vc o (b .0) (b .1))
-    ∙ then-map storedVc storedWork (caughtUp (s .ctl .n) (s .ctl .t) vc) f g same)))
+    ap (λ (y : Out Connection). y andThen f) (up-stored (s .ctl .n) (s .ctl .t) vc o (b .0) (b .1))
+    ∙ then-map storedConnection storedWork (caughtUp (s .ctl .n) (s .ctl .t) vc) f g same)))
 
 -- "2. If the VC that rotation names is open, it is brought up to date"
-pub step2-stored : (w : Work) → w .state .ctl .rotation < w .state .ctl .v → length (w .state .words) ≡ wordsPerVc * w .state .ctl .v
-    → ((vci : ℕ) → 1 ≤ vci → vci < w .state .ctl .v → Behind (w .state .ctl .t) longest (vcAt (w .state .words) vci))
+pub step2-stored : (w : Work) → w .state .ctl .rotation < w .state .ctl .v → length (w .state .words) ≡ wordsPerConnection * w .state .ctl .v
+    → ((vci : ℕ) → 1 ≤ vci → vci < w .state .ctl .v → Behind (w .state .ctl .t) longest (connectionAt (w .state .words) vci))
     → step2 (storedWork w) ≡ mapOut storedWork (rotate w)
 unfolding step2 rotate storedWork storedState withClock withRecord withWords recordWith
 step2-stored w low long near =
     let s = w .state in
     let vci = s .ctl .rotation in
-    let vc = vcAt (s .words) vci in
+    let vc = connectionAt (s .words) vci in
     if-map storedWork (vci =? 0) _ _ _ _ (λ _. refl)
-    (λ v0. at-stored w vci (next w) _ (λ now. next (withVc w vci now)) low long
+    (λ v0. at-stored w vci (next w) _ (λ now. next (withConnection w vci now)) low long
     (near vci (omega (arith, eqb-false vci 0 v0)) low)
-    (λ vc. ap next (vc-stored w vci vc low long)))
+    (λ vc. ap next (connection-stored w vci vc low long)))
 
 -- "3. Arrival at an open VC", from the end: the cell's place, the verdict, the whole step
 pub place-stored : (cell : List ℕ) (D : ℕ) (w : Work) (taken : Taken)
@@ -103,9 +103,9 @@ place-stored cell D w taken =
     let s = w .state in
     needs-map storedWork (endsFit (s .ctl .n) (entryAt (s .calendar) ((s .ctl .turn + D) % s .ctl .n))) _ _ (λ _. refl)
 
-pub judge-stored : (cell : List ℕ) (v : ℕ) (w : Work) (vc : Vc) → v < w .state .ctl .v → length (w .state .words) ≡ wordsPerVc * w .state .ctl .v
-    → judge cell v (storedWork w) (storedVc vc) ≡ mapOut storedWork (judge cell v w vc)
-unfolding judge accept verdictOn storedWork storedState storedVc withClock withRecord withWords recordWith
+pub judge-stored : (cell : List ℕ) (v : ℕ) (w : Work) (vc : Connection) → v < w .state .ctl .v → length (w .state .words) ≡ wordsPerConnection * w .state .ctl .v
+    → judge cell v (storedWork w) (storedConnection vc) ≡ mapOut storedWork (judge cell v w vc)
+unfolding judge accept verdictOn storedWork storedState storedConnection withClock withRecord withWords recordWith
 judge-stored cell v w vc h long =
     let s = w .state in
     let D = delay (vc .bucket) in
@@ -114,23 +114,23 @@ judge-stored cell v w vc h long =
     let sent = sentAs verdict cell in
     let filled = withWaiting (withBuckets vc (fill (vc .bucket)) (secondAfter clp verdict (vc .second))) (vc .waiting + 1) in
     if-map storedWork (verdict =? excess) _ _ _ _
-    (λ _. ap (λ (w′ : Work). next (withArrival w′ excess v 0)) (vc-stored w v vc h long))
+    (λ _. ap (λ (w′ : Work). next (withArrival w′ excess v 0)) (connection-stored w v vc h long))
     (λ _. needs-map storedWork (vc .waiting <? s .ctl .n) _ _
     (λ _. needs-map storedWork (endsFit (s .ctl .n) (freeList s) && not (isEmpty (freeList s))) _ _
     (λ _. then-same storedWork (takeHead (s .ctl .n) (s .links) (freeList s)) _ _
-    (λ taken. ap (λ (w′ : Work). place sent D (withArrival w′ verdict v D) taken) (vc-stored w v filled h long)
-    ∙ place-stored sent D (withArrival (withVc w v filled) verdict v D) taken))))
+    (λ taken. ap (λ (w′ : Work). place sent D (withArrival w′ verdict v D) taken) (connection-stored w v filled h long)
+    ∙ place-stored sent D (withArrival (withConnection w v filled) verdict v D) taken))))
 
-pub step3-stored : (cell : List ℕ) (w : Work) → length (w .state .words) ≡ wordsPerVc * w .state .ctl .v
-    → ((vci : ℕ) → 1 ≤ vci → vci < w .state .ctl .v → Behind (w .state .ctl .t) longest (vcAt (w .state .words) vci))
+pub step3-stored : (cell : List ℕ) (w : Work) → length (w .state .words) ≡ wordsPerConnection * w .state .ctl .v
+    → ((vci : ℕ) → 1 ≤ vci → vci < w .state .ctl .v → Behind (w .state .ctl .t) longest (connectionAt (w .state .words) vci))
     → step3 cell (storedWork w) ≡ mapOut storedWork (arrive cell w)
 unfolding step3 arrive storedWork storedState withClock withRecord withWords recordWith
 step3-stored cell w long near =
     let s = w .state in
     let h = headerAt cell 0 in
     if-map storedWork (length cell =? 0 || noUserCell h) _ _ _ _ (λ _. refl)
-    (λ _. if-map storedWork (not (namesVc (s .ctl .v) h)) _ _ _ _ (λ _. refl)
-    (λ e. let low = names-low (s .ctl .v) h (not-false (namesVc (s .ctl .v) h) e) in
+    (λ _. if-map storedWork (not (namesConnection (s .ctl .v) h)) _ _ _ _ (λ _. refl)
+    (λ e. let low = names-low (s .ctl .v) h (not-false (namesConnection (s .ctl .v) h) e) in
     at-stored w (h .vci) (next (withArrival w unknown (h .vci) 0)) _ (judge cell (h .vci) w) (low .1) long
     (near (h .vci) (low .0) (low .1))
     (λ vc. judge-stored cell (h .vci) w vc (low .1) long)))
@@ -145,39 +145,39 @@ step4-stored w =
     (λ _. if-map storedWork (isEmpty entry) _ _ _ _ (λ _. refl) (λ _. refl))
 
 -- "5. The head of the Output List, if any, departs.": the departing header reads alike
-pub names-stored : (z : ℕ) (l : List ℕ) (h : Header) → length l ≡ wordsPerVc * z
-    → namesOpenVc z (storedWords z l) h ≡ namesOpenVc z l h
-unfolding namesOpenVc
-names-stored z l h long = go (namesVc z h) refl
+pub names-stored : (z : ℕ) (l : List ℕ) (h : Header) → length l ≡ wordsPerConnection * z
+    → namesOpen z (storedWords z l) h ≡ namesOpen z l h
+unfolding namesOpen
+names-stored z l h long = go (namesConnection z h) refl
   where
-    go : (b : Bool) → namesVc z h ≡ b
+    go : (b : Bool) → namesConnection z h ≡ b
         → b && getD (storedWords z l) (openPlace (h .vci)) 0 =? 1 ≡ b && getD l (openPlace (h .vci)) 0 =? 1
     go true e = ap (λ (o : ℕ). o =? 1) (opened-stored z l (h .vci) (names-low z h e .1) (omega arith))
     go false e = refl
 
-pub open-low : (z : ℕ) (l : List ℕ) (h : Header) → namesOpenVc z l h ≡ true → (1 ≤ h .vci) × (h .vci < z)
-unfolding namesOpenVc
-open-low z l h p = names-low z h (both-true (namesVc z h) (getD l (openPlace (h .vci)) 0 =? 1) p .0)
+pub open-low : (z : ℕ) (l : List ℕ) (h : Header) → namesOpen z l h ≡ true → (1 ≤ h .vci) × (h .vci < z)
+unfolding namesOpen
+open-low z l h p = names-low z h (both-true (namesConnection z h) (getD l (openPlace (h .vci)) 0 =? 1) p .0)
 
-pub depart-stored : (w : Work) (taken : Taken) → length (w .state .words) ≡ wordsPerVc * w .state .ctl .v
+pub depart-stored : (w : Work) (taken : Taken) → length (w .state .words) ≡ wordsPerConnection * w .state .ctl .v
     → depart (storedWork w) taken ≡ mapOut storedWork (depart w taken)
-unfolding depart storedVc storedWork storedState withClock withRecord withWords recordWith withFreeList withOutputList withLinks
+unfolding depart storedConnection storedWork storedState withClock withRecord withWords recordWith withFreeList withOutputList withLinks
 depart-stored w taken long =
     let s = w .state in
     let h = headerAt (s .cells) (cellStart (taken .space)) in
     rw (names-stored (s .ctl .v) (s .words) h long)
-    (needs-map storedWork (namesOpenVc (s .ctl .v) (s .words) h) _ _
+    (needs-map storedWork (namesOpen (s .ctl .v) (s .words) h) _ _
     (λ e. let low = open-low (s .ctl .v) (s .words) h e .1 in
-    let vc = vcAt (s .words) (h .vci) in
+    let vc = connectionAt (s .words) (h .vci) in
     let grown = addTail (s .links) (freeList s) (taken .space) in
     let s2 = withLinks (withFreeList (withOutputList s (taken .left)) (grown .ends)) (grown .links) in
     rw (stored-read (s .ctl .v) (s .words) (h .vci) low (omega arith))
     (needs-map storedWork (1 ≤? vc .waiting && vc .waiting ≤? s .ctl .n) _ _
     (λ _. needs-map storedWork (endsFit (s .ctl .n) (freeList s)) _ _
     (λ _. ap (λ (w′ : Work). next (withDeparture w′ (taken .space) (h .vci)))
-    (vc-stored (withState w s2) (h .vci) (withWaiting vc (vc .waiting - 1)) low long))))))
+    (connection-stored (withState w s2) (h .vci) (withWaiting vc (vc .waiting - 1)) low long))))))
 
-pub step5-stored : (w : Work) → length (w .state .words) ≡ wordsPerVc * w .state .ctl .v
+pub step5-stored : (w : Work) → length (w .state .words) ≡ wordsPerConnection * w .state .ctl .v
     → step5 (storedWork w) ≡ mapOut storedWork (step5 w)
 unfolding step5 storedWork storedState withClock withRecord withWords recordWith
 step5-stored w long =

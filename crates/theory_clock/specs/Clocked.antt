@@ -10,17 +10,17 @@ use Rattle.meaning.specs.declared.Record.{Record}
 use Rattle.meaning.specs.Plain.{if_then_else_, _<?_, _=?_, Out, next, needs, _andThen_}
 use Rattle.meaning.specs.Numbers.{rangesHold, octets, unknown}
 use Rattle.meaning.specs.State.{State, lengthsHold, withClock, withMode}
-use Rattle.meaning.specs.Header.{headerAt, noUserCell, namesVc}
+use Rattle.meaning.specs.Header.{headerAt, noUserCell, namesConnection}
 use Rattle.meaning.specs.Bucket.{fall}
-use Rattle.meaning.specs.Words.{Vc, vcAt, writeVc, closedVc, openWordFits, bucketsFit, fallenTo}
+use Rattle.meaning.specs.Words.{Connection, connectionAt, writeConnection, closedConnection, openWordFits, bucketsFit, fallenTo}
 use Rattle.meaning.specs.Calls.{Called, calledOf, sharedRefusal}
-use Rattle.meaning.specs.Work.{Work, workOf, bareAnswer, withState, withVc, withArrival}
+use Rattle.meaning.specs.Work.{Work, workOf, bareAnswer, withState, withConnection, withArrival}
 use Rattle.meaning.specs.Arrival.{judge}
 use Rattle.meaning.specs.Slot.{step4, step5, finish, told}
 use Rattle.meaning_runs.specs.Run.{letIn}
 
 -- "it is brought up to date: S falls by elapsed × L .. last becomes t", and both buckets do
-abbrev pub upToDateBy : (ℕ → ℕ → ℕ) → ℕ → ℕ → Vc → Out Vc
+abbrev pub upToDateBy : (ℕ → ℕ → ℕ) → ℕ → ℕ → Connection → Out Connection
 upToDateBy elapsedBy N t vc = needs (bucketsFit N vc) (next (fallenTo (elapsedBy t (vc .last)) t vc))
 
 -- 1: the clock moves; "T by one modulo N, rotation by one modulo V"
@@ -33,25 +33,25 @@ step1By later w =
     needs (r .turn <? r .n && r .rotation <? r .v) (next (withState w (withClock s (later (r .t)) T rotation)))
 
 -- 2: the VC that rotation names
-abbrev pub step2By : (ℕ → ℕ → Vc → Out Vc) → Work → Out Work
+abbrev pub step2By : (ℕ → ℕ → Connection → Out Connection) → Work → Out Work
 step2By upToDate w =
     let s = w .state in
     let vci = s .ctl .rotation in
-    let vc = vcAt (s .words) vci in
+    let vc = connectionAt (s .words) vci in
     if vci =? 0 then next w
     else needs (openWordFits vc)
     (if vc .opened =? 0 then next w
-    else (upToDate (s .ctl .n) (s .ctl .t) vc andThen λ now. next (withVc w vci now)))
+    else (upToDate (s .ctl .n) (s .ctl .t) vc andThen λ now. next (withConnection w vci now)))
 
 -- 3: the VC of the arriving cell
-abbrev pub step3By : (ℕ → ℕ → Vc → Out Vc) → List ℕ → Work → Out Work
+abbrev pub step3By : (ℕ → ℕ → Connection → Out Connection) → List ℕ → Work → Out Work
 step3By upToDate cell w =
     let s = w .state in
     let h = headerAt cell 0 in
-    let vc = vcAt (s .words) (h .vci) in
+    let vc = connectionAt (s .words) (h .vci) in
     let isUnknown = next (withArrival w unknown (h .vci) 0) in
     if length cell =? 0 || noUserCell h then next w
-    else if not (namesVc (s .ctl .v) h) then isUnknown
+    else if not (namesConnection (s .ctl .v) h) then isUnknown
     else needs (openWordFits vc)
     (if vc .opened =? 0 then isUnknown
     else (upToDate (s .ctl .n) (s .ctl .t) vc andThen judge cell (h .vci) w))
@@ -73,14 +73,14 @@ slotBy fiveSteps s cell =
     (fiveSteps (a .cell) (workOf (withMode s (a .mode)) (bareAnswer 0)) andThen λ w. next (told (a .dropped) w)))
 
 -- document 02 (ii): "bring the VC up to date as of t": what is then left in its bucket
-abbrev pub debtBy : (ℕ → ℕ → ℕ) → ℕ → Vc → ℕ
+abbrev pub debtBy : (ℕ → ℕ → ℕ) → ℕ → Connection → ℕ
 debtBy elapsedBy t vc = fall (elapsedBy t (vc .last)) (vc .bucket) .S
 
 -- "8 is given when waiting or the updated S isn't 0"; "Closing clears all seven words.", and the five of document 02 (iv)
-abbrev pub closeBy : (ℕ → Vc → ℕ) → Record → List ℕ → ℕ → Called
+abbrev pub closeBy : (ℕ → Connection → ℕ) → Record → List ℕ → ℕ → Called
 closeBy debt r words vci =
     let k = sharedRefusal r words vci in
     if not (k =? 0) then calledOf k words
-    else if vcAt words vci .opened =? 0 then calledOf 7 words
-    else if not (vcAt words vci .waiting =? 0 && debt (r .t) (vcAt words vci) =? 0) then calledOf 8 words
-    else calledOf 0 (writeVc words vci closedVc)
+    else if connectionAt words vci .opened =? 0 then calledOf 7 words
+    else if not (connectionAt words vci .waiting =? 0 && debt (r .t) (connectionAt words vci) =? 0) then calledOf 8 words
+    else calledOf 0 (writeConnection words vci closedConnection)

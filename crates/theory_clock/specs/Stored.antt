@@ -5,7 +5,7 @@ use mathlib.Core.List.{List}
 use Rattle.meaning.specs.Plain.{if_then_else_, _=?_}
 use Rattle.meaning.specs.Numbers.{slotNumbers}
 use Rattle.meaning.specs.State.{State, withClock, withWords}
-use Rattle.meaning.specs.Words.{Vc, vcAt, writeVc}
+use Rattle.meaning.specs.Words.{Connection, connectionAt, writeConnection}
 use Rattle.meaning.specs.Calls.{Called, calledOf}
 use Rattle.meaning.specs.Work.{Work, workOf}
 
@@ -14,8 +14,8 @@ unfoldable pub stored : ℕ → ℕ
 stored k = (k + slotNumbers - 1) % slotNumbers
 
 -- a VC's words; those of a closed one hold no slot number
-unfoldable pub storedVc : Vc → Vc
-storedVc vc =
+unfoldable pub storedConnection : Connection → Connection
+storedConnection vc =
     record {
       opened = vc .opened;
       bucket = vc .bucket;
@@ -28,7 +28,7 @@ storedVc vc =
 -- the words of the VCs below z
 unfoldable pub storedWords : ℕ → List ℕ → List ℕ
 storedWords zero words = words
-storedWords (suc z) words = writeVc (storedWords z words) z (storedVc (vcAt words z))
+storedWords (suc z) words = writeConnection (storedWords z words) z (storedConnection (connectionAt words z))
 
 unfoldable pub storedState : State → State
 storedState u =

@@ -9,13 +9,13 @@ use mathlib.Core.List.{List}
 use Rattle.meaning.specs.declared.Record.{Record}
 use Rattle.meaning.specs.Plain.{Out}
 use Rattle.meaning.specs.State.{State, withClock}
-use Rattle.meaning.specs.Words.{Vc, Second}
+use Rattle.meaning.specs.Words.{Connection, Second}
 use Rattle.meaning.specs.Calls.{Called, openCall, freshState}
 use Rattle.meaning.specs.Work.{Work}
 use Rattle.theory_clock.specs.Clocked.{upToDateBy, step1By, step2By, step3By, fiveStepsBy, slotBy, debtBy, closeBy}
 
 -- k slots have been served, so k - last have elapsed
-unfoldable pub caughtUp : ℕ → ℕ → Vc → Out Vc
+unfoldable pub caughtUp : ℕ → ℕ → Connection → Out Connection
 caughtUp N k vc = upToDateBy (λ t last. t - last) N k vc
 
 -- 1: one slot more is served
@@ -38,7 +38,7 @@ unwrappedSlot s cell = slotBy unwrappedSteps s cell
 unfoldable pub unwrappedOpen : Record → List ℕ → ℕ → ℕ → ℕ → ℕ → Second → Called
 unwrappedOpen r words vci m F C x = openCall r words vci m F C x
 
-unfoldable pub unwrappedDebt : ℕ → Vc → ℕ
+unfoldable pub unwrappedDebt : ℕ → Connection → ℕ
 unwrappedDebt k vc = debtBy (λ t last. t - last) k vc
 
 unfoldable pub unwrappedClose : Record → List ℕ → ℕ → Called

@@ -12,16 +12,16 @@ use lib.ListN.{length}
 use Rattle.meaning.specs.Plain.{_=?_, next}
 use Rattle.meaning.specs.Numbers.{empty, accepted, letsIn}
 use Rattle.meaning.specs.State.{State, freeList, outputList, withRecord, recordWith, withCells, withLinks, withCalendar, withWords, withFreeList, writeCell}
-use Rattle.meaning.specs.Header.{headerAt, namesVc}
+use Rattle.meaning.specs.Header.{headerAt, namesConnection}
 use Rattle.meaning.specs.Bucket.{bucketOf, delay, fill}
-use Rattle.meaning.specs.Words.{Vc, vcAt, writeVc, withWaiting, withBuckets}
+use Rattle.meaning.specs.Words.{Connection, connectionAt, writeConnection, withWaiting, withBuckets}
 use Rattle.meaning.specs.Lists.{entryAt, writeEntry, Grown, joinHead}
-use Rattle.meaning.specs.Work.{Work, bareAnswer, withState, withVc, withArrival}
+use Rattle.meaning.specs.Work.{Work, bareAnswer, withState, withConnection, withArrival}
 use Rattle.meaning.specs.Arrival.{secondAfter, sentAs, place, accept}
 use Rattle.meaning.proofs.TaggedLaws.{sent-length, sent-vci}
 use Rattle.meaning.proofs.WordsLaws.{write-length, write-read, write-read-other}
 use Rattle.meaning_runs.specs.Leak.{Opening, dueTime, dueSlot, leakAccepts, sustains, verdictBy}
-use Rattle.meaning_runs.specs.Seen.{ofVc}
+use Rattle.meaning_runs.specs.Seen.{ofConnection}
 use Rattle.meaning_runs.specs.Judged.{judgedOf, judgedBy}
 use Rattle.theory_queues.specs.Queue.{sum, sums, one, All, Alls, turn, put, Good}
 use Rattle.theory_queues.proofs.QueueLaws.{turn-sums, turn-flat, put-sums, all-map, alls-map, alls-turn, alls-put}
@@ -31,10 +31,10 @@ use Rattle.theory_queues.proofs.RisingLaws.{rising-add}
 use Rattle.theory_chains.specs.Strung.{self}
 use Rattle.theory_chains.proofs.StrungLaws.{TakenOff}
 use Rattle.theory_chains.proofs.CountLaws.{is-no, is-same}
-use Rattle.theory_table.specs.Stored.{stored, VcIs, OpenVc}
+use Rattle.theory_table.specs.Stored.{stored, ConnectionIs, OpenConnection}
 use Rattle.theory_table.proofs.LeakLaws.{due-grows, rules-are}
 use Rattle.theory_table.proofs.VerdictLaws.{verdict-says}
-use Rattle.theory_table.proofs.VcLaws.{delay-due, delay-low, moved, filled, filled-open}
+use Rattle.theory_table.proofs.ConnectionLaws.{delay-due, delay-low, moved, filled, filled-open}
 use Rattle.theory_memory.specs.Held.{Queued, dueOf, vciOf, Has}
 use Rattle.theory_memory.proofs.HasLaws.{free-fits, entry-fits, SomeFree, some-free, free-marked, free-taken, placed}
 use Rattle.theory_invariant.specs.Invariant.{isOf, waits, Under, Sits, Stage}
@@ -58,9 +58,9 @@ module _ (now : ℕ) (cell : List ℕ) (op : ℕ → Option Opening) (free : Lis
       (good : Good dueOf (N - 1) now cal out)
       (sits-out : All (Sits z op) out) (sits-cal : Alls (Sits z op) cal) (blank : w .answer ≡ bareAnswer 0)
       (long : length cell ≡ 53)
-      (u : ℕ) (named : namesVc z (headerAt cell 0) ≡ true) (u-is : headerAt cell 0 .vci ≡ u) (u-low : 1 ≤ u)
+      (u : ℕ) (named : namesConnection z (headerAt cell 0) ≡ true) (u-is : headerAt cell 0 .vci ≡ u) (u-low : 1 ≤ u)
       (u-high : u < z)
-      (o : Opening) (o-is : op u ≡ some o) (opn : OpenVc N z (suc now) u (vcAt (s .words) u) (waits u out (turn cal)) o)
+      (o : Opening) (o-is : op u ≡ some o) (opn : OpenConnection N z (suc now) u (connectionAt (s .words) u) (waits u out (turn cal)) o)
       (verdict : ℕ) (verdict-is : verdictBy o (headerAt cell 0 .clp) now ≡ verdict) (lets : letsIn verdict ≡ true)
       (judges : judgedBy z now op cell ≡ judgedOf verdict u (dueSlot o now - now)) where
     abbrev clp : ℕ
@@ -78,13 +78,13 @@ module _ (now : ℕ) (cell : List ℕ) (op : ℕ → Option Opening) (free : Lis
     abbrev q : ℕ
     q = waits u out (turn cal)
 
-    abbrev vc : Vc
+    abbrev vc : Connection
     vc = stored o (suc now) q
 
     abbrev D : ℕ
     D = delay (vc .bucket)
 
-    abbrev full : Vc
+    abbrev full : Connection
     full = withWaiting (withBuckets vc (fill (vc .bucket)) (secondAfter clp verdict (vc .second))) (q + 1)
 
     abbrev e : ℕ
@@ -126,7 +126,7 @@ module _ (now : ℕ) (cell : List ℕ) (op : ℕ → Option Opening) (free : Lis
 
     abbrev work : Work
     work =
-        let w1 = withArrival (withVc w u full) verdict u D in
+        let w1 = withArrival (withConnection w u full) verdict u D in
         let s1 = withFreeList (w1 .state) (taken .left) in
         let s2 = withCells s1 (writeCell (s .cells) (s .ctl .freehead) sent) in
         let s3 = withLinks s2 (grown .links) in
@@ -146,10 +146,10 @@ module _ (now : ℕ) (cell : List ℕ) (op : ℕ → Option Opening) (free : Lis
     entered : sums (isOf u) (put D new (turn cal)) ≡ suc (sums (isOf u) (turn cal))
     entered = omega (arith, put-sums (isOf u) D new (turn cal) (omega (arith, st .has .wide, D-low)), is-same u)
 
-    each : (v : ℕ) → 1 ≤ v → v < z → Dec (v ≡ u) → VcIs N z (suc now) v (vcAt (writeVc (s .words) u full) v)
+    each : (v : ℕ) → 1 ≤ v → v < z → Dec (v ≡ u) → ConnectionIs N z (suc now) v (connectionAt (writeConnection (s .words) u full) v)
         (waits v out (put D new (turn cal))) (onward now cell verdict u op v)
     each v h1 h2 (yes p) =
-        subst (λ (i : ℕ). VcIs N z (suc now) i (vcAt (writeVc (s .words) u full) i) (waits i out (put D new (turn cal)))
+        subst (λ (i : ℕ). ConnectionIs N z (suc now) i (connectionAt (writeConnection (s .words) u full) i) (waits i out (put D new (turn cal)))
         (onward now cell verdict u op i)) (sym p)
         (rw (
           write-read (s .words) u full (omega (arith, st .words-long, u-high)),
@@ -157,13 +157,13 @@ module _ (now : ℕ) (cell : List ℕ) (op : ℕ → Option Opening) (free : Lis
           o-is,
           filled N z (st .ranges .z-high) o now q clp verdict,
         )
-        (subst (λ (i : ℕ). OpenVc N z (suc now) u (stored (moved N z (st .ranges .z-high) now clp verdict o) (suc now) (suc q)) i
+        (subst (λ (i : ℕ). OpenConnection N z (suc now) u (stored (moved N z (st .ranges .z-high) now clp verdict o) (suc now) (suc q)) i
         (moved N z (st .ranges .z-high) now clp verdict o)) (omega (arith, entered))
-        (filled-open N z (st .ranges .z-high) o now (suc now) u q clp verdict (vcAt (s .words) u) within-peak within-rate (omega arith)
+        (filled-open N z (st .ranges .z-high) o now (suc now) u q clp verdict (connectionAt (s .words) u) within-peak within-rate (omega arith)
         opn)))
     each v h1 h2 (no p) =
         rw (write-read-other (s .words) u full v p, after-other now clp verdict u lets op v (λ y. p (sym y)))
-        (subst (λ (i : ℕ). VcIs N z (suc now) v (vcAt (s .words) v) i (op v)) same (st .table v h1 h2))
+        (subst (λ (i : ℕ). ConnectionIs N z (suc now) v (connectionAt (s .words) v) i (op v)) same (st .table v h1 h2))
       where
         same : waits v out (turn cal) ≡ waits v out (put D new (turn cal))
         same = omega (arith, put-sums (isOf v) D new (turn cal) (omega (arith, st .has .wide, D-low)), is-no v u p)
@@ -229,7 +229,7 @@ module _ (now : ℕ) (cell : List ℕ) (op : ℕ → Option Opening) (free : Lis
                 (timed-turn dueOf now cal (good .timed)) D-due
                 (alls-turn (λ b. vciOf b ≡ u → dueOf b < dueOf new) cal
                 (alls-map (Sits z op) (λ b. vciOf b ≡ u → dueOf b < dueOf new) behind cal sits-cal))
-                ∙ ap (λ l. ofVc vciOf v l ++ ofVc vciOf v (new ∷ [])) (turn-flat cal);
+                ∙ ap (λ l. ofConnection vciOf v l ++ ofConnection vciOf v (new ∷ [])) (turn-flat cal);
             notes = rw (lets, o-is);
             delays = ((D-due, D-low), tt);
             rises = λ l k. rising-add (λ c. c .arrival) 0 now l (new .cell) (omega arith) k;

@@ -13,24 +13,24 @@ use lib.ListN.{length}
 use Rattle.meaning.specs.Plain.{if_then_else_, _<?_, _≤?_, _=?_, next}
 use Rattle.meaning.specs.Numbers.{excess, unknown, nothing, letsIn}
 use Rattle.meaning.specs.State.{State, withWords}
-use Rattle.meaning.specs.Header.{Header, headerAt, noUserCell, namesVc}
-use Rattle.meaning.specs.Words.{Vc, vcAt, writeVc, upToDate}
-use Rattle.meaning.specs.Work.{Work, bareAnswer, withVc, withArrival}
+use Rattle.meaning.specs.Header.{Header, headerAt, noUserCell, namesConnection}
+use Rattle.meaning.specs.Words.{Connection, connectionAt, writeConnection, upToDate}
+use Rattle.meaning.specs.Work.{Work, bareAnswer, withConnection, withArrival}
 use Rattle.meaning.specs.Arrival.{judge}
 use Rattle.meaning.specs.Slot.{step3}
 use Rattle.meaning.proofs.WordsLaws.{write-length, write-read, write-read-other}
 use Rattle.meaning_runs.specs.Leak.{Opening, dueSlot, verdictBy}
-use Rattle.meaning_runs.specs.Seen.{ofVc}
+use Rattle.meaning_runs.specs.Seen.{ofConnection}
 use Rattle.meaning_runs.specs.Judged.{judgedOf, judgedUnder, judgedBy}
 use Rattle.theory_queues.specs.Queue.{All, Alls, flat, turn, Good}
 use Rattle.theory_queues.proofs.QueueLaws.{turn-flat, alls-turn}
 use Rattle.theory_queues.proofs.LineLaws.{arrive-none}
 use Rattle.theory_queues.proofs.RisingLaws.{rising-up}
-use Rattle.theory_table.specs.Stored.{stored, VcIs, OpenVc}
+use Rattle.theory_table.specs.Stored.{stored, ConnectionIs, OpenConnection}
 use Rattle.theory_table.proofs.ClockLaws.{clock-next}
 use Rattle.theory_table.proofs.LeakLaws.{and-left, and-right}
 use Rattle.theory_table.proofs.VerdictLaws.{verdict-is, verdict-says}
-use Rattle.theory_table.proofs.VcLaws.{word-fits, up-to-date, now-open}
+use Rattle.theory_table.proofs.ConnectionLaws.{word-fits, up-to-date, now-open}
 use Rattle.theory_memory.specs.Held.{Queued, dueOf, vciOf}
 use Rattle.theory_invariant.specs.Invariant.{waits, Sits, Stage}
 use Rattle.theory_invariant.specs.Came.{after, half, Came}
@@ -46,8 +46,8 @@ not-excess : (verdict : ℕ) → letsIn verdict ≡ true → verdict =? excess �
 unfolding letsIn
 not-excess verdict lets = ne-eqb verdict excess (λ e. absurd (let y : _≡_ {A = Bool} false true = rw e at lets in let z : _≡_ {A = ℕ} 0 1 = cc in omega arith))
 
-pub names-facts : (z : ℕ) (h : Header) → namesVc z h ≡ true → (1 ≤ h .vci) × (h .vci < z)
-unfolding namesVc
+pub names-facts : (z : ℕ) (h : Header) → namesConnection z h ≡ true → (1 ≤ h .vci) × (h .vci < z)
+unfolding namesConnection
 names-facts z h e = (
   leb-true 1 (h .vci) (and-right (h .vpi =? 0) (1 ≤? h .vci) (and-left (h .vpi =? 0 && 1 ≤? h .vci) (h .vci <? z) e)),
   ltb-true (h .vci) z (and-right (h .vpi =? 0 && 1 ≤? h .vci) (h .vci <? z) e),
@@ -94,7 +94,7 @@ module _ (now : ℕ) (cell : List ℕ) (op : ℕ → Option Opening) (free : Lis
               arrived = arrive-none dueOf (N - 1) now cal out good;
               sits-out = rw (after-none now (headerAt cell 0 .clp) verdict vci op ne) sits-out;
               sits-cal = rw (after-none now (headerAt cell 0 .clp) verdict vci op ne) (alls-turn (Sits z op) cal sits-cal);
-              order = λ v. ap (ofVc vciOf v) (turn-flat cal) ∙ sym (append-nil (ofVc vciOf v (flat cal)));
+              order = λ v. ap (ofConnection vciOf v) (turn-flat cal) ∙ sym (append-nil (ofConnection vciOf v (flat cal)));
               notes = rw ne;
               delays = tt;
               rises = λ l k. rw (append-nil l) (rising-up (λ c. c .arrival) 0 now (suc now) l (omega arith) k);
@@ -102,22 +102,22 @@ module _ (now : ℕ) (cell : List ℕ) (op : ℕ → Option Opening) (free : Lis
 
         -- the VC is brought up to date, and no more changes
         module _ (u-low : 1 ≤ u) (u-high : u < z) (o : Opening) (o-is : op u ≡ some o)
-            (opn : OpenVc N z (suc now) u (vcAt (s .words) u) (waits u out (turn cal)) o) where
-          abbrev vc : Vc
+            (opn : OpenConnection N z (suc now) u (connectionAt (s .words) u) (waits u out (turn cal)) o) where
+          abbrev vc : Connection
           vc = stored o (suc now) (waits u out (turn cal))
 
-          renewed : (v : ℕ) → 1 ≤ v → v < z → Dec (v ≡ u) → VcIs N z (suc now) v (vcAt (writeVc (s .words) u vc) v)
+          renewed : (v : ℕ) → 1 ≤ v → v < z → Dec (v ≡ u) → ConnectionIs N z (suc now) v (connectionAt (writeConnection (s .words) u vc) v)
               (waits v out (turn cal)) (op v)
           renewed v h1 h2 (yes p) =
               rw (p, write-read (s .words) u vc (omega (arith, st .words-long, u-high)), o-is)
-              (now-open N z (st .ranges .z-high) now (suc now) u (vcAt (s .words) u) (waits u out (turn cal)) o (omega arith)
+              (now-open N z (st .ranges .z-high) now (suc now) u (connectionAt (s .words) u) (waits u out (turn cal)) o (omega arith)
               (omega arith) opn)
           renewed v h1 h2 (no p) = rw (write-read-other (s .words) u vc v p) (st .table v h1 h2)
 
           over : judgedBy z now op cell ≡ judgedOf excess u 0
-              → Came N z now cell op out cal (withArrival (withVc w u vc) excess u 0)
+              → Came N z now cell op out cal (withArrival (withConnection w u vc) excess u 0)
           unfolding withWords letsIn
-          over judges = quiet (withArrival (withVc w u vc) excess u 0) excess u refl (rw blank) judges
+          over judges = quiet (withArrival (withConnection w u vc) excess u 0) excess u refl (rw blank) judges
               (record {
                 ranges = st .ranges;
                 n-is = st .n-is;
@@ -130,16 +130,16 @@ module _ (now : ℕ) (cell : List ℕ) (op : ℕ → Option Opening) (free : Lis
                 table = λ v h1 h2. renewed v h1 h2 (ℕ-discrete v u);
               })
 
-          brought : upToDate N (s .ctl .t) (vcAt (s .words) u) ≡ next vc
+          brought : upToDate N (s .ctl .t) (connectionAt (s .words) u) ≡ next vc
           brought =
-              ap (λ (t : ℕ). upToDate N t (vcAt (s .words) u)) (st .t-is ∙ clock-next now)
-              ∙ up-to-date N z (st .ranges .z-high) now (suc now) u (vcAt (s .words) u) (waits u out (turn cal)) o u-high
+              ap (λ (t : ℕ). upToDate N t (connectionAt (s .words) u)) (st .t-is ∙ clock-next now)
+              ∙ up-to-date N z (st .ranges .z-high) now (suc now) u (connectionAt (s .words) u) (waits u out (turn cal)) o u-high
               (omega arith) (omega arith) opn
 
           abbrev verdict : ℕ
           verdict = verdictBy o (headerAt cell 0 .clp) now
 
-          judge-goes : (b : Bool) → letsIn verdict ≡ b → length cell ≡ 53 → namesVc z (headerAt cell 0) ≡ true
+          judge-goes : (b : Bool) → letsIn verdict ≡ b → length cell ≡ 53 → namesConnection z (headerAt cell 0) ≡ true
               → judgedBy z now op cell ≡ judgedOf verdict u (if b then dueSlot o now - now else 0)
               → Goes (judge cell u w vc) (Came N z now cell op out cal)
           unfolding judge
@@ -150,7 +150,7 @@ module _ (now : ℕ) (cell : List ℕ) (op : ℕ → Option Opening) (free : Lis
           judge-goes false e long named judges =
               rw (verdict-is o (headerAt cell 0 .clp) now (waits u out (turn cal)), eq-eqb verdict excess is)
               (record {
-                work = withArrival (withVc w u vc) excess u 0;
+                work = withArrival (withConnection w u vc) excess u 0;
                 goes = refl;
                 holds = over (judges ∙ ap (λ (k : ℕ). judgedOf k u 0) is);
               })
@@ -164,12 +164,12 @@ module _ (now : ℕ) (cell : List ℕ) (op : ℕ → Option Opening) (free : Lis
 
         -- the header names a VC
         module _ (some-cell : length cell =? 0 || noUserCell (headerAt cell 0) ≡ false)
-            (named : namesVc z (headerAt cell 0) ≡ true) (long : length cell ≡ 53) where
+            (named : namesConnection z (headerAt cell 0) ≡ true) (long : length cell ≡ 53) where
           under : judgedBy z now op cell ≡ judgedUnder now u (headerAt cell 0 .clp) (op u)
           unfolding judgedBy
           under = rw (some-cell, named)
 
-          known : (a : Option Opening) → op u ≡ a → VcIs N z (suc now) u (vcAt (s .words) u) (waits u out (turn cal)) a
+          known : (a : Option Opening) → op u ≡ a → ConnectionIs N z (suc now) u (connectionAt (s .words) u) (waits u out (turn cal)) a
               → Goes (step3 cell w) (Came N z now cell op out cal)
           unfolding step3
           known none e k =
@@ -178,9 +178,9 @@ module _ (now : ℕ) (cell : List ℕ) (op : ℕ → Option Opening) (free : Lis
                 goes = rw (
                   some-cell,
                   named,
-                  word-fits N z (st .ranges .z-high) (suc now) u (vcAt (s .words) u)
+                  word-fits N z (st .ranges .z-high) (suc now) u (connectionAt (s .words) u)
                       (waits u out (turn cal)) none k,
-                  eq-eqb (vcAt (s .words) u .opened) 0 k,
+                  eq-eqb (connectionAt (s .words) u .opened) 0 k,
                 );
                 holds = strange (under ∙ ap (judgedUnder now u (headerAt cell 0 .clp)) e);
               }
@@ -188,8 +188,8 @@ module _ (now : ℕ) (cell : List ℕ) (op : ℕ → Option Opening) (free : Lis
               rw (
                 some-cell,
                 named,
-                word-fits N z (st .ranges .z-high) (suc now) u (vcAt (s .words) u) (waits u out (turn cal)) (some o) k,
-                ne-eqb (vcAt (s .words) u .opened) 0 is-open,
+                word-fits N z (st .ranges .z-high) (suc now) u (connectionAt (s .words) u) (waits u out (turn cal)) (some o) k,
+                ne-eqb (connectionAt (s .words) u .opened) 0 is-open,
                 brought (names .0) (names .1) o e k,
               )
               (judge-goes (names .0) (names .1) o e k (letsIn (verdictBy o (headerAt cell 0 .clp) now)) refl long named (under ∙ ap (judgedUnder now u (headerAt cell 0 .clp)) e))
@@ -197,23 +197,23 @@ module _ (now : ℕ) (cell : List ℕ) (op : ℕ → Option Opening) (free : Lis
               names : (1 ≤ u) × (u < z)
               names = names-facts z (headerAt cell 0) named
 
-              is-open : vcAt (s .words) u .opened ≢ 0
-              is-open y = omega (arith, ap (λ (c : Vc). c .opened) (k .is))
+              is-open : connectionAt (s .words) u .opened ≢ 0
+              is-open y = omega (arith, ap (λ (c : Connection). c .opened) (k .is))
 
         empty-goes : length cell =? 0 || noUserCell (headerAt cell 0) ≡ true
             → Goes (step3 cell w) (Came N z now cell op out cal)
         unfolding step3 judgedBy letsIn
         empty-goes e = record { work = w; goes = rw e; holds = quiet w nothing 0 refl blank (rw e) st }
 
-        strange-goes : length cell =? 0 || noUserCell (headerAt cell 0) ≡ false → namesVc z (headerAt cell 0) ≡ false
+        strange-goes : length cell =? 0 || noUserCell (headerAt cell 0) ≡ false → namesConnection z (headerAt cell 0) ≡ false
             → Goes (step3 cell w) (Came N z now cell op out cal)
         unfolding step3 judgedBy
         strange-goes e f = record { work = withArrival w unknown u 0; goes = rw (e, f); holds = strange (rw (e, f)) }
 
         step3-at : length cell =? 0 || length cell =? 53 ≡ true → Goes (step3 cell w) (Came N z now cell op out cal)
-        step3-at fits = go (length cell =? 0 || noUserCell (headerAt cell 0)) (namesVc z (headerAt cell 0)) refl refl
+        step3-at fits = go (length cell =? 0 || noUserCell (headerAt cell 0)) (namesConnection z (headerAt cell 0)) refl refl
           where
-            go : (a b : Bool) → length cell =? 0 || noUserCell (headerAt cell 0) ≡ a → namesVc z (headerAt cell 0) ≡ b
+            go : (a b : Bool) → length cell =? 0 || noUserCell (headerAt cell 0) ≡ a → namesConnection z (headerAt cell 0) ≡ b
                 → Goes (step3 cell w) (Came N z now cell op out cal)
             go true b e f = empty-goes e
             go false false e f = strange-goes e f

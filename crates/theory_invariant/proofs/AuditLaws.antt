@@ -13,10 +13,10 @@ use lib.ListN.{length, getD, take, drop, take-append-drop}
 use Rattle.meaning.specs.Plain.{if_then_else_, _=?_}
 use Rattle.meaning.specs.Numbers.{cellStart, openPlace}
 use Rattle.meaning.specs.State.{State, freeList, outputList}
-use Rattle.meaning.specs.Header.{Header, headerAt, namesOpenVc}
-use Rattle.meaning.specs.Words.{Vc, vcAt, vcFits}
+use Rattle.meaning.specs.Header.{Header, headerAt, namesOpen}
+use Rattle.meaning.specs.Words.{Connection, connectionAt, connectionFits}
 use Rattle.meaning.specs.Lists.{entryAt}
-use Rattle.meaning.specs.Audit.{Chain, count, joined, vciIn, AuditHolds}
+use Rattle.meaning.specs.Audit.{Chain, count, joined, connectionIn, AuditHolds}
 use Rattle.meaning_runs.specs.Run.{Event, served}
 use Rattle.meaning_runs.specs.Leak.{Opening, openingOf}
 use Rattle.theory_queues.specs.Queue.{sum, sums, All, flat, turn}
@@ -24,7 +24,7 @@ use Rattle.theory_queues.proofs.QueueLaws.{map-append, map-length, sum-append, 
 use Rattle.theory_chains.specs.Strung.{is, inside, self, cnt}
 use Rattle.theory_chains.proofs.CountLaws.{inside-yes, inside-no, inside-le}
 use Rattle.theory_chains.proofs.AuditLaws.{count-is, chain-is, joined-map, map-self}
-use Rattle.theory_table.specs.Stored.{VcIs}
+use Rattle.theory_table.specs.Stored.{ConnectionIs}
 use Rattle.theory_memory.specs.Held.{Queued, spaceOf, vciOf, Held}
 use Rattle.theory_memory.proofs.ShownLaws.{header-in}
 use Rattle.theory_invariant.specs.Invariant.{isOf, waits, Under, Sits, Inv}
@@ -159,12 +159,12 @@ module _ (N z : ℕ) (h : List Event) (s : State) (i : Inv N z h s) where
   header-of c p = header-in (s .cells) (c .space) ∙ ap (λ l. headerAt l 0) (p .0)
 
   opened-word : (v : ℕ) (q : ℕ) (a : Option Opening) (c : Queued) → Under a (c .cell)
-      → VcIs N z (served h) v (vcAt (s .words) v) q a → vcAt (s .words) v .opened ≡ 1
+      → ConnectionIs N z (served h) v (connectionAt (s .words) v) q a → connectionAt (s .words) v .opened ≡ 1
   opened-word v q none c u t = absurd u
-  opened-word v q (some a) c u t = ap (λ (y : Vc). y .opened) (t .is)
+  opened-word v q (some a) c u t = ap (λ (y : Connection). y .opened) (t .is)
 
-  names-open : (c : Queued) → Known c → namesOpenVc z (s .words) (headerAt (s .cells) (cellStart (c .space))) ≡ true
-  unfolding namesOpenVc vcAt
+  names-open : (c : Queued) → Known c → namesOpen z (s .words) (headerAt (s .cells) (cellStart (c .space))) ≡ true
+  unfolding namesOpen connectionAt
   names-open c p = rw (header-of c p, p .1 .0, p .1 .1, eq-eqb (getD (s .words) (openPlace (vciOf c)) 0) 1 word)
     where
       bounds : (1 ≤ headerAt (c .cell .octets) 0 .vci) × (headerAt (c .cell .octets) 0 .vci < z)
@@ -174,40 +174,40 @@ module _ (N z : ℕ) (h : List Event) (s : State) (i : Inv N z h s) where
       word = opened-word (vciOf c) (waits (vciOf c) (i .out) (turn (i .cal))) (op (vciOf c)) c (p .1 .2)
           (i .stage .table (vciOf c) (omega (arith, p .1 .1, bounds .0)) (omega (arith, p .1 .1, bounds .1)))
 
-  all-names : All (λ c. namesOpenVc z (s .words) (headerAt (s .cells) (cellStart (c .space))) ≡ true) all
+  all-names : All (λ c. namesOpen z (s .words) (headerAt (s .cells) (cellStart (c .space))) ≡ true) all
   all-names =
-      all-map Known (λ c. namesOpenVc z (s .words) (headerAt (s .cells) (cellStart (c .space))) ≡ true) names-open all
+      all-map Known (λ c. namesOpen z (s .words) (headerAt (s .cells) (cellStart (c .space))) ≡ true) names-open all
       all-known
 
-  vci-of : (c : Queued) → Known c → vciIn (s .cells) (c .space) ≡ vciOf c
-  unfolding vciIn
+  vci-of : (c : Queued) → Known c → connectionIn (s .cells) (c .space) ≡ vciOf c
+  unfolding connectionIn
   vci-of c p = ap (λ (y : Header). y .vci) (header-of c p) ∙ p .1 .1
 
   -- a VC's queued cells, counted by the headers in the memory
-  counted : (v : ℕ) (q : List Queued) → All Known q → count v (map (vciIn (s .cells)) (map spaceOf q)) ≡ sum (isOf v) q
+  counted : (v : ℕ) (q : List Queued) → All Known q → count v (map (connectionIn (s .cells)) (map spaceOf q)) ≡ sum (isOf v) q
   unfolding is
   counted v [] a = refl
   counted v (c ∷ q) a =
-      ap (λ (x : ℕ). (if v =? x then 1 else 0) + count v (map (vciIn (s .cells)) (map spaceOf q))) (vci-of c (a .0))
+      ap (λ (x : ℕ). (if v =? x then 1 else 0) + count v (map (connectionIn (s .cells)) (map spaceOf q))) (vci-of c (a .0))
       ∙ ap (λ (n : ℕ). (if v =? vciOf c then 1 else 0) + n) (counted v q (a .1))
 
-  counted-all : (v : ℕ) → count v (map (vciIn (s .cells)) (map spaceOf (i .out) ++ joined queues)) ≡ waits v (i .out)
+  counted-all : (v : ℕ) → count v (map (connectionIn (s .cells)) (map spaceOf (i .out) ++ joined queues)) ≡ waits v (i .out)
       (turn (i .cal))
   counted-all v =
-      ap (count v) (map-append (vciIn (s .cells)) (map spaceOf (i .out)) (joined queues))
-      ∙ count-append v (map (vciIn (s .cells)) (map spaceOf (i .out))) (map (vciIn (s .cells)) (joined queues))
+      ap (count v) (map-append (connectionIn (s .cells)) (map spaceOf (i .out)) (joined queues))
+      ∙ count-append v (map (connectionIn (s .cells)) (map spaceOf (i .out))) (map (connectionIn (s .cells)) (joined queues))
       ∙ omega (
         arith,
-        joined-mapped (vciIn (s .cells)) v,
+        joined-mapped (connectionIn (s .cells)) v,
         counted v (i .out) known-out,
         counted v (flat (turn (i .cal))) known-cal,
         sums-flat (isOf v) (turn (i .cal)),
       )
 
-  waiting-word : (v q : ℕ) (a : Option Opening) → vcAt (s .words) v .opened ≡ 1
-      → VcIs N z (served h) v (vcAt (s .words) v) q a → vcAt (s .words) v .waiting ≡ q
+  waiting-word : (v q : ℕ) (a : Option Opening) → connectionAt (s .words) v .opened ≡ 1
+      → ConnectionIs N z (served h) v (connectionAt (s .words) v) q a → connectionAt (s .words) v .waiting ≡ q
   waiting-word v q none e t = absurd (omega (arith, e, t))
-  waiting-word v q (some a) e t = ap (λ (y : Vc). y .waiting) (t .is)
+  waiting-word v q (some a) e t = ap (λ (y : Connection). y .waiting) (t .is)
 
   next-empty : getD queues (s .ctl .turn) [] ≡ []
   next-empty =
@@ -226,7 +226,7 @@ module _ (N z : ℕ) (h : List Event) (s : State) (i : Inv N z h s) where
             (mod-lt (served h + (z - 1)) {m = z} (omega (arith, i .stage .ranges .z-low)));
         raw-low = i .raw-low;
         mode-low = i .mode-low;
-        vcs-fit = λ v h1 h2. ap (λ (n : ℕ). vcFits n (vcAt (s .words) v)) (i .stage .n-is)
+        connections-fit = λ v h1 h2. ap (λ (n : ℕ). connectionFits n (connectionAt (s .words) v)) (i .stage .n-is)
             ∙ fits N z h s i v h1 (omega (arith, i .stage .v-is));
         free = i .free;
         output = map spaceOf (i .out);
@@ -240,8 +240,8 @@ module _ (N z : ℕ) (h : List Event) (s : State) (i : Inv N z h s) where
         once = λ x hx. whole-count x ∙ inside-yes x N (omega (arith, i .stage .n-is));
         no-other = λ x hx. whole-count x ∙ inside-no x N (omega (arith, i .stage .n-is));
         turn-empty = next-empty;
-        named = λ x hx. ap (λ (v : ℕ). namesOpenVc v (s .words) (headerAt (s .cells) (cellStart x))) (i .stage .v-is)
-            ∙ pick (λ (y : ℕ). namesOpenVc z (s .words) (headerAt (s .cells) (cellStart y)) ≡ true) x all all-names
+        named = λ x hx. ap (λ (v : ℕ). namesOpen v (s .words) (headerAt (s .cells) (cellStart x))) (i .stage .v-is)
+            ∙ pick (λ (y : ℕ). namesOpen z (s .words) (headerAt (s .cells) (cellStart y)) ≡ true) x all all-names
             (omega (arith, queued-count x));
         waits = λ v h1 h2 e. waiting-word v (waits v (i .out) (turn (i .cal))) (op v) e
             (i .stage .table v h1 (omega (arith, i .stage .v-is))) ∙ sym (counted-all v);

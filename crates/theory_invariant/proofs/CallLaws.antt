@@ -11,7 +11,7 @@ use native.Mathlib.Omega.{arith}
 use borrow.Author.Tests.{le-leb, lt-ltb}
 use Rattle.meaning.specs.Plain.{_<?_, _≤?_}
 use Rattle.meaning.specs.State.{State, withWords}
-use Rattle.meaning.specs.Words.{Vc, vcAt, writeVc, vcFits}
+use Rattle.meaning.specs.Words.{Connection, connectionAt, writeConnection, connectionFits}
 use Rattle.meaning.specs.Calls.{sharedRefusal}
 use Rattle.meaning.proofs.WordsLaws.{write-length, write-read, write-read-other}
 use Rattle.meaning_runs.specs.Run.{Event, served}
@@ -20,8 +20,8 @@ use Rattle.meaning_runs.specs.Seen.{cellsIn, departuresIn}
 use Rattle.theory_queues.specs.Queue.{sum, sums, one, All, Alls, turn}
 use Rattle.theory_queues.proofs.QueueLaws.{turn-sums, all-map, alls-map, all-both, alls-both}
 use Rattle.theory_chains.proofs.CountLaws.{is-no, is-yes}
-use Rattle.theory_table.specs.Stored.{clock, VcIs}
-use Rattle.theory_table.proofs.VcLaws.{vc-fits}
+use Rattle.theory_table.specs.Stored.{clock, ConnectionIs}
+use Rattle.theory_table.proofs.ConnectionLaws.{connection-fits}
 use Rattle.theory_memory.specs.Held.{Queued, vciOf}
 use Rattle.theory_invariant.specs.Invariant.{isOf, waits, Sits, Inv}
 use Rattle.theory_invariant.proofs.AfterLaws.{waits-low}
@@ -96,17 +96,17 @@ module _ (N z : ℕ) (h : List Event) (s : State) (i : Inv N z h s) where
       sits c p = (p .0, p .1, rw (e (vciOf c)) (p .2))
 
   -- another opening, or none, for a VC of which no cell is queued
-  module _ (u : ℕ) (u-high : u < z) (away-out : All (Away u) (i .out)) (away-cal : Alls (Away u) (i .cal)) (vc′ : Vc)
+  module _ (u : ℕ) (u-high : u < z) (away-out : All (Away u) (i .out)) (away-cal : Alls (Away u) (i .cal)) (vc′ : Connection)
       (new : Option Opening)
-      (is : VcIs N z now u vc′ 0 new) (h′ : List Event) (same : Still h h′) (own : openingOf u h′ ≡ new)
+      (is : ConnectionIs N z now u vc′ 0 new) (h′ : List Event) (same : Still h h′) (own : openingOf u h′ ≡ new)
       (other : (v : ℕ) → v ≢ u → openingOf v h′ ≡ openingOf v h) where
     nobody : waits u (i .out) (turn (i .cal)) ≡ 0
     nobody = omega (arith, turn-sums (isOf u) (i .cal), away-sum u (i .out) away-out, away-sums u (i .cal) away-cal)
 
-    each : (v : ℕ) → 1 ≤ v → v < z → Dec (v ≡ u) → VcIs N z (served h′) v (vcAt (writeVc (s .words) u vc′) v)
+    each : (v : ℕ) → 1 ≤ v → v < z → Dec (v ≡ u) → ConnectionIs N z (served h′) v (connectionAt (writeConnection (s .words) u vc′) v)
         (waits v (i .out) (turn (i .cal))) (openingOf v h′)
     each v h1 h2 (yes p) =
-        subst (λ (k : ℕ). VcIs N z (served h′) k (vcAt (writeVc (s .words) u vc′) k) (waits k (i .out) (turn (i .cal)))
+        subst (λ (k : ℕ). ConnectionIs N z (served h′) k (connectionAt (writeConnection (s .words) u vc′) k) (waits k (i .out) (turn (i .cal)))
         (openingOf k h′)) (sym p)
         (rw (same .slots, write-read (s .words) u vc′ (omega (arith, i .stage .words-long)), nobody, own) is)
     each v h1 h2 (no p) = rw (same .slots, write-read-other (s .words) u vc′ v p, other v p) (i .stage .table v h1 h2)
@@ -114,7 +114,7 @@ module _ (N z : ℕ) (h : List Event) (s : State) (i : Inv N z h s) where
     sits-on : (c : Queued) → Sits z op c × Away u c → Sits z (λ v. openingOf v h′) c
     sits-on c p = (p .0 .0, p .0 .1, rw (other (vciOf c) (p .1)) (p .0 .2))
 
-    pub renewed : Inv N z h′ (withWords s (writeVc (s .words) u vc′))
+    pub renewed : Inv N z h′ (withWords s (writeConnection (s .words) u vc′))
     unfolding withWords
     renewed =
         record {
@@ -149,9 +149,9 @@ module _ (N z : ℕ) (h : List Event) (s : State) (i : Inv N z h s) where
         }
 
   -- ── the refusals that open and close share ──
-  pub fits : (v : ℕ) → 1 ≤ v → v < z → vcFits N (vcAt (s .words) v) ≡ true
+  pub fits : (v : ℕ) → 1 ≤ v → v < z → connectionFits N (connectionAt (s .words) v) ≡ true
   fits v h1 h2 =
-      vc-fits N z (i .stage .ranges .z-high) now v (vcAt (s .words) v) (waits v (i .out) (turn (i .cal))) (op v)
+      connection-fits N z (i .stage .ranges .z-high) now v (connectionAt (s .words) v) (waits v (i .out) (turn (i .cal))) (op v)
       (waits-low v N (i .out) (turn (i .cal))
       (omega (arith, turn-sums one (i .cal), i .good .room, i .stage .ranges .N-low))) (i .stage .table v h1 h2)
 

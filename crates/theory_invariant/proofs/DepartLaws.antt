@@ -12,10 +12,10 @@ use lib.ListN.{getD}
 use Rattle.meaning.specs.Plain.{next}
 use Rattle.meaning.specs.Numbers.{empty, cellStart, openPlace}
 use Rattle.meaning.specs.State.{State, freeList, outputList, withRecord, recordWith, withLinks, withWords, withFreeList, withOutputList}
-use Rattle.meaning.specs.Header.{Header, headerAt, namesOpenVc}
-use Rattle.meaning.specs.Words.{Vc, vcAt, writeVc, withWaiting}
+use Rattle.meaning.specs.Header.{Header, headerAt, namesOpen}
+use Rattle.meaning.specs.Words.{Connection, connectionAt, writeConnection, withWaiting}
 use Rattle.meaning.specs.Lists.{Grown, addTail}
-use Rattle.meaning.specs.Work.{Work, answerOf, withState, withVc, withDeparture}
+use Rattle.meaning.specs.Work.{Work, answerOf, withState, withConnection, withDeparture}
 use Rattle.meaning.specs.Slot.{step5, depart}
 use Rattle.meaning.proofs.WordsLaws.{write-length, write-read, write-read-other}
 use Rattle.meaning_runs.specs.Run.{idle}
@@ -23,8 +23,8 @@ use Rattle.meaning_runs.specs.Leak.{Opening}
 use Rattle.theory_queues.specs.Queue.{sum, sums, one, All}
 use Rattle.theory_chains.proofs.CountLaws.{is-no, is-yes}
 use Rattle.theory_chains.proofs.StrungLaws.{TakenOff}
-use Rattle.theory_table.specs.Stored.{VcIs, OpenVc}
-use Rattle.theory_table.proofs.VcLaws.{left-open}
+use Rattle.theory_table.specs.Stored.{ConnectionIs, OpenConnection}
+use Rattle.theory_table.proofs.ConnectionLaws.{left-open}
 use Rattle.theory_memory.specs.Held.{Queued, spaceOf, vciOf, octetsIn}
 use Rattle.theory_memory.proofs.ShownLaws.{header-in, line-cell}
 use Rattle.theory_memory.proofs.HasLaws.{free-fits}
@@ -82,8 +82,8 @@ module _ (now : ℕ) (op : ℕ → Option Opening) (free : List ℕ) (r : List (
       names : (1 ≤ u) × (u < z)
       names = names-facts z h (sits .0)
 
-      abbrev vc : Vc
-      vc = vcAt (s .words) u
+      abbrev vc : Connection
+      vc = connectionAt (s .words) u
 
       abbrev q : ℕ
       q = sums (isOf u) r + sum (isOf u) o
@@ -95,26 +95,26 @@ module _ (now : ℕ) (op : ℕ → Option Opening) (free : List ℕ) (r : List (
       pub record Opened : Type 0 where
         pub opening : Opening
         pub is : op u ≡ some opening
-        pub vc-open : OpenVc N z (suc now) u vc (suc q) opening
+        pub connection-open : OpenConnection N z (suc now) u vc (suc q) opening
 
       opened : Opened
       opened =
           go (op u) refl (subst (λ (i : ℕ). Under (op i) (c .cell)) (sym (sits .1)) (sits .2))
           (st .table u (names .0) (names .1))
         where
-          go : (a : Option Opening) → op u ≡ a → Under a (c .cell) → VcIs N z (suc now) u vc (waits u (c ∷ o) r) a → Opened
+          go : (a : Option Opening) → op u ≡ a → Under a (c .cell) → ConnectionIs N z (suc now) u vc (waits u (c ∷ o) r) a → Opened
           go none e p k = absurd p
           go (some a) e p k =
-              record { opening = a; is = e; vc-open = subst (λ (i : ℕ). OpenVc N z (suc now) u vc i a) one-more k }
+              record { opening = a; is = e; connection-open = subst (λ (i : ℕ). OpenConnection N z (suc now) u vc i a) one-more k }
 
       is-open : vc .opened ≡ 1
-      is-open = ap (λ (y : Vc). y .opened) (opened .vc-open .is)
+      is-open = ap (λ (y : Connection). y .opened) (opened .connection-open .is)
 
       waiting-is : vc .waiting ≡ suc q
-      waiting-is = ap (λ (y : Vc). y .waiting) (opened .vc-open .is)
+      waiting-is = ap (λ (y : Connection). y .waiting) (opened .connection-open .is)
 
-      names-open : namesOpenVc z (s .words) h ≡ true
-      unfolding namesOpenVc vcAt
+      names-open : namesOpen z (s .words) h ≡ true
+      unfolding namesOpen connectionAt
       names-open = rw (sits .0, eq-eqb (getD (s .words) (openPlace u) 0) 1 is-open)
 
       few-wait : vc .waiting ≤ N
@@ -126,14 +126,14 @@ module _ (now : ℕ) (op : ℕ → Option Opening) (free : List ℕ) (r : List (
       abbrev grown : Grown
       grown = addTail (s .links) (freeList s) x
 
-      abbrev less : Vc
+      abbrev less : Connection
       less = withWaiting vc (vc .waiting - 1)
 
       abbrev work : Work
       work =
           let s1 = withOutputList s (taken .left) in
           let s2 = withLinks (withFreeList s1 (grown .ends)) (grown .links) in
-          withDeparture (withVc (withState w s2) u less) x u
+          withDeparture (withConnection (withState w s2) u less) x u
 
       goes : step5 w ≡ next work
       unfolding step5 depart withOutputList withLinks withFreeList withWords withRecord recordWith
@@ -148,15 +148,15 @@ module _ (now : ℕ) (op : ℕ → Option Opening) (free : List ℕ) (r : List (
             free-fits low (st .has),
           )
 
-      each : (v : ℕ) → 1 ≤ v → v < z → Dec (v ≡ u) → VcIs N z (suc now) v (vcAt (writeVc (s .words) u less) v) (waits v o r)
+      each : (v : ℕ) → 1 ≤ v → v < z → Dec (v ≡ u) → ConnectionIs N z (suc now) v (connectionAt (writeConnection (s .words) u less) v) (waits v o r)
           (op v)
       each v h1 h2 (yes p) =
-          subst (λ (i : ℕ). VcIs N z (suc now) i (vcAt (writeVc (s .words) u less) i) (waits i o r) (op i)) (sym p)
+          subst (λ (i : ℕ). ConnectionIs N z (suc now) i (connectionAt (writeConnection (s .words) u less) i) (waits i o r) (op i)) (sym p)
           (rw (write-read (s .words) u less (omega (arith, st .words-long, names .1)), opened .is)
-          (left-open N z (st .ranges .z-high) (suc now) u vc q (opened .opening) (opened .vc-open)))
+          (left-open N z (st .ranges .z-high) (suc now) u vc q (opened .opening) (opened .connection-open)))
       each v h1 h2 (no p) =
           rw (write-read-other (s .words) u less v p)
-          (subst (λ (i : ℕ). VcIs N z (suc now) v (vcAt (s .words) v) i (op v)) same (st .table v h1 h2))
+          (subst (λ (i : ℕ). ConnectionIs N z (suc now) v (connectionAt (s .words) v) i (op v)) same (st .table v h1 h2))
         where
           same : waits v (c ∷ o) r ≡ waits v o r
           same = omega (arith, is-no v (vciOf c) (λ e. p (e ∙ sym (sits .1))))

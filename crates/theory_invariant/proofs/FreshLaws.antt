@@ -9,9 +9,9 @@ use native.Mathlib.Omega.{arith}
 use borrow.Author.Tests.{leb-true}
 use lib.ListN.{length, getD, replicate, length-replicate, getD-replicate, length-append, List·getD-append}
 use Rattle.meaning.specs.Plain.{if_then_else_, _≤?_}
-use Rattle.meaning.specs.Numbers.{rangesHold, mostN, leastV, mostV, empty, slotNumbers, wordsPerVc, openPlace}
+use Rattle.meaning.specs.Numbers.{rangesHold, mostN, leastV, mostV, empty, slotNumbers, wordsPerConnection, openPlace}
 use Rattle.meaning.specs.State.{State, stateOf, freeList, outputList, lengthsHold}
-use Rattle.meaning.specs.Words.{vcAt}
+use Rattle.meaning.specs.Words.{connectionAt}
 use Rattle.meaning.specs.Lists.{entryAt}
 use Rattle.meaning.specs.Calls.{SetUp, setUpOf, zeros, rawNumber, freshRecord, countUp, freshState, setup}
 use Rattle.meaning_runs.specs.Run.{served}
@@ -148,7 +148,7 @@ module _ (N z : ℕ) (raw : Bool) (r : Ranges N z) where
       whole = omega (arith, size)
 
   pub fresh-inv : Inv N z [] (freshState N z raw)
-  unfolding freshState freshRecord served openingOf cellsIn departuresIn vcAt
+  unfolding freshState freshRecord served openingOf cellsIn departuresIn connectionAt
   fresh-inv =
       record {
         free = 0 ∷ countUp w 1;
@@ -164,8 +164,8 @@ module _ (N z : ℕ) (raw : Bool) (r : Ranges N z) where
           turn-low = omega (arith, r .N-low);
           rotation-is = sym (ap (λ (k : ℕ). k % z) first ∙ mod-eq-of-lt {n = z - 1} {m = z} (omega (arith, r .z-low)));
           has = fresh-has;
-          words-long = length-replicate (wordsPerVc * z) 0;
-          table = λ v h1 h2. getD-replicate (wordsPerVc * z) (openPlace v) 0 0 (omega arith);
+          words-long = length-replicate (wordsPerConnection * z) 0;
+          table = λ v h1 h2. getD-replicate (wordsPerConnection * z) (openPlace v) 0 0 (omega arith);
         };
         raw-low = number-low raw;
         mode-low = omega arith;

@@ -15,13 +15,13 @@ use Rattle.meaning.specs.Work.{answerOf}
 use Rattle.meaning.specs.Arrival.{sentAs}
 use Rattle.meaning_runs.specs.Run.{Event, ran, served}
 use Rattle.meaning_runs.specs.Leak.{Opening, accepts, openingOf}
-use Rattle.meaning_runs.specs.Seen.{Cell, cellUnder, cellsIn, departuresIn, ofVc}
+use Rattle.meaning_runs.specs.Seen.{Cell, cellUnder, cellsIn, departuresIn, ofConnection}
 use Rattle.theory_queues.specs.Queue.{flat, first, Rising}
 use Rattle.theory_queues.proofs.QueueLaws.{map-append}
 use Rattle.theory_queues.proofs.RisingLaws.{rising-up, rising-add}
-use Rattle.theory_queues.proofs.OrderLaws.{ofVc-append, ofVc-map}
+use Rattle.theory_queues.proofs.OrderLaws.{ofConnection-append, ofConnection-map}
 use Rattle.theory_memory.specs.Held.{Queued, vciOf}
-use Rattle.theory_invariant.specs.Invariant.{Left, cellLeft, cellIn, vciIn}
+use Rattle.theory_invariant.specs.Invariant.{Left, cellLeft, cellIn, connectionIn}
 use Rattle.theory_invariant.specs.Came.{onward, half, noted}
 
 -- the departure of slot n, if any
@@ -43,19 +43,19 @@ first-flat o [] = append-assoc o [] []
 first-flat o (q ∷ r) = append-assoc o q (flat r)
 
 pub order-kept : (n v : ℕ) (left : List Left) (out : List Queued) (cal r : List (List Queued)) (new : List Queued)
-    → ofVc vciOf v (flat r) ≡ ofVc vciOf v (flat cal) ++ ofVc vciOf v new
-    → ofVc vciIn v ((map cellLeft left ++ map cellIn (out ++ flat cal)) ++ map cellIn new)
-    ≡ ofVc vciIn v (map cellLeft (left ++ leaving n (out ++ first r)) ++ map cellIn
+    → ofConnection vciOf v (flat r) ≡ ofConnection vciOf v (flat cal) ++ ofConnection vciOf v new
+    → ofConnection connectionIn v ((map cellLeft left ++ map cellIn (out ++ flat cal)) ++ map cellIn new)
+    ≡ ofConnection connectionIn v (map cellLeft (left ++ leaving n (out ++ first r)) ++ map cellIn
     (tail (out ++ first r) ++ flat (tail r)))
 order-kept n v left out cal r new e =
-    ap (ofVc vciIn v) (append-assoc L (map cellIn (out ++ flat cal)) (map cellIn new)
+    ap (ofConnection connectionIn v) (append-assoc L (map cellIn (out ++ flat cal)) (map cellIn new)
     ∙ ap (λ l. L ++ l) (sym (map-append cellIn (out ++ flat cal) new)))
-    ∙ ofVc-append vciIn v L (map cellIn ((out ++ flat cal) ++ new))
-    ∙ ap (λ l. ofVc vciIn v L ++ l)
-    (ofVc-map vciIn cellIn v ((out ++ flat cal) ++ new) ∙ ap (map cellIn) joins
-    ∙ sym (ofVc-map vciIn cellIn v (out ++ flat r)))
-    ∙ sym (ofVc-append vciIn v L (map cellIn (out ++ flat r)))
-    ∙ ap (ofVc vciIn v) (ap (λ l. L ++ map cellIn l) (sym (first-flat out r))
+    ∙ ofConnection-append connectionIn v L (map cellIn ((out ++ flat cal) ++ new))
+    ∙ ap (λ l. ofConnection connectionIn v L ++ l)
+    (ofConnection-map connectionIn cellIn v ((out ++ flat cal) ++ new) ∙ ap (map cellIn) joins
+    ∙ sym (ofConnection-map connectionIn cellIn v (out ++ flat r)))
+    ∙ sym (ofConnection-append connectionIn v L (map cellIn (out ++ flat r)))
+    ∙ ap (ofConnection connectionIn v) (ap (λ l. L ++ map cellIn l) (sym (first-flat out r))
     ∙ ap (λ l. L ++ l) (sym (head-gone n o1 (flat (tail r))))
     ∙ sym (append-assoc L (map cellLeft (leaving n o1)) (map cellIn (tail o1 ++ flat (tail r))))
     ∙ ap (λ l. l ++ map cellIn (tail o1 ++ flat (tail r))) (sym (map-append cellLeft left (leaving n o1))))
@@ -66,13 +66,13 @@ order-kept n v left out cal r new e =
     o1 : List Queued
     o1 = out ++ first r
 
-    joins : ofVc vciOf v ((out ++ flat cal) ++ new) ≡ ofVc vciOf v (out ++ flat r)
+    joins : ofConnection vciOf v ((out ++ flat cal) ++ new) ≡ ofConnection vciOf v (out ++ flat r)
     joins =
-        ofVc-append vciOf v (out ++ flat cal) new
-        ∙ ap (λ l. l ++ ofVc vciOf v new) (ofVc-append vciOf v out (flat cal))
-        ∙ append-assoc (ofVc vciOf v out) (ofVc vciOf v (flat cal)) (ofVc vciOf v new)
-        ∙ ap (λ l. ofVc vciOf v out ++ l) (sym e)
-        ∙ sym (ofVc-append vciOf v out (flat r))
+        ofConnection-append vciOf v (out ++ flat cal) new
+        ∙ ap (λ l. l ++ ofConnection vciOf v new) (ofConnection-append vciOf v out (flat cal))
+        ∙ append-assoc (ofConnection vciOf v out) (ofConnection vciOf v (flat cal)) (ofConnection vciOf v new)
+        ∙ ap (λ l. ofConnection vciOf v out ++ l) (sym e)
+        ∙ sym (ofConnection-append vciOf v out (flat r))
 
 -- ── what a served slot adds ──
 module _ (h : List Event) (cell : List ℕ) (verdict vci D x out : ℕ) (seen : List ℕ) where

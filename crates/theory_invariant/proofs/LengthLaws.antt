@@ -5,7 +5,7 @@ use mathlib.Core.Bool.{true}
 use mathlib.Core.List.{List}
 use borrow.Author.Tests.{eq-eqb, le-leb}
 use lib.ListN.{length}
-use Rattle.meaning.specs.Numbers.{rangesHold, wordsPerVc}
+use Rattle.meaning.specs.Numbers.{rangesHold, wordsPerConnection}
 use Rattle.meaning.specs.State.{wordsLong, lengthsHold}
 use Rattle.theory_invariant.specs.Invariant.{Ranges}
 
@@ -14,12 +14,12 @@ unfolding rangesHold
 ranges-hold N z r =
     rw (le-leb 1 N (r .N-low), le-leb N 1_024 (r .N-high), le-leb 2 z (r .z-low), le-leb z 1_024 (r .z-high))
 
-pub words-hold : (z : ℕ) (words : List ℕ) → length words ≡ wordsPerVc * z → wordsLong z words ≡ true
+pub words-hold : (z : ℕ) (words : List ℕ) → length words ≡ wordsPerConnection * z → wordsLong z words ≡ true
 unfolding wordsLong
-words-hold z words e = eq-eqb (length words) (wordsPerVc * z) e
+words-hold z words e = eq-eqb (length words) (wordsPerConnection * z) e
 
 pub lengths-hold : (N z : ℕ) (cells links calendar words : List ℕ) → length cells ≡ 53 * N → length links ≡ N
-    → length calendar ≡ 2 * N → length words ≡ wordsPerVc * z
+    → length calendar ≡ 2 * N → length words ≡ wordsPerConnection * z
     → lengthsHold N z cells links calendar words ≡ true
 unfolding lengthsHold
 lengths-hold N z cells links calendar words e1 e2 e3 e4 =

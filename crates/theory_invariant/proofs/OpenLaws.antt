@@ -11,16 +11,16 @@ use borrow.Author.Tests.{eq-eqb, ne-eqb, leb-true, ltb-true, eqb-true, eqb-false
 use Rattle.meaning.specs.Plain.{_<?_, _≤?_, _=?_}
 use Rattle.meaning.specs.State.{State, withWords}
 use Rattle.meaning.specs.Bucket.{bucketOf, obeysRules}
-use Rattle.meaning.specs.Words.{Vc, Second, vcAt, writeVc, secondObeys, openedVc, closedVc, debt}
+use Rattle.meaning.specs.Words.{Connection, Second, connectionAt, writeConnection, secondObeys, openedConnection, closedConnection, debt}
 use Rattle.meaning.specs.Calls.{Called, calledOf, openCall, closeCall}
 use Rattle.meaning_runs.specs.Run.{Event, opened, closed, served}
 use Rattle.meaning_runs.specs.Leak.{Opening, newOpening, openingOf}
 use Rattle.meaning_runs.specs.Seen.{cellsIn, departuresIn}
 use Rattle.theory_queues.specs.Queue.{turn}
 use Rattle.theory_queues.proofs.QueueLaws.{turn-sums, all-map, alls-map}
-use Rattle.theory_table.specs.Stored.{VcIs}
+use Rattle.theory_table.specs.Stored.{ConnectionIs}
 use Rattle.theory_table.proofs.LeakLaws.{and-left, and-right}
-use Rattle.theory_table.proofs.VcLaws.{opened-open}
+use Rattle.theory_table.proofs.ConnectionLaws.{opened-open}
 use Rattle.theory_memory.specs.Held.{Queued}
 use Rattle.theory_invariant.specs.Invariant.{isOf, waits, Under, Sits, Inv}
 use Rattle.theory_invariant.proofs.CallLaws.{Away, sum-away, sums-away, Still, unchanged, renewed, shared-in, shared-out}
@@ -60,20 +60,20 @@ module _ (N z : ℕ) (h : List Event) (s : State) (i : Inv N z h s) where
     unfolding openingOf
     other-open v ne = rw (ne-eqb u v (λ e. ne (sym e)))
 
-    shut : (a : Option Opening) → op u ≡ a → VcIs N z now u (vcAt (s .words) u) (waits u (i .out) (turn (i .cal))) a
-        → vcAt (s .words) u .opened ≢ 1 → op u ≡ none
+    shut : (a : Option Opening) → op u ≡ a → ConnectionIs N z now u (connectionAt (s .words) u) (waits u (i .out) (turn (i .cal))) a
+        → connectionAt (s .words) u .opened ≢ 1 → op u ≡ none
     shut none e k ne = e
-    shut (some a) e k ne = absurd (ne (ap (λ (c : Vc). c .opened) (k .is)))
+    shut (some a) e k ne = absurd (ne (ap (λ (c : Connection). c .opened) (k .is)))
 
     away : op u ≡ none → (c : Queued) → Sits z op c → Away u c
     away e c p f = subst (λ (a : Option Opening). Under a (c .cell)) (ap op f ∙ e) (p .2)
 
-    pub opens : 1 ≤ u → u < z → vcAt (s .words) u .opened ≢ 1 → obeysRules N (bucketOf m F C 0) ≡ true → secondFits ≡ true
-        → Inv N z (opened u m F C x 0 ∷ h) (withWords s (writeVc (s .words) u (openedVc (s .ctl .t) (bucketOf m F C 0) x)))
+    pub opens : 1 ≤ u → u < z → connectionAt (s .words) u .opened ≢ 1 → obeysRules N (bucketOf m F C 0) ≡ true → secondFits ≡ true
+        → Inv N z (opened u m F C x 0 ∷ h) (withWords s (writeConnection (s .words) u (openedConnection (s .ctl .t) (bucketOf m F C 0) x)))
     opens h1 h2 ne rules rules2 =
         renewed N z h s i u h2 (all-map (Sits z op) (Away u) (away none-is) (i .out) (i .sits-out))
         (alls-map (Sits z op) (Away u) (away none-is) (i .cal) (i .sits-cal))
-        (openedVc (s .ctl .t) (bucketOf m F C 0) x) (some (newOpening m F C x))
+        (openedConnection (s .ctl .t) (bucketOf m F C 0) x) (some (newOpening m F C x))
         (rw (i .stage .t-is) (opened-open N z (i .stage .ranges .z-high) now u m F C x rules rules2)) (opened u m F C x 0 ∷ h)
         (still-open 0) own-open other-open
       where
@@ -92,9 +92,9 @@ module _ (N z : ℕ) (h : List Event) (s : State) (i : Inv N z h s) where
     pub open-kept : Opens (openCall (s .ctl) (s .words) u m F C x)
     unfolding openCall
     open-kept =
-        go (1 ≤? u && u <? z) (vcAt (s .words) u .opened =? 1) (obeysRules N (bucketOf m F C 0)) secondFits refl refl refl refl
+        go (1 ≤? u && u <? z) (connectionAt (s .words) u .opened =? 1) (obeysRules N (bucketOf m F C 0)) secondFits refl refl refl refl
       where
-        go : (a b c d : Bool) → 1 ≤? u && u <? z ≡ a → vcAt (s .words) u .opened =? 1 ≡ b
+        go : (a b c d : Bool) → 1 ≤? u && u <? z ≡ a → connectionAt (s .words) u .opened =? 1 ≡ b
             → obeysRules N (bucketOf m F C 0) ≡ c → secondFits ≡ d → Opens (openCall (s .ctl) (s .words) u m F C x)
         go false b c d e f g k = rw (shared-out N z h s i u e) (given 4 (λ y. omega arith) (λ y. omega arith))
         go true true c d e f g k =
@@ -121,7 +121,7 @@ module _ (N z : ℕ) (h : List Event) (s : State) (i : Inv N z h s) where
               k,
             )
             (record {
-              inv = opens (low u e) (high u e) (eqb-false (vcAt (s .words) u .opened) 1 f) g k;
+              inv = opens (low u e) (high u e) (eqb-false (connectionAt (s .words) u .opened) 1 f) g k;
               not-three = λ y. omega arith;
             })
 
@@ -143,18 +143,18 @@ module _ (N z : ℕ) (h : List Event) (s : State) (i : Inv N z h s) where
     unfolding openingOf
     other-close v ne = rw (ne-eqb u v (λ e. ne (sym e)))
 
-    none-wait : (a : Option Opening) (q : ℕ) → VcIs N z now u (vcAt (s .words) u) q a → vcAt (s .words) u .opened ≢ 0
-        → vcAt (s .words) u .waiting ≡ 0 → q ≡ 0
+    none-wait : (a : Option Opening) (q : ℕ) → ConnectionIs N z now u (connectionAt (s .words) u) q a → connectionAt (s .words) u .opened ≢ 0
+        → connectionAt (s .words) u .waiting ≡ 0 → q ≡ 0
     none-wait none q k ne e = absurd (ne k)
-    none-wait (some a) q k ne e = sym (ap (λ (c : Vc). c .waiting) (k .is)) ∙ e
+    none-wait (some a) q k ne e = sym (ap (λ (c : Connection). c .waiting) (k .is)) ∙ e
 
-    pub closes : 1 ≤ u → u < z → vcAt (s .words) u .opened ≢ 0 → vcAt (s .words) u .waiting ≡ 0
-        → Inv N z (closed u 0 ∷ h) (withWords s (writeVc (s .words) u closedVc))
-    unfolding closedVc
+    pub closes : 1 ≤ u → u < z → connectionAt (s .words) u .opened ≢ 0 → connectionAt (s .words) u .waiting ≡ 0
+        → Inv N z (closed u 0 ∷ h) (withWords s (writeConnection (s .words) u closedConnection))
+    unfolding closedConnection
     closes h1 h2 ne e =
         renewed N z h s i u h2 (sum-away u (i .out) (omega (arith, nobody-waits)))
         (sums-away u (i .cal) (omega (arith, nobody-waits, turn-sums (isOf u) (i .cal))))
-        closedVc none refl (closed u 0 ∷ h) (still-close 0) own-close other-close
+        closedConnection none refl (closed u 0 ∷ h) (still-close 0) own-close other-close
       where
         nobody-waits : waits u (i .out) (turn (i .cal)) ≡ 0
         nobody-waits = none-wait (op u) (waits u (i .out) (turn (i .cal))) (i .stage .table u h1 h2) ne e
@@ -169,15 +169,15 @@ module _ (N z : ℕ) (h : List Event) (s : State) (i : Inv N z h s) where
 
     pub close-kept : Closes (closeCall (s .ctl) (s .words) u)
     unfolding closeCall
-    close-kept = go (1 ≤? u && u <? z) (vcAt (s .words) u .opened =? 0) none-waits paid refl refl refl refl
+    close-kept = go (1 ≤? u && u <? z) (connectionAt (s .words) u .opened =? 0) none-waits paid refl refl refl refl
       where
         none-waits : Bool
-        none-waits = vcAt (s .words) u .waiting =? 0
+        none-waits = connectionAt (s .words) u .waiting =? 0
 
         paid : Bool
-        paid = debt (s .ctl .t) (vcAt (s .words) u) =? 0
+        paid = debt (s .ctl .t) (connectionAt (s .words) u) =? 0
 
-        go : (a b c d : Bool) → 1 ≤? u && u <? z ≡ a → vcAt (s .words) u .opened =? 0 ≡ b → none-waits ≡ c → paid ≡ d
+        go : (a b c d : Bool) → 1 ≤? u && u <? z ≡ a → connectionAt (s .words) u .opened =? 0 ≡ b → none-waits ≡ c → paid ≡ d
             → Closes (closeCall (s .ctl) (s .words) u)
         go false b c d e f g p = rw (shared-out N z h s i u e) (ended 4 (λ y. omega arith) (λ y. omega arith))
         go true true c d e f g p =
@@ -189,7 +189,7 @@ module _ (N z : ℕ) (h : List Event) (s : State) (i : Inv N z h s) where
         go true false true true e f g p =
             rw (shared-in N z h s i u (low u e) (high u e), f, g, p)
             (record {
-              inv = closes (low u e) (high u e) (eqb-false (vcAt (s .words) u .opened) 0 f)
-                  (eqb-true (vcAt (s .words) u .waiting) 0 g);
+              inv = closes (low u e) (high u e) (eqb-false (connectionAt (s .words) u .opened) 0 f)
+                  (eqb-true (connectionAt (s .words) u .waiting) 0 g);
               not-three = λ y. omega arith;
             })

@@ -8,14 +8,14 @@ use native.Mathlib.Numerals.{add-one}
 use native.Mathlib.Omega.{arith}
 use Rattle.meaning.specs.Numbers.{empty}
 use Rattle.meaning.specs.State.{State, outputList, withRecord, recordWith, withLinks, withCalendar, withOutputList}
-use Rattle.meaning.specs.Words.{vcAt}
+use Rattle.meaning.specs.Words.{connectionAt}
 use Rattle.meaning.specs.Lists.{emptyList, entryAt, writeEntry, Grown, joinTail}
 use Rattle.meaning.specs.Work.{Work, withState}
 use Rattle.meaning.specs.Slot.{step4}
 use Rattle.meaning_runs.specs.Leak.{Opening}
 use Rattle.theory_queues.specs.Queue.{first, turn}
 use Rattle.theory_queues.proofs.QueueLaws.{sum-append, turn-sums}
-use Rattle.theory_table.specs.Stored.{VcIs}
+use Rattle.theory_table.specs.Stored.{ConnectionIs}
 use Rattle.theory_memory.specs.Held.{Queued}
 use Rattle.theory_memory.proofs.HasLaws.{out-fits}
 use Rattle.theory_memory.proofs.MoveLaws.{first-fits, first-bare, passed, first-marked, transferred}
@@ -67,7 +67,7 @@ module _ (now : ℕ) (op : ℕ → Option Opening) (free : List ℕ) where
                 has = rw (append-nil o, add-one T)
                     (passed low (st .turn-low) (st .has));
                 words-long = st .words-long;
-                table = λ v h1 h2. subst (λ (i : ℕ). VcIs N z (suc now) v (vcAt (s .words) v) i (op v)) (same v)
+                table = λ v h1 h2. subst (λ (i : ℕ). ConnectionIs N z (suc now) v (connectionAt (s .words) v) i (op v)) (same v)
                     (st .table v h1 h2);
               };
             };
@@ -98,7 +98,7 @@ module _ (now : ℕ) (op : ℕ → Option Opening) (free : List ℕ) where
                 rotation-is = st .rotation-is;
                 has = rw (add-one T) (transferred low (st .turn-low) (st .has));
                 words-long = st .words-long;
-                table = λ v h1 h2. subst (λ (i : ℕ). VcIs N z (suc now) v (vcAt (s .words) v) i (op v)) (same v)
+                table = λ v h1 h2. subst (λ (i : ℕ). ConnectionIs N z (suc now) v (connectionAt (s .words) v) i (op v)) (same v)
                     (st .table v h1 h2);
               };
             };

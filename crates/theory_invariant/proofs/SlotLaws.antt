@@ -15,16 +15,16 @@ use Rattle.meaning.specs.Work.{Work, workOf, bareAnswer}
 use Rattle.meaning.specs.Slot.{step1, step2, step3, step4, step5, fiveSteps, finish, uncheckedSlot}
 use Rattle.meaning_runs.specs.Run.{Event, ran, shown, served}
 use Rattle.meaning_runs.specs.Leak.{Opening, openingOf}
-use Rattle.meaning_runs.specs.Seen.{Cell, cellsIn, ofVc}
+use Rattle.meaning_runs.specs.Seen.{Cell, cellsIn, ofConnection}
 use Rattle.meaning_runs.specs.Judged.{judgedOf, judged}
 use Rattle.meaning_runs.proofs.OutLaws.{AllOut}
 use Rattle.meaning_runs.proofs.ModeLaws.{Moded, steps-moded}
 use Rattle.theory_queues.specs.Queue.{one, All, Alls, flat, first, turn, Rising, Good, Moved}
 use Rattle.theory_queues.proofs.QueueLaws.{map-append, all-append, all-tail, alls-first, alls-tail, turn-sums}
 use Rattle.theory_queues.proofs.LineLaws.{move, leave}
-use Rattle.theory_queues.proofs.OrderLaws.{ofVc-append}
+use Rattle.theory_queues.proofs.OrderLaws.{ofConnection-append}
 use Rattle.theory_memory.specs.Held.{Queued, dueOf}
-use Rattle.theory_invariant.specs.Invariant.{seenAs, cellLeft, cellIn, vciIn, Sits, Stage, InTime, Delayed, Inv}
+use Rattle.theory_invariant.specs.Invariant.{seenAs, cellLeft, cellIn, connectionIn, Sits, Stage, InTime, Delayed, Inv}
 use Rattle.theory_invariant.specs.Came.{onward, half, Came}
 use Rattle.theory_invariant.specs.Gone.{Departs, Gone}
 use Rattle.theory_invariant.proofs.StepLaws.{Goes, Ticked, step1-goes, step2-goes}
@@ -116,9 +116,9 @@ module _ (N z : ℕ) (h : List Event) (s : State) (i : Inv N z h s) where
                   ∙ sym (map-append seenAs (i .left) (leaving now o1));
               in-time = all-append (InTime (N - 1)) (i .left) (leaving now o1) (i .in-time)
                   (in-time-one (N - 1) now (tail (came .r)) o1 line-moved);
-              order = λ v. ap (ofVc vciIn v) cells-are ∙ ofVc-append vciIn v (cellsIn h) (map cellIn (came .new))
-                  ∙ ap (λ l. l ++ ofVc vciIn v (map cellIn (came .new))) (i .order v)
-                  ∙ sym (ofVc-append vciIn v (map cellLeft (i .left) ++ map cellIn (i .out ++ flat (i .cal)))
+              order = λ v. ap (ofConnection connectionIn v) cells-are ∙ ofConnection-append connectionIn v (cellsIn h) (map cellIn (came .new))
+                  ∙ ap (λ l. l ++ ofConnection connectionIn v (map cellIn (came .new))) (i .order v)
+                  ∙ sym (ofConnection-append connectionIn v (map cellLeft (i .left) ++ map cellIn (i .out ++ flat (i .cal)))
                   (map cellIn (came .new)))
                   ∙ order-kept now v (i .left) (i .out) (i .cal) (came .r) (came .new) (came .order v);
               delays = rw cells-are

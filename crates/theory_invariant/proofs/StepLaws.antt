@@ -11,16 +11,16 @@ use native.Mathlib.Omega.{arith}
 use borrow.Author.Tests.{eq-eqb, ne-eqb, lt-ltb}
 use lib.ListN.{length}
 use Rattle.meaning.specs.Plain.{Out, next}
-use Rattle.meaning.specs.Numbers.{slotNumbers, wordsPerVc}
+use Rattle.meaning.specs.Numbers.{slotNumbers, wordsPerConnection}
 use Rattle.meaning.specs.State.{State, withRecord, recordWith, withClock, withWords}
-use Rattle.meaning.specs.Words.{Vc, vcAt, writeVc, upToDate}
-use Rattle.meaning.specs.Work.{Work, withState, withVc}
+use Rattle.meaning.specs.Words.{Connection, connectionAt, writeConnection, upToDate}
+use Rattle.meaning.specs.Work.{Work, withState, withConnection}
 use Rattle.meaning.specs.Slot.{step1, step2}
 use Rattle.meaning.proofs.WordsLaws.{write-length, write-read, write-read-other}
 use Rattle.meaning_runs.specs.Leak.{Opening}
-use Rattle.theory_table.specs.Stored.{stored, VcIs}
+use Rattle.theory_table.specs.Stored.{stored, ConnectionIs}
 use Rattle.theory_table.proofs.ClockLaws.{slots-many, clock-next, count-next, count-now}
-use Rattle.theory_table.proofs.VcLaws.{pass, word-fits, up-to-date, now-open}
+use Rattle.theory_table.proofs.ConnectionLaws.{pass, word-fits, up-to-date, now-open}
 use Rattle.theory_memory.specs.Held.{Queued}
 use Rattle.theory_memory.proofs.HasLaws.{tick}
 use Rattle.theory_invariant.specs.Invariant.{waits, Stage}
@@ -104,8 +104,8 @@ module _ (openings : ℕ → Option Opening) (free : List ℕ) (o : List Queued)
     rot-low = omega (arith, at-now, mod-lt now {m = z} (omega (arith, st .ranges .z-low)))
 
     -- the words after step 2
-    again : (words : List ℕ) → length words ≡ wordsPerVc * z
-        → ((v : ℕ) → 1 ≤ v → v < z → VcIs N z (suc now) v (vcAt words v) (waits v o r) (openings v))
+    again : (words : List ℕ) → length words ≡ wordsPerConnection * z
+        → ((v : ℕ) → 1 ≤ v → v < z → ConnectionIs N z (suc now) v (connectionAt words v) (waits v o r) (openings v))
         → Stage N z (suc now) (suc now) (s .ctl .turn) (withWords s words) openings free o r
     unfolding withWords
     again words len t =
@@ -121,23 +121,23 @@ module _ (openings : ℕ → Option Opening) (free : List ℕ) (o : List Queued)
           table = t;
         }
 
-    passing : (v : ℕ) → 1 ≤ v → v < z → v ≢ rot → VcIs N z (suc now) v (vcAt (s .words) v) (waits v o r) (openings v)
+    passing : (v : ℕ) → 1 ≤ v → v < z → v ≢ rot → ConnectionIs N z (suc now) v (connectionAt (s .words) v) (waits v o r) (openings v)
     passing v h1 h2 ne =
-        pass N z (st .ranges .z-high) now v (vcAt (s .words) v) (waits v o r) (openings v) h2 (λ e. ne (sym e ∙ sym at-now))
+        pass N z (st .ranges .z-high) now v (connectionAt (s .words) v) (waits v o r) (openings v) h2 (λ e. ne (sym e ∙ sym at-now))
         (st .table v h1 h2)
 
-    kept : ((v : ℕ) → 1 ≤ v → v < z → VcIs N z (suc now) v (vcAt (s .words) v) (waits v o r) (openings v))
+    kept : ((v : ℕ) → 1 ≤ v → v < z → ConnectionIs N z (suc now) v (connectionAt (s .words) v) (waits v o r) (openings v))
         → Ticked N z (suc now) w w
     unfolding withWords
     kept t = record { answer-kept = refl; stage = again (s .words) (st .words-long) t }
 
-    closed-kept : (v : ℕ) (q : ℕ) (a : Option Opening) → a ≡ none → VcIs N z now v (vcAt (s .words) v) q a
-        → VcIs N z (suc now) v (vcAt (s .words) v) q a
+    closed-kept : (v : ℕ) (q : ℕ) (a : Option Opening) → a ≡ none → ConnectionIs N z now v (connectionAt (s .words) v) q a
+        → ConnectionIs N z (suc now) v (connectionAt (s .words) v) q a
     closed-kept v q none e k = k
     closed-kept v q (some a) e k = absurd (let y : _≡_ {A = ℕ} 0 1 = cc in omega arith)
 
     module _ (ne : rot ≢ 0) where
-      visit : (a : Option Opening) → openings rot ≡ a → VcIs N z now rot (vcAt (s .words) rot) (waits rot o r) a
+      visit : (a : Option Opening) → openings rot ≡ a → ConnectionIs N z now rot (connectionAt (s .words) rot) (waits rot o r) a
           → Goes (step2 w) (Ticked N z (suc now) w)
       unfolding step2 withWords
       visit none e k =
@@ -145,51 +145,51 @@ module _ (openings : ℕ → Option Opening) (free : List ℕ) (o : List Queued)
             work = w;
             goes = rw (
               ne-eqb rot 0 ne,
-              word-fits N z (st .ranges .z-high) now rot (vcAt (s .words) rot) (waits rot o r)
+              word-fits N z (st .ranges .z-high) now rot (connectionAt (s .words) rot) (waits rot o r)
                   none k,
-              eq-eqb (vcAt (s .words) rot .opened) 0 k,
+              eq-eqb (connectionAt (s .words) rot .opened) 0 k,
             );
             holds = kept (λ v h1 h2. each v h1 h2 (ℕ-discrete v rot));
           }
         where
           each : (v : ℕ) → 1 ≤ v → v < z → Dec (v ≡ rot)
-              → VcIs N z (suc now) v (vcAt (s .words) v) (waits v o r) (openings v)
+              → ConnectionIs N z (suc now) v (connectionAt (s .words) v) (waits v o r) (openings v)
           each v h1 h2 (yes p) = closed-kept v (waits v o r) (openings v) (ap openings p ∙ e) (st .table v h1 h2)
           each v h1 h2 (no p) = passing v h1 h2 p
       visit (some a) e k =
           record {
-            work = withVc w rot (stored a (suc now) (waits rot o r));
+            work = withConnection w rot (stored a (suc now) (waits rot o r));
             goes = rw (
               ne-eqb rot 0 ne,
-              word-fits N z (st .ranges .z-high) now rot (vcAt (s .words) rot) (waits rot o r)
+              word-fits N z (st .ranges .z-high) now rot (connectionAt (s .words) rot) (waits rot o r)
                   (some a) k,
-              ne-eqb (vcAt (s .words) rot .opened) 0 is-open,
+              ne-eqb (connectionAt (s .words) rot .opened) 0 is-open,
               brought,
             );
             holds = record {
               answer-kept = refl;
-              stage = again (writeVc (s .words) rot new) (write-length (s .words) rot new ∙ st .words-long)
+              stage = again (writeConnection (s .words) rot new) (write-length (s .words) rot new ∙ st .words-long)
                   (λ v h1 h2. each v h1 h2 (ℕ-discrete v rot));
             };
           }
         where
-          new : Vc
+          new : Connection
           new = stored a (suc now) (waits rot o r)
 
-          brought : upToDate N (s .ctl .t) (vcAt (s .words) rot) ≡ next new
+          brought : upToDate N (s .ctl .t) (connectionAt (s .words) rot) ≡ next new
           brought =
-              ap (λ (t : ℕ). upToDate N t (vcAt (s .words) rot)) (st .t-is ∙ clock-next now)
-              ∙ up-to-date N z (st .ranges .z-high) now now rot (vcAt (s .words) rot) (waits rot o r) a rot-low
+              ap (λ (t : ℕ). upToDate N t (connectionAt (s .words) rot)) (st .t-is ∙ clock-next now)
+              ∙ up-to-date N z (st .ranges .z-high) now now rot (connectionAt (s .words) rot) (waits rot o r) a rot-low
               (omega arith) (omega arith) k
 
-          is-open : vcAt (s .words) rot .opened ≢ 0
-          is-open y = omega (arith, ap (λ (c : Vc). c .opened) (k .is))
+          is-open : connectionAt (s .words) rot .opened ≢ 0
+          is-open y = omega (arith, ap (λ (c : Connection). c .opened) (k .is))
 
           each : (v : ℕ) → 1 ≤ v → v < z → Dec (v ≡ rot)
-              → VcIs N z (suc now) v (vcAt (writeVc (s .words) rot new) v) (waits v o r) (openings v)
+              → ConnectionIs N z (suc now) v (connectionAt (writeConnection (s .words) rot new) v) (waits v o r) (openings v)
           each v h1 h2 (yes p) =
               rw (p, write-read (s .words) rot new (omega (arith, st .words-long, rot-low)), e)
-              (now-open N z (st .ranges .z-high) now now rot (vcAt (s .words) rot) (waits rot o r) a (omega arith)
+              (now-open N z (st .ranges .z-high) now now rot (connectionAt (s .words) rot) (waits rot o r) a (omega arith)
               (omega arith) k)
           each v h1 h2 (no p) = rw (write-read-other (s .words) rot new v p) (passing v h1 h2 p)
 

@@ -12,7 +12,7 @@ use Rattle.meaning.specs.Header.{headerAt}
 use Rattle.meaning.specs.Arrival.{sentAs}
 use Rattle.meaning.specs.Work.{Work, answerOf}
 use Rattle.meaning_runs.specs.Leak.{Opening, afterCell}
-use Rattle.meaning_runs.specs.Seen.{Cell, cellUnder, ofVc}
+use Rattle.meaning_runs.specs.Seen.{Cell, cellUnder, ofConnection}
 use Rattle.meaning_runs.specs.Judged.{judgedOf, judgedBy}
 use Rattle.theory_queues.specs.Queue.{All, Alls, flat, Rising, Arrived}
 use Rattle.theory_memory.specs.Held.{Queued, dueOf, vciOf}
@@ -51,7 +51,7 @@ pub record Came (N z now : ℕ) (cell : List ℕ) (openings : ℕ → Option Ope
   pub arrived : Arrived dueOf (N - 1) now r out
   pub sits-out : All (Sits z (λ v. onward now cell verdict vci openings v)) out
   pub sits-cal : Alls (Sits z (λ v. onward now cell verdict vci openings v)) r
-  pub order : (v : ℕ) → ofVc vciOf v (flat r) ≡ ofVc vciOf v (flat cal) ++ ofVc vciOf v new
+  pub order : (v : ℕ) → ofConnection vciOf v (flat r) ≡ ofConnection vciOf v (flat cal) ++ ofConnection vciOf v new
   pub notes : noted now (half verdict vci D) cell openings ≡ map cellIn new
   pub delays : All (Delayed N) (map cellIn new)
   pub rises : (l : List Cell) → Rising (λ c. c .arrival) 0 now l

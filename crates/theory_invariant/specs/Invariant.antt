@@ -13,16 +13,16 @@ use mathlib.Core.Bool.{true}
 use mathlib.Core.List.{List, _++_, map}
 use mathlib.Core.Option.{Option, none, some}
 use lib.ListN.{length}
-use Rattle.meaning.specs.Numbers.{wordsPerVc}
+use Rattle.meaning.specs.Numbers.{wordsPerConnection}
 use Rattle.meaning.specs.State.{State, freeList, outputList}
-use Rattle.meaning.specs.Header.{headerAt, namesVc}
-use Rattle.meaning.specs.Words.{vcAt}
+use Rattle.meaning.specs.Header.{headerAt, namesConnection}
+use Rattle.meaning.specs.Words.{connectionAt}
 use Rattle.meaning_runs.specs.Run.{Event, served}
 use Rattle.meaning_runs.specs.Leak.{Opening, parts, openingOf}
-use Rattle.meaning_runs.specs.Seen.{Cell, Departure, ofVc, cellsIn, departuresIn}
+use Rattle.meaning_runs.specs.Seen.{Cell, Departure, ofConnection, cellsIn, departuresIn}
 use Rattle.theory_queues.specs.Queue.{sum, sums, All, Alls, flat, turn, Rising, Good}
 use Rattle.theory_chains.specs.Strung.{is}
-use Rattle.theory_table.specs.Stored.{earliest, clock, VcIs}
+use Rattle.theory_table.specs.Stored.{earliest, clock, ConnectionIs}
 use Rattle.theory_memory.specs.Held.{Queued, dueOf, vciOf, Has}
 
 pub record Left : Type 0 where
@@ -38,8 +38,8 @@ cellLeft p = p .cell
 abbrev pub cellIn : Queued → Cell
 cellIn c = c .cell
 
-abbrev pub vciIn : Cell → ℕ
-vciIn c = c .vci
+abbrev pub connectionIn : Cell → ℕ
+connectionIn c = c .vci
 
 abbrev pub isOf : ℕ → Queued → ℕ
 isOf v c = is v (vciOf c)
@@ -53,7 +53,7 @@ Under (some o) c = (c .due ≡ c .time / parts o) × (c .time + o .F ≤ earlies
 
 abbrev pub Sits : ℕ → (ℕ → Option Opening) → Queued → Type 0
 Sits z openings c =
-    (namesVc z (headerAt (c .cell .octets) 0) ≡ true)
+    (namesConnection z (headerAt (c .cell .octets) 0) ≡ true)
     × (headerAt (c .cell .octets) 0 .vci ≡ vciOf c)
     × Under (openings (vciOf c)) (c .cell)
 
@@ -73,8 +73,8 @@ pub record Stage (N z k j b : ℕ) (s : State) (openings : ℕ → Option Openin
   pub turn-low : s .ctl .turn < N
   pub rotation-is : s .ctl .rotation ≡ (k + (z - 1)) % z
   pub has : Has N b (s .cells) (s .links) (s .calendar) (freeList s) (outputList s) free o r
-  pub words-long : length (s .words) ≡ wordsPerVc * z
-  pub table : (v : ℕ) → 1 ≤ v → v < z → VcIs N z j v (vcAt (s .words) v) (waits v o r) (openings v)
+  pub words-long : length (s .words) ≡ wordsPerConnection * z
+  pub table : (v : ℕ) → 1 ≤ v → v < z → ConnectionIs N z j v (connectionAt (s .words) v) (waits v o r) (openings v)
 
 -- not before its due slot, and at most w slots after it
 abbrev pub InTime : ℕ → Left → Type 0
@@ -101,7 +101,7 @@ pub record Inv (N z : ℕ) (h : List Event) (s : State) : Type 0 where
   pub seen : departuresIn h ≡ map seenAs left
   pub in-time : All (InTime (N - 1)) left
   -- of each VC: the accepted cells, in order, are those that left, and then those that wait, in the order they leave in
-  pub order : (v : ℕ) → ofVc vciIn v (cellsIn h) ≡ ofVc vciIn v (map cellLeft left ++ map cellIn (out ++ flat cal))
+  pub order : (v : ℕ) → ofConnection connectionIn v (cellsIn h) ≡ ofConnection connectionIn v (map cellLeft left ++ map cellIn (out ++ flat cal))
   pub delays : All (Delayed N) (cellsIn h)
   -- both in order of their slots
   pub left-rise : Rising (λ p. p .slot) 0 (served h) left

@@ -6,9 +6,9 @@ use native.Mathlib.Nat.{not-suc-le-zero, le-of-suc-le-suc}
 use native.Mathlib.Decide.{ℕ-discrete}
 use native.Mathlib.Omega.{arith}
 use lib.ListN.{length, getD}
-use Rattle.meaning_runs.specs.Seen.{ofVc}
+use Rattle.meaning_runs.specs.Seen.{ofConnection}
 use Rattle.theory_queues.specs.Queue.{Rising}
-use Rattle.theory_queues.proofs.OrderLaws.{ofVc-yes, ofVc-no}
+use Rattle.theory_queues.proofs.OrderLaws.{ofConnection-yes, ofConnection-no}
 
 module _ {A : Type 0} (f : A → ℕ) where
   pub rising-up : (lo hi top : ℕ) (l : List A) → hi ≤ top → Rising f lo hi l → Rising f lo top l
@@ -23,13 +23,13 @@ module _ {A : Type 0} (f : A → ℕ) where
   rising-add lo hi [] x h r = (omega arith, omega arith)
   rising-add lo hi (y ∷ l) x h r = (r .0, rising-add (suc (f y)) hi l x h (r .1))
 
-  pub rising-of : (g : A → ℕ) (v lo hi : ℕ) (l : List A) → Rising f lo hi l → Rising f lo hi (ofVc g v l)
+  pub rising-of : (g : A → ℕ) (v lo hi : ℕ) (l : List A) → Rising f lo hi l → Rising f lo hi (ofConnection g v l)
   rising-of g v lo hi [] r = r
   rising-of g v lo hi (x ∷ l) r = go (ℕ-discrete (g x) v) (rising-of g v (suc (f x)) hi l (r .1))
     where
-      go : Dec (g x ≡ v) → Rising f (suc (f x)) hi (ofVc g v l) → Rising f lo hi (ofVc g v (x ∷ l))
-      go (yes e) k = rw (ofVc-yes g v x l e) (r .0, k)
-      go (no e) k = rw (ofVc-no g v x l e) (rising-down lo (suc (f x)) hi (ofVc g v l) (omega (arith, r .0)) k)
+      go : Dec (g x ≡ v) → Rising f (suc (f x)) hi (ofConnection g v l) → Rising f lo hi (ofConnection g v (x ∷ l))
+      go (yes e) k = rw (ofConnection-yes g v x l e) (r .0, k)
+      go (no e) k = rw (ofConnection-no g v x l e) (rising-down lo (suc (f x)) hi (ofConnection g v l) (omega (arith, r .0)) k)
 
   rising-low : (lo hi : ℕ) (l : List A) (k : ℕ) (d : A) → k < length l → Rising f lo hi l → lo ≤ f (getD l k d)
   rising-low lo hi [] k d h r = absurd (not-suc-le-zero h)

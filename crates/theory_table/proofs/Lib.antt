@@ -2,4 +2,4 @@ pub mod ClockLaws
 pub mod LeakLaws
 pub mod BucketLaws
 pub mod VerdictLaws
-pub mod VcLaws
+pub mod ConnectionLaws

@@ -6,14 +6,14 @@
 --   bucketAfter m F C p k == such a bucket
 --   stored o k q         == the VC's words, where it was last brought up to date when k slots were served, and q cells wait
 --   gap z v now          == how many of the `now` slots were served since rotation last named v
---   VcIs                 == the words vc of the VC v are those of its opening, if it has one; now slots were served
+--   ConnectionIs                 == the words vc of the VC v are those of its opening, if it has one; now slots were served
 use Prim.Native.Nat.{ℕ, suc, _+_, _-_, _*_, _%_, _^_, _≤_}
 use mathlib.Core.Path.{_≡_}
 use mathlib.Core.Bool.{true}
 use mathlib.Core.Option.{Option, none, some}
 use Rattle.meaning.specs.Numbers.{slotNumbers}
 use Rattle.meaning.specs.Bucket.{Bucket, bucketOf, obeysRules}
-use Rattle.meaning.specs.Words.{Vc, secondObeys}
+use Rattle.meaning.specs.Words.{Connection, secondObeys}
 use Rattle.meaning_runs.specs.Leak.{Opening}
 
 abbrev pub earliestAfter : ℕ → Option ℕ → ℕ
@@ -45,7 +45,7 @@ levelSecond o k = levelAfter (o .second .m) (o .second .F) (o .sustained) k
 abbrev pub clock : ℕ → ℕ
 clock k = (k + (slotNumbers - 1)) % slotNumbers
 
-abbrev pub stored : Opening → ℕ → ℕ → Vc
+abbrev pub stored : Opening → ℕ → ℕ → Connection
 stored o k q =
     record {
       opened = 1;
@@ -59,7 +59,7 @@ stored o k q =
 abbrev pub gap : ℕ → ℕ → ℕ → ℕ
 gap z v now = (now + (z - suc v)) % z
 
-pub record OpenVc (N z now v : ℕ) (vc : Vc) (q : ℕ) (o : Opening) : Type 0 where
+pub record OpenConnection (N z now v : ℕ) (vc : Connection) (q : ℕ) (o : Opening) : Type 0 where
   pub seen : ℕ
   pub is : vc ≡ stored o seen q
   pub unused : seen ≡ 0 → earliest o ≡ 0
@@ -72,6 +72,6 @@ pub record OpenVc (N z now v : ℕ) (vc : Vc) (q : ℕ) (o : Opening) : Type 0 w
   pub full : level o seen ≤ o .C
   pub full-second : levelSecond o seen ≤ o .second .C
 
-abbrev pub VcIs : ℕ → ℕ → ℕ → ℕ → Vc → ℕ → Option Opening → Type 0
-VcIs N z now v vc q none = vc .opened ≡ 0
-VcIs N z now v vc q (some o) = OpenVc N z now v vc q o
+abbrev pub ConnectionIs : ℕ → ℕ → ℕ → ℕ → Connection → ℕ → Option Opening → Type 0
+ConnectionIs N z now v vc q none = vc .opened ≡ 0
+ConnectionIs N z now v vc q (some o) = OpenConnection N z now v vc q o

@@ -56,7 +56,7 @@ returns-2 : tie.Need-returns-2
 returns-2 c =
     record {
       yes-holds = λ y. false-true y;
-      holds-yes = λ z. sym (c .if3 .left) ∙ c .before .before .fill-waits .ensures .1 (z .vcs-fit);
+      holds-yes = λ z. sym (c .if3 .left) ∙ c .before .before .fill-waits .ensures .1 (z .connections-fit);
     }
 
 returns-3 : tie.Need-returns-3

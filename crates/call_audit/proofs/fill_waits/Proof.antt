@@ -6,7 +6,7 @@ use native.Mathlib.Omega.{arith}
 use lib.ListN.{length, getD, length-set}
 use denote.Ref.{now}
 use borrow.Author.Count.{below-more}
-use Rattle.meaning.specs.Words.{vcAt, vcFits}
+use Rattle.meaning.specs.Words.{connectionAt, connectionFits}
 use Rattle.call_audit.specs.Budgets.{waitsAt}
 use Rattle.mem_walks.proofs.Choice.{false-true}
 use Rattle.call_audit.proofs.WaitsLaws.{waits-turn, waits-one}
@@ -17,7 +17,7 @@ use Rattle.call_audit.proofs.fill_waits.Tie as tie
 abbrev Inv-loop : tie.InvT-loop
 Inv-loop n v words waits₀ vci₀ waits vci =
     (0 < vci) × (vci ≤ v) × (v < 65536) × (length waits ≡ length waits₀)
-    × ((j : ℕ) → j < vci → 1 ≤ j → vcFits n (vcAt words j) ≡ true) × ((k : ℕ) → getD waits k 0 ≡ waitsAt words vci k)
+    × ((j : ℕ) → j < vci → 1 ≤ j → connectionFits n (connectionAt words j) ≡ true) × ((k : ℕ) → getD waits k 0 ≡ waitsAt words vci k)
 
 abbrev μ-loop : tie.MeasureT-loop
 μ-loop n v words waits₀ vci₀ waits vci = v - vci
@@ -38,8 +38,8 @@ loop-again c =
     let a = i .before .before .before .loop in
     let s = i .before .before .before .before .before .before in
     let low : a .vci < length (a .waits) = omega (arith, s .pre) in
-    let Fits : ℕ → Type 0 = λ j. 1 ≤ j → vcFits (s .args .n) (vcAt (now (s .args .words)) j) ≡ true in
-    let fits = sym (i .before .vc-fits .ensures) ∙ i .if1 .taken in (
+    let Fits : ℕ → Type 0 = λ j. 1 ≤ j → connectionFits (s .args .n) (connectionAt (now (s .args .words)) j) ≡ true in
+    let fits = sym (i .before .connection-fits .ensures) ∙ i .if1 .taken in (
       search needs,
       search needs,
       search needs,
@@ -52,7 +52,7 @@ returns : tie.Need-returns Inv-loop μ-loop
 returns c =
     let t = c .before .before in
     let a = t .before .loop in
-    let broken = sym (c .if1 .left) ∙ c .before .vc-fits .ensures in
+    let broken = sym (c .if1 .left) ∙ c .before .connection-fits .ensures in
     ((λ h. false-true h), λ all. broken ∙ all (a .vci) (a .inv .0) (t .loop-test .taken))
 
 returns-2 : tie.Need-returns-2 Inv-loop μ-loop

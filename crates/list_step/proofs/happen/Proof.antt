@@ -22,11 +22,11 @@ returns c = rw (c .before .before .before .before .before .before .before .befor
 
 returns-2 : tie.Need-returns-2
 unfolding recordStep
-returns-2 c = rw (c .before .before .before .before .before .before .before .before .event2 .given .1) (c .before .before .before .before .open-vc .ensures _ _ _)
+returns-2 c = rw (c .before .before .before .before .before .before .before .before .event2 .given .1) (c .before .before .before .before .open-connection .ensures _ _ _)
 
 returns-3 : tie.Need-returns-3
 unfolding recordStep
-returns-3 c = rw (c .before .before .before .before .before .before .before .before .event3 .given .1) (c .before .before .before .before .close-vc .ensures _ _ _)
+returns-3 c = rw (c .before .before .before .before .before .before .before .before .event3 .given .1) (c .before .before .before .before .close-connection .ensures _ _ _)
 
 returns-4 : tie.Need-returns-4
 returns-4 c = rw (c .before .before .before .before .before .before .before .before .before .before .before .before .before .before .before .before .before .before .event4 .given .1) (did-cell _ _ _ _ _ _ _ _ _ (c .before .before .before .before .before .before .before .before .before .before .serve .ensures))
@@ -36,7 +36,7 @@ returns-5 c = rw (c .before .before .event5 .given .1) (did-pause _ _ _ _ _ _ _ 
 
 returns-6 : tie.Need-returns-6
 unfolding recordStep
-returns-6 c = rw (c .before .before .before .before .before .before .before .before .event6 .given .1) (c .before .before .before .before .open-vc2 .ensures _ _ _)
+returns-6 c = rw (c .before .before .before .before .before .before .before .before .event6 .given .1) (c .before .before .before .before .open-connection2 .ensures _ _ _)
 
 pub happen-spec : {M : Type 1} → statement M
 happen-spec =

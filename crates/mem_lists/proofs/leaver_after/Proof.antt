@@ -1,5 +1,5 @@
 -- `mem_lists::leaver_after` meets its contract: one test after the other.
-use Rattle.mem_lists.specs.Leaver.{namedVc, leaverAfter}
+use Rattle.mem_lists.specs.Leaver.{namedConnection, leaverAfter}
 use mathlib.Core.Path.{sym, _∙_, ap}
 use borrow.Author.Tests.{eq-eqb, ne-eqb}
 use borrow.Author.Needs.{needs}
@@ -23,7 +23,7 @@ unfolding leaverAfter
 returns-3 c =
     let a = c .before .before .before .before .before .before .args in
     let name = c .before .before .name-at .ensures .0 in
-    (c .named-vc .ensures ∙ ap (namedVc (a .n) (a .v) (a .words .now)) name)
+    (c .named-connection .ensures ∙ ap (namedConnection (a .n) (a .v) (a .words .now)) name)
     ∙ simp (
       ne-eqb _ _ (c .before .before .before .if1 .left),
       ne-eqb _ _ (λ e. c .before .if2 .left (name ∙ e)),

@@ -2,7 +2,7 @@
 use native.Mathlib.Nat.{add-zero}
 use native.Mathlib.Omega.{arith}
 use lib.ListN.{length-set}
-use Rattle.mem_words.specs.Vcs.{firstWritten}
+use Rattle.mem_words.specs.Connections.{firstWritten}
 use borrow.Author.Needs.{needs}
 use Rattle.mem_words.proofs.write_first.Statement.{statement}
 use Rattle.mem_words.proofs.write_first.Tie as tie

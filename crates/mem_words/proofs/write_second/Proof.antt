@@ -2,7 +2,7 @@
 use mathlib.Core.Path.{refl}
 use native.Mathlib.Omega.{arith}
 use lib.ListN.{length-set}
-use Rattle.mem_words.specs.Vcs.{secondWritten}
+use Rattle.mem_words.specs.Connections.{secondWritten}
 use borrow.Author.Needs.{needs}
 use Rattle.mem_words.proofs.write_second.Statement.{statement}
 use Rattle.mem_words.proofs.write_second.Tie as tie

@@ -1,7 +1,7 @@
 -- `slot_arrive::judge` meets its contract: case by case, by the cell's name.
 use mathlib.Core.Path.{sym, _∙_}
 use native.Mathlib.Omega.{arith}
-use Rattle.slot_arrive.proofs.JudgedLaws.{by-none, by-vc, by-unknown}
+use Rattle.slot_arrive.proofs.JudgedLaws.{by-none, by-connection, by-unknown}
 use borrow.Author.Needs.{needs}
 use Rattle.slot_arrive.proofs.judge.Statement.{statement}
 use Rattle.slot_arrive.proofs.judge.Tie as tie
@@ -11,21 +11,21 @@ returns c =
     let a = c .before .before .before .before .args in
     c .no-cell .ensures ∙ by-none (a .n) (a .v) (a .t) (a .words .now) (a .name) _ (c .before .if1 .taken)
 
-judge-vc-requires : tie.Need-judge-vc-requires
-judge-vc-requires c κs =
+judge-connection-requires : tie.Need-judge-connection-requires
+judge-connection-requires c κs =
     let from = c .before .before .before .before in
     (omega (arith, from .pre .0), omega (arith, from .pre .2 (c .before .if1 .left)))
 
 returns-2 : tie.Need-returns-2
 returns-2 c =
     let a = c .before .before .before .before .before .args in
-    c .judge-vc .ensures
-    ∙ by-vc (a .n) (a .v) (a .t) (a .words .now) (a .name) _ (c .before .before .if1 .left) (c .before .if2 .taken)
+    c .judge-connection .ensures
+    ∙ by-connection (a .n) (a .v) (a .t) (a .words .now) (a .name) _ (c .before .before .if1 .left) (c .before .if2 .taken)
 
 returns-3 : tie.Need-returns-3
 returns-3 c =
     let a = c .before .before .before .before .before .args in
-    c .no-vc .ensures
+    c .no-connection .ensures
     ∙ by-unknown (a .n) (a .v) (a .t) (a .words .now) (a .name) _ (c .before .before .if1 .left) (omega (arith, c .before .if2 .left))
 
 pub judge-spec : {M : Type 1} → statement M
@@ -35,7 +35,7 @@ judge-spec =
     (λ c κs. search needs)
     returns
     (λ c. search needs)
-    judge-vc-requires
+    judge-connection-requires
     returns-2
     (λ c. search needs)
     (λ c κs. search needs)

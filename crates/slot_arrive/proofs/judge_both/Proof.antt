@@ -1,5 +1,5 @@
 -- `slot_arrive::judge_both` meets its contract: case by case, in the order of its tests.
-use Rattle.meaning.specs.Words.{vcAt}
+use Rattle.meaning.specs.Words.{connectionAt}
 use mathlib.Core.Path.{sym, _∙_}
 use native.Mathlib.Omega.{arith}
 use Rattle.mem_words.proofs.Fits.{bucket-facts}
@@ -19,15 +19,15 @@ second-now-requires : tie.Need-second-now-requires
 second-now-requires c κs = (c .before .before .before .pre .0, second-facts _ _ (sym (c .before .second-fits .ensures) ∙ not-false _ (c .if1 .left)) .m-low)
 
 sub-if2 : tie.Need-sub-if2
-unfolding vcAt
+unfolding connectionAt
 sub-if2 c = omega (arith, bucket-facts _ _ (c .before .before .before .before .before .before .pre .1) .rules .C-least)
 
 returns-2 : tie.Need-returns-2
-unfolding vcAt judgedBoth isExcess
+unfolding connectionAt judgedBoth isExcess
 returns-2 c = c .above .ensures ∙ simp ((sym (c .before .before .before .before .before .before .second-fits .ensures) ∙ not-false _ (c .before .before .before .before .before .if1 .left)), lt-ltb _ _ (c .before .if2 .taken), sym (c .before .before .before .before .second-now .ensures))
 
 judge-second-requires : tie.Need-judge-second-requires
-unfolding vcAt
+unfolding connectionAt
 judge-second-requires c κs =
     let from = c .before .before .before .before .before .before .before .before .pre in
     let first = c .before .before .before .before .before in (
@@ -36,19 +36,19 @@ judge-second-requires c κs =
     )
 
 returns-3 : tie.Need-returns-3
-unfolding vcAt judgedBoth isExcess
+unfolding connectionAt judgedBoth isExcess
 returns-3 c =
     c .judge-second .ensures
     ∙ simp ((sym (c .before .before .before .before .before .before .before .second-fits .ensures) ∙ not-false _ (c .before .before .before .before .before .before .if1 .left)), le-ltb _ _ (c .before .before .if2 .left), eq-eqb _ _ (c .before .if3 .taken), sym (c .before .before .before .before .before .second-now .ensures))
 
 let-in-requires : tie.Need-let-in-requires
-unfolding vcAt
+unfolding connectionAt
 let-in-requires c κs =
     let from = c .before .before .before .before .before .before .before .before .pre in
     (from .0, from .1, c .before .if2 .left)
 
 returns-4 : tie.Need-returns-4
-unfolding vcAt judgedBoth isExcess
+unfolding connectionAt judgedBoth isExcess
 returns-4 c =
     c .let-in .ensures
     ∙ simp ((sym (c .before .before .before .before .before .before .before .second-fits .ensures) ∙ not-false _ (c .before .before .before .before .before .before .if1 .left)), le-ltb _ _ (c .before .before .if2 .left), ne-eqb _ _ (c .before .if3 .left), sym (c .before .before .before .before .before .second-now .ensures))

@@ -1,0 +1,47 @@
+-- A VC whose buckets are empty, as an opening or a closing leaves it, and its words written in two parts; and the common case of
+-- a VC without a second bucket.
+use Prim.Native.Nat.{ℕ}
+use mathlib.Core.Bool.{Bool, _&&_}
+use mathlib.Core.List.{List}
+use lib.ListN.{set}
+use Rattle.meaning.specs.Plain.{_=?_}
+use Rattle.meaning.specs.Numbers.{openPlace, mPlace, fPlace, cPlace, sPlace, lastPlace, waitingPlace}
+use Rattle.meaning.specs.Numbers.{secondMPlace, secondFPlace, secondCPlace, secondSPlace, tagPlace}
+use Rattle.meaning.specs.Bucket.{Bucket, bucketOf}
+use Rattle.meaning.specs.Words.{Connection, Second}
+
+-- nothing in its buckets, and no cell waits
+abbrev pub bareConnection : ℕ → Bucket → ℕ → Second → Connection
+bareConnection opened b last x =
+    record {
+      opened = opened;
+      bucket = b;
+      last = last;
+      waiting = 0;
+      second = bucketOf (x .m) (x .F) (x .C) 0;
+      tag = x .tag;
+    }
+
+unfoldable pub firstWritten : List ℕ → ℕ → ℕ → Bucket → ℕ → List ℕ
+firstWritten words vci opened b last =
+    let w1 = set words (openPlace vci) opened in
+    let w2 = set w1 (mPlace vci) (b .m) in
+    let w3 = set w2 (fPlace vci) (b .F) in
+    let w4 = set w3 (cPlace vci) (b .C) in
+    let w5 = set w4 (sPlace vci) (b .S) in
+    let w6 = set w5 (lastPlace vci) last in
+    set w6 (waitingPlace vci) 0
+
+unfoldable pub secondWritten : List ℕ → ℕ → Second → List ℕ
+secondWritten words vci x =
+    let w1 = set words (secondMPlace vci) (x .m) in
+    let w2 = set w1 (secondFPlace vci) (x .F) in
+    let w3 = set w2 (secondCPlace vci) (x .C) in
+    let w4 = set w3 (secondSPlace vci) 0 in
+    set w4 (tagPlace vci) (x .tag)
+
+-- no second bucket: all its words are 0
+unfoldable pub hasNone : Connection → Bool
+hasNone vc =
+    let b = vc .second in
+    b .m =? 0 && b .F =? 0 && b .C =? 0 && b .S =? 0 && vc .tag =? 0
