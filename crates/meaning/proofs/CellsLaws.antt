@@ -55,18 +55,18 @@ module _ (cells : List ℕ) (x : ℕ) (cell : List ℕ) (inside : 53 * x + 53 �
       go (no b) = cell-after (53 * y + k) (omega arith)
 
   -- the header in the space, and in another space
-  pub header-own : headerAt (writeCell cells x cell) (cellStart x) ≡ headerAt cell 0
+  pub header-own : (kind : ℕ) → headerAt kind (writeCell cells x cell) (cellStart x) ≡ headerAt kind cell 0
   unfolding headerAt
-  header-own =
-      rw (first, cell-own 1 (omega arith), cell-own 2 (omega arith), cell-own 3 (omega arith), cell-own 4 (omega arith))
+  header-own kind =
+      rw (first, cell-own 1 (omega arith), cell-own 2 (omega arith), cell-own 3 (omega arith))
     where
       first : getD (writeCell cells x cell) (53 * x) 0 ≡ getD cell 0 0
       first = ap (λ (n : ℕ). getD (writeCell cells x cell) n 0) (omega arith) ∙ cell-own 0 (omega arith)
 
-  pub header-other : (y : ℕ) → y ≢ x → headerAt (writeCell cells x cell) (cellStart y) ≡ headerAt cells (cellStart y)
+  pub header-other : (kind y : ℕ) → y ≢ x → headerAt kind (writeCell cells x cell) (cellStart y) ≡ headerAt kind cells (cellStart y)
   unfolding headerAt
-  header-other y ne =
-      rw (first, cell-other y 1 ne (omega arith), cell-other y 2 ne (omega arith), cell-other y 3 ne (omega arith), cell-other y 4 ne (omega arith))
+  header-other kind y ne =
+      rw (first, cell-other y 1 ne (omega arith), cell-other y 2 ne (omega arith), cell-other y 3 ne (omega arith))
     where
       first : getD (writeCell cells x cell) (53 * y) 0 ≡ getD cells (53 * y) 0
       first =

@@ -7,6 +7,7 @@ use mathlib.Core.Bool.{Bool, true, false, not, _&&_}
 use mathlib.Core.List.{List, [], _∷_}
 use Rattle.meaning.specs.declared.Record.{Record}
 use Rattle.meaning.specs.Plain.{if_then_else_, _=?_}
+use Rattle.meaning.specs.Header.{Name, numberIn}
 use Rattle.meaning.specs.Bucket.{bucketOf, obeysRules}
 use Rattle.meaning.specs.Words.{Second, connectionAt, writeConnection, secondObeys, openedConnection, closedConnection, debt}
 use Rattle.meaning.specs.Calls.{Called, calledOf, sharedRefusal, openCall, closeCall}
@@ -21,22 +22,22 @@ told-keeps [] words after h = absurd (h refl)
 told-keeps ((k, true) ∷ ks) words after h = refl
 told-keeps ((k, false) ∷ ks) words after h = told-keeps ks words after h
 
-pub open-refused-keeps : (r : Record) (words : List ℕ) (vci m F C : ℕ) (x : Second) → openCall r words vci m F C x .number ≢ 0
-    → openCall r words vci m F C x .words ≡ words
+pub open-refused-keeps : (r : Record) (words : List ℕ) (name : Name) (m F C : ℕ) (x : Second) → openCall r words name m F C x .number ≢ 0
+    → openCall r words name m F C x .words ≡ words
 unfolding openCall
-open-refused-keeps r words vci m F C x =
+open-refused-keeps r words name m F C x =
     let b = bucketOf m F C 0 in
-    told-keeps ((sharedRefusal r words vci, not (sharedRefusal r words vci =? 0))
-    ∷ (5, connectionAt words vci .opened =? 1)
+    told-keeps ((sharedRefusal r words name, not (sharedRefusal r words name =? 0))
+    ∷ (5, connectionAt words (numberIn (r .v) name) .opened =? 1)
     ∷ (6, not (obeysRules (r .n) b))
     ∷ (11, not (secondObeys (bucketOf (x .m) (x .F) (x .C) 0) (x .tag)))
-    ∷ []) words (writeConnection words vci (openedConnection (r .t) b x))
+    ∷ []) words (writeConnection words (numberIn (r .v) name) (openedConnection (r .t) b x))
 
-pub close-refused-keeps : (r : Record) (words : List ℕ) (vci : ℕ) → closeCall r words vci .number ≢ 0
-    → closeCall r words vci .words ≡ words
+pub close-refused-keeps : (r : Record) (words : List ℕ) (name : Name) → closeCall r words name .number ≢ 0
+    → closeCall r words name .words ≡ words
 unfolding closeCall
-close-refused-keeps r words vci =
-    told-keeps ((sharedRefusal r words vci, not (sharedRefusal r words vci =? 0))
-    ∷ (7, connectionAt words vci .opened =? 0)
-    ∷ (8, not (connectionAt words vci .waiting =? 0 && debt (r .t) (connectionAt words vci) =? 0))
-    ∷ []) words (writeConnection words vci closedConnection)
+close-refused-keeps r words name =
+    told-keeps ((sharedRefusal r words name, not (sharedRefusal r words name =? 0))
+    ∷ (7, connectionAt words (numberIn (r .v) name) .opened =? 0)
+    ∷ (8, not (connectionAt words (numberIn (r .v) name) .waiting =? 0 && debt (r .t) (connectionAt words (numberIn (r .v) name)) =? 0))
+    ∷ []) words (writeConnection words (numberIn (r .v) name) closedConnection)

@@ -10,7 +10,8 @@ use lib.Bits.{bitXor, xor-self}
 use Rattle.base_hec.specs.Check.{checkOf, headOf, hecOf, syndromeOf}
 use Rattle.meaning.specs.Plain.{if_then_else_, _=?_}
 use Rattle.meaning.specs.Numbers.{tagged}
-use Rattle.meaning.specs.Header.{headerOf, headerAt, withClp, taggedCell}
+use Rattle.meaning.specs.Header.{headerOf, headerAt, clpIn, withClp, taggedCell, connection, namesConnection}
+use Rattle.meaning.proofs.NamesLaws.{same-connection, same-named}
 use Rattle.meaning.specs.Arrival.{sentAs}
 
 pub tagged-length : (cell : List ℕ) → length (taggedCell cell) ≡ length cell
@@ -36,18 +37,18 @@ module _ (cell : List ℕ) (long : 4 < length cell) where
   tagged-five = getD-set-same (withClp cell) 4 (hecOf (withClp cell)) 0 (simp length-set long)
 
   -- it names what it named
-  pub tagged-vpi : headerAt (taggedCell cell) 0 .vpi ≡ headerAt cell 0 .vpi
+  pub tagged-vpi : (kind : ℕ) → headerAt kind (taggedCell cell) 0 .vpi ≡ headerAt kind cell 0 .vpi
   unfolding headerAt headerOf
-  tagged-vpi = rw (tagged-same 0 (λ e. omega arith) (λ e. omega arith), tagged-same 1 (λ e. omega arith) (λ e. omega arith))
+  tagged-vpi kind = rw (tagged-same 0 (λ e. omega arith) (λ e. omega arith), tagged-same 1 (λ e. omega arith) (λ e. omega arith))
 
-  pub tagged-vci : headerAt (taggedCell cell) 0 .vci ≡ headerAt cell 0 .vci
+  pub tagged-vci : (kind : ℕ) → headerAt kind (taggedCell cell) 0 .vci ≡ headerAt kind cell 0 .vci
   unfolding headerAt headerOf
-  tagged-vci =
+  tagged-vci kind =
       rw (tagged-same 1 (λ e. omega arith) (λ e. omega arith), tagged-same 2 (λ e. omega arith) (λ e. omega arith), tagged-four)
       (omega arith)
 
-  pub tagged-clp : headerAt (taggedCell cell) 0 .clp ≡ 1
-  unfolding headerAt headerOf
+  pub tagged-clp : clpIn (taggedCell cell) ≡ 1
+  unfolding clpIn
   tagged-clp = rw tagged-four (omega arith)
 
   -- the four octets as one number: octet 4 is its low octet
@@ -102,18 +103,33 @@ sent-length verdict cell = go (verdict =? tagged)
     go true = tagged-length cell
     go false = refl
 
-pub sent-vpi : (verdict : ℕ) (cell : List ℕ) → 4 < length cell → headerAt (sentAs verdict cell) 0 .vpi ≡ headerAt cell 0 .vpi
+pub sent-vpi : (kind verdict : ℕ) (cell : List ℕ) → 4 < length cell
+    → headerAt kind (sentAs verdict cell) 0 .vpi ≡ headerAt kind cell 0 .vpi
 unfolding sentAs
-sent-vpi verdict cell long = go (verdict =? tagged)
+sent-vpi kind verdict cell long = go (verdict =? tagged)
   where
-    go : (b : Bool) → headerAt (if b then taggedCell cell else cell) 0 .vpi ≡ headerAt cell 0 .vpi
-    go true = tagged-vpi cell long
+    go : (b : Bool) → headerAt kind (if b then taggedCell cell else cell) 0 .vpi ≡ headerAt kind cell 0 .vpi
+    go true = tagged-vpi cell long kind
     go false = refl
 
-pub sent-vci : (verdict : ℕ) (cell : List ℕ) → 4 < length cell → headerAt (sentAs verdict cell) 0 .vci ≡ headerAt cell 0 .vci
+pub sent-vci : (kind verdict : ℕ) (cell : List ℕ) → 4 < length cell
+    → headerAt kind (sentAs verdict cell) 0 .vci ≡ headerAt kind cell 0 .vci
 unfolding sentAs
-sent-vci verdict cell long = go (verdict =? tagged)
+sent-vci kind verdict cell long = go (verdict =? tagged)
   where
-    go : (b : Bool) → headerAt (if b then taggedCell cell else cell) 0 .vci ≡ headerAt cell 0 .vci
-    go true = tagged-vci cell long
+    go : (b : Bool) → headerAt kind (if b then taggedCell cell else cell) 0 .vci ≡ headerAt kind cell 0 .vci
+    go true = tagged-vci cell long kind
     go false = refl
+
+-- it names the connection that it named
+pub sent-connection : (kind z verdict : ℕ) (cell : List ℕ) → 4 < length cell
+    → connection z (headerAt kind (sentAs verdict cell) 0) ≡ connection z (headerAt kind cell 0)
+sent-connection kind z verdict cell long =
+    same-connection z (headerAt kind (sentAs verdict cell) 0) (headerAt kind cell 0)
+    (sent-vpi kind verdict cell long) (sent-vci kind verdict cell long)
+
+pub sent-named : (kind z verdict : ℕ) (cell : List ℕ) → 4 < length cell
+    → namesConnection z (headerAt kind (sentAs verdict cell) 0) ≡ namesConnection z (headerAt kind cell 0)
+sent-named kind z verdict cell long =
+    same-named z (headerAt kind (sentAs verdict cell) 0) (headerAt kind cell 0)
+    (sent-vpi kind verdict cell long) (sent-vci kind verdict cell long)

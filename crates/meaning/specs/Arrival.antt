@@ -7,7 +7,7 @@ use Rattle.meaning.specs.Numbers.{accepted, excess, tagged}
 use Rattle.meaning.specs.State.{freeList, withCells, withLinks, withCalendar, withFreeList, writeCell}
 use Rattle.meaning.specs.Bucket.{Bucket, isExcess, delay, fill}
 use Rattle.meaning.specs.Words.{Connection, withWaiting, withBuckets}
-use Rattle.meaning.specs.Header.{headerAt, taggedCell}
+use Rattle.meaning.specs.Header.{clpIn, taggedCell}
 use Rattle.meaning.specs.Lists.{isEmpty, endsFit, entryAt, writeEntry, Taken, takeHead, joinHead}
 use Rattle.meaning.specs.Work.{Work, withState, withConnection, withArrival}
 
@@ -29,9 +29,9 @@ place cell D w taken =
 -- Document 02 (iv): "A cell above the peak is excess. A CLP 0 cell within the peak but above the sustainable rate is tagged if
 -- the flag is set .. and otherwise excess." Both buckets are judged before either is filled.
 unfoldable pub verdictOn : ℕ → Connection → ℕ
-verdictOn clp vc =
-    if isExcess (vc .bucket) then excess
-    else if clp =? 0 && isExcess (vc .second) then (if vc .tag =? 0 then excess else tagged)
+verdictOn clp conn =
+    if isExcess (conn .bucket) then excess
+    else if clp =? 0 && isExcess (conn .second) then (if conn .tag =? 0 then excess else tagged)
     else accepted
 
 -- "An excess cell fills neither bucket, a tagged one only the peak bucket": the second bucket after a cell that is let in
@@ -45,20 +45,20 @@ sentAs verdict cell = if verdict =? tagged then taggedCell cell else cell
 -- 3, not excess: "D = floor(S/L), S grows by F, waiting by one. The head of the Free List is taken." "waiting .. below
 -- N when a cell is accepted"; "the Free List isn't empty when a space is taken". Document 02 (iv): "D from the peak bucket"
 unfoldable pub accept : List ℕ → ℕ → ℕ → Work → Connection → Out Work
-accept cell verdict vci w vc =
+accept cell verdict c w conn =
     let s = w .state in
     let N = s .ctl .n in
-    let D = delay (vc .bucket) in
-    let second = secondAfter (headerAt cell 0 .clp) verdict (vc .second) in
-    let filled = withWaiting (withBuckets vc (fill (vc .bucket)) second) (vc .waiting + 1) in
-    let w1 = withArrival (withConnection w vci filled) verdict vci D in
-    needs (vc .waiting <? N)
+    let D = delay (conn .bucket) in
+    let second = secondAfter (clpIn cell) verdict (conn .second) in
+    let filled = withWaiting (withBuckets conn (fill (conn .bucket)) second) (conn .waiting + 1) in
+    let w1 = withArrival (withConnection w c filled) verdict c D in
+    needs (conn .waiting <? N)
     (needs (endsFit N (freeList s) && not (isEmpty (freeList s)))
     (takeHead N (s .links) (freeList s) andThen place (sentAs verdict cell) D w1))
 
 -- 3, the VC being up to date: "If S is above C-F the cell is excess and this step changes no more."
 unfoldable pub judge : List ℕ → ℕ → Work → Connection → Out Work
-judge cell vci w vc =
-    let verdict = verdictOn (headerAt cell 0 .clp) vc in
-    if verdict =? excess then next (withArrival (withConnection w vci vc) excess vci 0)
-    else accept cell verdict vci w vc
+judge cell c w conn =
+    let verdict = verdictOn (clpIn cell) conn in
+    if verdict =? excess then next (withArrival (withConnection w c conn) excess c 0)
+    else accept cell verdict c w conn

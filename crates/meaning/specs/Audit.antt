@@ -6,17 +6,17 @@
 --   Chain l e xs        == xs are the spaces from head to tail of the list that begins and ends at e
 --   count k xs          == how often k stands in xs
 --   joined queues       == the spaces of all the time slot queues, entry after entry
---   connectionIn cells x       == the VCI in the header of the cell in space x
+--   connectionIn kind z cells x  == the number of the connection that the header in space x names
 --   AuditHolds s        == the audit's clauses, one a field
 use Prim.Native.Nat.{ℕ, _+_, _<_, _≤_}
 use mathlib.Core.Path.{_≡_}
-use mathlib.Core.Bool.{Bool, true}
+use mathlib.Core.Bool.{Bool, true, false}
 use mathlib.Core.List.{List, [], _∷_, _++_, map}
 use lib.ListN.{length, getD}
 use Rattle.meaning.specs.Plain.{if_then_else_, _=?_}
-use Rattle.meaning.specs.Numbers.{rangesHold, empty, cellStart}
+use Rattle.meaning.specs.Numbers.{rangesHold, connectionsIn, unused, empty, cellStart}
 use Rattle.meaning.specs.State.{State, Ends, freeList, outputList, lengthsHold}
-use Rattle.meaning.specs.Header.{headerAt, namesOpen}
+use Rattle.meaning.specs.Header.{headerAt, connection, namesOpen}
 use Rattle.meaning.specs.Words.{connectionAt, connectionFits}
 use Rattle.meaning.specs.Lists.{entryAt}
 
@@ -37,19 +37,22 @@ abbrev pub joined : List (List ℕ) → List ℕ
 joined [] = []
 joined (q ∷ qs) = q ++ joined qs
 
-unfoldable pub connectionIn : List ℕ → ℕ → ℕ
-connectionIn cells x = headerAt cells (cellStart x) .vci
+unfoldable pub connectionIn : ℕ → ℕ → List ℕ → ℕ → ℕ
+connectionIn kind z cells x = connection z (headerAt kind cells (cellStart x))
 
 pub record AuditHolds (s : State) : Type 0 where
-  -- "lengths and ranges hold throughout"; "VC 0's words don't matter"
+  -- "lengths and ranges hold throughout"; "VC 0's words don't matter", nor do path 0's
   pub ranges : rangesHold (s .ctl .n) (s .ctl .v) ≡ true
   pub lengths : lengthsHold (s .ctl .n) (s .ctl .v) (s .cells) (s .links) (s .calendar) (s .words) ≡ true
   pub turn-low : s .ctl .turn < s .ctl .n
-  pub rotation-low : s .ctl .rotation < s .ctl .v
+  pub rotation-low : s .ctl .rotation < connectionsIn (s .ctl .v)
   -- document 02 (i): raw and mode are each 0 or 1
   pub raw-low : s .ctl .raw ≤ 1
   pub mode-low : s .ctl .mode ≤ 1
-  pub connections-fit : (vci : ℕ) → 1 ≤ vci → vci < s .ctl .v → connectionFits (s .ctl .n) (connectionAt (s .words) vci) ≡ true
+  -- document 02 (vi): so is the line kind
+  pub kind-low : s .ctl .kind ≤ 1
+  pub connections-fit : (c : ℕ) → c < connectionsIn (s .ctl .v) → unused (s .ctl .v) c ≡ false
+      → connectionFits (s .ctl .n) (connectionAt (s .words) c) ≡ true
   -- the spaces of the Free List, of the Output List and of each time slot queue: "each chain ends at its tail"
   pub free : List ℕ
   pub output : List ℕ
@@ -63,9 +66,11 @@ pub record AuditHolds (s : State) : Type 0 where
   pub no-other : (x : ℕ) → s .ctl .n ≤ x → count x (free ++ (output ++ joined queues)) ≡ 0
   -- "entry T is empty"
   pub turn-empty : getD queues (s .ctl .turn) [] ≡ []
-  -- "each queued header names an open VC"
+  -- "each queued header names an open VC", or an open path
   pub named : (x : ℕ) → 0 < count x (output ++ joined queues)
-      → namesOpen (s .ctl .v) (s .words) (headerAt (s .cells) (cellStart x)) ≡ true
-  -- "each open VC's waiting is the number of its queued cells"
-  pub waits : (vci : ℕ) → 1 ≤ vci → vci < s .ctl .v → connectionAt (s .words) vci .opened ≡ 1
-      → connectionAt (s .words) vci .waiting ≡ count vci (map (connectionIn (s .cells)) (output ++ joined queues))
+      → namesOpen (s .ctl .v) (s .words) (headerAt (s .ctl .kind) (s .cells) (cellStart x)) ≡ true
+  -- "each open VC's waiting is the number of its queued cells", and each open path's
+  pub waits : (c : ℕ) → c < connectionsIn (s .ctl .v) → unused (s .ctl .v) c ≡ false
+      → connectionAt (s .words) c .opened ≡ 1
+      → connectionAt (s .words) c .waiting
+      ≡ count c (map (connectionIn (s .ctl .kind) (s .ctl .v) (s .cells)) (output ++ joined queues))

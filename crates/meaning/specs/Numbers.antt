@@ -1,5 +1,6 @@
 -- Document 01, "Numbers": each number of the paper has its name here, and only here.
--- Letters: N, T, t, m, F, C, S, L and D as in document 01; z is V (a reserved letter of antt); x a space, e an entry.
+-- Letters: N, T, t, m, F, C, S, L and D as in document 01; z is V (a reserved letter of antt); x a space, e an entry, c the number
+-- of a connection.
 use Prim.Native.Nat.{ℕ, _+_, _*_, _^_}
 use mathlib.Core.Bool.{Bool, _&&_, _||_}
 use Rattle.meaning.specs.Plain.{_≤?_, _=?_}
@@ -47,54 +48,75 @@ headPlace e = perEntry * e
 abbrev pub tailPlace : ℕ → ℕ
 tailPlace e = perEntry * e + 1
 
+-- Document 02 (vi): "Path records, 256 with the first unused, stand after the V records and follow the same rules". So a
+-- connection has a number, below V + 256: a VC its VCI, a path V + VPI. Record 0 and record V are no connection's.
+abbrev pub paths : ℕ
+paths = 256
+
+abbrev pub connectionsIn : ℕ → ℕ
+connectionsIn z = z + paths
+
+unfoldable pub unused : ℕ → ℕ → Bool
+unused z c = c =? 0 || c =? z
+
+-- "for a line kind chosen at setup": 0 UNI, 1 NNI
+abbrev pub uni : ℕ
+uni = 0
+
+abbrev pub nni : ℕ
+nni = 1
+
+unfoldable pub kindFits : ℕ → Bool
+kindFits kind = kind ≤? nni
+
 -- "(per VC: open 0 or 1, m, F, C, S, last, waiting)", and document 02 (iv): "The VC's stored record grows by its m .. F ..
--- C .., S and a tagging flag". So 7 × V words are 12 × V: how many words a VC has, where its words begin, and how many there
--- are for V VCs
+-- C .., S and a tagging flag". So 7 × V words are 12 × (V + 256): how many words a connection has, where its words begin, and
+-- how many there are
 abbrev pub wordsPerConnection : ℕ
 wordsPerConnection = 12
 
 abbrev pub connectionPlace : ℕ → ℕ
-connectionPlace vci = wordsPerConnection * vci
+connectionPlace c = wordsPerConnection * c
 
 abbrev pub wordsIn : ℕ → ℕ
-wordsIn z = wordsPerConnection * z
+wordsIn z = wordsPerConnection * connectionsIn z
 
 abbrev pub openPlace : ℕ → ℕ
-openPlace vci = connectionPlace vci + 0
+openPlace c = connectionPlace c + 0
 
 abbrev pub mPlace : ℕ → ℕ
-mPlace vci = connectionPlace vci + 1
+mPlace c = connectionPlace c + 1
 
 abbrev pub fPlace : ℕ → ℕ
-fPlace vci = connectionPlace vci + 2
+fPlace c = connectionPlace c + 2
 
 abbrev pub cPlace : ℕ → ℕ
-cPlace vci = connectionPlace vci + 3
+cPlace c = connectionPlace c + 3
 
 abbrev pub sPlace : ℕ → ℕ
-sPlace vci = connectionPlace vci + 4
+sPlace c = connectionPlace c + 4
 
 abbrev pub lastPlace : ℕ → ℕ
-lastPlace vci = connectionPlace vci + 5
+lastPlace c = connectionPlace c + 5
 
 abbrev pub waitingPlace : ℕ → ℕ
-waitingPlace vci = connectionPlace vci + 6
+waitingPlace c = connectionPlace c + 6
 
 -- the second bucket's m, F, C and S, and the tagging flag
 abbrev pub secondMPlace : ℕ → ℕ
-secondMPlace vci = connectionPlace vci + 7
+secondMPlace c = connectionPlace c + 7
 
 abbrev pub secondFPlace : ℕ → ℕ
-secondFPlace vci = connectionPlace vci + 8
+secondFPlace c = connectionPlace c + 8
 
 abbrev pub secondCPlace : ℕ → ℕ
-secondCPlace vci = connectionPlace vci + 9
+secondCPlace c = connectionPlace c + 9
 
 abbrev pub secondSPlace : ℕ → ℕ
-secondSPlace vci = connectionPlace vci + 10
+secondSPlace c = connectionPlace c + 10
 
 abbrev pub tagPlace : ℕ → ℕ
-tagPlace vci = connectionPlace vci + 11
+tagPlace c = connectionPlace c + 11
 
 -- "65,535 marks an empty head or tail"; also "departing space (65,535 for none)"
 abbrev pub empty : ℕ

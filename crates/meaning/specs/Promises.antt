@@ -8,6 +8,7 @@ use mathlib.Core.List.{List}
 use lib.ListN.{length}
 use Rattle.meaning.specs.declared.Record.{Record}
 use Rattle.meaning.specs.State.{State}
+use Rattle.meaning.specs.Header.{Name}
 use Rattle.meaning.specs.Calls.{SetUp, setup, Called, calledOf, openCall, closeCall}
 use Rattle.meaning.specs.Words.{Second}
 use Rattle.meaning.specs.Work.{Work}
@@ -16,14 +17,14 @@ use Rattle.meaning.specs.Line.{Slice, cellMemory, idleCell, linePart, li
 use Rattle.meaning.specs.Audit.{AuditHolds}
 
 -- "Setup is handed no record": of s, what is lent, the memories alone matter
-abbrev pub setupPromise : ℕ → ℕ → Bool → State → SetUp → Type 0
-setupPromise N z raw s r = r ≡ setup N z raw (s .cells) (s .links) (s .calendar) (s .words)
+abbrev pub setupPromise : ℕ → ℕ → Bool → ℕ → State → SetUp → Type 0
+setupPromise N z raw kind s r = r ≡ setup N z raw kind (s .cells) (s .links) (s .calendar) (s .words)
 
-abbrev pub openPromise : Record → List ℕ → ℕ → ℕ → ℕ → ℕ → Second → ℕ → List ℕ → Type 0
-openPromise r words vci m F C x number words′ = calledOf number words′ ≡ openCall r words vci m F C x
+abbrev pub openPromise : Record → List ℕ → Name → ℕ → ℕ → ℕ → Second → ℕ → List ℕ → Type 0
+openPromise r words name m F C x number words′ = calledOf number words′ ≡ openCall r words name m F C x
 
-abbrev pub closePromise : Record → List ℕ → ℕ → ℕ → List ℕ → Type 0
-closePromise r words vci number words′ = calledOf number words′ ≡ closeCall r words vci
+abbrev pub closePromise : Record → List ℕ → Name → ℕ → List ℕ → Type 0
+closePromise r words name number words′ = calledOf number words′ ≡ closeCall r words name
 
 abbrev pub slotPromise : State → List ℕ → Work → Type 0
 slotPromise s cell w = w ≡ slot s cell

@@ -6,7 +6,7 @@ use mathlib.Core.List.{List}
 use lib.ListN.{length}
 use Rattle.base_hec.specs.Modes.{Arriving, arriving, arrivingFits}
 use Rattle.meaning.specs.Plain.{if_then_else_, _<?_, _≤?_, _=?_, Out, refused, next, needs, _andThen_}
-use Rattle.meaning.specs.Numbers.{rangesHold, octets, cellStart, slotNumbers, unknown, dropped}
+use Rattle.meaning.specs.Numbers.{rangesHold, octets, cellStart, slotNumbers, connectionsIn, unused, kindFits, unknown, dropped}
 use Rattle.meaning.specs.State.{State, freeList, outputList, lengthsHold}
 use Rattle.meaning.specs.State.{withLinks, withCalendar, withClock, withFreeList, withOutputList, withMode}
 use Rattle.meaning.specs.Header.{headerAt, noUserCell, namesConnection, namesOpen, connection}
@@ -15,41 +15,45 @@ use Rattle.meaning.specs.Lists.{emptyList, isEmpty, endsFit, entryAt, wr
 use Rattle.meaning.specs.Work.{Work, workOf, bareAnswer, withState, withConnection, withArrival, withDeparture}
 use Rattle.meaning.specs.Arrival.{judge}
 
--- "1. t grows by one modulo 2^32, T by one modulo N, rotation by one modulo V."
+-- "1. t grows by one modulo 2^32, T by one modulo N, rotation by one modulo V."; document 02 (vi): "rotation goes over all"
 unfoldable pub step1 : Work → Out Work
 step1 w =
     let s = w .state in
     let r = s .ctl in
     let t = (r .t + 1) % slotNumbers in
     let T = (r .turn + 1) % r .n in
-    let rotation = (r .rotation + 1) % r .v in
-    needs (r .turn <? r .n && r .rotation <? r .v) (next (withState w (withClock s t T rotation)))
+    let rotation = (r .rotation + 1) % connectionsIn (r .v) in
+    needs (r .turn <? r .n && r .rotation <? connectionsIn (r .v)) (next (withState w (withClock s t T rotation)))
 
--- "2. If the VC that rotation names is open, it is brought up to date .. VC 0 is never open, and its words are not read."
+-- "2. If the VC that rotation names is open, it is brought up to date .. VC 0 is never open, and its words are not read.", nor
+-- are those of path 0
 unfoldable pub step2 : Work → Out Work
 step2 w =
     let s = w .state in
-    let vci = s .ctl .rotation in
-    let vc = connectionAt (s .words) vci in
-    if vci =? 0 then next w
-    else needs (openWordFits vc)
-    (if vc .opened =? 0 then next w
-    else (upToDate (s .ctl .n) (s .ctl .t) vc andThen λ now. next (withConnection w vci now)))
+    let c = s .ctl .rotation in
+    let conn = connectionAt (s .words) c in
+    if unused (s .ctl .v) c then next w
+    else needs (openWordFits conn)
+    (if conn .opened =? 0 then next w
+    else (upToDate (s .ctl .n) (s .ctl .t) conn andThen λ now. next (withConnection w c now)))
 
 -- "3. Arrival at an open VC: it is brought up to date in the same way." "VPI not 0, VCI of V or more, or a VC not
--- open: unknown."
+-- open: unknown."; document 02 (vi) has a path for VPI 1 to 255. The line kind is read where a header is: of a cell that the
+-- header check let through, here, and of a departing one.
 unfoldable pub step3 : List ℕ → Work → Out Work
 step3 cell w =
     let s = w .state in
-    let h = headerAt cell 0 in
-    let vci = connection (s .ctl .v) h in
-    let vc = connectionAt (s .words) vci in
+    let h = headerAt (s .ctl .kind) cell 0 in
+    let c = connection (s .ctl .v) h in
+    let conn = connectionAt (s .words) c in
     let isUnknown = next (withArrival w unknown (h .vci) 0) in
-    if length cell =? 0 || noUserCell h then next w
+    if length cell =? 0 then next w
+    else needs (kindFits (s .ctl .kind))
+    (if noUserCell h then next w
     else if not (namesConnection (s .ctl .v) h) then isUnknown
-    else needs (openWordFits vc)
-    (if vc .opened =? 0 then isUnknown
-    else (upToDate (s .ctl .n) (s .ctl .t) vc andThen judge cell vci w))
+    else needs (openWordFits conn)
+    (if conn .opened =? 0 then isUnknown
+    else (upToDate (s .ctl .n) (s .ctl .t) conn andThen judge cell c w)))
 
 -- "4. Entry T, if marked, is joined to the end of the Output List .. The entry is emptied." Steps 4 and 5 read both heads
 -- and tails in every slot; what step 4 leaves of the Output List fits again, so step 5 need not judge it.
@@ -72,16 +76,16 @@ depart w taken =
     let s = w .state in
     let N = s .ctl .n in
     let x = taken .space in
-    let h = headerAt (s .cells) (cellStart x) in
-    let vci = connection (s .ctl .v) h in
-    let vc = connectionAt (s .words) vci in
+    let h = headerAt (s .ctl .kind) (s .cells) (cellStart x) in
+    let c = connection (s .ctl .v) h in
+    let conn = connectionAt (s .words) c in
     let grown = addTail (s .links) (freeList s) x in
     let s1 = withOutputList s (taken .left) in
     let s2 = withLinks (withFreeList s1 (grown .ends)) (grown .links) in
-    let w1 = withConnection (withState w s2) vci (withWaiting vc (vc .waiting - 1)) in
-    needs (namesOpen (s .ctl .v) (s .words) h)
-    (needs (1 ≤? vc .waiting && vc .waiting ≤? N)
-    (needs (endsFit N (freeList s)) (next (withDeparture w1 x vci))))
+    let w1 = withConnection (withState w s2) c (withWaiting conn (conn .waiting - 1)) in
+    needs (kindFits (s .ctl .kind) && namesOpen (s .ctl .v) (s .words) h)
+    (needs (1 ≤? conn .waiting && conn .waiting ≤? N)
+    (needs (endsFit N (freeList s)) (next (withDeparture w1 x c))))
 
 -- "5. The head of the Output List, if any, departs."
 unfoldable pub step5 : Work → Out Work

@@ -8,7 +8,7 @@ use Rattle.meaning.specs.Plain.{_=?_}
 use Rattle.meaning.specs.Numbers.{octets, perEntry, wordsPerConnection, connectionPlace, wordsIn, cellStart}
 
 -- "Lent memory: 53 × N octets of cells; N links; 2 × N calendar numbers; 7 × V words. The control record
--- goes in and out by value"
+-- goes in and out by value"; document 02 made of the words 12 × (V + 256)
 pub record State : Type 0 where
   pub ctl : Record
   pub cells : List ℕ
@@ -38,9 +38,9 @@ outputList s = endsOf (s .ctl .outhead) (s .ctl .outtail)
 unfoldable pub wordsLong : ℕ → List ℕ → Bool
 wordsLong z words = length words =? wordsIn z
 
--- all words of a VC stand in the lent words
+-- all words of a connection stand in the lent words
 abbrev pub HasConnection : ℕ → List ℕ → Type 0
-HasConnection vci words = connectionPlace vci + wordsPerConnection ≤ length words
+HasConnection c words = connectionPlace c + wordsPerConnection ≤ length words
 
 unfoldable pub lengthsHold : ℕ → ℕ → List ℕ → List ℕ → List ℕ → List ℕ → Bool
 lengthsHold N z cells links calendar words =
@@ -77,6 +77,7 @@ recordWith r t T rotation free output =
       outtail = output .tail;
       raw = r .raw;
       mode = r .mode;
+      kind = r .kind;
     }
 
 -- t, T and rotation changed
@@ -108,6 +109,7 @@ recordInMode r mode =
       outtail = r .outtail;
       raw = r .raw;
       mode = mode;
+      kind = r .kind;
     }
 
 unfoldable pub withMode : State → ℕ → State

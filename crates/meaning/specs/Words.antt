@@ -1,5 +1,6 @@
 -- Document 01: a VC's words as one record, read and written in one place, and their ranges for refusal 3. Document 02 (iv)
--- made of its seven words twelve: its two buckets, one `last`, waiting, flag.
+-- made of its seven words twelve: its two buckets, one `last`, waiting, flag. By (vi) a path has the same twelve: what document
+-- 01 says of a VC's words holds of a connection's.
 use Prim.Native.Nat.{ℕ, _+_}
 use mathlib.Core.Bool.{Bool, true, _&&_, _||_}
 use mathlib.Core.List.{List}
@@ -32,64 +33,64 @@ secondOf m F C tag = record { m = m; F = F; C = C; tag = tag }
 abbrev pub noSecond : Second
 noSecond = secondOf 0 0 0 0
 
--- the words of a VC, as they stand
+-- the words of a connection, as they stand
 unfoldable pub connectionAt : List ℕ → ℕ → Connection
-connectionAt words vci =
+connectionAt words c =
     record {
-      opened = getD words (openPlace vci) 0;
+      opened = getD words (openPlace c) 0;
       bucket = record {
-        m = getD words (mPlace vci) 0;
-        F = getD words (fPlace vci) 0;
-        C = getD words (cPlace vci) 0;
-        S = getD words (sPlace vci) 0;
+        m = getD words (mPlace c) 0;
+        F = getD words (fPlace c) 0;
+        C = getD words (cPlace c) 0;
+        S = getD words (sPlace c) 0;
       };
-      last = getD words (lastPlace vci) 0;
-      waiting = getD words (waitingPlace vci) 0;
+      last = getD words (lastPlace c) 0;
+      waiting = getD words (waitingPlace c) 0;
       second = record {
-        m = getD words (secondMPlace vci) 0;
-        F = getD words (secondFPlace vci) 0;
-        C = getD words (secondCPlace vci) 0;
-        S = getD words (secondSPlace vci) 0;
+        m = getD words (secondMPlace c) 0;
+        F = getD words (secondFPlace c) 0;
+        C = getD words (secondCPlace c) 0;
+        S = getD words (secondSPlace c) 0;
       };
-      tag = getD words (tagPlace vci) 0;
+      tag = getD words (tagPlace c) 0;
     }
 
--- the words of a VC set, those of every other VC kept
+-- the words of a connection set, those of every other one kept
 unfoldable pub writeConnection : List ℕ → ℕ → Connection → List ℕ
-writeConnection words vci vc =
-    let w1 = set words (openPlace vci) (vc .opened) in
-    let w2 = set w1 (mPlace vci) (vc .bucket .m) in
-    let w3 = set w2 (fPlace vci) (vc .bucket .F) in
-    let w4 = set w3 (cPlace vci) (vc .bucket .C) in
-    let w5 = set w4 (sPlace vci) (vc .bucket .S) in
-    let w6 = set w5 (lastPlace vci) (vc .last) in
-    let w7 = set w6 (waitingPlace vci) (vc .waiting) in
-    let w8 = set w7 (secondMPlace vci) (vc .second .m) in
-    let w9 = set w8 (secondFPlace vci) (vc .second .F) in
-    let w10 = set w9 (secondCPlace vci) (vc .second .C) in
-    let w11 = set w10 (secondSPlace vci) (vc .second .S) in
-    set w11 (tagPlace vci) (vc .tag)
+writeConnection words c conn =
+    let w1 = set words (openPlace c) (conn .opened) in
+    let w2 = set w1 (mPlace c) (conn .bucket .m) in
+    let w3 = set w2 (fPlace c) (conn .bucket .F) in
+    let w4 = set w3 (cPlace c) (conn .bucket .C) in
+    let w5 = set w4 (sPlace c) (conn .bucket .S) in
+    let w6 = set w5 (lastPlace c) (conn .last) in
+    let w7 = set w6 (waitingPlace c) (conn .waiting) in
+    let w8 = set w7 (secondMPlace c) (conn .second .m) in
+    let w9 = set w8 (secondFPlace c) (conn .second .F) in
+    let w10 = set w9 (secondCPlace c) (conn .second .C) in
+    let w11 = set w10 (secondSPlace c) (conn .second .S) in
+    set w11 (tagPlace c) (conn .tag)
 
 abbrev pub withWaiting : Connection → ℕ → Connection
-withWaiting vc k =
+withWaiting conn k =
     record {
-      opened = vc .opened;
-      bucket = vc .bucket;
-      last = vc .last;
+      opened = conn .opened;
+      bucket = conn .bucket;
+      last = conn .last;
       waiting = k;
-      second = vc .second;
-      tag = vc .tag;
+      second = conn .second;
+      tag = conn .tag;
     }
 
 abbrev pub withBuckets : Connection → Bucket → Bucket → Connection
-withBuckets vc b second =
+withBuckets conn b second =
     record {
-      opened = vc .opened;
+      opened = conn .opened;
       bucket = b;
-      last = vc .last;
-      waiting = vc .waiting;
+      last = conn .last;
+      waiting = conn .waiting;
       second = second;
-      tag = vc .tag;
+      tag = conn .tag;
     }
 
 -- "Opening sets open 1, the given m, F and C, S 0, last t, waiting 0.", and so for the second bucket
@@ -118,7 +119,7 @@ closedConnection =
 
 -- "an open word is 0 or 1"
 unfoldable pub openWordFits : Connection → Bool
-openWordFits vc = vc .opened ≤? 1
+openWordFits conn = conn .opened ≤? 1
 
 -- "an open VC's m, F and C obey the rules, S is at most C" (the stored S, before it falls)
 unfoldable pub bucketFits : ℕ → Bucket → Bool
@@ -134,32 +135,32 @@ secondFits b tag = secondObeys b tag && b .S ≤? b .C
 
 -- both buckets, which are read together
 unfoldable pub bucketsFit : ℕ → Connection → Bool
-bucketsFit N vc = bucketFits N (vc .bucket) && secondFits (vc .second) (vc .tag)
+bucketsFit N conn = bucketFits N (conn .bucket) && secondFits (conn .second) (conn .tag)
 
 -- "Open and close read only that VC's words (of a closed one, only the open word)."
 unfoldable pub connectionFits : ℕ → Connection → Bool
-connectionFits N vc =
-    if vc .opened =? 0 then true
-    else (openWordFits vc && bucketsFit N vc && vc .waiting ≤? N)
+connectionFits N conn =
+    if conn .opened =? 0 then true
+    else (openWordFits conn && bucketsFit N conn && conn .waiting ≤? N)
 
 -- both buckets as they have fallen in so many slots, up to slot t: document 02 (iv), "run in lockstep with the peak bucket"
 unfoldable pub fallenTo : ℕ → ℕ → Connection → Connection
-fallenTo slots t vc =
+fallenTo slots t conn =
     record {
-      opened = vc .opened;
-      bucket = fall slots (vc .bucket);
+      opened = conn .opened;
+      bucket = fall slots (conn .bucket);
       last = t;
-      waiting = vc .waiting;
-      second = fall slots (vc .second);
-      tag = vc .tag;
+      waiting = conn .waiting;
+      second = fall slots (conn .second);
+      tag = conn .tag;
     }
 
 -- "it is brought up to date: S falls by elapsed × L .. last becomes t"; "Bringing a VC up to date reads all its
 -- words but waiting"
 unfoldable pub upToDate : ℕ → ℕ → Connection → Out Connection
-upToDate N t vc = needs (bucketsFit N vc) (next (fallenTo (elapsed t (vc .last)) t vc))
+upToDate N t conn = needs (bucketsFit N conn) (next (fallenTo (elapsed t (conn .last)) t conn))
 
 -- Document 02 (ii): "bring the VC up to date as of t": what is then left in its bucket, the stored S having been judged.
 -- Document 02 (iv): "Closing looks at the peak bucket only."
 unfoldable pub debt : ℕ → Connection → ℕ
-debt t vc = fall (elapsed t (vc .last)) (vc .bucket) .S
+debt t conn = fall (elapsed t (conn .last)) (conn .bucket) .S

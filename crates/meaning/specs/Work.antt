@@ -6,7 +6,8 @@ use Rattle.meaning.specs.State.{State, withWords}
 use Rattle.meaning.specs.Words.{Connection, writeConnection}
 
 -- "An answer holds: number, verdict, VCI (as read, 0 for nothing), D (0 unless accepted), departing space (65,535 for
--- none), departing VCI (0 for none)."
+-- none), departing VCI (0 for none)."; document 02 (vi): "A cell of an open path has V + VPI for
+-- its VCI in answers"
 abbrev pub answerOf : ℕ → ℕ → ℕ → ℕ → ℕ → ℕ → Answer
 answerOf number verdict vci D space departing =
     record { number = number; verdict = verdict; vci = vci; d = D; space = space; departing = departing }
@@ -26,9 +27,9 @@ workOf s a = record { state = s; answer = a }
 abbrev pub withState : Work → State → Work
 withState w s = workOf s (w .answer)
 
--- the words of one VC changed
+-- the words of one connection changed
 abbrev pub withConnection : Work → ℕ → Connection → Work
-withConnection w vci vc = withState w (withWords (w .state) (writeConnection (w .state .words) vci vc))
+withConnection w c conn = withState w (withWords (w .state) (writeConnection (w .state .words) c conn))
 
 -- what step 3 says in the answer: verdict, VCI and D
 abbrev pub withArrival : Work → ℕ → ℕ → ℕ → Work

@@ -1,12 +1,15 @@
-// The structs that pass by value, as C sees them too, the builders of a record, the places of a VC's words, and which verdicts let
+// The structs that pass by value, as C sees them too, the builders of a record, the places of a connection's words, and which verdicts let
 // a cell in; what every call does with them stands in specs/.
 ghost use mathlib.Core.Path.{_≡_};
 ghost use Prim.Native.Nat.{_≤_};
-ghost use Rattle.meaning.specs.Numbers.{letsIn};
+ghost use Rattle.meaning.specs.Numbers.{mostV, nni, letsIn};
 ghost use Rattle.meaning.specs.State.{endsOf, recordWith, recordInMode};
-ghost use Rattle.meaning.specs.Calls.{zeros, freshRecord};
+ghost use Rattle.meaning.specs.Calls.{zeros, kindOf, optionsOf, freshRecord};
 
-// How many words a VC has in the lent memory, and where among them each but the first stands (the first is the open word).
+// The path records, which stand after the V records; a path's connection number is V + VPI.
+pub const PATHS: u16 = 256;
+
+// How many words a connection has in the lent memory, and where among them each but the first stands (the first is the open word).
 pub const WORDS_PER_CONNECTION: usize = 12;
 
 pub const AT_M: usize = 1;
@@ -36,7 +39,7 @@ pub const AT_TAG: usize = 11;
 const CORRECTION: u16 = 0;
 
 // The control record: N, V, t, T (turn), rotation, head and tail of the Free List and of the Output List; whether cells
-// come raw, 0 or 1, and the mode of the header check, 0 correction, 1 detection.
+// come raw, 0 or 1, and the mode of the header check, 0 correction, 1 detection; the line kind, 0 UNI, 1 NNI.
 #[repr(C)]
 pub struct Record {
     pub n: u16,
@@ -50,6 +53,7 @@ pub struct Record {
     pub outtail: u16,
     pub raw: u16,
     pub mode: u16,
+    pub kind: u16,
 }
 
 // The answer to one slot: number, verdict, VCI, D, departing space, departing VCI.
@@ -103,6 +107,7 @@ pub fn record_with(
         outtail: outtail,
         raw: r.raw,
         mode: r.mode,
+        kind: r.kind,
     }
 }
 
@@ -122,6 +127,7 @@ pub fn record_in_mode(r: Record, mode: u16) -> Record
         outtail: r.outtail,
         raw: r.raw,
         mode: mode,
+        kind: r.kind,
     }
 }
 
@@ -141,26 +147,28 @@ pub fn no_record() -> Record
         outtail: 0,
         raw: 0,
         mode: 0,
+        kind: 0,
     }
 }
 
-// "t is 2^32-1, T is N-1, rotation is V-1"; "correction mode, the first"
-pub fn fresh_record(n: u16, v: u16, raw: bool) -> Record
-    requires { ⌜ (1 ≤ n) × (1 ≤ v) ⌝ }
-    ensures { λ r. ⌜ r ≡ freshRecord n v raw ⌝ }
+// "t is 2^32-1, T is N-1", rotation is V + 255; "correction mode, the first"
+pub fn fresh_record(n: u16, v: u16, raw: bool, kind: u16) -> Record
+    requires { ⌜ (1 ≤ n) × (v ≤ mostV) × (kind ≤ nni) ⌝ }
+    ensures { λ r. ⌜ r ≡ freshRecord n v (optionsOf raw (kindOf kind)) ⌝ }
 {
     Record {
         n: n,
         v: v,
         t: 4294967295,
         turn: n - 1,
-        rotation: v - 1,
+        rotation: v + 255,
         freehead: 0,
         freetail: n - 1,
         outhead: 65535,
         outtail: 65535,
         raw: raw as u16,
         mode: CORRECTION,
+        kind: kind,
     }
 }
 

@@ -5,14 +5,14 @@
 -- Document 02 (iv) has the same rule a second time, with the second bucket's m, F and C, over the CLP 0 cells that were
 -- accepted untagged.
 --
---   Opening          == the m, F and C that a VC was opened with, and its last accepted cell's due time, if it has one; the
+--   Opening          == the m, F and C that a connection was opened with, and its last accepted cell's due time, if it has one; the
 --                       second bucket that it was opened with, and by its rule the due time of the last cell that filled it
 --   dueTime o t      == the due time of a cell that arrives in slot t
 --   dueSlot o t      == its due slot
 --   leakAccepts o t  == the leak rule's verdict on a cell that arrives in slot t
 --   sustains o t     == the second bucket's
 --   verdictBy o clp t  == both together: accepted, excess or tagged
---   openingOf v h    == the opening of the VC v after the events h, if it is open
+--   openingOf c h    == the opening of the connection c after the events h, if it is open
 use Prim.Native.Nat.{ℕ, _+_, _-_, _*_, _/_, _^_, max}
 use mathlib.Core.Bool.{Bool, true, not, _&&_}
 use mathlib.Core.List.{List, [], _∷_}
@@ -20,7 +20,7 @@ use mathlib.Core.Option.{Option, none, some}
 use Rattle.meaning.specs.declared.Answer.{Answer}
 use Rattle.meaning.specs.Plain.{if_then_else_, _≤?_, _=?_}
 use Rattle.meaning.specs.Numbers.{accepted, excess, tagged, letsIn}
-use Rattle.meaning.specs.Header.{headerAt}
+use Rattle.meaning.specs.Header.{clpIn}
 use Rattle.meaning.specs.Words.{Second}
 use Rattle.meaning_runs.specs.Run.{Event, opened, closed, ran, served}
 
@@ -74,9 +74,9 @@ verdictBy o clp t =
     else if clp =? 0 && not (sustains o t) then (if o .second .tag =? 0 then excess else tagged)
     else accepted
 
--- did this answer let in a cell of the VC v: accepted, or tagged
+-- did this answer let in a cell of the connection c: accepted, or tagged
 unfoldable pub accepts : ℕ → Answer → Bool
-accepts v a = letsIn (a .verdict) && a .vci =? v
+accepts c a = letsIn (a .verdict) && a .vci =? c
 
 -- the second bucket's due time of the last cell that filled it, once a cell with this CLP got this verdict in slot t: "a tagged
 -- one [fills] only the peak bucket"
@@ -93,9 +93,8 @@ afterCell t clp verdict (some o) =
 
 -- an open or close that answered 0 begins and ends it; a cell that is let in moves it on, any other cell does not
 unfoldable pub openingOf : ℕ → List Event → Option Opening
-openingOf v [] = none
-openingOf v (opened vci m F C x number ∷ h) =
-    if number =? 0 && vci =? v then some (newOpening m F C x) else openingOf v h
-openingOf v (closed vci number ∷ h) = if number =? 0 && vci =? v then none else openingOf v h
-openingOf v (ran cell a out ∷ h) =
-    if accepts v a then afterCell (served h) (headerAt cell 0 .clp) (a .verdict) (openingOf v h) else openingOf v h
+openingOf c [] = none
+openingOf c (opened k m F C x number ∷ h) = if number =? 0 && k =? c then some (newOpening m F C x) else openingOf c h
+openingOf c (closed k number ∷ h) = if number =? 0 && k =? c then none else openingOf c h
+openingOf c (ran cell a out ∷ h) =
+    if accepts c a then afterCell (served h) (clpIn cell) (a .verdict) (openingOf c h) else openingOf c h

@@ -5,6 +5,7 @@ use Prim.Native.Nat.{ℕ}
 use mathlib.Core.Bool.{true}
 use mathlib.Core.List.{List, [], _∷_, map}
 use lib.ListN.{replicate}
+use Rattle.meaning.specs.Calls.{UNI, optionsOf}
 use Rattle.meaning_runs.specs.Run.{onOpen, onSlot, Event, Run, call, calls, freshRun}
 
 -- the header of VC 40, where octet 4 and octet 5 are as said; 246 is the octet 5 that belongs to 0, 0, 2, 128
@@ -15,7 +16,7 @@ abbrev pub rawCells : List (List ℕ)
 rawCells = rawCell 128 246 ∷ rawCell 129 246 ∷ rawCell 129 246 ∷ [] ∷ rawCell 128 246 ∷ rawCell 128 247 ∷ []
 
 abbrev pub rawFresh : Run
-rawFresh = call (freshRun 5 64 true) (onOpen 40 0 1 4)
+rawFresh = call (freshRun 5 64 (optionsOf true UNI)) (onOpen 40 0 1 4)
 
 -- the mode that each slot leaves, first slot first
 abbrev pub modesAfter : Run → List (List ℕ) → List ℕ

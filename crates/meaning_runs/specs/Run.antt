@@ -7,11 +7,10 @@
 --   call r c      == the run r, and then the call c
 --   calls r cs    == the run r, and then the calls cs, in this order
 --   letIn s cell  == what the header check of request (i) lets through in the state s: of a policer that is not raw, all
---   freshRun N z raw  == after a setup that answered 0, before any other call
+--   freshRun N z o  == after a setup that answered 0, with N, V and the options o, before any other call
 --   numberOf e    == the number that a call answered
 --   served h      == how many slots the events h served: the number of the next slot, which never wraps
 use Prim.Native.Nat.{ℕ, _+_}
-use mathlib.Core.Bool.{Bool}
 use mathlib.Core.List.{List, [], _∷_}
 use lib.ListN.{replicate}
 use Rattle.base_hec.specs.Modes.{Arriving, arriving}
@@ -19,35 +18,36 @@ use Rattle.meaning.specs.declared.Answer.{Answer}
 use Rattle.meaning.specs.Plain.{if_then_else_, _=?_}
 use Rattle.meaning.specs.Numbers.{octets, empty}
 use Rattle.meaning.specs.State.{State, withWords}
+use Rattle.meaning.specs.Header.{Name, byVci, numberIn}
 use Rattle.meaning.specs.Words.{Second, noSecond}
-use Rattle.meaning.specs.Calls.{freshState, openCall, closeCall}
+use Rattle.meaning.specs.Calls.{Options, freshState, openCall, closeCall}
 use Rattle.meaning.specs.Work.{Work}
 use Rattle.meaning.specs.Slot.{slot}
 use Rattle.meaning.specs.Line.{lineCell}
 
 pub data Call : Type 0 where
-  -- VCI, m, F, C, and the second bucket, if any: document 02 (iv)
-  onOpenWith : ℕ → ℕ → ℕ → ℕ → Second → Call
-  -- VCI
-  onClose : ℕ → Call
+  -- the connection, m, F, C, and the second bucket, if any: document 02 (iv) and (vi)
+  onOpenWith : Name → ℕ → ℕ → ℕ → Second → Call
+  -- the connection
+  onClose : Name → Call
   -- the octets lent: any list
   onSlot : List ℕ → Call
 
--- an opening without a second bucket
+-- a VC opened without a second bucket
 abbrev pub onOpen : ℕ → ℕ → ℕ → ℕ → Call
-onOpen vci m F C = onOpenWith vci m F C noSecond
+onOpen vci m F C = onOpenWith (byVci vci) m F C noSecond
 
 pub data Event : Type 0 where
-  -- VCI, m, F, C, the second bucket, if any, and the number answered
+  -- the number of the connection, m, F, C, the second bucket, if any, and the number answered
   opened : ℕ → ℕ → ℕ → ℕ → Second → ℕ → Event
-  -- VCI, and the number answered
+  -- the number of the connection, and the number answered
   closed : ℕ → ℕ → Event
   -- the octets that the header check let through, the answer, and the octets of the line cell shown after it
   ran : List ℕ → Answer → List ℕ → Event
 
 abbrev pub numberOf : Event → ℕ
-numberOf (opened vci m F C x number) = number
-numberOf (closed vci number) = number
+numberOf (opened c m F C x number) = number
+numberOf (closed c number) = number
 numberOf (ran cell a out) = a .number
 
 pub record Run : Type 0 where
@@ -71,14 +71,14 @@ abbrev pub letIn : State → List ℕ → Arriving
 letIn s cell = arriving (s .ctl .raw) (s .ctl .mode) cell
 
 unfoldable pub call : Run → Call → Run
-call r (onOpenWith vci m F C x) =
+call r (onOpenWith name m F C x) =
     let s = r .state in
-    let c = openCall (s .ctl) (s .words) vci m F C x in
-    runOf (withWords s (c .words)) (opened vci m F C x (c .number) ∷ r .events)
-call r (onClose vci) =
+    let c = openCall (s .ctl) (s .words) name m F C x in
+    runOf (withWords s (c .words)) (opened (numberIn (s .ctl .v) name) m F C x (c .number) ∷ r .events)
+call r (onClose name) =
     let s = r .state in
-    let c = closeCall (s .ctl) (s .words) vci in
-    runOf (withWords s (c .words)) (closed vci (c .number) ∷ r .events)
+    let c = closeCall (s .ctl) (s .words) name in
+    runOf (withWords s (c .words)) (closed (numberIn (s .ctl .v) name) (c .number) ∷ r .events)
 call r (onSlot cell) =
     let w = slot (r .state) cell in
     runOf (w .state) (ran (letIn (r .state) cell .cell) (w .answer) (shown w) ∷ r .events)
@@ -88,12 +88,12 @@ calls r [] = r
 calls r (c ∷ cs) = calls (call r c) cs
 
 -- "'From a fresh state' means that a setup has answered 0, no other setup follows"
-unfoldable pub freshRun : ℕ → ℕ → Bool → Run
-freshRun N z raw = runOf (freshState N z raw) []
+unfoldable pub freshRun : ℕ → ℕ → Options → Run
+freshRun N z o = runOf (freshState N z o) []
 
 -- A refused slot is not served. "The first slot after setup is slot 0."
 unfoldable pub served : List Event → ℕ
 served [] = 0
-served (opened vci m F C x number ∷ h) = served h
-served (closed vci number ∷ h) = served h
+served (opened c m F C x number ∷ h) = served h
+served (closed c number ∷ h) = served h
 served (ran cell a out ∷ h) = (if a .number =? 0 then 1 else 0) + served h

@@ -5,7 +5,7 @@
 --   Departure       == slot, VCI answered, and the octets of the line cell
 --   cellsIn h       == the accepted cells of the events h, in order of arrival
 --   departuresIn h  == the departures, in order
---   cellsOf v h, departuresOf v h  == those of the VC v
+--   cellsOf v h, departuresOf v h  == those of the connection v
 --   cellAt v k h, departureAt v k h  == the k-th of these, from 0; past the end one of zeros, of which nothing is said
 -- Slots are counted from the first after setup, without wrapping.
 use Prim.Native.Nat.{ℕ}
@@ -32,7 +32,7 @@ pub record Departure : Type 0 where
   pub vci : ℕ
   pub octets : List ℕ
 
--- a cell with these octets, accepted with answer a in slot t, under the opening o; a VC that isn't open has no due time
+-- a cell with these octets, accepted with answer a in slot t, under the opening o; a connection that isn't open has no due time
 abbrev pub cellWith : ℕ → Answer → List ℕ → ℕ → ℕ → Cell
 cellWith t a octets time due =
     record { vci = a .vci; arrival = t; D = a .d; time = time; due = due; octets = octets }
@@ -43,8 +43,8 @@ cellUnder t a octets (some o) = cellWith t a octets (dueTime o t) (dueSlot o t)
 
 unfoldable pub cellsIn : List Event → List Cell
 cellsIn [] = []
-cellsIn (opened vci m F C x number ∷ h) = cellsIn h
-cellsIn (closed vci number ∷ h) = cellsIn h
+cellsIn (opened c m F C x number ∷ h) = cellsIn h
+cellsIn (closed c number ∷ h) = cellsIn h
 cellsIn (ran octets a out ∷ h) =
     if letsIn (a .verdict) then cellsIn h ++ (cellUnder (served h) a (sentAs (a .verdict) octets) (openingOf (a .vci) h) ∷ [])
     else cellsIn h
@@ -52,13 +52,13 @@ cellsIn (ran octets a out ∷ h) =
 -- "departing space (65,535 for none)"
 unfoldable pub departuresIn : List Event → List Departure
 departuresIn [] = []
-departuresIn (opened vci m F C x number ∷ h) = departuresIn h
-departuresIn (closed vci number ∷ h) = departuresIn h
+departuresIn (opened c m F C x number ∷ h) = departuresIn h
+departuresIn (closed c number ∷ h) = departuresIn h
 departuresIn (ran octets a out ∷ h) =
     if a .space =? empty then departuresIn h
     else departuresIn h ++ (record { slot = served h; vci = a .departing; octets = out } ∷ [])
 
--- those whose VCI is v, in the same order
+-- those whose VCI, in answers the number of the connection, is v, in the same order
 abbrev pub ofConnection : {A : Type 0} → (A → ℕ) → ℕ → List A → List A
 ofConnection vciOf v [] = []
 ofConnection vciOf v (x ∷ xs) = if vciOf x =? v then x ∷ ofConnection vciOf v xs else ofConnection vciOf v xs
