@@ -10,9 +10,9 @@ use native.Mathlib.Decide.{decLt, ℕ-discrete}
 use borrow.Author.Tests.{eqb-true, lt-ltb, le-ltb, le-leb, lt-leb, eq-eqb, ne-eqb}
 use lib.ListN.{getD}
 use Rattle.meaning.specs.Plain.{if_then_else_, _<?_, _≤?_, _=?_}
-use Rattle.meaning.specs.Numbers.{mostV, paths, kindFits}
+use Rattle.meaning.specs.Numbers.{mostV, paths, connectionsIn, kindFits}
 use Rattle.meaning.specs.Header.{Header, vpiHigh, headerOf, headerAt, noUserCell, connection, namesConnection}
-use Rattle.meaning.proofs.NamesLaws.{names-not-0, vc-number, vc-named, path-number, path-named}
+use Rattle.meaning.proofs.NamesLaws.{names-low, vc-number, vc-named, path-number, path-named}
 use Rattle.leaf_header.specs.Name.{nameOf, noName, nameAt, numberFor, numbered}
 
 -- ---- four octets, the first with GFC at the UNI, the last with PTI and CLP
@@ -58,7 +58,7 @@ first : (a b : Bool) → a && b ≡ true → a ≡ true
 first true b p = refl
 first false b p = p
 
-second : (a b : Bool) → a && b ≡ true → b ≡ true
+pub second : (a b : Bool) → a && b ≡ true → b ≡ true
 second true b p = p
 second false true p = refl
 second false false p = p
@@ -156,11 +156,11 @@ module _ (z : ℕ) (h : Header) (few : z ≤ mostV) (small : h .vci < 65536) whe
       go (no ne) = by-vpi ne
 
 -- ---- where the kind is one, and where it is none; what is read at a place
-module _ (kind z : ℕ) (few : z ≤ mostV) where
-  pub numbered-is : (l : List ℕ) (i name : ℕ) → name ≡ nameAt kind l i → (kindFits kind ≡ true → name % 65536 ≡ headerAt kind l i .vci)
+module _ (kind z : ℕ) where
+  pub numbered-is : z ≤ mostV → (l : List ℕ) (i name : ℕ) → name ≡ nameAt kind l i → (kindFits kind ≡ true → name % 65536 ≡ headerAt kind l i .vci)
       → numberFor z name ≡ numbered kind z (headerAt kind l i)
   unfolding numbered nameAt
-  numbered-is l i name e f = go (kindFits kind) refl
+  numbered-is few l i name e f = go (kindFits kind) refl
     where
       go : (b : Bool) → kindFits kind ≡ b → numberFor z name ≡ numbered kind z (headerAt kind l i)
       go true k =
@@ -175,6 +175,18 @@ module _ (kind z : ℕ) (few : z ≤ mostV) where
   pub numbered-no : (h : Header) → namesConnection z h ≡ false → numbered kind z h ≡ 0
   unfolding numbered
   numbered-no h e = rw (e, and-false (kindFits kind))
+
+  pub numbered-off : (h : Header) → kindFits kind ≡ false → numbered kind z h ≡ 0
+  unfolding numbered
+  numbered-off h e = rw e
+
+  pub numbered-low : (h : Header) → numbered kind z h < connectionsIn z
+  unfolding numbered
+  numbered-low h = go (kindFits kind && namesConnection z h) refl
+    where
+      go : (b : Bool) → kindFits kind && namesConnection z h ≡ b → (if b then connection z h else 0) < connectionsIn z
+      go true e = names-low z h (second (kindFits kind) (namesConnection z h) e)
+      go false e = omega arith
 
   -- 0 is no connection's number
   pub numbered-some : (h : Header) → numbered kind z h ≢ 0
