@@ -10,10 +10,10 @@ use native.Mathlib.Decide.{decLt, ℕ-discrete}
 use borrow.Author.Tests.{eqb-true, lt-ltb, le-ltb, le-leb, lt-leb, eq-eqb, ne-eqb}
 use lib.ListN.{getD}
 use Rattle.meaning.specs.Plain.{if_then_else_, _<?_, _≤?_, _=?_}
-use Rattle.meaning.specs.Numbers.{mostV, paths, connectionsIn, kindFits}
+use Rattle.meaning.specs.Numbers.{mostV, paths, kindFits}
 use Rattle.meaning.specs.Header.{Header, vpiHigh, headerOf, headerAt, noUserCell, connection, namesConnection}
-use Rattle.meaning.proofs.NamesLaws.{names-low, vc-number, vc-named, path-number, path-named}
-use Rattle.leaf_header.specs.Name.{nameOf, noName, nameAt, numberFor, numbered}
+use Rattle.meaning.proofs.NamesLaws.{vc-number, vc-named, path-number, path-named}
+use Rattle.leaf_header.specs.Name.{nameOf, noName, nameAt, Reads, numberFor, numbered}
 
 -- ---- four octets, the first with GFC at the UNI, the last with PTI and CLP
 abbrev word : ℕ → ℕ → ℕ → ℕ → ℕ
@@ -25,21 +25,21 @@ module _ (l : List ℕ) (i a b c d : ℕ)
     (r : (c ≡ getD l (i + 2) 0) × (c < 256))
     (s : (d ≡ getD l (i + 3) 0) × (d < 256)) where
   pub name-uni : (kind : ℕ) → kind ≡ 0
-      → (word a b c d / 16 % 16777216 ≡ nameAt kind l i) × (kindFits kind ≡ true → word a b c d / 16 % 16777216 % 65536 ≡ headerAt kind l i .vci)
+      → (word a b c d / 16 % 16777216 ≡ nameAt kind l i) × Reads kind (headerAt kind l i) (word a b c d / 16 % 16777216)
   unfolding nameAt kindFits nameOf headerAt headerOf vpiHigh
   name-uni kind e =
       rw (e, ← p .0, ← q .0, ← r .0, ← s .0) (
         omega (arith, p .1, q .1, r .1, s .1),
-        λ _. omega (arith, p .1, q .1, r .1, s .1),
+        λ _. (omega (arith, p .1, q .1, r .1, s .1), omega (arith, p .1, q .1, r .1, s .1)),
       )
 
   pub name-nni : (kind : ℕ) → kind ≡ 1
-      → (word a b c d / 16 ≡ nameAt kind l i) × (kindFits kind ≡ true → word a b c d / 16 % 65536 ≡ headerAt kind l i .vci)
+      → (word a b c d / 16 ≡ nameAt kind l i) × Reads kind (headerAt kind l i) (word a b c d / 16)
   unfolding nameAt kindFits nameOf headerAt headerOf vpiHigh
   name-nni kind e =
       rw (e, ← p .0, ← q .0, ← r .0, ← s .0) (
         omega (arith, p .1, q .1, r .1, s .1),
-        λ _. omega (arith, p .1, q .1, r .1, s .1),
+        λ _. (omega (arith, p .1, q .1, r .1, s .1), omega (arith, p .1, q .1, r .1, s .1)),
       )
 
 kind-none : (kind : ℕ) → kind ≢ 0 → kind ≢ 1 → kindFits kind ≡ false
@@ -47,7 +47,7 @@ unfolding kindFits
 kind-none kind a b = lt-leb kind 1 (omega (arith, a, b))
 
 pub name-none-at : (kind : ℕ) (l : List ℕ) (i : ℕ) → kind ≢ 0 → kind ≢ 1
-    → (noName ≡ nameAt kind l i) × (kindFits kind ≡ true → noName % 65536 ≡ headerAt kind l i .vci)
+    → (noName ≡ nameAt kind l i) × Reads kind (headerAt kind l i) noName
 unfolding nameAt
 name-none-at kind l i a b =
     let e = kind-none kind a b in
@@ -157,14 +157,14 @@ module _ (z : ℕ) (h : Header) (few : z ≤ mostV) (small : h .vci < 65536) whe
 
 -- ---- where the kind is one, and where it is none; what is read at a place
 module _ (kind z : ℕ) where
-  pub numbered-is : z ≤ mostV → (l : List ℕ) (i name : ℕ) → name ≡ nameAt kind l i → (kindFits kind ≡ true → name % 65536 ≡ headerAt kind l i .vci)
+  pub numbered-is : z ≤ mostV → (l : List ℕ) (i name : ℕ) → name ≡ nameAt kind l i → Reads kind (headerAt kind l i) name
       → numberFor z name ≡ numbered kind z (headerAt kind l i)
   unfolding numbered nameAt
   numbered-is few l i name e f = go (kindFits kind) refl
     where
       go : (b : Bool) → kindFits kind ≡ b → numberFor z name ≡ numbered kind z (headerAt kind l i)
       go true k =
-          let small : headerAt kind l i .vci < 65536 = omega (arith, f k) in
+          let small : headerAt kind l i .vci < 65536 = omega (arith, f k .0) in
           rw k (ap (numberFor z) (rw k at e) ∙ number-named z (headerAt kind l i) few small)
       go false k = rw k (ap (numberFor z) (rw k at e) ∙ number-no-name z few)
 
@@ -176,17 +176,13 @@ module _ (kind z : ℕ) where
   unfolding numbered
   numbered-no h e = rw (e, and-false (kindFits kind))
 
+  pub numbered-fits : (h : Header) → kindFits kind ≡ true → numbered kind z h ≡ (if namesConnection z h then connection z h else 0)
+  unfolding numbered
+  numbered-fits h e = rw e
+
   pub numbered-off : (h : Header) → kindFits kind ≡ false → numbered kind z h ≡ 0
   unfolding numbered
   numbered-off h e = rw e
-
-  pub numbered-low : (h : Header) → numbered kind z h < connectionsIn z
-  unfolding numbered
-  numbered-low h = go (kindFits kind && namesConnection z h) refl
-    where
-      go : (b : Bool) → kindFits kind && namesConnection z h ≡ b → (if b then connection z h else 0) < connectionsIn z
-      go true e = names-low z h (second (kindFits kind) (namesConnection z h) e)
-      go false e = omega arith
 
   -- 0 is no connection's number
   pub numbered-some : (h : Header) → numbered kind z h ≢ 0

@@ -2,10 +2,12 @@
 --
 --   nameOf h           == VPI × 65,536 + VCI: 0 where it is no user cell
 --   nameAt kind l i    == that of the header at place i of l; 2^32-1, which no header has, where the kind is none
+--   Reads kind h name  == it tells the VCI, and is a header's, where the kind is one
 --   numberFor z name   == the connection that such a number names, by its own number, V being z; 0 for none
 --   numbered kind z h  == the same from the header itself
-use Prim.Native.Nat.{ℕ, _+_, _*_, _/_}
-use mathlib.Core.Bool.{_&&_}
+use Prim.Native.Nat.{ℕ, _+_, _*_, _/_, _%_, _<_}
+use mathlib.Core.Path.{_≡_}
+use mathlib.Core.Bool.{true, _&&_}
 use mathlib.Core.List.{List}
 use Rattle.meaning.specs.Plain.{if_then_else_, _<?_, _=?_}
 use Rattle.meaning.specs.Numbers.{paths, kindFits}
@@ -19,6 +21,9 @@ noName = 4_294_967_295
 
 unfoldable pub nameAt : ℕ → List ℕ → ℕ → ℕ
 nameAt kind l i = if kindFits kind then nameOf (headerAt kind l i) else noName
+
+abbrev pub Reads : ℕ → Header → ℕ → Type 0
+Reads kind h name = kindFits kind ≡ true → (name % 65536 ≡ h .vci) × (name < noName)
 
 unfoldable pub numberFor : ℕ → ℕ → ℕ
 numberFor z name =

@@ -1,11 +1,10 @@
 // The header of a cell, read as one number, and the connection that it names.
 ghost use mathlib.Core.Path.{_≡_};
-ghost use mathlib.Core.Bool.{true};
-ghost use Prim.Native.Nat.{_+_, _%_, _≤_, _<_};
+ghost use Prim.Native.Nat.{_+_, _≤_, _<_};
 ghost use lib.ListN.{length};
-ghost use Rattle.meaning.specs.Numbers.{mostV, kindFits};
+ghost use Rattle.meaning.specs.Numbers.{mostV, connectionsIn};
 ghost use Rattle.meaning.specs.Header.{headerAt};
-ghost use Rattle.leaf_header.specs.Name.{nameAt, numberFor};
+ghost use Rattle.leaf_header.specs.Name.{nameAt, Reads, numberFor};
 
 fn wide(x: u8) -> u32
     ensures { λ r. ⌜ (r ≡ x) × (r < 256) ⌝ }
@@ -17,7 +16,7 @@ fn wide(x: u8) -> u32
 pub fn name_at(s: &[u8], at: usize, kind: u16) -> u32
     requires { ⌜ at + 4 ≤ length (now s) ⌝ }
     ensures name { λ r. ⌜ r ≡ nameAt kind (now (s .entry)) at ⌝ }
-    ensures vci { λ r. ⌜ (kindFits kind ≡ true → r % 65536 ≡ headerAt kind (now (s .entry)) at .vci) ⌝ }
+    ensures reads { λ r. ⌜ Reads kind (headerAt kind (now (s .entry)) at) r ⌝ }
 {
     let w = wide(s[at]) * 16777216
         + wide(s[at + 1]) * 65536
@@ -35,7 +34,8 @@ pub fn name_at(s: &[u8], at: usize, kind: u16) -> u32
 // The connection that a name stands for: a VC by its VCI, a path by V + VPI; 0 for none.
 pub fn number_for(v: u16, name: u32) -> u16
     requires { ⌜ v ≤ mostV ⌝ }
-    ensures { λ r. ⌜ r ≡ numberFor v name ⌝ }
+    ensures number { λ r. ⌜ r ≡ numberFor v name ⌝ }
+    ensures low { λ r. ⌜ r < connectionsIn v ⌝ }
 {
     if name < v as u32 {
         return name as u16;
