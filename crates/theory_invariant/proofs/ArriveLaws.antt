@@ -1,16 +1,16 @@
 -- Step 3 of a slot, from the invariant: nothing, unknown, excess, tagged or accepted, as the header and the leak rules say,
 -- and never refused.
-use Prim.Native.Nat.{ℕ, suc, _-_, _≤_, _<_}
+use Prim.Native.Nat.{ℕ, suc, _-_, _<_}
 use mathlib.Core.Path.{_≡_, refl, sym, ap, _∙_, subst, subst₂, fun-ext}
 use mathlib.Core.Logic.{_≢_}
-use mathlib.Core.Bool.{Bool, true, false, _&&_, _||_}
+use mathlib.Core.Bool.{Bool, true, false, _||_}
 use mathlib.Core.List.{List, [], append-nil}
 use mathlib.Core.Option.{Option, none, some}
 use native.Mathlib.Decide.{ℕ-discrete}
 use native.Mathlib.Omega.{arith}
-use borrow.Author.Tests.{eq-eqb, ne-eqb, leb-true, ltb-true, eqb-true}
+use borrow.Author.Tests.{eq-eqb, ne-eqb, eqb-true}
 use lib.ListN.{length}
-use Rattle.meaning.specs.Plain.{if_then_else_, _<?_, _≤?_, _=?_, next}
+use Rattle.meaning.specs.Plain.{if_then_else_, _=?_, next}
 use Rattle.meaning.specs.Numbers.{connectionsIn, unused, excess, unknown, nothing, letsIn}
 use Rattle.meaning.specs.State.{State, withWords}
 use Rattle.meaning.specs.Header.{Header, headerAt, clpIn, noUserCell, connection, namesConnection}
@@ -29,7 +29,6 @@ use Rattle.theory_queues.proofs.LineLaws.{arrive-none}
 use Rattle.theory_queues.proofs.RisingLaws.{rising-up}
 use Rattle.theory_table.specs.Stored.{stored, ConnectionIs, OpenConnection}
 use Rattle.theory_table.proofs.ClockLaws.{clock-next}
-use Rattle.theory_table.proofs.LeakLaws.{and-left, and-right}
 use Rattle.theory_table.proofs.VerdictLaws.{verdict-is, verdict-says}
 use Rattle.theory_table.proofs.ConnectionLaws.{word-fits, up-to-date, now-open}
 use Rattle.theory_memory.specs.Held.{Queued, dueOf, vciOf}

@@ -9,7 +9,7 @@ use native.Mathlib.Omega.{arith}
 use borrow.Author.Tests.{leb-true}
 use lib.ListN.{length, getD, replicate, length-replicate, getD-replicate, length-append, List·getD-append}
 use Rattle.meaning.specs.Plain.{if_then_else_, _≤?_}
-use Rattle.meaning.specs.Numbers.{rangesHold, connectionsIn, unused, kindFits, mostN, leastV, mostV, empty, slotNumbers, wordsIn, openPlace}
+use Rattle.meaning.specs.Numbers.{rangesHold, connectionsIn, kindFits, mostN, leastV, mostV, empty, slotNumbers, wordsIn, openPlace}
 use Rattle.meaning.specs.State.{State, stateOf, freeList, outputList, lengthsHold}
 use Rattle.meaning.specs.Words.{connectionAt}
 use Rattle.meaning.specs.Lists.{entryAt}

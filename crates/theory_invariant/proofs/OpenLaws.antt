@@ -1,13 +1,13 @@
 -- Open and close keep the invariant, refused or not, and are never refused with 3. At an opening no cell of the connection is
 -- queued, since each queued cell's connection is open; at a close none is, since waiting is 0.
-use Prim.Native.Nat.{ℕ, _≤_, _<_}
+use Prim.Native.Nat.{ℕ, _<_}
 use mathlib.Core.Path.{_≡_, refl, sym, ap, _∙_, subst}
 use mathlib.Core.Logic.{_≢_}
-use mathlib.Core.Bool.{Bool, true, false, _&&_}
+use mathlib.Core.Bool.{Bool, true, false}
 use mathlib.Core.List.{List, _∷_}
 use mathlib.Core.Option.{Option, none, some}
 use native.Mathlib.Omega.{arith}
-use borrow.Author.Tests.{eq-eqb, ne-eqb, leb-true, ltb-true, eqb-true, eqb-false}
+use borrow.Author.Tests.{eq-eqb, ne-eqb, eqb-true, eqb-false}
 use Rattle.meaning.specs.Plain.{_=?_}
 use Rattle.meaning.specs.Numbers.{connectionsIn, unused}
 use Rattle.meaning.specs.Header.{Name, named, numberIn}
@@ -22,7 +22,6 @@ use Rattle.meaning_runs.specs.Seen.{cellsIn, departuresIn}
 use Rattle.theory_queues.specs.Queue.{turn}
 use Rattle.theory_queues.proofs.QueueLaws.{turn-sums, all-map, alls-map}
 use Rattle.theory_table.specs.Stored.{ConnectionIs}
-use Rattle.theory_table.proofs.LeakLaws.{and-left, and-right}
 use Rattle.theory_table.proofs.ConnectionLaws.{opened-open}
 use Rattle.theory_memory.specs.Held.{Queued}
 use Rattle.theory_invariant.specs.Invariant.{isOf, waits, Under, Sits, Inv}

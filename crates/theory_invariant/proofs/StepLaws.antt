@@ -1,6 +1,6 @@
 -- Steps 1 and 2 of a slot, from the invariant: no test of refusal 3 fails, the clock moves on, and the connection that rotation
 -- names is brought up to date.
-use Prim.Native.Nat.{ℕ, suc, _+_, _-_, _*_, _%_, _≤_, _<_}
+use Prim.Native.Nat.{ℕ, suc, _+_, _-_, _%_, _<_}
 use mathlib.Core.Path.{_≡_, refl, sym, ap, _∙_, subst₂}
 use mathlib.Core.Logic.{_≢_}
 use mathlib.Core.Bool.{Bool, true, false}

@@ -7,7 +7,7 @@
 --   Sits           == a queued cell's header names its connection, whose next cell is due at least F after it
 --   Stage          == the record and memories, at a stage of a slot: k slots begun, connections as after j slots
 --   Inv N z kind h s  == after the events h the state is s, on a line of this kind
-use Prim.Native.Nat.{ℕ, _+_, _-_, _*_, _/_, _%_, _≤_, _<_}
+use Prim.Native.Nat.{ℕ, _+_, _-_, _/_, _%_, _≤_, _<_}
 use mathlib.Core.Path.{_≡_}
 use mathlib.Core.Bool.{true, false}
 use mathlib.Core.List.{List, _++_, map}
