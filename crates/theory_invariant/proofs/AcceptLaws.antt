@@ -237,6 +237,7 @@ module _ (now : ℕ) (cell : List ℕ) (op : ℕ → Option Opening) (free : Lis
                 ∙ ap (λ l. ofConnection vciOf v l ++ ofConnection vciOf v (new ∷ [])) (turn-flat cal);
             notes = rw (lets, o-is);
             delays = ((D-due, D-low), tt);
+            named = ((sits-new .0, sits-new .1), tt);
             rises = λ l k. rising-add (λ c. c .arrival) 0 now l (new .cell) (omega arith) k;
           };
         }

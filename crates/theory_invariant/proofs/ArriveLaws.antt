@@ -98,6 +98,7 @@ module _ (now : ℕ) (cell : List ℕ) (op : ℕ → Option Opening) (free : Lis
               order = λ v. ap (ofConnection vciOf v) (turn-flat cal) ∙ sym (append-nil (ofConnection vciOf v (flat cal)));
               notes = rw ne;
               delays = tt;
+              named = tt;
               rises = λ l k. rw (append-nil l) (rising-up (λ c. c .arrival) 0 now (suc now) l (omega arith) k);
             }
 

@@ -91,6 +91,8 @@ module _ (N z kind : ℕ) (h : List Event) (s : State) (i : Inv N z kind h s) wh
         in-time = i .in-time;
         order = λ v. rw (same .cells) (i .order v);
         delays = rw (same .cells) (i .delays);
+        named = rw (same .cells) (i .named);
+        named-left = i .named-left;
         left-rise = rw (same .slots) (i .left-rise);
         cells-rise = rw (same .slots, same .cells) (i .cells-rise);
       }
@@ -149,6 +151,8 @@ module _ (N z kind : ℕ) (h : List Event) (s : State) (i : Inv N z kind h s) wh
           in-time = i .in-time;
           order = λ v. rw (same .cells) (i .order v);
           delays = rw (same .cells) (i .delays);
+          named = rw (same .cells) (i .named);
+          named-left = i .named-left;
           left-rise = rw (same .slots) (i .left-rise);
           cells-rise = rw (same .slots, same .cells) (i .cells-rise);
         }

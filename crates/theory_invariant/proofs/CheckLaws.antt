@@ -52,6 +52,8 @@ inv-mode N z kind h s mode i low =
       in-time = i .in-time;
       order = i .order;
       delays = i .delays;
+      named = i .named;
+      named-left = i .named-left;
       left-rise = i .left-rise;
       cells-rise = i .cells-rise;
     }

@@ -185,6 +185,8 @@ module _ (N z : ℕ) (o : Options) (r : Ranges N z) where
         in-time = tt;
         order = λ v. rw (bare-flat Queued w);
         delays = tt;
+        named = tt;
+        named-left = tt;
         left-rise = omega arith;
         cells-rise = omega arith;
       }

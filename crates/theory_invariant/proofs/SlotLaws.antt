@@ -3,7 +3,7 @@
 use Prim.Native.Nat.{ℕ, suc, _+_, _-_}
 use mathlib.Core.Path.{_≡_, refl, sym, ap, _∙_, subst, subst₂}
 use mathlib.Core.Bool.{true, false, _||_}
-use mathlib.Core.List.{List, _∷_, _++_, map, tail}
+use mathlib.Core.List.{List, [], _∷_, _++_, map, tail}
 use mathlib.Core.Option.{Option}
 use native.Mathlib.Omega.{arith}
 use lib.ListN.{length}
@@ -24,7 +24,7 @@ use Rattle.theory_queues.proofs.QueueLaws.{map-append, all-append, all-tail, al
 use Rattle.theory_queues.proofs.LineLaws.{move, leave}
 use Rattle.theory_queues.proofs.OrderLaws.{ofConnection-append}
 use Rattle.theory_memory.specs.Held.{Queued, dueOf}
-use Rattle.theory_invariant.specs.Invariant.{seenAs, cellLeft, cellIn, connectionIn, Sits, Stage, InTime, Delayed, Inv}
+use Rattle.theory_invariant.specs.Invariant.{seenAs, cellLeft, cellIn, connectionIn, Sits, Stage, InTime, Delayed, Named, Inv}
 use Rattle.theory_invariant.specs.Came.{onward, half, Came}
 use Rattle.theory_invariant.specs.Gone.{Departs, Gone}
 use Rattle.theory_invariant.proofs.StepLaws.{Goes, Ticked, step1-goes, step2-goes}
@@ -40,6 +40,11 @@ pub record Ran (N z kind : ℕ) (h : List Event) (cell : List ℕ) (w : Work) : 
   pub inv : Inv N z kind (eventOf cell w ∷ h) (w .state)
   pub number : w .answer .number ≡ 0
   pub says : judgedOf (w .answer .verdict) (w .answer .vci) (w .answer .d) ≡ judged kind z h cell
+
+leaving-named : (kind z : ℕ) (f : ℕ → Option Opening) (n : ℕ) (o : List Queued) → All (Sits kind z f) o
+    → All (λ p. Named kind z (p .cell)) (leaving n o)
+leaving-named kind z f n [] a = tt
+leaving-named kind z f n (c ∷ o) a = ((a .0 .0, a .0 .1), tt)
 
 module _ (N z kind : ℕ) (h : List Event) (s : State) (i : Inv N z kind h s) where
   abbrev now : ℕ
@@ -123,6 +128,12 @@ module _ (N z kind : ℕ) (h : List Event) (s : State) (i : Inv N z kind h s) wh
                   ∙ order-kept now v (i .left) (i .out) (i .cal) (came .r) (came .new) (came .order v);
               delays = rw cells-are
                   (all-append (Delayed N) (cellsIn h) (map cellIn (came .new)) (i .delays) (came .delays));
+              named = rw cells-are
+                  (all-append (Named kind z) (cellsIn h) (map cellIn (came .new)) (i .named) (came .named));
+              named-left = all-append (λ p. Named kind z (p .cell)) (i .left) (leaving now o1) (i .named-left)
+                  (leaving-named kind z (λ v. op′ v) now o1
+                  (all-append (Sits kind z (λ v. op′ v)) (i .out) (first (came .r)) (came .sits-out)
+                  (alls-first (Sits kind z (λ v. op′ v)) (came .r) (came .sits-cal))));
               left-rise = subst (λ (k : ℕ). Rising (λ p. p .slot) 0 k (i .left ++ leaving now o1)) (sym slots-are)
                   (left-rises now (i .left) o1 (i .left-rise));
               cells-rise = subst₂ (λ (k : ℕ) (l : List Cell). Rising (λ c. c .arrival) 0 k l) (sym slots-are)

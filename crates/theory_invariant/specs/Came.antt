@@ -16,7 +16,7 @@ use Rattle.meaning_runs.specs.Seen.{Cell, cellUnder, ofConnection}
 use Rattle.meaning_runs.specs.Judged.{judgedOf, judgedBy}
 use Rattle.theory_queues.specs.Queue.{All, Alls, flat, Rising, Arrived}
 use Rattle.theory_memory.specs.Held.{Queued, dueOf, vciOf}
-use Rattle.theory_invariant.specs.Invariant.{cellIn, Sits, Stage, Delayed}
+use Rattle.theory_invariant.specs.Invariant.{cellIn, Sits, Stage, Delayed, Named}
 
 -- the openings after a slot with this verdict on a cell of this connection, with this CLP
 abbrev pub after : ℕ → ℕ → ℕ → ℕ → (ℕ → Option Opening) → ℕ → Option Opening
@@ -54,5 +54,6 @@ pub record Came (N z kind now : ℕ) (cell : List ℕ) (openings : ℕ → Optio
   pub order : (v : ℕ) → ofConnection vciOf v (flat r) ≡ ofConnection vciOf v (flat cal) ++ ofConnection vciOf v new
   pub notes : noted now (half verdict vci D) cell openings ≡ map cellIn new
   pub delays : All (Delayed N) (map cellIn new)
+  pub named : All (Named kind z) (map cellIn new)
   pub rises : (l : List Cell) → Rising (λ c. c .arrival) 0 now l
       → Rising (λ c. c .arrival) 0 (suc now) (l ++ map cellIn new)

@@ -88,6 +88,12 @@ InTime w p = (p .cell .due ≤ p .slot) × (p .slot ≤ p .cell .due + w)
 abbrev pub Delayed : ℕ → Cell → Type 0
 Delayed N c = (c .due ≡ c .arrival + c .D) × (c .D < N)
 
+-- its header names the connection whose number was answered
+abbrev pub Named : ℕ → ℕ → Cell → Type 0
+Named kind z c =
+    (namesConnection z (headerAt kind (c .octets) 0) ≡ true)
+    × (connection z (headerAt kind (c .octets) 0) ≡ c .vci)
+
 pub record Inv (N z kind : ℕ) (h : List Event) (s : State) : Type 0 where
   -- the Free List; the Output List; the calendar from the next slot on; what left, in order
   pub free : List ℕ
@@ -107,6 +113,9 @@ pub record Inv (N z kind : ℕ) (h : List Event) (s : State) : Type 0 where
   -- of each connection: the accepted cells, in order, are those that left, and then those that wait, in the order they leave in
   pub order : (v : ℕ) → ofConnection connectionIn v (cellsIn h) ≡ ofConnection connectionIn v (map cellLeft left ++ map cellIn (out ++ flat cal))
   pub delays : All (Delayed N) (cellsIn h)
+  -- each accepted cell's header, and each departed one's, names its connection
+  pub named : All (Named kind z) (cellsIn h)
+  pub named-left : All (λ p. Named kind z (p .cell)) left
   -- both in order of their slots
   pub left-rise : Rising (λ p. p .slot) 0 (served h) left
   pub cells-rise : Rising (λ c. c .arrival) 0 (served h) (cellsIn h)
