@@ -1,4 +1,4 @@
--- Demand 3, clause by clause, from the invariant: of each VC the accepted cells are those that left and then those that
+-- Demand 3, clause by clause, from the invariant: of each connection the accepted cells are those that left and then those that
 -- wait, so the k-th that left is the k-th accepted; one that waits can still be in time.
 use Prim.Native.Nat.{ℕ, zero, suc, _+_, _-_, _≤_, _<_}
 use mathlib.Core.Path.{_≡_, refl, sym, ap, _∙_}
@@ -40,8 +40,8 @@ all-at P (x ∷ l) (suc k) d a h = all-at P l k d (a .1) (le-of-suc-le-suc h)
 abbrev noLeft : Left
 noLeft = record { slot = 0; cell = noCell }
 
-module _ (N z : ℕ) (h : List Event) (s : State) (i : Inv N z h s) where
-  -- those of the VC v that left, and the cells of it that wait
+module _ (N z kind : ℕ) (h : List Event) (s : State) (i : Inv N z kind h s) where
+  -- those of the connection v that left, and the cells of it that wait
   abbrev pub gone : ℕ → List Left
   gone v = ofConnection (λ p. p .cell .vci) v (i .left)
 
@@ -155,7 +155,7 @@ module _ (N z : ℕ) (h : List Event) (s : State) (i : Inv N z h s) where
             (rising-of (λ p. p .slot) (λ p. p .cell .vci) v 0 (served h) (i .left) (i .left-rise)),
       )
 
-  pub demanded : Demand3 N z h s
+  pub demanded : Demand3 N z kind h s
   demanded =
       record {
         was-accepted = λ v k low. omega (arith, many-left v, many-cells v);
@@ -178,6 +178,6 @@ module _ (N z : ℕ) (h : List Event) (s : State) (i : Inv N z h s) where
         in-order = λ v j k less low.
             (arrivals-rise v j k less (omega (arith, many-left v, many-cells v)), departures-rise v j k less low);
         delay = λ v k low. let d = all-at (Delayed N) (cellsOf v h) k noCell (delays v) low in (d .0, omega (arith, d .1));
-        accepts-exactly = accepts N z h s i;
-        judges = says N z h s i;
+        accepts-exactly = accepts N z kind h s i;
+        judges = says N z kind h s i;
       }

@@ -9,7 +9,7 @@ use native.Mathlib.Omega.{arith}
 use borrow.Author.Tests.{leb-true}
 use lib.ListN.{length, getD, replicate, length-replicate, getD-replicate, length-append, List·getD-append}
 use Rattle.meaning.specs.Plain.{if_then_else_, _≤?_}
-use Rattle.meaning.specs.Numbers.{rangesHold, connectionsIn, kindFits, mostN, leastV, mostV, empty, slotNumbers, wordsIn, openPlace}
+use Rattle.meaning.specs.Numbers.{rangesHold, connectionsIn, kindFits, nni, mostN, leastV, mostV, empty, slotNumbers, wordsIn, openPlace}
 use Rattle.meaning.specs.State.{State, stateOf, freeList, outputList, lengthsHold}
 use Rattle.meaning.specs.Words.{connectionAt}
 use Rattle.meaning.specs.Lists.{entryAt}
@@ -197,14 +197,22 @@ module _ (N z : ℕ) (o : Options) (r : Ranges N z) where
       first : 0 + (connectionsIn z - 1) ≡ connectionsIn z - 1
       first = omega arith
 
+-- the kind that a setup was handed is the kind that it chose
+kind-chosen : (kind : ℕ) → kindFits kind ≡ true → kindNumber (kindOf kind) ≡ kind
+unfolding kindFits
+kind-chosen zero e = refl
+kind-chosen (suc zero) e = refl
+kind-chosen (suc (suc k)) e = absurd (omega (arith, leb-true (suc (suc k)) nni e))
+
 -- a setup that answers 0 leaves a fresh state, whatever the memory held
 pub setup-fresh : (N z : ℕ) (raw : Bool) (kind : ℕ) (cells links calendar words : List ℕ)
     → setup N z raw kind cells links calendar words .number ≡ 0
     → (rangesHold N z ≡ true)
     × (setup N z raw kind cells links calendar words .state ≡ freshState N z (optionsOf raw (kindOf kind)))
+    × (kindNumber (kindOf kind) ≡ kind)
 unfolding setup
 setup-fresh N z raw kind cells links calendar words e =
-    go (rangesHold N z) (kindFits kind) (lengthsHold N z cells links calendar words) refl e
+    go (rangesHold N z) (kindFits kind) (lengthsHold N z cells links calendar words) refl refl e
   where
     asItCame : State
     asItCame = stateOf zeros cells links calendar words
@@ -219,9 +227,9 @@ setup-fresh N z raw kind cells links calendar words e =
         else if not c then setUpOf 2 asItCame
         else setUpOf 0 fresh
 
-    go : (a b c : Bool) → rangesHold N z ≡ a → after a b c .number ≡ 0
-        → (rangesHold N z ≡ true) × (after a b c .state ≡ fresh)
-    go false b c p q = absurd (omega (arith, q))
-    go true false c p q = absurd (omega (arith, q))
-    go true true false p q = absurd (omega (arith, q))
-    go true true true p q = (p, refl)
+    go : (a b c : Bool) → rangesHold N z ≡ a → kindFits kind ≡ b → after a b c .number ≡ 0
+        → (rangesHold N z ≡ true) × (after a b c .state ≡ fresh) × (kindNumber (kindOf kind) ≡ kind)
+    go false b c p k q = absurd (omega (arith, q))
+    go true false c p k q = absurd (omega (arith, q))
+    go true true false p k q = absurd (omega (arith, q))
+    go true true true p k q = (p, refl, kind-chosen kind k)
