@@ -37,6 +37,10 @@ all-at P [] k d a h = absurd (not-suc-le-zero h)
 all-at P (x ∷ l) zero d a h = a .0
 all-at P (x ∷ l) (suc k) d a h = all-at P l k d (a .1) (le-of-suc-le-suc h)
 
+pub all-image : {A B : Type 0} (P : B → Type 0) (f : A → B) (l : List A) → All (λ x. P (f x)) l → All P (map f l)
+all-image P f [] a = tt
+all-image P f (x ∷ l) a = (a .0, all-image P f l (a .1))
+
 abbrev noLeft : Left
 noLeft = record { slot = 0; cell = noCell }
 
@@ -84,10 +88,6 @@ module _ (N z kind : ℕ) (h : List Event) (s : State) (i : Inv N z kind h s) wh
     timely =
         all-at (InTime (N - 1)) (gone v) k noLeft (ofConnection-all (λ p. p .cell .vci) v (InTime (N - 1)) (i .left) (i .in-time))
         here
-
-  all-image : {A B : Type 0} (P : B → Type 0) (f : A → B) (l : List A) → All (λ x. P (f x)) l → All P (map f l)
-  all-image P f [] a = tt
-  all-image P f (x ∷ l) a = (a .0, all-image P f l (a .1))
 
   waiting-in-time : (v : ℕ) → All (λ c. served h ≤ c .due + (N - 1)) (waiting v)
   waiting-in-time v = ofConnection-all connectionIn v (λ c. served h ≤ c .due + (N - 1)) (map cellIn (i .out ++ flat (i .cal)))

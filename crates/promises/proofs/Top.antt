@@ -1,10 +1,10 @@
 -- The theorems that readers are sent to: each from the invariant of runs, in one line.
 use Prim.Native.Nat.{ℕ}
-use mathlib.Core.Path.{_≡_, sym, ap, _∙_, subst}
+use mathlib.Core.Path.{_≡_, refl, sym, ap, _∙_, subst}
 use mathlib.Core.Logic.{_≢_}
 use mathlib.Core.Bool.{Bool, true, false}
 use mathlib.Core.List.{List, [], _∷_}
-use Rattle.meaning.specs.Numbers.{rangesHold}
+use Rattle.meaning.specs.Numbers.{rangesHold, uni}
 use Rattle.meaning.specs.State.{State}
 use Rattle.meaning.specs.Calls.{Options, kindNumber, kindOf, optionsOf, setup}
 use Rattle.meaning_runs.specs.Run.{Call, Event, numberOf, Run, runOf, calls, freshRun}
@@ -20,6 +20,10 @@ use Rattle.promises.specs.Runs.{NeverThree, InOrder, InOrderAlways}
 use Rattle.promises.proofs.Demand3Laws.{demanded}
 use Rattle.promises.specs.Checked.{HeaderCheck, HeaderCheckHolds, NotRawAsBefore}
 use Rattle.promises.proofs.DebtLaws.{debts, refused, fresh-paid}
+use Rattle.promises.specs.Paths.{Apart, PathOrder, PathsHold, NoPaths, NoPathsHold}
+use Rattle.promises.proofs.ApartLaws.{apart}
+use Rattle.promises.proofs.PathLaws.{path-order}
+use Rattle.promises.proofs.NoPathLaws.{no-paths}
 use Rattle.promises.specs.Sustained.{AsBefore, AsBeforeHolds}
 use Rattle.promises.proofs.SustainedLaws.{as-before}
 use Rattle.promises.proofs.CheckedRuns.{fresh-raw, raw-always, check-kept, plain-before}
@@ -100,3 +104,15 @@ not-raw-as-before N z kind cells links calendar words e cs =
     let fresh = setup-fresh N z false kind cells links calendar words e in
     plain-before (runOf (setup N z false kind cells links calendar words .state) []) cs
     (ap (λ (s : State). s .ctl .raw) (fresh .1) ∙ fresh-raw N z (optionsOf false (kindOf kind)))
+
+-- REQUEST (vi): VCs and paths never share a bucket, and a path's cells leave in arrival order
+pub paths-hold : PathsHold
+paths-hold =
+    from-setup (λ N z kind r. Apart z kind r × PathOrder N z kind (r .events))
+    (λ N z kind r k. (apart N z kind r k, path-order N z kind (r .events) (r .state) (k .inv)))
+
+-- with no path open the UNI is as it was
+pub no-paths-as-before : NoPathsHold
+no-paths-as-before N z raw cells links calendar words e cs =
+    after-setup (λ N z o r. kindNumber (o .kind) ≡ uni → NoPaths z r) (λ N z o range cs k. no-paths N z range o k cs)
+    N z raw uni cells links calendar words e cs refl
