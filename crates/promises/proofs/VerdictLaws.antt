@@ -69,7 +69,7 @@ module _ (N z kind : ℕ) (h : List Event) (s : State) (i : Inv N z kind h s) wh
       let x : _≡_ {A = ℕ} 0 1 = cc in omega arith)
   some-octets (x ∷ cell) n e = omega arith
 
-  user : (cell : List ℕ) → namesConnection z (headerAt kind cell 0) ≡ true
+  pub user : (cell : List ℕ) → namesConnection z (headerAt kind cell 0) ≡ true
       → length cell =? 0 || noUserCell (headerAt kind cell 0) ≡ false
   user cell n = rw (ne-eqb (length cell) 0 (some-octets cell n)) (user-cell (headerAt kind cell 0) n)
 
