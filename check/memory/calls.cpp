@@ -518,9 +518,24 @@ void tally_check(const clurimoon_record &record, Lent<const uint8_t> cell, const
   }
 }
 
+// Which connections were open before a slot, of those that its cell's header could be taken to name.
+struct Open {
+  bool vc = false, path_by_8_bits = false, path_by_vci = false;
+};
+Open open_before(const clurimoon_record &record, const Memory &lent, Lent<const uint8_t> cell) {
+  Open open;
+  if (!sizes_in_range(record.n, record.v) || !lengths_fit(record.n, record.v, lent) || cell.length != 53) return open;
+  const auto is_open = [&](unsigned c) { return lent.vcs.at[size_t{word_count} * c] == 1; };
+  const Header uni = read_header(CLURIMOON_UNI, cell.at);
+  open.vc = uni.vci != 0 && uni.vci < record.v && is_open(uni.vci);
+  open.path_by_8_bits = uni.vpi != 0 && is_open(record.v + uni.vpi);
+  open.path_by_vci = uni.vci > record.v && uni.vci < record.v + paths && is_open(uni.vci);
+  return open;
+}
+
 // What line kind and paths had to do with a slot, from the state and the cell before it and from its answer. A mended
 // cell is not looked at as it came.
-void tally_paths(const clurimoon_record &record, const std::vector<bool> &open, Lent<const uint8_t> cell, bool mended,
+void tally_paths(const clurimoon_record &record, const Open &open, Lent<const uint8_t> cell, bool mended,
                  const clurimoon_answer &a) {
   const bool lent = cell.length == 53, done = a.number == 0;
   if (record.kind > 1 && done) meet(a.verdict == CLURIMOON_DROPPED ? kind_not_read_for_a_dropped_cell : kind_not_read_without_a_cell);
@@ -537,20 +552,20 @@ void tally_paths(const clurimoon_record &record, const std::vector<bool> &open, 
   if (of_path && mended) meet(path_mended);
   if (mended) return;
   const Header header = read_header(record.kind, cell.at), uni = read_header(CLURIMOON_UNI, cell.at);
-  const bool gfc = !nni && cell.at[0] >= 16, names_vc = header.vci < record.v && open[header.vci];
+  const bool gfc = !nni && cell.at[0] >= 16;
   if (gfc && !header.is_user()) meet(no_user_cell_with_gfc);
   if (of_path && header.vci == 0) meet(path_vci_0);
-  if (of_path && names_vc) meet(path_vci_of_an_open_vc);
+  if (of_path && open.vc) meet(path_vci_of_an_open_vc);
   if (of_path && gfc) meet(path_with_gfc);
   if (of_path && header.vpi == 255) meet(path_255);
-  if (header.vpi == 0 && names_vc && gfc) meet(vc_with_gfc);
-  if (header.vpi == 0 && names_vc && nni) meet(vc_at_the_nni);
-  if (nni && header.vpi != 0 && uni.vpi == 0 && names_vc) meet(gfc_bits_are_vpi);
+  if (header.vpi == 0 && open.vc && gfc) meet(vc_with_gfc);
+  if (header.vpi == 0 && open.vc && nni) meet(vc_at_the_nni);
+  if (nni && header.vpi != 0 && uni.vpi == 0 && open.vc) meet(gfc_bits_are_vpi);
   if (header.vpi > 255) meet(vpi_above_255);
-  if (header.vpi > 255 && uni.vpi != 0 && open[record.v + uni.vpi]) meet(vpi_above_255_ends_as_an_open_path);
+  if (header.vpi > 255 && open.path_by_8_bits) meet(vpi_above_255_ends_as_an_open_path);
   if (a.verdict != CLURIMOON_UNKNOWN) return;
-  if (header.vpi != 0 && header.vpi < paths) meet(names_vc ? closed_path_vci_of_an_open_vc : closed_path);
-  if (header.vpi == 0 && header.vci > record.v && header.vci < record.v + paths && open[header.vci]) meet(vci_is_number_of_an_open_path);
+  if (header.vpi != 0 && header.vpi < paths) meet(open.vc ? closed_path_vci_of_an_open_vc : closed_path);
+  if (header.vpi == 0 && open.path_by_vci) meet(vci_is_number_of_an_open_path);
 }
 
 clurimoon_served judged_slot(const clurimoon_record &record, Memory lent, Lent<const uint8_t> cell) {
@@ -571,10 +586,7 @@ clurimoon_served judged_slot(const clurimoon_record &record, Memory lent, Lent<c
 } // namespace
 
 clurimoon_served slot(const clurimoon_record &record, Memory lent, Lent<const uint8_t> cell) {
-  const bool fits = sizes_in_range(record.n, record.v) && lengths_fit(record.n, record.v, lent);
-  static thread_local std::vector<bool> open; // which connections were, before the slot
-  open.assign(fits ? record.v + paths : 0, false);
-  for (size_t c = 0; c < open.size(); ++c) open[c] = lent.vcs.at[word_count * c] == 1;
+  const Open open = open_before(record, lent, cell);
   const clurimoon_served served = judged_slot(record, lent, cell);
   tally_check(record, cell, served.answer);
   const bool mended = record.raw == 1 && served.record.mode == CLURIMOON_DETECTION && cell.length == 53;
