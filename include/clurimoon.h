@@ -140,12 +140,13 @@ enum clurimoon_mode {
   CLURIMOON_DETECTION = 1   /* every error drops the cell */
 };
 
-/* The control record, 28 octets, of which the last two are unused. The caller
-   keeps it, hands it in and takes it back; it need not look inside. t is the last
-   slot's number, modulo 2^32. raw is 1 where headers are checked, and mode is then
-   the check's mode; raw is read only by a slot that is lent a cell, mode only where
-   raw is also 1. kind is the line kind; it is read where a header is read: by a slot
-   whose cell left the check, and by one in which a cell departs. */
+/* The control record, 28 octets, of which the last two are unused and may hold
+   anything: compare records field by field. The caller keeps it, hands it in and
+   takes it back; it need not look inside. t is the last slot's number, modulo 2^32.
+   raw is 1 where headers are checked, and mode is then the check's mode; raw is read
+   only by a slot that is lent a cell, mode only where raw is also 1. kind is the
+   line kind; it is read where a header is read: by a slot whose cell left the check,
+   and by one in which a cell departs. */
 typedef struct {
   uint16_t n, v;
   uint32_t t;
