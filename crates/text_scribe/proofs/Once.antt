@@ -1,7 +1,7 @@
 -- What a hand-over may leave: both memories are fixed; the buffer is so after so many fills, and where all was handed over there
 -- is one number of fills. So two that say yes handed over the same octets, in the same order, and left the same buffer. What
 -- stays open is the writer's: at which fill it says no.
-use Prim.Native.Nat.{ℕ, suc, _<_}
+use Prim.Native.Nat.{ℕ, _<_}
 use mathlib.Core.Path.{_≡_, refl, sym, ap, subst, _∙_}
 use mathlib.Core.Bool.{Bool, true, false}
 use mathlib.Core.List.{List, [], _++_, append-nil}

@@ -11,7 +11,7 @@ use lib.Seq.{take-all, take-add, length-take-le}
 use Rattle.list_lines.specs.Put.{Put}
 use Rattle.list_lines.proofs.Puts.{put-is, put-front}
 use Rattle.text_scribe.specs.declared.Scribed.{Scribed}
-use Rattle.text_scribe.specs.Scribe.{lineRoom, saidOf, traceOf, errorOf, ScribePromise}
+use Rattle.text_scribe.specs.Scribe.{lineRoom, saidOf, traceOf, ScribePromise}
 use Rattle.text_scribe.specs.Handed.{Fills, noFill, thenFill, Passed, Handed}
 
 never : {A : Type 0} → false ≡ true → A
