@@ -1,19 +1,19 @@
 -- What the reader reads depends on the record's own octets, and on whether its place is 0: the shape of a record that is
 -- read, and back.
-use Prim.Native.Nat.{ℕ, _+_, _*_, _≤_, _<_}
+use Prim.Native.Nat.{ℕ, _+_, _≤_, _<_}
 use mathlib.Core.Path.{_≡_, refl, sym, ap, subst, _∙_}
-use mathlib.Core.Bool.{Bool, true, false, _&&_, _||_}
+use mathlib.Core.Bool.{Bool, true, false, _&&_}
 use mathlib.Core.List.{List}
 use lib.ListN.{length, getD}
-use borrow.Author.Tests.{leb-true, eqb-true, eqb-false, eq-eqb, ne-eqb, le-leb}
+use borrow.Author.Tests.{leb-true, eqb-true, eqb-false, ne-eqb, le-leb}
 use native.Mathlib.Omega.{arith}
 use Rattle.meaning.specs.Plain.{if_then_else_, _<?_, _≤?_, _=?_}
-use Rattle.trace_record.specs.Trace.{TraceRecord, SL, Stands, event, finish, refusal, unreadable}
+use Rattle.trace_record.specs.Trace.{TraceRecord, SL, Stands, unreadable}
 use Rattle.trace_record.specs.Trace.{be16, whole, setupAt, openAt, sustainAt, closeAt, openPathAt, closePathAt, cellAt, pauseAt, firstAt, laterAt, standsAt}
 use Rattle.trace_record.specs.Trace.{markOctets, markGM, markGR, markGN, markVO, markVX, markCA, markSL, markVS, markPO, markPX}
 use Rattle.trace_record.specs.Trace.{longGM, longVO, longVX, longCA, longSL, longVS, longPO, longPX}
 use Rattle.trace_record.proofs.Cases.{whole-read, stands-first, stands-later}
-use Rattle.mend_step.specs.Salvage.{Reading, none, upTo, readingOf, readsTo, isMark, knownMark}
+use Rattle.mend_step.specs.Salvage.{none, upTo, readingOf, readsTo, isMark, knownMark}
 
 -- a first record's mark
 pub data First (m : ℕ) : Type 0 where

@@ -11,13 +11,13 @@ use lib.ListN.{length, getD, take, drop, take-append-drop}
 use lib.Seq.{drop-cons, drop-drop}
 use Rattle.meaning.specs.Plain.{if_then_else_, _<?_, _≤?_, _=?_}
 use Rattle.meaning.specs.Numbers.{octets}
-use Rattle.trace_record.specs.Trace.{TraceRecord, GM, VO, VX, CA, SL, VS, PO, PX, Stands, event, finish, refusal, unreadable}
+use Rattle.trace_record.specs.Trace.{Stands, event, finish, refusal}
 use Rattle.trace_record.specs.Trace.{be16, be32, whole, setupAt, openAt, sustainAt, closeAt, openPathAt, closePathAt, cellAt, pauseAt, firstAt, laterAt, standsAt}
 use Rattle.trace_record.specs.declared.Head.{Head}
 use Rattle.trace_record.specs.declared.Head.the-variants.{Gm, Gr, Gn}
 use Rattle.trace_record.specs.Trace.{headMark, markOctets, markGM, markGR, markGN, markVO, markVX, markCA, markSL, markVS, markPO, markPX}
 use Rattle.text_meaning.specs.Shapes.{of16, of32}
-use Rattle.text_meaning.specs.Events.{Event, told, pause, full, slOf, octetsOf, openingOf, closingOf, eventOf}
+use Rattle.text_meaning.specs.Events.{Event, told, pause, full, octetsOf, openingOf, closingOf, eventOf}
 use Rattle.text_trip.proofs.Settled.{single-octets}
 
 -- a pause of one record, as the reader reads it
