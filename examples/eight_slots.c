@@ -38,8 +38,8 @@ int main(void) {
   static const uint8_t idle[CLURIMOON_CELL] = {0, 0, 0, 1, 0x52};
 
   /* Not raw: octet 5 was checked before the cells came here, or is not ours to check. */
-  clurimoon_set set = clurimoon_setup(N, V, false, cells, sizeof cells, links, CLURIMOON_LINKS(N),
-                                      calendar, CLURIMOON_CALENDAR(N), vcs, CLURIMOON_VCS(V));
+  clurimoon_set set = clurimoon_setup(N, V, false, CLURIMOON_UNI, cells, sizeof cells, links,
+                                      CLURIMOON_LINKS(N), calendar, CLURIMOON_CALENDAR(N), vcs, CLURIMOON_VCS(V));
   if (set.number != CLURIMOON_DONE) return 1;
   clurimoon_record record = set.record;
 

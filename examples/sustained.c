@@ -35,8 +35,8 @@ int main(void) {
   static const unsigned arrives[9] = {TAGS, TAGS, TAGS, TAGS, DISCARDS, DISCARDS, DISCARDS, DISCARDS, TAGS};
   static const unsigned clp[9] = {0, 0, 0, 1, 0, 0, 0, 1, 0};
 
-  clurimoon_set set = clurimoon_setup(N, V, false, cells, sizeof cells, links, CLURIMOON_LINKS(N), calendar,
-                                      CLURIMOON_CALENDAR(N), vcs, CLURIMOON_VCS(V));
+  clurimoon_set set = clurimoon_setup(N, V, false, CLURIMOON_UNI, cells, sizeof cells, links, CLURIMOON_LINKS(N),
+                                      calendar, CLURIMOON_CALENDAR(N), vcs, CLURIMOON_VCS(V));
   if (set.number != CLURIMOON_DONE) return 1;
   clurimoon_record record = set.record;
 

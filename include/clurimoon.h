@@ -1,9 +1,11 @@
 /*
  * Clurimoon: the spacing policer of Wallmeier and Worster (ISS 1992).
  *
- * A policer has N cell spaces and serves VCs named by their VCI, 1 to V-1, at
- * VPI 0. The caller lends all memory and keeps the control record: the library
- * has no memory of its own, allocates nothing and keeps no pointer.
+ * A policer has N cell spaces and polices connections: VCs named by their VCI, 1
+ * to V-1, at VPI 0, and whole paths named by their VPI, 1 to 255, of which all
+ * cells share one bucket, whatever their VCI. A connection has a number: a VC its
+ * VCI, a path V + VPI. The caller lends all memory and keeps the control record:
+ * the library has no memory of its own, allocates nothing and keeps no pointer.
  *
  * Every call answers for every argument and every content of the lent memory.
  * A refused call leaves everything as it came. What each call does is said over
@@ -41,6 +43,11 @@
 #define CLURIMOON_M_MAX 15
 #define CLURIMOON_F_MAX 16777216
 
+/* Paths: their VPIs, 1 to 255, and how many records they have, with the first unused. */
+#define CLURIMOON_PATH_MIN 1
+#define CLURIMOON_PATH_MAX 255
+#define CLURIMOON_PATHS 256
+
 /* The second bucket's ranges, where there is one: m as above, F from 1 to
    CLURIMOON_F_MAX, whatever L is, and C from F to this. */
 #define CLURIMOON_C2_MAX 1073741824
@@ -49,10 +56,13 @@
 #define CLURIMOON_CELLS(n) ((size_t)53 * (size_t)(n))
 #define CLURIMOON_LINKS(n) ((size_t)(n))
 #define CLURIMOON_CALENDAR(n) ((size_t)2 * (size_t)(n))
-#define CLURIMOON_VCS(v) ((size_t)12 * (size_t)(v))
+#define CLURIMOON_VCS(v) ((size_t)12 * ((size_t)(v) + CLURIMOON_PATHS))
 
 /* The octets of all four memories together; the record is kept apart. */
-#define CLURIMOON_OCTETS(n, v) ((size_t)59 * (size_t)(n) + (size_t)48 * (size_t)(v))
+#define CLURIMOON_OCTETS(n, v) ((size_t)59 * (size_t)(n) + (size_t)48 * ((size_t)(v) + CLURIMOON_PATHS))
+
+/* The number of a path in answers, and the place of its words: 12 * that number. */
+#define CLURIMOON_PATH_NUMBER(v, vpi) ((size_t)(v) + (size_t)(vpi))
 
 /* What a burst of k slots takes, in elements: octets, octets, 16-bit numbers. */
 #define CLURIMOON_ARRIVALS(k) ((size_t)53 * (size_t)(k))
@@ -65,29 +75,40 @@ enum clurimoon_number {
   CLURIMOON_RANGE = 1,        /* N or V outside its range */
   CLURIMOON_LENGTH = 2,       /* a lent buffer has another length than it must */
   CLURIMOON_STORED = 3,       /* the call would read a stored number outside its range */
-  CLURIMOON_VCI = 4,          /* VCI outside 1 to V-1 */
+  CLURIMOON_VCI = 4,          /* VCI outside 1 to V-1, or path number outside 1 to 255 */
   CLURIMOON_ALREADY_OPEN = 5, /* open: already open */
   CLURIMOON_RULES = 6,        /* open: m, F or C against the rules */
   CLURIMOON_NOT_OPEN = 7,     /* close: not open */
   CLURIMOON_WAITING = 8,      /* close: a cell of it waits, or it has a debt: not yet */
   CLURIMOON_CELL_LENGTH = 9,  /* slot: cell length neither 0 nor 53 */
   CLURIMOON_UNREADABLE = 10,  /* trace: record unreadable */
-  CLURIMOON_SECOND = 11,      /* open_sustained: second bucket against its limits */
-  CLURIMOON_NOT_AFTER = 12    /* time: arrival not after the previous one, or outside the run */
+  CLURIMOON_SECOND = 11,      /* open_sustained, open_path: second bucket against its limits */
+  CLURIMOON_NOT_AFTER = 12,   /* time: arrival not after the previous one, or outside the run */
+  CLURIMOON_KIND = 13         /* setup: line kind unknown */
+};
+
+/* Line kinds: how a header is read. At the UNI octet 1 is GFC (high four bits),
+   which doesn't matter, and VPI, which has eight bits; at the NNI there is no GFC,
+   and the VPI has twelve. VCI, PTI and CLP stand at the same places. */
+enum clurimoon_line_kind {
+  CLURIMOON_UNI = 0,
+  CLURIMOON_NNI = 1
 };
 
 /* Verdicts on what arrived. */
 enum clurimoon_verdict {
   CLURIMOON_NOTHING = 0,  /* no cell, or VPI 0 with VCI 0: the slot counts as empty */
   CLURIMOON_ACCEPTED = 1, /* accepted; it is due D slots from now */
-  CLURIMOON_EXCESS = 2,   /* above the VC's peak, or above its sustainable rate and not tagged; not stored */
-  CLURIMOON_UNKNOWN = 3,  /* VPI not 0, VCI of V or more, or a VC not open; not stored */
+  CLURIMOON_EXCESS = 2,   /* above the connection's peak, or above its sustainable rate and not tagged; not stored */
+  CLURIMOON_UNKNOWN = 3,  /* VPI 0 with VCI of V or more, VPI above 255, or a VC or path not open; not stored */
   CLURIMOON_DROPPED = 4,  /* the header check dropped it: its slot counts as empty */
   CLURIMOON_TAGGED = 5    /* above the sustainable rate: let in with CLP 1; it is due D slots from now */
 };
 
-/* The twelve words of VC number x, from word 12 * x of the VC words on. A VC
-   without a second bucket has 0 in the last five. */
+/* The twelve words of connection number x, from word 12 * x of the VC words on: V
+   records of VCs, then 256 of paths. Those of numbers 0 and V are unused: they are
+   never open and never read. A connection without a second bucket has 0 in the last
+   five. */
 enum clurimoon_word {
   CLURIMOON_WORD_OPEN = 0,    /* 0 or 1 */
   CLURIMOON_WORD_M = 1,       /* the peak bucket: L = 2^m */
@@ -119,20 +140,24 @@ enum clurimoon_mode {
   CLURIMOON_DETECTION = 1   /* every error drops the cell */
 };
 
-/* The control record, 24 octets. The caller keeps it, hands it in and takes it
-   back; it need not look inside. t is the last slot's number, modulo 2^32. raw is
-   1 where headers are checked, and mode is then the check's mode; raw is read only
-   by a slot that is lent a cell, mode only where raw is also 1. */
+/* The control record, 28 octets, of which the last two are unused and may hold
+   anything: compare records field by field. The caller keeps it, hands it in and
+   takes it back; it need not look inside. t is the last slot's number, modulo 2^32.
+   raw is 1 where headers are checked, and mode is then the check's mode; raw is read
+   only by a slot that is lent a cell, mode only where raw is also 1. kind is the
+   line kind; it is read where a header is read: by a slot whose cell left the check,
+   and by one in which a cell departs. */
 typedef struct {
   uint16_t n, v;
   uint32_t t;
-  uint16_t T, rotation, free_head, free_tail, out_head, out_tail, raw, mode;
+  uint16_t T, rotation, free_head, free_tail, out_head, out_tail, raw, mode, kind;
 } clurimoon_record;
 
-/* What a slot did: refusal number; verdict; VCI as read, or as mended where the
-   header check mended it (0 for nothing and for a dropped cell); D (0 unless
-   accepted or tagged); the departing space (65,535 for none); the departing VCI (0 for
-   none). In a refusal all but the number are 0, and the space is 65,535. */
+/* What a slot did: refusal number; verdict; VCI (0 for nothing and for a dropped
+   cell): V + VPI for a cell of an open path, else as read, or as mended where the
+   header check mended it; D (0 unless accepted or tagged); the departing space
+   (65,535 for none); the departing VCI, V + VPI for a path's (0 for none). In a
+   refusal all but the number are 0, and the space is 65,535. */
 typedef struct {
   uint16_t number, verdict, vci, d, space, out_vci;
 } clurimoon_answer;
@@ -191,19 +216,22 @@ extern "C" {
 /*
  * Sets up a policer with n spaces and VCIs below v. Where raw is true, each cell
  * that arrives has its header checked by octet 5 (clurimoon_slot says how); where
- * it is false, octet 5 is neither read nor changed.
+ * it is false, octet 5 is neither read nor changed. kind is the line kind, 0 for
+ * the UNI and 1 for the NNI: it says how each header is read. Paths may be opened
+ * at either.
  *
- * Refusals, in this order: 1 if n is not 1 to 1,024 or v not 2 to 1,024; 2 if
- * the lengths are not 53 n octets of cells, n links, 2 n calendar numbers and
- * 7 v VC words. A refusal writes nothing and hands back a record of zeros.
+ * Refusals, in this order: 1 if n is not 1 to 1,024 or v not 2 to 1,024; 13 if
+ * kind is neither 0 nor 1; 2 if the lengths are not 53 n octets of cells, n links,
+ * 2 n calendar numbers and 12 (v + 256) VC words, whatever the kind is. A refusal
+ * writes nothing and hands back a record of zeros.
  *
  * Done: all four memories are cleared; spaces 0 to n-1 are chained into the Free
  * List in that order (link i is i+1, the last link stays 0); every calendar
  * number is 65,535; the Output List is empty. The record has t 2^32-1, T n-1 and
- * rotation v-1, so that the first slot is slot 0; raw is 1 or 0, and the mode is
- * 0, correction. No VC is open.
+ * rotation v+255, so that the first slot is slot 0; raw is 1 or 0, the mode is 0,
+ * correction, and kind is the one that was asked for. No VC and no path is open.
  */
-clurimoon_set clurimoon_setup(uint16_t n, uint16_t v, bool raw,
+clurimoon_set clurimoon_setup(uint16_t n, uint16_t v, bool raw, uint16_t kind,
                               uint8_t *cells, size_t cells_length,
                               uint16_t *links, size_t links_length,
                               uint16_t *calendar, size_t calendar_length,
@@ -214,7 +242,7 @@ clurimoon_set clurimoon_setup(uint16_t n, uint16_t v, bool raw,
  * slot, and a tolerance of (C-F)/L slots. It has no second bucket.
  *
  * Refusals, in this order: 1 if the record's N or V is outside its range; 2 if
- * the VC words are not 12 V; 4 if vci is not 1 to V-1; 3 if the VC's open word is
+ * the VC words are not 12 (V + 256); 4 if vci is not 1 to V-1; 3 if the VC's open word is
  * neither 0 nor 1, or it is open and its m, F and C break the rules, or S is
  * above C, or waiting above N, or the second bucket's m, F, C and flag are against
  * their limits, or its S is above its C; 5 if it is open; 6 unless m is at most
@@ -247,6 +275,25 @@ uint16_t clurimoon_open_sustained(clurimoon_record record,
                                   uint8_t m2, uint32_t f2, uint32_t c2, uint8_t tag);
 
 /*
+ * Opens the path on VPI vpi, with one or two buckets for all its cells, whatever
+ * their VCI. A path is opened as a VC is by clurimoon_open_sustained, with its VPI
+ * in place of the VCI; m2, f2, c2 and tag all 0 are no second bucket. While it is
+ * open, each cell with that VPI is the path's, also one with VCI 0 or with the VCI
+ * of an open VC: VCs are at VPI 0.
+ *
+ * Refusals, in this order: 1; 2; 4 if vpi is not 1 to 255; 3, 5, 6 and 11 as for
+ * clurimoon_open_sustained, with the path's words in place of the VC's.
+ *
+ * Done: the twelve words of number V + vpi are 1, m, F, C, 0, the record's t, 0,
+ * m2, F2, C2, 0, tag. No other word changes. The record does not change and so
+ * isn't handed back.
+ */
+uint16_t clurimoon_open_path(clurimoon_record record,
+                             uint32_t *vcs, size_t vcs_length,
+                             uint16_t vpi, uint8_t m, uint32_t f, uint32_t c,
+                             uint8_t m2, uint32_t f2, uint32_t c2, uint8_t tag);
+
+/*
  * Closes VC vci, unless cells of it wait or it has a debt. A debt is what is left
  * of the peak bucket's S when the VC is brought up to date as of the record's t,
  * the last slot that was served: without it a VC closed and reopened at once could
@@ -271,14 +318,29 @@ uint16_t clurimoon_close(clurimoon_record record, uint32_t *vcs, size_t vcs_leng
                          uint16_t vci);
 
 /*
+ * Closes the path on VPI vpi, as clurimoon_close closes a VC: unless cells of it
+ * wait or it has a debt.
+ *
+ * Refusals, in this order: 1; 2; 4 if vpi is not 1 to 255; 3, 7 and 8 as for
+ * clurimoon_close, with the path's words in place of the VC's. A refusal writes
+ * nothing.
+ *
+ * Done: the twelve words of number V + vpi are 0. No other word changes. The record
+ * does not change and so isn't handed back.
+ */
+uint16_t clurimoon_close_path(clurimoon_record record,
+                              uint32_t *vcs, size_t vcs_length, uint16_t vpi);
+
+/*
  * Serves one slot. `cell` is what arrived: 53 octets, or none (length 0).
  *
  * Refusals, in this order: 1 if the record's N or V is outside its range; 2 if
  * one of the four memories has another length than at setup; 9 if the cell's
  * length is neither 0 nor 53; 3 if the slot would read a stored number outside
- * its range, raw and mode among them: raw is read when 53 octets are lent, mode
- * when raw is then 1, and each must be 0 or 1. A refusal writes nothing and hands
- * the record back as it came, its mode too.
+ * its range, raw, mode and kind among them: raw is read when 53 octets are lent,
+ * mode when raw is then 1, kind when the cell is not dropped and when one departs,
+ * and each must be 0 or 1. A refusal writes nothing and hands the record back as it
+ * came, its mode too.
  *
  * The header check comes first, where raw is 1 and a cell is lent, idle and
  * unassigned cells too. Octet 5 must be the remainder of the first four octets
@@ -293,7 +355,17 @@ uint16_t clurimoon_close(clurimoon_record record, uint32_t *vcs, size_t vcs_leng
  * cell. Mended to VPI 0 and VCI 0 it makes the slot empty, verdict 0. A slot that
  * is lent no cell keeps the mode.
  *
- * A cell of an open VC is judged by both its buckets, before either is filled:
+ * The header of a cell that goes on is read by the line kind, and names
+ *  - with VPI 0 and VCI 0 no connection: it is no user cell, verdict 0;
+ *  - with VPI 0 and VCI 1 to V-1 that VC;
+ *  - with VPI 1 to 255 that path, whatever its VCI, at the UNI and at the NNI.
+ * A cell that names no connection or one that isn't open is unknown, with its VCI
+ * as read, and no word of another connection is read for it. A cell of an open
+ * connection has the connection's number for its VCI in every verdict, and when it
+ * departs: the VCI of a VC, V + VPI of a path. Its 53 octets leave as they came, or
+ * as mended or tagged.
+ *
+ * A cell of an open connection is judged by both its buckets, before either is filled:
  *  - above the peak (S above C-F): excess;
  *  - CLP 0, within the peak and above the sustainable rate (the second S above the
  *    second C-F): tagged where the flag is 1, otherwise excess;
@@ -302,13 +374,14 @@ uint16_t clurimoon_close(clurimoon_record record, uint32_t *vcs, size_t vcs_leng
  * one only the peak bucket; an excess one neither. A tagged cell is stored, sent
  * and shown with CLP 1 and with octet 5 computed anew, also where the policer is
  * not raw; nothing else of it changes, and D is the peak bucket's. Of a cell that
- * isn't tagged octet 5 leaves as it came or was mended. Both buckets of a VC are
- * brought up to date together; that reads the VC's words but waiting, so that 3
+ * isn't tagged octet 5 leaves as it came or was mended. Both buckets of a connection
+ * are brought up to date together; that reads its words but waiting, so that 3
  * covers the second bucket's words too: m, F, C and flag by the limits of
  * clurimoon_open_sustained, and S at most C.
  *
- * Done: the clock, T and rotation grow by one; the VC that rotation names, if
- * open, is brought up to date; the arriving cell is judged and, if accepted or
+ * Done: the clock, T and rotation grow by one, rotation over all V + 256 numbers;
+ * the connection that rotation names, if open, is brought up to date (0 and V name
+ * none); the arriving cell is judged and, if accepted or
  * tagged, stored in the head of the Free List and joined to the head of calendar
  * entry T+D; entry T goes to the end of the Output List; the head of the Output
  * List departs, and its space goes to the tail of the Free List. No octet and no
@@ -342,12 +415,13 @@ clurimoon_part clurimoon_line(const uint8_t *cells, size_t cells_length,
  *
  * True exactly when lengths and ranges hold throughout, each space is in exactly
  * one of the Free List, the Output List and the time slot queues, each chain
- * ends at its tail, entry T is empty, each queued header names an open VC, and
- * each open VC's waiting is the number of its queued cells; raw and mode are among
- * the ranges, each 0 or 1 whatever the other is, and so are the words of an open
- * VC's second bucket. VC 0's words don't matter. It is true after every call since
- * a setup that answered 0, where each call got record and memories as the call
- * before left them.
+ * ends at its tail, entry T is empty, each queued header, read by the line kind,
+ * names an open VC or path, and the waiting of each of these is the number of its
+ * queued cells; raw, mode and kind are among the ranges, each 0 or 1 whatever the
+ * others are, and so are the words of a second bucket of an open VC or path. The
+ * words of numbers 0 and V don't matter. It is true after every call since a setup
+ * that answered 0, where each call got record and memories as the call before left
+ * them.
  */
 bool clurimoon_audit(clurimoon_record record,
                      const uint8_t *cells, size_t cells_length,

@@ -1,7 +1,7 @@
 /*
- * Audit and setup of a policer under traffic.
+ * Audit and setup of a policer under traffic, and the opening and closing of a path.
  *
- *   drive count audit|setup N V      one call, for callgrind
+ *   drive count audit|setup|open_path|close_path N V      one call, for callgrind
  *   drive time N V REPEATS           median nanoseconds of both, taken in turns
  */
 #define _POSIX_C_SOURCE 199309L
@@ -25,7 +25,7 @@ static void fail(const char *what) { fprintf(stderr, "bench: FAILED, %s\n", what
 #define MEMORY cells, 53 * n, links, n, calendar, 2 * n, vcs, CLURIMOON_VCS(v)
 
 static void set_up(void) {
-  const clurimoon_set set = clurimoon_setup((uint16_t)n, (uint16_t)v, false, MEMORY);
+  const clurimoon_set set = clurimoon_setup((uint16_t)n, (uint16_t)v, false, CLURIMOON_UNI, MEMORY);
   if (set.number != 0) fail("setup");
   record = set.record;
 }
@@ -33,14 +33,22 @@ static void audit(void) {
   if (!clurimoon_audit(record, MEMORY)) fail("the audit says no");
 }
 
+/* With both buckets; no cell of it has come, so that it may be closed at once. */
+static void open_path(void) {
+  if (clurimoon_open_path(record, vcs, CLURIMOON_VCS(v), 255, 4, 27, 27 + 16 * n - 1, 2, 24, 90, 1) != 0) fail("open_path");
+}
+static void close_path(void) {
+  if (clurimoon_close_path(record, vcs, CLURIMOON_VCS(v), 255) != 0) fail("close_path");
+}
+
 /* A policer in the midst of its work: traffic of load 0.8. */
 static void work(void) {
   set_up();
   for (unsigned vci = 1; vci < v; ++vci) {
-    const contract k = contract_of(vci, v, 0);
+    const contract k = contract_of(vci, v, plain);
     if (k.open && clurimoon_open(record, vcs, CLURIMOON_VCS(v), (uint16_t)vci, k.m, k.f, k.c) != 0) fail("open");
   }
-  make_traffic(v, 80, 0, slots, sizes, arrivals);
+  make_traffic(v, 80, plain, slots, sizes, arrivals);
   const clurimoon_burst_end end = clurimoon_burst(record, MEMORY, arrivals, sizeof arrivals, sizes, sizeof sizes,
                                                   departures, sizeof departures, answers, 6 * slots);
   if (end.number != 0) fail("a burst was refused");
@@ -63,11 +71,13 @@ static double timed(void (*call)(void)) {
 }
 
 int main(int count, char **arguments) {
-  if (count != 5) return fprintf(stderr, "drive count audit|setup N V | drive time N V REPEATS\n"), 2;
+  if (count != 5) return fprintf(stderr, "drive count audit|setup|open_path|close_path N V | drive time N V REPEATS\n"), 2;
   if (strcmp(arguments[1], "count") == 0) {
     n = (unsigned)atoi(arguments[3]), v = (unsigned)atoi(arguments[4]);
     work();
     if (strcmp(arguments[2], "audit") == 0) audit();
+    if (strstr(arguments[2], "_path")) open_path();
+    if (strcmp(arguments[2], "close_path") == 0) close_path();
     return 0;
   }
   n = (unsigned)atoi(arguments[2]), v = (unsigned)atoi(arguments[3]);

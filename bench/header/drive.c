@@ -129,7 +129,7 @@ int main(int count, char **arguments) {
   const char *kind = arguments[1];
   const bool raw = atoi(arguments[2]) != 0;
   wrong = (unsigned)atoi(arguments[3]), n = (unsigned)atoi(arguments[4]), v = (unsigned)atoi(arguments[5]);
-  const clurimoon_set set = clurimoon_setup((uint16_t)n, (uint16_t)v, raw, MEMORY);
+  const clurimoon_set set = clurimoon_setup((uint16_t)n, (uint16_t)v, raw, CLURIMOON_UNI, MEMORY);
   if (set.number != 0) return 1;
   record = set.record;
   for (unsigned vci = 1; vci < v; ++vci)

@@ -9,7 +9,7 @@
 static uint8_t input[65537], out[65536];
 static uint8_t cells[53 * 1024];
 static uint16_t links[1024], calendar[2048];
-static uint32_t vcs[12 * 1024];
+static uint32_t vcs[CLURIMOON_VCS(1024)];
 static size_t used;
 
 static void flush(void) {
@@ -73,9 +73,9 @@ int main(void) {
   for (ssize_t got; long_ < sizeof input && (got = read(0, input + long_, sizeof input - long_)) > 0;) long_ += (size_t)got;
   uint32_t n = be16(input + 2), v = be16(input + 4), tally[5] = {0};
   clurimoon_record r = {.n = (uint16_t)n, .v = (uint16_t)v, .t = UINT32_MAX, .T = (uint16_t)(n - 1),
-                        .rotation = (uint16_t)(v - 1), .free_head = 0, .free_tail = (uint16_t)(n - 1),
-                        .out_head = 65535, .out_tail = 65535};
-  const lent_memory lent = {cells, links, calendar, vcs, 53 * n, n, 2 * n, 12 * v};
+                        .rotation = (uint16_t)(v + 255), .free_head = 0, .free_tail = (uint16_t)(n - 1),
+                        .out_head = 65535, .out_tail = 65535, .kind = input[1] == 'N'};
+  const lent_memory lent = {cells, links, calendar, vcs, 53 * n, n, 2 * n, CLURIMOON_VCS(v)};
   memset(calendar, 255, sizeof calendar);
   for (uint32_t i = 0; i + 1 < n; i++) links[i] = (uint16_t)(i + 1);
   text_line("setup ", (uint32_t[]){n, v, 0}, 3);
@@ -84,14 +84,16 @@ int main(void) {
     uint32_t slots = 0;
     size_t cell_long = 0;
     if (sizeof out - used < 160) flush();
-    if (p[0] == 'V' && p[1] != 'X') {
-      uint32_t *vc = vcs + 12 * be16(p + 2);
+    const bool named = p[0] == 'V' || p[0] == 'P';
+    const uint32_t name = be16(p + 2) + (p[0] == 'P' ? v : 0);
+    if (named && p[1] != 'X') {
+      uint32_t *vc = vcs + 12 * name;
       vc[0] = 1, vc[1] = p[4], vc[2] = be32(p + 5), vc[3] = be32(p + 9), vc[4] = 0, vc[5] = r.t, vc[6] = 0;
       if (p[1] == 'S') vc[7] = p[13], vc[8] = be32(p + 14), vc[9] = be32(p + 18), vc[11] = p[22];
-      text_line("open ", (uint32_t[]){be16(p + 2), 0}, 2), at += p[1] == 'S' ? 23 : 13;
-    } else if (p[0] == 'V') {
-      memset(vcs + 12 * be16(p + 2), 0, 48);
-      text_line("close ", (uint32_t[]){be16(p + 2), 0}, 2), at += 4;
+      text_line("open ", (uint32_t[]){name, 0}, 2), at += p[1] == 'S' ? 23 : 13;
+    } else if (named) {
+      memset(vcs + 12 * name, 0, 48);
+      text_line("close ", (uint32_t[]){name, 0}, 2), at += 4;
     } else if (p[0] == 'C') slots = 1, cell_long = 53, at += 55;
     else slots = be16(p + 2), at += 4;
     for (uint32_t i = 0; i < slots; i++) {

@@ -17,7 +17,9 @@ static size_t size_of(unsigned m) {
   case 0x564f: return 13;
   case 0x5653: return 23;
   case 0x5658: return 4;
-  case 0x474d: case 0x4752: return 6;
+  case 0x504f: return 13;
+  case 0x5058: return 4;
+  case 0x474d: case 0x4752: case 0x474e: return 6;
   default: return 0;
   }
 }

@@ -20,7 +20,7 @@ static inline u64 second_of(const u32 *vc) {
   return f_and_c | s_and_tag | vc[w_m2];
 }
 
-/* Whether an open VC's m, F, C or S, or a word of its second bucket, is out of range. */
+/* Whether an open connection's m, F, C or S, or a word of its second bucket, is out of range. */
 static inline bool bad_buckets(const u32 *vc, u32 n) {
   const u32 m = vc[w_m], f = vc[w_F], c = vc[w_C];
   if (m > 15 || f >> m == 0 || f > CLURIMOON_F_MAX || c < f || (c - f) >> m >= n || vc[w_S] > c) return true;
@@ -30,15 +30,15 @@ static inline bool bad_buckets(const u32 *vc, u32 n) {
 /* False, and nothing is written, for refusal 3. N, V and all lengths are fit. */
 static bool careful(clurimoon_record *r, uint8_t *cells, u16 *links, u16 *calendar, u32 *vcs, const uint8_t *cell,
                     size_t cell_length, clurimoon_answer *answer) {
-  const u32 n = r->n, v = r->v, t = r->t + 1;
-  if (unlikely(r->T >= n || r->rotation >= v)) return false;
-  const u32 T = r->T + 1u == n ? 0 : r->T + 1u, rotation = r->rotation + 1u == v ? 0 : r->rotation + 1u;
+  const u32 n = r->n, v = r->v, t = r->t + 1, mask = mask_of(r->kind);
+  if (unlikely(r->T >= n || r->rotation >= v + paths)) return false;
+  const u32 T = r->T + 1u == n ? 0 : r->T + 1u, rotation = r->rotation + 1u == v + paths ? 0 : r->rotation + 1u;
   u32 free_head = r->free_head, free_tail = r->free_tail, out_head = r->out_head, out_tail = r->out_tail;
   u32 verdict = CLURIMOON_NOTHING, d = 0, seen = 0, sent = 0;
 
-  /* Step 2: the VC whose turn it is, and its S afterwards. */
+  /* Step 2: the VC or path whose turn it is, and its S afterwards. */
   u32 *turn = NULL, turn_s = 0, turn_second = 0;
-  if (rotation != 0) {
+  if (rotation != 0 && rotation != v) {
     u32 *vc = vcs + words * rotation;
     if (vc[w_open] > 1) return false;
     if (vc[w_open] == 1) {
@@ -48,17 +48,18 @@ static bool careful(clurimoon_record *r, uint8_t *cells, u16 *links, u16 *calend
     }
   }
 
-  /* Step 3: the VC met, the space x taken, entry e with its old head and new tail. */
+  /* Step 3: the VC or path met, the space x taken, entry e with its old head and new tail. */
   u32 *met = NULL, met_s = 0, met_second = 0, x = none, e = none, joined = none, e_tail = none;
   if (cell_length != 0) {
-    const u32 name = name_of(cell); /* VPI, then VCI */
+    if (r->kind > 1) return false;
+    const u32 name = name_of(cell, mask), number = number_of(name, v);
     if (name != 0) {
       seen = name & 0xffff;
       verdict = CLURIMOON_UNKNOWN;
-      u32 *vc = vcs + words * name;
-      if (name < v && vc[w_open] != 0) {
+      u32 *vc = vcs + words * number;
+      if (number != 0 && vc[w_open] != 0) {
         if (vc[w_open] != 1 || bad_buckets(vc, n)) return false;
-        met = vc;
+        met = vc, seen = number;
         met_s = fallen(vc, t), met_second = fallen_second(vc, t);
         const bool above = clp_0(cell) && met_second > vc[w_C2] - vc[w_F2];
         verdict = CLURIMOON_EXCESS;
@@ -104,8 +105,8 @@ static bool careful(clurimoon_record *r, uint8_t *cells, u16 *links, u16 *calend
       out_head = y == follows ? head : y == x && joined != none ? joined : links[y];
       if (out_head >= n) return false;
     }
-    sent = name_of(y == x ? cell : cells + 53 * y);
-    if (sent - 1 >= v - 1) return false;
+    sent = number_of(name_of(y == x ? cell : cells + 53 * y, mask), v);
+    if (r->kind > 1 || sent == 0) return false;
     left = vcs + words * sent;
     if (left[w_open] != 1 || left[w_waiting] + (x != none && left == met) - 1 >= n) return false;
     if (bad_pair(free_head, free_tail, n)) return false;

@@ -2,8 +2,9 @@
    out, each with its tests first and its writes last. What is unfit or odd (the last free space, lists that share spaces)
    leaves them before any write, and careful.h serves that slot or refuses it.
 
-   Throughout, T is below N and rotation below V; the Output List's head and tail are both below N or both 65,535, and in
-   a burst so are the Free List's: they are tested when the burst begins, and each slot keeps them so. */
+   Throughout, T is below N, rotation below V + 256 and the line kind 0 or 1; the Output List's head and tail are both below
+   N or both 65,535, and in a burst so are the Free List's: they are tested when the burst begins, and each slot keeps them
+   so. */
 #include "careful.h"
 
 /* What arrived, and what rotation names. */
@@ -12,15 +13,15 @@ typedef struct {
   enum kind kind;
   const uint8_t *cell;
   u32 verdict, s, second; /* what its buckets hold afterwards, S without the cell's F */
-  index_t name, d;
-  u32 *met;        /* the VC brought up to date, or NULL */
+  index_t name, d; /* the VCI as read, or the number of the connection met */
+  u32 *met;        /* the VC or path brought up to date, or NULL */
   index_t x, link; /* the space taken, and the Free List's next one */
   u32 e_pair;      /* what the entry held that it joins, and the entry, unless that is T */
   u16 *e;
-  u32 *turn, turn_s, turn_second; /* rotation's VC if that is open, or what takes its place, and what its buckets hold */
+  u32 *turn, turn_s, turn_second; /* rotation's VC or path if open, or what takes its place, and what its buckets hold */
 } plan;
 
-/* Tests all words of an open VC but waiting, and works out S of both buckets as it will be. That C is at least F needs no
+/* Tests all words of an open connection but waiting, and works out S of both buckets as it will be. That C is at least F needs no
    test of its own: otherwise C-F is above 2^31, which is far more than N leaks. */
 inlined bool brought(const u32 *vc, index_t n, u32 t, u32 *s, u32 *second, u32 *room) {
   const u32 m = vc[w_m], f = vc[w_F], c = vc[w_C];
@@ -62,11 +63,11 @@ inlined void write_arrival(policer *p, const plan *a, bool stays, u16 *answer) {
   } else if (a->kind == later) put_pair(a->e, a->x * 0x10001);
 }
 
-/* Tests the departing space's header and its VC's open word and waiting. Where that VC is the one whose cell was just
-   accepted, waiting is below N, and one more is 1 to N. */
+/* Tests the departing space's header and its connection's open word and waiting. Where that is the one whose cell was
+   just accepted, waiting is below N, and one more is 1 to N. */
 inlined u32 *leaving(const policer *p, index_t y, const u32 *met, index_t *sent) {
-  *sent = name_of(cells(p) + 53 * y);
-  if (unlikely(*sent - 1 >= p->v - 1)) return NULL;
+  *sent = number_of(name_of(cells(p) + 53 * y, p->mask), p->v);
+  if (unlikely(*sent == 0)) return NULL;
   u32 *vc = vcs(p) + words * *sent;
   if (unlikely(vc[w_open] != 1)) return NULL;
   if (vc != met && unlikely(vc[w_waiting] - 1 >= p->n)) return NULL;
@@ -158,15 +159,16 @@ inlined bool arrive(policer *p, plan *a, size_t size, given to) {
   a->kind = nothing;
   if (size == 0) return finish(p, a, to);
   if (unlikely(size != 53)) return false;
-  a->name = name_of(a->cell), a->d = 0, a->met = NULL, a->kind = away;
-  u32 *vc = vcs(p) + words * a->name, room;
-  if (unlikely(a->name - 1 >= p->v - 1) || unlikely(vc[w_open] != 1)) {
-    if (a->name - 1 < p->v - 1 && vc[w_open] != 0) return false;
+  const index_t number = number_of(a->name = name_of(a->cell, p->mask), p->v);
+  a->d = 0, a->met = NULL, a->kind = away;
+  u32 *vc = vcs(p) + words * number, room;
+  if (unlikely(number == 0) || unlikely(vc[w_open] != 1)) {
+    if (number != 0 && vc[w_open] != 0) return false;
     a->verdict = a->name == 0 ? CLURIMOON_NOTHING : CLURIMOON_UNKNOWN;
     return finish(p, a, to);
   }
   if (!brought(vc, p->n, p->t, &a->s, &a->second, &room)) return false;
-  a->met = vc;
+  a->met = vc, a->name = number;
   a->verdict = CLURIMOON_EXCESS;
   if (unlikely(a->s > room)) return finish(p, a, to);
   const u32 c_second = vc[w_C2], f_second = vc[w_F2];
@@ -199,7 +201,7 @@ inlined bool arrive(policer *p, plan *a, size_t size, given to) {
 inlined bool serve(policer *p, const uint8_t *cell, size_t size, given to) {
   u32 unused[words];
   plan a = {.cell = cell, .turn = unused, .turn_s = 0, .turn_second = 0};
-  if (likely(p->turn[w_open] == 1)) {
+  if (p->turn[w_open] == 1) {
     u32 room;
     if (!brought(p->turn, p->n, p->t, &a.turn_s, &a.turn_second, &room)) return false;
     a.turn = p->turn;
@@ -209,7 +211,7 @@ inlined bool serve(policer *p, const uint8_t *cell, size_t size, given to) {
 
 static u16 refusal_of(u32 n, u32 v, const lent_memory *lent) {
   if (n - 1 >= 1024 || v - 2 >= 1023) return 1;
-  if (lent->cells_length != 53 * n || lent->links_length != n || lent->calendar_length != 2 * n || lent->vcs_length != words * v)
+  if (lent->cells_length != 53 * n || lent->links_length != n || lent->calendar_length != 2 * n || lent->vcs_length != words * (v + paths))
     return 2;
   return 0;
 }
@@ -230,10 +232,11 @@ static __attribute__((noinline, cold)) void odd_answer(clurimoon_record *r, cons
 
 exported void checking_slot(clurimoon_record *restrict r, const lent_memory *lent, const uint8_t *cell, size_t cell_length,
                             clurimoon_answer *answer) {
-  policer p = {.n = r->n, .v = r->v, .lent = lent, .t = r->t + 1, .T = r->T + 1u, .rotation = r->rotation + 1u, .record = r};
+  policer p = {.n = r->n, .v = r->v, .lent = lent, .t = r->t + 1, .T = r->T + 1u, .rotation = r->rotation + 1u, .record = r,
+               .mask = mask_of(r->kind)};
   if (unlikely(p.n - 1 >= 1024) || unlikely(p.v - 2 >= 1023) || unlikely(lent->cells_length != 53 * p.n) ||
       unlikely(lent->links_length != p.n) || unlikely(lent->calendar_length != 2 * p.n) ||
-      unlikely(lent->vcs_length != words * p.v))
+      unlikely(lent->vcs_length != words * (p.v + paths)) || unlikely(r->kind > 1))
     goto odd;
   /* one comparison for the range and for the step round */
   if (unlikely(p.T >= p.n)) {
@@ -241,10 +244,11 @@ exported void checking_slot(clurimoon_record *restrict r, const lent_memory *len
     p.T = 0;
   }
   p.turn = vcs(&p) + words * p.rotation;
-  if (unlikely(p.rotation >= p.v)) {
-    if (p.rotation != p.v) goto odd;
+  if (unlikely(p.rotation >= p.v + paths)) {
+    if (p.rotation != p.v + paths) goto odd;
     p.rotation = 0, p.turn = (u32 *)closed;
   }
+  if (unlikely(p.rotation == p.v)) p.turn = (u32 *)closed;
   p.entry = calendar(&p) + 2 * p.T;
   if (pair_at(&r->out_head) != no_pair && (unlikely(r->out_head >= p.n) || unlikely(r->out_tail >= p.n))) goto odd;
   if (likely(serve(&p, cell, cell_length, (given){(u16 *)answer, NULL, false}))) return;
@@ -271,10 +275,10 @@ exported burst_end checking_burst(clurimoon_record *restrict r, const lent_memor
   if (unlikely(number != 0)) return (burst_end){0, number};
   if (unlikely(b->arrivals_length != 53 * slots || b->departures_length != 53 * slots || b->answers_length != 6 * slots))
     return (burst_end){0, 2};
-  if (unlikely(r->T >= r->n || r->rotation >= r->v || bad_pair(r->free_head, r->free_tail, r->n) ||
+  if (unlikely(r->T >= r->n || r->rotation >= r->v + paths || r->kind > 1 || bad_pair(r->free_head, r->free_tail, r->n) ||
                bad_pair(r->out_head, r->out_tail, r->n)))
     return odd_slots(r, lent, b, 0, slots);
-  policer p = {.n = r->n, .v = r->v, .record = NULL, .kept_cells = lent->cells, .kept_links = lent->links,
+  policer p = {.n = r->n, .v = r->v, .record = NULL, .mask = mask_of(r->kind), .kept_cells = lent->cells, .kept_links = lent->links,
                .kept_calendar = lent->calendar, .kept_vcs = lent->vcs};
   take(&p, r);
   const uint8_t *cell = b->arrivals, *size = b->sizes, *const end = size + slots;

@@ -1,14 +1,15 @@
 /*
  * Drives the forms of the slot path through the same traffic.
  *
- *   drive count FORM N V LOAD SLOTS [sustained]
+ *   drive count FORM N V LOAD SLOTS [sustained|paths]
  *                                        one form, for callgrind; prints a sum over answers, departures and memory
- *   drive time N V LOAD SLOTS REPEATS [sustained]
+ *   drive time N V LOAD SLOTS REPEATS [sustained|paths]
  *                                        all forms in turns; fails where the sums differ before or after; prints for each
  *                                        form the median, the least and the quartiles of nanoseconds a slot, and the
  *                                        median over the rounds of the archive's time to the C's
  *
- * LOAD is in percent. SLOTS is a multiple of 64, the length of a burst. With `sustained` every second VC has a second bucket.
+ * LOAD is in percent. SLOTS is a multiple of 64, the length of a burst. With `sustained` every second VC has a second
+ * bucket; with `paths` the line is an NNI, and one path carries half of the cells.
  */
 #define _POSIX_C_SOURCE 199309L
 #include <stdio.h>
@@ -35,7 +36,7 @@ static policer policers[forms];
 static uint8_t *arrivals, *sizes;
 static size_t slots;
 static unsigned n, v, load;
-static int sustained;
+static traffic kind;
 static int show_cells; /* whether the departing cells of slots by themselves are taken down, too */
 
 static void fail(const char *what) { fprintf(stderr, "bench: FAILED, %s\n", what), exit(1); }
@@ -49,11 +50,15 @@ static void *room(size_t octets) {
 static void begin(policer *p) {
   p->lent = (lent_memory){p->cells, p->links, p->calendar, p->vcs, 53 * n, n, 2 * n, CLURIMOON_VCS(v)};
   const clurimoon_set set =
-      clurimoon_setup((uint16_t)n, (uint16_t)v, false, p->cells, 53 * n, p->links, n, p->calendar, 2 * n, p->vcs, CLURIMOON_VCS(v));
+      clurimoon_setup((uint16_t)n, (uint16_t)v, false, kind == with_path ? CLURIMOON_NNI : CLURIMOON_UNI, p->cells, 53 * n,
+                      p->links, n, p->calendar, 2 * n, p->vcs, CLURIMOON_VCS(v));
   if (set.number != 0) fail("setup");
   p->record = set.record;
+  const contract path = contract_of_path();
+  if (kind == with_path && clurimoon_open_path(p->record, p->vcs, CLURIMOON_VCS(v), the_path, path.m, path.f, path.c, 0, 0, 0, 0) != 0)
+    fail("open_path");
   for (unsigned vci = 1; vci < v; ++vci) {
-    const contract k = contract_of(vci, v, sustained);
+    const contract k = contract_of(vci, v, kind);
     if (k.open && clurimoon_open_sustained(p->record, p->vcs, CLURIMOON_VCS(v), (uint16_t)vci, k.m, k.f, k.c, k.m2, k.f2, k.c2, k.tag) != 0)
       fail("open");
   }
@@ -112,28 +117,32 @@ static void add(const void *data, size_t octets) {
   const uint8_t *octet = data;
   while (octets-- > 0) sum = (sum ^ *octet++) * 1099511628211u;
 }
-/* Over answers, departing cells, record and all memory. */
+/* Over answers, departing cells, record and all memory. The record has unused octets at its end. */
 static uint64_t sum_of(const policer *p) {
+  const clurimoon_record *r = &p->record;
+  const uint32_t numbers[12] = {r->n,         r->v,        r->t,        r->T,   r->rotation, r->free_head,
+                                r->free_tail, r->out_head, r->out_tail, r->raw, r->mode,     r->kind};
   sum = 14695981039346656037u;
   add(p->answers, 12 * slots), add(p->departures, 53 * slots);
-  add(&p->record, sizeof p->record), add(p->cells, 53 * n), add(p->links, 2 * n), add(p->calendar, 4 * n);
+  add(numbers, sizeof numbers), add(p->cells, 53 * n), add(p->links, 2 * n), add(p->calendar, 4 * n);
   add(p->vcs, 4 * CLURIMOON_VCS(v));
   return sum;
 }
 
 /* What the traffic was like; no slot of it may be refused. */
 static void tally(const policer *p) {
-  unsigned long verdicts[8] = {0}, sent = 0, busy = 0, delayed = 0, worst = 0;
+  unsigned long verdicts[8] = {0}, sent = 0, busy = 0, delayed = 0, worst = 0, of_path = 0;
   for (size_t k = 0; k < slots; ++k) {
     const uint16_t *a = p->answers + 6 * k;
     if (a[0] != 0) fail("a slot was refused");
     verdicts[a[1] & 7] += 1, sent += a[4] != CLURIMOON_NONE, busy += sizes[k] != 0, delayed += a[3] != 0;
+    of_path += a[1] != CLURIMOON_UNKNOWN && a[2] == v + the_path;
     if (a[3] > worst) worst = a[3];
   }
   const double part = 100.0 / (double)slots;
-  printf("of 100 slots: cells %.1f, accepted %.1f and tagged %.1f (D above 0: %.1f, greatest %lu), excess %.1f, unknown %.1f, sent %.1f\n",
+  printf("of 100 slots: cells %.1f, accepted %.1f and tagged %.1f (D above 0: %.1f, greatest %lu), excess %.1f, unknown %.1f, sent %.1f, of the path %.1f\n",
          busy * part, verdicts[1] * part, verdicts[5] * part, delayed * part, worst, verdicts[2] * part, verdicts[3] * part,
-         sent * part);
+         sent * part, of_path * part);
 }
 
 static int form_of(const char *name) {
@@ -193,17 +202,17 @@ static void time_all(unsigned repeats) {
 }
 
 int main(int count, char **arguments) {
-  sustained = count == 8 && strcmp(arguments[7], "sustained") == 0;
-  count -= sustained;
+  kind = count != 8 ? plain : strcmp(arguments[7], "sustained") == 0 ? sustained : strcmp(arguments[7], "paths") == 0 ? with_path : plain;
+  count -= kind != plain;
   const int counting = count == 7 && strcmp(arguments[1], "count") == 0;
   if (!counting && !(count == 7 && strcmp(arguments[1], "time") == 0))
-    return fprintf(stderr, "drive count FORM N V LOAD SLOTS [sustained] | drive time N V LOAD SLOTS REPEATS [sustained]\n"), 2;
+    return fprintf(stderr, "drive count FORM N V LOAD SLOTS [sustained|paths] | drive time N V LOAD SLOTS REPEATS [sustained|paths]\n"), 2;
   char **sizes_of = arguments + (counting ? 3 : 2);
   n = (unsigned)atoi(sizes_of[0]), v = (unsigned)atoi(sizes_of[1]), load = (unsigned)atoi(sizes_of[2]);
   slots = (size_t)atol(sizes_of[3]);
   if (slots == 0 || slots % block != 0) fail("SLOTS is not a multiple of 64");
   sizes = room(slots), arrivals = room(53 * slots);
-  make_traffic(v, load, sustained, slots, sizes, arrivals);
+  make_traffic(v, load, kind, slots, sizes, arrivals);
   if (counting) {
     const int form = form_of(arguments[2]);
     policer *p = policers + form;

@@ -1,5 +1,5 @@
-/* What both forms share: the words of a VC, headers, the leak, a cell's copy. Little endian, since a head and its tail are
-   read as one number. */
+/* What both forms share: the words of a VC or path, headers, the leak, a cell's copy. Little endian, since a head and its
+   tail are read as one number. */
 #ifndef PATH_H
 #define PATH_H
 #include <stdbool.h>
@@ -22,13 +22,21 @@ static const u32 none = CLURIMOON_NONE, no_pair = 0xffffffff;
 #define inlined static inline __attribute__((always_inline))
 #define exported __attribute__((noinline))
 
-/* Spaces, entries, VCs. */
+/* Spaces, entries, connections. */
 typedef u32 index_t;
-/* VPI (8 bits), then VCI (16 bits), of a cell's header. */
-inlined index_t name_of(const uint8_t *cell) {
+enum { paths = CLURIMOON_PATHS };
+/* VPI (8 bits at the UNI, 12 at the NNI), then VCI (16 bits), of a cell's header. */
+inlined u32 mask_of(u32 kind) { return 0xffffff | kind * 0xf000000; }
+inlined index_t name_of(const uint8_t *cell, u32 mask) {
   u32 header;
   memcpy(&header, cell, sizeof header);
-  return __builtin_bswap32(header) << 4 >> 8;
+  return __builtin_bswap32(header) >> 4 & mask;
+}
+/* The number of the VC or path that it names; 0 for none. */
+inlined index_t number_of(index_t name, index_t v) {
+  if (likely(name - 1 < v - 1)) return name;
+  const index_t path = name >> 16;
+  return path - 1 < paths - 1 ? v + path : 0;
 }
 
 /* A head and its tail, two numbers in a row: the head is the low half. */
@@ -61,24 +69,26 @@ inlined void copy_cell(uint8_t *to, const uint8_t *from) {
   memcpy(to + 45, &last, 8);
 }
 
-/* Octet 5 of a tagged cell. VPI is 0 and VCI below 1,024: the GFC, octet 3 and octet 4 say all. Each table has what its
-   bits leave, added up; the first has 01010101 besides. */
+/* Octet 5 of a tagged cell, by a table for each of the four octets: a path's cell has any VCI. Each table has what its
+   octet's bits leave, added up; the first has 01010101 besides. */
 #define BIT(b, k, rest) ((b) >> (k)&1 ? (rest) : 0)
-#define OF_1(g) (uint8_t)(0x55 ^ BIT(g, 0, 0x67) ^ BIT(g, 1, 0xce) ^ BIT(g, 2, 0x9b) ^ BIT(g, 3, 0x31))
-#define OF_3(b) (uint8_t)(BIT(b, 0, 0x15) ^ BIT(b, 1, 0x2a) ^ BIT(b, 2, 0x54) ^ BIT(b, 3, 0xa8) ^ BIT(b, 4, 0x57) ^ BIT(b, 5, 0xae))
-#define OF_4(b)                                                                                                        \
-  (uint8_t)(BIT(b, 0, 0x07) ^ BIT(b, 1, 0x0e) ^ BIT(b, 2, 0x1c) ^ BIT(b, 3, 0x38) ^ BIT(b, 4, 0x70) ^ BIT(b, 5, 0xe0) ^   \
-            BIT(b, 6, 0xc7) ^ BIT(b, 7, 0x89))
+#define OF(b, r0, r1, r2, r3, r4, r5, r6, r7)                                                                          \
+  (uint8_t)(BIT(b, 0, r0) ^ BIT(b, 1, r1) ^ BIT(b, 2, r2) ^ BIT(b, 3, r3) ^ BIT(b, 4, r4) ^ BIT(b, 5, r5) ^ BIT(b, 6, r6) ^ \
+            BIT(b, 7, r7))
+#define OF_1(b) (uint8_t)(0x55 ^ OF(b, 0x16, 0x2c, 0x58, 0xb0, 0x67, 0xce, 0x9b, 0x31))
+#define OF_2(b) OF(b, 0x6b, 0xd6, 0xab, 0x51, 0xa2, 0x43, 0x86, 0x0b)
+#define OF_3(b) OF(b, 0x15, 0x2a, 0x54, 0xa8, 0x57, 0xae, 0x5b, 0xb6)
+#define OF_4(b) OF(b, 0x07, 0x0e, 0x1c, 0x38, 0x70, 0xe0, 0xc7, 0x89)
 #define FOUR(of, b) of(b), of((b) + 1), of((b) + 2), of((b) + 3)
 #define ROW(of, b) FOUR(of, b), FOUR(of, (b) + 4), FOUR(of, (b) + 8), FOUR(of, (b) + 12)
 #define ROWS(of, b) ROW(of, b), ROW(of, (b) + 16), ROW(of, (b) + 32), ROW(of, (b) + 48)
-static const uint8_t of_1[16] = {ROW(OF_1, 0)}, of_3[64] = {ROWS(OF_3, 0)},
-                     of_4[256] = {ROWS(OF_4, 0), ROWS(OF_4, 64), ROWS(OF_4, 128), ROWS(OF_4, 192)};
+#define ALL(of) {ROWS(of, 0), ROWS(of, 64), ROWS(of, 128), ROWS(of, 192)}
+static const uint8_t of_1[256] = ALL(OF_1), of_2[256] = ALL(OF_2), of_3[256] = ALL(OF_3), of_4[256] = ALL(OF_4);
 inlined bool clp_0(const uint8_t *cell) { return (cell[3] & 1) == 0; }
 /* Tags what was copied from `cell`. */
 inlined void tag(uint8_t *to, const uint8_t *cell) {
   const uint8_t octet_4 = cell[3] | 1;
-  to[3] = octet_4, to[4] = of_1[cell[0] >> 4] ^ of_3[cell[2]] ^ of_4[octet_4];
+  to[3] = octet_4, to[4] = of_1[cell[0]] ^ of_2[cell[1]] ^ of_3[cell[2]] ^ of_4[octet_4];
 }
 
 /* A policer. Through a burst its numbers and the places of its memories are kept in locals; for one slot they stay where
@@ -87,9 +97,9 @@ typedef struct {
   clurimoon_record *record;
   const lent_memory *lent;
   index_t n, v, T, rotation;
-  u32 t;
+  u32 t, mask; /* of a header, by the line kind */
   u16 *entry; /* entry T */
-  u32 *turn;  /* the VC that rotation names */
+  u32 *turn;  /* the VC or path that rotation names */
   uint8_t *kept_cells;
   u16 *kept_links, *kept_calendar;
   u32 *kept_vcs;
@@ -114,32 +124,33 @@ NUMBER(free_tail)
 NUMBER(out_head)
 NUMBER(out_tail)
 
-static const u32 closed[words]; /* stands for VC 0, which is never open and whose words are not read */
+static const u32 closed[words]; /* stands for records 0 and V, which are never open and whose words are not read */
 
 /* The numbers of the record into locals and back; T and rotation are those of the slot to come. */
 inlined index_t stepped(index_t number, index_t modulus) { return number + 1 == modulus ? 0 : number + 1; }
 inlined index_t stepped_back(index_t number, index_t modulus) { return (number == 0 ? modulus : number) - 1; }
 inlined void take(policer *p, const clurimoon_record *r) {
-  p->t = r->t, p->T = stepped(r->T, p->n), p->rotation = stepped(r->rotation, p->v);
+  p->t = r->t, p->T = stepped(r->T, p->n), p->rotation = stepped(r->rotation, p->v + paths);
   p->kept_free_head = r->free_head, p->kept_free_tail = r->free_tail;
   p->kept_out_head = r->out_head, p->kept_out_tail = r->out_tail;
 }
 inlined void give(const policer *p, clurimoon_record *r) {
-  r->t = p->t, r->T = (u16)stepped_back(p->T, p->n), r->rotation = (u16)stepped_back(p->rotation, p->v);
+  r->t = p->t, r->T = (u16)stepped_back(p->T, p->n), r->rotation = (u16)stepped_back(p->rotation, p->v + paths);
   r->free_head = (u16)p->kept_free_head, r->free_tail = (u16)p->kept_free_tail;
   r->out_head = (u16)p->kept_out_head, r->out_tail = (u16)p->kept_out_tail;
 }
 
-/* How many slots it is until T or rotation steps round: within a run neither needs a test. */
+/* How many slots it is until T or rotation steps round, or rotation comes to V: within a run neither needs a test. */
 inlined size_t begin_run(policer *p, size_t slots) {
+  const index_t stop = p->rotation < p->v ? p->v : p->v + paths;
   p->entry = calendar(p) + 2 * p->T, p->turn = vcs(p) + words * p->rotation;
-  if (p->rotation == 0) return p->turn = (u32 *)closed, 1;
+  if (p->rotation == 0 || p->rotation == p->v) return p->turn = (u32 *)closed, 1;
   if (slots > p->n - p->T) slots = p->n - p->T;
-  return slots > p->v - p->rotation ? p->v - p->rotation : slots;
+  return slots > stop - p->rotation ? stop - p->rotation : slots;
 }
 inlined void end_run(policer *p, index_t slots) {
   p->T = p->T + slots == p->n ? 0 : p->T + slots;
-  p->rotation = p->rotation + slots == p->v ? 0 : p->rotation + slots;
+  p->rotation = p->rotation + slots == p->v + paths ? 0 : p->rotation + slots;
 }
 
 /* Where the slot's answer and its departing cell go; a slot by itself copies none. */

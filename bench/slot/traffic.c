@@ -9,6 +9,9 @@
  *
  * Sustained: every second VC may send CLP 0 cells at half its peak rate, and some cells of a spurt more; what is above is
  * tagged, about one cell in ten of all.
+ *
+ * With a path: the line is an NNI; the cells of the same second VCs come on one path instead, with their VCIs, about half
+ * of all. The path has three fifths of the line for its peak.
  */
 #include "traffic.h"
 
@@ -36,12 +39,16 @@ static uint64_t interval_of(unsigned vci, unsigned sum) {
   return interval < part ? part : interval;
 }
 
-contract contract_of(unsigned vci, unsigned v, int sustained) {
-  contract k = {is_open(vci), (uint8_t)classes[vci % 8].m, 0, 0, 0, 0, 0, 0};
+static int is_second(unsigned vci) { return vci / 8 % 2 == 1; }
+
+contract contract_of_path(void) { return (contract){1, 4, 27, 27 + (75 << 4), 0, 0, 0, 0}; }
+
+contract contract_of(unsigned vci, unsigned v, traffic kind) {
+  contract k = {is_open(vci) && !(kind == with_path && is_second(vci)), (uint8_t)classes[vci % 8].m, 0, 0, 0, 0, 0, 0};
   if (!k.open) return k;
   k.f = (uint32_t)((interval_of(vci, weights(v)) << k.m) / part);
   k.c = k.f + (classes[vci % 8].tolerance << k.m);
-  if (!sustained || vci / 8 % 2 == 0) return k;
+  if (kind != sustained || !is_second(vci)) return k;
   k.m2 = (uint8_t)classes[(vci + 3) % 8].m, k.tag = 1;
   k.f2 = (uint32_t)((slower * interval_of(vci, weights(v)) << k.m2) / part);
   k.c2 = k.f2 * burst;
@@ -101,22 +108,28 @@ static void begin(source *s, unsigned load, unsigned sum) {
   lateness(s);
 }
 
-static void put_header(uint8_t *cell, unsigned vpi, unsigned vci) {
-  cell[0] = (uint8_t)((cell[0] & 0xf0) | vpi >> 4), cell[1] = (uint8_t)((vpi & 15) << 4 | vci >> 12);
+static void put_header(uint8_t *cell, unsigned vpi, unsigned vci, traffic kind) {
+  cell[0] = (uint8_t)((kind == with_path ? 0 : cell[0] & 0xf0) | vpi >> 4), cell[1] = (uint8_t)((vpi & 15) << 4 | vci >> 12);
   cell[2] = (uint8_t)(vci >> 4), cell[3] = (uint8_t)((vci & 15) << 4 | (cell[3] & 15));
 }
 
-static void make_cell(uint8_t *cell, unsigned vci, unsigned v) {
-  for (unsigned octet = 0; octet < 53; ++octet) cell[octet] = (uint8_t)drawn(256);
-  const unsigned kind = drawn(100);
-  if (kind == 0) put_header(cell, 0, 0);
-  else if (kind > 1) put_header(cell, 0, vci);
-  else if (drawn(3) == 0) put_header(cell, 1 + drawn(255), vci);
-  else if (drawn(2) == 0) put_header(cell, 0, v + drawn(65536 - v));
-  else put_header(cell, 0, drawn(v / closed_each) * closed_each + closed_each - 1);
+/* A VPI that is neither 0 nor the path's. */
+static unsigned other_vpi(traffic kind) {
+  const unsigned vpi = 1 + drawn(kind == with_path ? 4095 : 255);
+  return kind == with_path && vpi == the_path ? vpi + 1 : vpi;
 }
 
-void make_traffic(unsigned v, unsigned load, int sustained, size_t slots, uint8_t *sizes, uint8_t *arrivals) {
+static void make_cell(uint8_t *cell, unsigned vci, unsigned v, traffic kind) {
+  for (unsigned octet = 0; octet < 53; ++octet) cell[octet] = (uint8_t)drawn(256);
+  const unsigned chance = drawn(100);
+  if (chance == 0) put_header(cell, 0, 0, kind);
+  else if (chance > 1) put_header(cell, kind == with_path && is_second(vci) ? the_path : 0, vci, kind);
+  else if (drawn(3) == 0) put_header(cell, other_vpi(kind), vci, kind);
+  else if (drawn(2) == 0) put_header(cell, 0, v + drawn(65536 - v), kind);
+  else put_header(cell, 0, drawn(v / closed_each) * closed_each + closed_each - 1, kind);
+}
+
+void make_traffic(unsigned v, unsigned load, traffic kind, size_t slots, uint8_t *sizes, uint8_t *arrivals) {
   const unsigned sum = weights(v);
   state = 1992, sources = 0;
   for (unsigned vci = 1; vci < v; ++vci) {
@@ -133,8 +146,8 @@ void make_traffic(unsigned v, unsigned load, int sustained, size_t slots, uint8_
     sizes[k] = load == 100 || heap[0].time <= now ? 53 : 0;
     for (unsigned octet = 0; octet < 53; ++octet) arrivals[53 * k + octet] = 0;
     if (sizes[k] == 0) continue;
-    make_cell(arrivals + 53 * k, heap[0].vci, v);
-    if (sustained) arrivals[53 * k + 3] = (uint8_t)((arrivals[53 * k + 3] & 254) | (arrivals[53 * k + 52] < 26));
+    make_cell(arrivals + 53 * k, heap[0].vci, v, kind);
+    if (kind == sustained) arrivals[53 * k + 3] = (uint8_t)((arrivals[53 * k + 3] & 254) | (arrivals[53 * k + 52] < 26));
     advance(heap, load, sum), sink(0);
   }
 }

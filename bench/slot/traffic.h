@@ -4,6 +4,11 @@
 #include <stddef.h>
 #include <stdint.h>
 
+/* Three kinds of traffic. `sustained`: every second VC has a second bucket, and all cells but one in ten have CLP 0.
+   `with_path`: at the NNI, one path carries the cells of every second VC, which is closed. */
+typedef enum { plain, sustained, with_path } traffic;
+enum { the_path = 9 };
+
 /* What VC `vci` of V is opened with; open is 0 for those left closed. */
 typedef struct {
   int open;
@@ -12,10 +17,11 @@ typedef struct {
   uint8_t m2, tag;
   uint32_t f2, c2; /* all 0 for no second bucket */
 } contract;
-contract contract_of(unsigned vci, unsigned v, int sustained);
+contract contract_of(unsigned vci, unsigned v, traffic kind);
+/* What the path is opened with. */
+contract contract_of_path(void);
 
-/* Fills in `slots` slots: sizes 0 or 53, arrivals 53 octets a slot. LOAD in percent. Where `sustained` is not 0, every
-   second VC has a second bucket, and all cells but one in ten have CLP 0. */
-void make_traffic(unsigned v, unsigned load, int sustained, size_t slots, uint8_t *sizes, uint8_t *arrivals);
+/* Fills in `slots` slots: sizes 0 or 53, arrivals 53 octets a slot. LOAD in percent. */
+void make_traffic(unsigned v, unsigned load, traffic kind, size_t slots, uint8_t *sizes, uint8_t *arrivals);
 
 #endif

@@ -15,13 +15,14 @@ inlined void store(policer *p, index_t x, index_t d) {
 
 /* Step 3; true where the cell leaves at once, since nothing waits for the line and D is 0. */
 inlined bool arrive(policer *p, const uint8_t *cell, given to) {
-  const index_t name = name_of(cell);
-  u32 *vc = vcs(p) + words * name;
-  to.answer[2] = (u16)name;
-  if (unlikely(name - 1 >= p->v - 1) || unlikely(vc[w_open] == 0)) {
-    put_pair(to.answer, (name == 0 ? CLURIMOON_NOTHING : CLURIMOON_UNKNOWN) << 16), to.answer[3] = 0;
+  const index_t name = name_of(cell, p->mask), number = number_of(name, p->v);
+  u32 *vc = vcs(p) + words * number;
+  if (unlikely(number == 0) || unlikely(vc[w_open] == 0)) {
+    put_pair(to.answer, (name == 0 ? CLURIMOON_NOTHING : CLURIMOON_UNKNOWN) << 16);
+    to.answer[2] = (u16)name, to.answer[3] = 0;
     return false;
   }
+  to.answer[2] = (u16)number;
   const u32 s = fallen(vc, p->t), f = vc[w_F], c_second = vc[w_C2];
   bool tagged = false, above = s > vc[w_C] - f;
   if (c_second != 0) {
@@ -48,7 +49,7 @@ inlined bool arrive(policer *p, const uint8_t *cell, given to) {
       copy_cell(to.departure, cell);
       if (unlikely(tagged)) tag(to.departure, cell);
     }
-    to.answer[4] = (u16)x, to.answer[5] = (u16)name;
+    to.answer[4] = (u16)x, to.answer[5] = (u16)number;
     const index_t tail = free_tail(p);
     if (unlikely(x == tail)) return true;
     set_free_head(p, links(p)[x]), set_free_tail(p, x);
@@ -80,7 +81,7 @@ inlined void leave(policer *p, given to) {
   if (y == tail) set_out_head(p, none), set_out_tail(p, none);
   else set_out_head(p, links(p)[y]);
   const uint8_t *cell = cells(p) + 53 * y;
-  const index_t sent = name_of(cell);
+  const index_t sent = number_of(name_of(cell, p->mask), p->v);
   vcs(p)[words * sent + w_waiting] -= 1;
   if (to.copied) copy_cell(to.departure, cell);
   if (unlikely(free_head(p) == none)) set_free_head(p, y);
@@ -92,7 +93,7 @@ inlined void leave(policer *p, given to) {
 /* Steps 2 to 5. */
 inlined void serve(policer *p, const uint8_t *cell, size_t size, given to) {
   u32 *turn = p->turn;
-  if (likely(turn[w_open] != 0)) {
+  if (turn[w_open] != 0) {
     if (turn[w_S2] != 0) turn[w_S2] = fallen_second(turn, p->t);
     turn[w_S] = fallen(turn, p->t), turn[w_last] = p->t;
   }
@@ -103,18 +104,19 @@ inlined void serve(policer *p, const uint8_t *cell, size_t size, given to) {
 
 exported void trusting_slot(clurimoon_record *restrict r, const lent_memory *lent, const uint8_t *cell, size_t cell_length,
                             clurimoon_answer *answer) {
-  policer p = {.n = r->n, .v = r->v, .lent = lent, .t = r->t + 1, .record = r};
+  policer p = {.n = r->n, .v = r->v, .lent = lent, .t = r->t + 1, .record = r, .mask = mask_of(r->kind)};
   index_t T = r->T + 1u, rotation = r->rotation + 1u;
   if (unlikely(T == p.n)) T = 0;
   p.turn = vcs(&p) + words * rotation;
-  if (unlikely(rotation == p.v)) rotation = 0, p.turn = (u32 *)closed;
+  if (unlikely(rotation == p.v + paths)) rotation = 0;
+  if (unlikely(rotation == 0 || rotation == p.v)) p.turn = (u32 *)closed;
   p.entry = calendar(&p) + 2 * T;
   r->t = p.t, r->T = (u16)T, r->rotation = (u16)rotation;
   serve(&p, cell, cell_length, (given){(u16 *)answer, NULL, false});
 }
 
 exported burst_end trusting_burst(clurimoon_record *restrict r, const lent_memory *lent, const lent_burst *b) {
-  policer p = {.n = r->n, .v = r->v, .record = NULL, .kept_cells = lent->cells, .kept_links = lent->links,
+  policer p = {.n = r->n, .v = r->v, .record = NULL, .mask = mask_of(r->kind), .kept_cells = lent->cells, .kept_links = lent->links,
                .kept_calendar = lent->calendar, .kept_vcs = lent->vcs};
   take(&p, r);
   const uint8_t *cell = b->arrivals, *size = b->sizes, *const end = size + b->sizes_length;

@@ -12,9 +12,10 @@
  *   family 2, any N       VC 2 is slower than the line by one part in K, the least power of two from N on, and sends
  *                         N K cells; VC 3, at the line's rate, sends the next N-1
  *
- * Several connections of VC 1 are tried at each N, each from a copy of the policer as it stands before slot X. At each
+ * Several rates of VC 1 are tried at each N, each from a copy of the policer as it stands before slot X. At each
  * second N VC 1 has a second bucket for one cell in 2^24 slots, and tags: all its cells but the first are tagged, and
- * leave as the others do.
+ * leave as the others do. At two of four N a path stands in VC 1's place, with cells of another VCI each, and at four of
+ * eight the line is an NNI.
  */
 #include <stdint.h>
 #include <stdio.h>
@@ -23,7 +24,7 @@
 
 #include "clurimoon.h"
 
-enum { MOST = CLURIMOON_N_MAX, KINDS = 5, MOST_WINDOWS = 11 };
+enum { MOST = CLURIMOON_N_MAX, KINDS = 5, MOST_WINDOWS = 11, PATH = 201 };
 
 /* A connection: m, F and C, with L = 2^m. */
 typedef struct {
@@ -42,7 +43,11 @@ typedef struct {
   uint32_t words[CLURIMOON_VCS(CLURIMOON_V_MAX)];
 } policer;
 
-static unsigned long long runs, slots, windows, fewer, tagged;
+static unsigned long long runs, slots, windows, fewer, tagged, of_paths;
+
+static bool tags(const policer *p) { return p->n % 2 == 1; }
+static bool has_path(const policer *p) { return p->n / 2 % 2 == 1; }
+static uint16_t kind_of(uint32_t n) { return n / 4 % 2 == 1 ? CLURIMOON_NNI : CLURIMOON_UNI; }
 
 static void fail(const policer *p, const char *what) {
   printf("burst: FAILED, family %u, N %u, slot %llu: %s\n", p->family, (unsigned)p->n, (unsigned long long)p->now, what);
@@ -52,8 +57,8 @@ static void fail(const policer *p, const char *what) {
 static void set_up(policer *p, unsigned family, uint32_t n, uint32_t v) {
   clurimoon_set set;
   p->family = family, p->n = n, p->v = v, p->now = 0;
-  set = clurimoon_setup((uint16_t)n, (uint16_t)v, false, p->cells, CLURIMOON_CELLS(n), p->links, CLURIMOON_LINKS(n),
-                        p->calendar, CLURIMOON_CALENDAR(n), p->words, CLURIMOON_VCS(v));
+  set = clurimoon_setup((uint16_t)n, (uint16_t)v, false, kind_of(n), p->cells, CLURIMOON_CELLS(n), p->links,
+                        CLURIMOON_LINKS(n), p->calendar, CLURIMOON_CALENDAR(n), p->words, CLURIMOON_VCS(v));
   if (set.number != CLURIMOON_DONE) fail(p, "setup was refused");
   p->record = set.record;
 }
@@ -63,21 +68,43 @@ static void open_vc(policer *p, uint32_t vci, uint8_t m, uint32_t f, uint32_t c)
     fail(p, "an open was refused");
 }
 
+/* VC 1, or the path in its place, with or without a second bucket. */
+static void open_first(policer *p, const connection *c) {
+  const uint32_t f2 = tags(p) ? CLURIMOON_F_MAX : 0;
+  const uint8_t tag = tags(p) ? 1 : 0;
+  uint16_t number;
+  if (has_path(p)) number = clurimoon_open_path(p->record, p->words, CLURIMOON_VCS(p->v), PATH, c->m, c->f, c->c, 0, f2, f2, tag);
+  else if (tag) number = clurimoon_open_sustained(p->record, p->words, CLURIMOON_VCS(p->v), 1, c->m, c->f, c->c, 0, f2, f2, tag);
+  else number = clurimoon_open(p->record, p->words, CLURIMOON_VCS(p->v), 1, c->m, c->f, c->c);
+  if (number != CLURIMOON_DONE) fail(p, "the open of VC 1, or of the path in its place, was refused");
+}
+
+/* A path's cells have any VCI, here 0 and others. */
+static void write_header(const policer *p, uint8_t *cell, uint32_t vci) {
+  const bool path = vci == 1 && has_path(p);
+  const uint32_t vpi = path ? PATH : 0, shown = path ? (uint32_t)(p->now * 7919 % 65536) : vci;
+  cell[0] = (uint8_t)(vpi >> 4), cell[1] = (uint8_t)((vpi & 15) << 4 | shown >> 12);
+  cell[2] = (uint8_t)(shown >> 4), cell[3] = (uint8_t)(shown << 4);
+}
+
 /* A slot in which a cell of this VC comes that gets this verdict and is due so many slots later; VC 0 for no cell.
    Answers the VC whose cell leaves, 0 for none. */
 static uint32_t serve_with(policer *p, uint32_t vci, uint32_t due_in, uint32_t verdict) {
   uint8_t cell[CLURIMOON_CELL] = {0};
   clurimoon_served s;
-  cell[1] = (uint8_t)(vci >> 12), cell[2] = (uint8_t)(vci >> 4), cell[3] = (uint8_t)(vci << 4);
+  write_header(p, cell, vci);
   s = clurimoon_slot(p->record, p->cells, CLURIMOON_CELLS(p->n), p->links, CLURIMOON_LINKS(p->n), p->calendar,
                      CLURIMOON_CALENDAR(p->n), p->words, CLURIMOON_VCS(p->v), cell, vci == 0 ? 0 : CLURIMOON_CELL);
   if (s.answer.number != CLURIMOON_DONE) fail(p, "a slot was refused");
   if (s.answer.verdict != (vci == 0 ? CLURIMOON_NOTHING : verdict)) fail(p, "a cell was not accepted, or not tagged");
   tagged += s.answer.verdict == CLURIMOON_TAGGED;
   if (s.answer.d != due_in) fail(p, "a cell is due in another slot");
+  if (vci != 0 && s.answer.vci != (vci == 1 && has_path(p) ? p->v + PATH : vci)) fail(p, "a cell is of another connection");
   p->record = s.record;
   ++p->now, ++slots;
-  return s.answer.out_vci;
+  if (s.answer.out_vci != p->v + PATH) return s.answer.out_vci;
+  if (!has_path(p)) fail(p, "a cell of a path leaves that was not opened");
+  return ++of_paths, 1;
 }
 
 static uint32_t serve(policer *p, uint32_t vci, uint32_t due_in) { return serve_with(p, vci, due_in, CLURIMOON_ACCEPTED); }
@@ -139,14 +166,11 @@ static void try_one(policer *p, const connection *c) {
   const uint64_t w[MOST_WINDOWS] = {1, 2, 3, 5, n / 3, n / 2, n - 1, n, n + 1, n + n / 2, 2 * n};
   uint64_t sent = 0;
   size_t count = 0, k;
-  if (n % 2 == 0) open_vc(p, 1, c->m, c->f, c->c);
-  else if (clurimoon_open_sustained(p->record, p->words, CLURIMOON_VCS(p->v), 1, c->m, c->f, c->c, 0, CLURIMOON_F_MAX,
-                                    CLURIMOON_F_MAX, 1) != CLURIMOON_DONE)
-    fail(p, "an open with a second bucket was refused");
+  open_first(p, c);
   while (p->now < first + 2 * n + 5) {
     const uint64_t slot = p->now;
     const bool comes = slot == x + (sent * c->f >> c->m);
-    const uint32_t verdict = n % 2 == 0 || sent == 0 ? CLURIMOON_ACCEPTED : CLURIMOON_TAGGED;
+    const uint32_t verdict = !tags(p) || sent == 0 ? CLURIMOON_ACCEPTED : CLURIMOON_TAGGED;
     if (comes) ++sent;
     if (serve_with(p, comes ? 1 : 0, 0, verdict) == 1) left[count++] = slot;
   }
@@ -176,7 +200,8 @@ int main(void) {
     if (!few || n <= 64) second_family(&p, n), try_all(&p);
   }
   printf("burst: every N from 1 to 1,024, %llu runs, %llu slots: the first cell of VC 1 exactly N-1 slots late in each; "
-         "%llu windows hold exactly min(w, bound) cells, %llu of them fewer than w, and none holds more; %llu cells tagged\n",
-         runs, slots, windows, fewer, tagged);
+         "%llu windows hold exactly min(w, bound) cells, %llu of them fewer than w, and none holds more; %llu cells tagged, "
+         "%llu sent of paths in VC 1's place\n",
+         runs, slots, windows, fewer, tagged, of_paths);
   return 0;
 }

@@ -27,7 +27,7 @@ static void check(int holds, const char *what, int line) {
   CHECK(sizeof(((type *)0)->field) == (size))
 
 static void structs(void) {
-  CHECK(sizeof(clurimoon_record) == 24);
+  CHECK(sizeof(clurimoon_record) == 28);
   LAID(clurimoon_record, n, 0, 2);
   LAID(clurimoon_record, v, 2, 2);
   LAID(clurimoon_record, t, 4, 4);
@@ -39,6 +39,7 @@ static void structs(void) {
   LAID(clurimoon_record, out_tail, 18, 2);
   LAID(clurimoon_record, raw, 20, 2);
   LAID(clurimoon_record, mode, 22, 2);
+  LAID(clurimoon_record, kind, 24, 2);
   CHECK(sizeof(clurimoon_answer) == 12);
   LAID(clurimoon_answer, number, 0, 2);
   LAID(clurimoon_answer, verdict, 2, 2);
@@ -46,20 +47,20 @@ static void structs(void) {
   LAID(clurimoon_answer, d, 6, 2);
   LAID(clurimoon_answer, space, 8, 2);
   LAID(clurimoon_answer, out_vci, 10, 2);
-  CHECK(sizeof(clurimoon_set) == 28);
+  CHECK(sizeof(clurimoon_set) == 32);
   LAID(clurimoon_set, number, 0, 2);
-  LAID(clurimoon_set, record, 4, 24);
-  CHECK(sizeof(clurimoon_served) == 36);
-  LAID(clurimoon_served, record, 0, 24);
-  LAID(clurimoon_served, answer, 24, 12);
+  LAID(clurimoon_set, record, 4, 28);
+  CHECK(sizeof(clurimoon_served) == 40);
+  LAID(clurimoon_served, record, 0, 28);
+  LAID(clurimoon_served, answer, 28, 12);
   CHECK(sizeof(clurimoon_part) == 3 * sizeof(size_t));
   LAID(clurimoon_part, from_idle, 0, 2);
   LAID(clurimoon_part, start, sizeof(size_t), sizeof(size_t));
   LAID(clurimoon_part, length, 2 * sizeof(size_t), sizeof(size_t));
-  CHECK(sizeof(clurimoon_burst_end) == 24 + 2 * sizeof(size_t));
-  LAID(clurimoon_burst_end, record, 0, 24);
-  LAID(clurimoon_burst_end, number, 24, 2);
-  LAID(clurimoon_burst_end, done, 24 + sizeof(size_t), sizeof(size_t));
+  CHECK(sizeof(clurimoon_burst_end) == 32 + sizeof(size_t));
+  LAID(clurimoon_burst_end, record, 0, 28);
+  LAID(clurimoon_burst_end, number, 28, 2);
+  LAID(clurimoon_burst_end, done, 32, sizeof(size_t));
   CHECK(sizeof(clurimoon_tat) == 24);
   LAID(clurimoon_tat, tat, 0, 8);
   LAID(clurimoon_tat, arrival, 8, 8);
@@ -74,28 +75,35 @@ static void structs(void) {
 
 static void macros(void) {
   CHECK(CLURIMOON_CELLS(1024) == 54272 && CLURIMOON_LINKS(76) == 76);
-  CHECK(CLURIMOON_CALENDAR(76) == 152 && CLURIMOON_VCS(64) == 768);
-  CHECK(CLURIMOON_OCTETS(76, 64) == 7556);
+  CHECK(CLURIMOON_CALENDAR(76) == 152 && CLURIMOON_VCS(64) == 3840 && CLURIMOON_VCS(1024) == 15360);
+  CHECK(CLURIMOON_OCTETS(76, 64) == 19844);
   CHECK(CLURIMOON_OCTETS(76, 64) ==
         CLURIMOON_CELLS(76) + 2 * CLURIMOON_LINKS(76) + 2 * CLURIMOON_CALENDAR(76) + 4 * CLURIMOON_VCS(64));
   CHECK(CLURIMOON_DONE == 0 && CLURIMOON_RANGE == 1 && CLURIMOON_LENGTH == 2 && CLURIMOON_STORED == 3);
   CHECK(CLURIMOON_VCI == 4 && CLURIMOON_ALREADY_OPEN == 5 && CLURIMOON_RULES == 6 && CLURIMOON_NOT_OPEN == 7);
   CHECK(CLURIMOON_WAITING == 8 && CLURIMOON_CELL_LENGTH == 9 && CLURIMOON_UNREADABLE == 10);
   CHECK(CLURIMOON_SECOND == 11 && CLURIMOON_NOT_AFTER == 12 && CLURIMOON_C2_MAX == 1073741824);
+  CHECK(CLURIMOON_KIND == 13 && CLURIMOON_UNI == 0 && CLURIMOON_NNI == 1 && CLURIMOON_PATHS == 256);
+  CHECK(CLURIMOON_PATH_MIN == 1 && CLURIMOON_PATH_MAX == 255 && CLURIMOON_PATH_NUMBER(1024, 255) == 1279);
   CHECK(CLURIMOON_NOTHING == 0 && CLURIMOON_ACCEPTED == 1 && CLURIMOON_EXCESS == 2 && CLURIMOON_UNKNOWN == 3);
   CHECK(CLURIMOON_WORD_M2 == 7 && CLURIMOON_WORD_F2 == 8 && CLURIMOON_WORD_C2 == 9 && CLURIMOON_WORD_S2 == 10);
   CHECK(CLURIMOON_WORD_TAG == 11 && CLURIMOON_TAGGED == 5);
   CHECK(CLURIMOON_DROPPED == 4 && CLURIMOON_CORRECTION == 0 && CLURIMOON_DETECTION == 1);
 }
 
-enum { N = 5, V = 8 };
+enum { N = 5, V = 8, WORDS = 12 * (V + 256) };
 static uint8_t cells[53 * N], idle[53];
 static uint16_t links[N], calendar[2 * N];
-static uint32_t vcs[12 * V];
+static uint32_t vcs[12 * (V + 256)];
 
-#define MEMORY cells, sizeof cells, links, N, calendar, 2 * N, vcs, 12 * V
+#define MEMORY cells, sizeof cells, links, N, calendar, 2 * N, vcs, WORDS
 
-static int same_record(clurimoon_record a, clurimoon_record b) { return memcmp(&a, &b, sizeof a) == 0; }
+/* By fields: the last two octets of a record are unused. */
+static int same_record(clurimoon_record a, clurimoon_record b) {
+  return a.n == b.n && a.v == b.v && a.t == b.t && a.T == b.T && a.rotation == b.rotation && a.free_head == b.free_head &&
+         a.free_tail == b.free_tail && a.out_head == b.out_head && a.out_tail == b.out_tail && a.raw == b.raw &&
+         a.mode == b.mode && a.kind == b.kind;
+}
 
 static int refused(clurimoon_answer a, unsigned number) {
   return a.number == number && a.verdict == 0 && a.vci == 0 && a.d == 0 && a.space == CLURIMOON_NONE &&
@@ -108,14 +116,14 @@ static void put_cell(uint8_t *cell, unsigned vci, unsigned fill) {
   cell[3] = (uint8_t)((vci & 15) << 4);
 }
 
-static void setup_fields(bool raw) {
+static void setup_fields(bool raw, uint16_t kind) {
   unsigned k;
   clurimoon_set set;
   memset(cells, 7, sizeof cells), memset(links, 7, sizeof links), memset(vcs, 7, sizeof vcs);
-  set = clurimoon_setup(N, V, raw, MEMORY);
+  set = clurimoon_setup(N, V, raw, kind, MEMORY);
   CHECK(set.number == CLURIMOON_DONE);
   CHECK(set.record.n == N && set.record.v == V && set.record.t == 4294967295u);
-  CHECK(set.record.T == N - 1 && set.record.rotation == V - 1);
+  CHECK(set.record.T == N - 1 && set.record.rotation == V + 255 && set.record.kind == kind);
   CHECK(set.record.free_head == 0 && set.record.free_tail == N - 1);
   CHECK(set.record.out_head == CLURIMOON_NONE && set.record.out_tail == CLURIMOON_NONE);
   CHECK(set.record.raw == (raw ? 1 : 0) && set.record.mode == CLURIMOON_CORRECTION);
@@ -123,12 +131,12 @@ static void setup_fields(bool raw) {
   for (k = 0; k < sizeof cells; ++k) CHECK(cells[k] == 0);
   for (k = 0; k < N; ++k) CHECK(links[k] == (k + 1 < N ? k + 1 : 0));
   for (k = 0; k < 2 * N; ++k) CHECK(calendar[k] == CLURIMOON_NONE);
-  for (k = 0; k < 12 * V; ++k) CHECK(vcs[k] == 0);
+  for (k = 0; k < WORDS; ++k) CHECK(vcs[k] == 0);
 }
 
 /* Each field of a record by value must arrive in its own place and come back so. */
 static void record_fields(void) {
-  clurimoon_record r = {1111, 2222, 3333333333u, 4444, 5555, 6666, 7777, 8888, 9999, 1212, 1313};
+  clurimoon_record r = {1111, 2222, 3333333333u, 4444, 5555, 6666, 7777, 8888, 9999, 1212, 1313, 1414};
   clurimoon_served s = clurimoon_slot(r, MEMORY, NULL, 0);
   clurimoon_burst_end e;
   CHECK(refused(s.answer, CLURIMOON_RANGE) && same_record(s.record, r));
@@ -147,34 +155,41 @@ static void record_fields(void) {
   CHECK(s.answer.number == CLURIMOON_DONE && s.record.t == 3333333334u && s.record.T == 3 &&
         s.record.rotation == 4);
   CHECK(s.record.n == N && s.record.v == V && s.record.free_head == 6666 && s.record.free_tail == 7777);
-  /* Nor are raw and mode, where no cell is lent. */
-  CHECK(s.record.raw == 1212 && s.record.mode == 1313);
+  /* Nor are raw and mode, where no cell is lent, and kind, where no header is read. */
+  CHECK(s.record.raw == 1212 && s.record.mode == 1313 && s.record.kind == 1414);
   CHECK(s.record.out_head == CLURIMOON_NONE && s.record.out_tail == CLURIMOON_NONE);
   CHECK(clurimoon_audit(s.record, MEMORY) == false);
 }
 
 static void every_number(void) {
   uint8_t cell[54];
-  clurimoon_set set = clurimoon_setup(0, V, true, MEMORY);
+  clurimoon_set set = clurimoon_setup(0, V, true, CLURIMOON_UNI, MEMORY);
   clurimoon_record zeros, r;
   clurimoon_served s;
   memset(&zeros, 0, sizeof zeros), memset(cell, 0, sizeof cell);
   CHECK(set.number == CLURIMOON_RANGE && same_record(set.record, zeros));
-  set = clurimoon_setup(N, V, true, cells, sizeof cells - 1, links, N, calendar, 2 * N, vcs, 12 * V);
+  set = clurimoon_setup(N, V, true, CLURIMOON_UNI, cells, sizeof cells - 1, links, N, calendar, 2 * N, vcs, WORDS);
   CHECK(set.number == CLURIMOON_LENGTH && same_record(set.record, zeros));
-  set = clurimoon_setup(N, V, false, MEMORY);
+  /* The line kind after N and V, and before the lengths. */
+  set = clurimoon_setup(N, V, true, 2, MEMORY);
+  CHECK(set.number == CLURIMOON_KIND && same_record(set.record, zeros));
+  CHECK(clurimoon_setup(N, V, false, 65535, MEMORY).number == CLURIMOON_KIND);
+  CHECK(clurimoon_setup(N, 1, false, 2, MEMORY).number == CLURIMOON_RANGE);
+  CHECK(clurimoon_setup(N, V, false, 2, NULL, 0, NULL, 0, NULL, 0, NULL, 0).number == CLURIMOON_KIND);
+  CHECK(clurimoon_setup(N, V, false, 1, cells, sizeof cells, links, N, calendar, 2 * N, vcs, 12 * V).number == CLURIMOON_LENGTH);
+  set = clurimoon_setup(N, V, false, CLURIMOON_UNI, MEMORY);
   r = set.record;
-  CHECK(clurimoon_open(r, vcs, 12 * V - 1, 1, 2, 10, 26) == CLURIMOON_LENGTH);
-  CHECK(clurimoon_open(r, vcs, 12 * V, V, 2, 10, 26) == CLURIMOON_VCI);
-  CHECK(clurimoon_open(r, vcs, 12 * V, 1, 2, 10, 30) == CLURIMOON_RULES);
-  CHECK(clurimoon_open(r, vcs, 12 * V, 1, 2, 10, 29) == CLURIMOON_DONE);
+  CHECK(clurimoon_open(r, vcs, WORDS - 1, 1, 2, 10, 26) == CLURIMOON_LENGTH);
+  CHECK(clurimoon_open(r, vcs, WORDS, V, 2, 10, 26) == CLURIMOON_VCI);
+  CHECK(clurimoon_open(r, vcs, WORDS, 1, 2, 10, 30) == CLURIMOON_RULES);
+  CHECK(clurimoon_open(r, vcs, WORDS, 1, 2, 10, 29) == CLURIMOON_DONE);
   CHECK(vcs[12 + CLURIMOON_WORD_OPEN] == 1 && vcs[12 + CLURIMOON_WORD_M] == 2 &&
         vcs[12 + CLURIMOON_WORD_F] == 10);
   CHECK(vcs[12 + CLURIMOON_WORD_C] == 29 && vcs[12 + CLURIMOON_WORD_S] == 0);
   CHECK(vcs[12 + CLURIMOON_WORD_LAST] == 4294967295u && vcs[12 + CLURIMOON_WORD_WAITING] == 0);
-  CHECK(clurimoon_open(r, vcs, 12 * V, 1, 2, 10, 26) == CLURIMOON_ALREADY_OPEN);
-  CHECK(clurimoon_close(r, vcs, 12 * V, 2) == CLURIMOON_NOT_OPEN);
-  CHECK(clurimoon_close(r, vcs, 12 * V, 0) == CLURIMOON_VCI);
+  CHECK(clurimoon_open(r, vcs, WORDS, 1, 2, 10, 26) == CLURIMOON_ALREADY_OPEN);
+  CHECK(clurimoon_close(r, vcs, WORDS, 2) == CLURIMOON_NOT_OPEN);
+  CHECK(clurimoon_close(r, vcs, WORDS, 0) == CLURIMOON_VCI);
   put_cell(cell, 1, 0x11);
   CHECK(refused(clurimoon_slot(r, MEMORY, cell, 54).answer, CLURIMOON_CELL_LENGTH));
   r = clurimoon_slot(r, MEMORY, cell, 53).record;
@@ -182,10 +197,10 @@ static void every_number(void) {
   CHECK(s.answer.verdict == CLURIMOON_ACCEPTED && s.answer.vci == 1 && s.answer.d == 1 &&
         s.answer.space == CLURIMOON_NONE);
   r = s.record;
-  CHECK(clurimoon_close(r, vcs, 12 * V, 1) == CLURIMOON_WAITING);
+  CHECK(clurimoon_close(r, vcs, WORDS, 1) == CLURIMOON_WAITING);
   vcs[24] = 2;
-  CHECK(clurimoon_open(r, vcs, 12 * V, 2, 2, 10, 26) == CLURIMOON_STORED);
-  CHECK(clurimoon_close(r, vcs, 12 * V, 2) == CLURIMOON_STORED);
+  CHECK(clurimoon_open(r, vcs, WORDS, 2, 2, 10, 26) == CLURIMOON_STORED);
+  CHECK(clurimoon_close(r, vcs, WORDS, 2) == CLURIMOON_STORED);
   CHECK(!clurimoon_audit(r, MEMORY));
   vcs[24] = 0;
   CHECK(clurimoon_audit(r, MEMORY));
@@ -193,9 +208,9 @@ static void every_number(void) {
 
 /* A close that is refused leaves all words as they came: neither S nor last has moved. */
 static int close_keeps(clurimoon_record r, uint16_t vci, unsigned number) {
-  uint32_t before[12 * V];
+  uint32_t before[WORDS];
   memcpy(before, vcs, sizeof vcs);
-  return clurimoon_close(r, vcs, 12 * V, vci) == number && memcmp(before, vcs, sizeof vcs) == 0;
+  return clurimoon_close(r, vcs, WORDS, vci) == number && memcmp(before, vcs, sizeof vcs) == 0;
 }
 
 /* m 2, F 10, C 16, cells in slots 0 and 1: close is 8 up to slot 4, and 0 in slot 5,
@@ -203,10 +218,10 @@ static int close_keeps(clurimoon_record r, uint16_t vci, unsigned number) {
 static void debts(void) {
   uint8_t cell[53];
   unsigned slot, k;
-  clurimoon_record r = clurimoon_setup(N, V, false, MEMORY).record;
+  clurimoon_record r = clurimoon_setup(N, V, false, CLURIMOON_UNI, MEMORY).record;
   clurimoon_served s;
   put_cell(cell, 1, 0x11);
-  CHECK(clurimoon_open(r, vcs, 12 * V, 1, 2, 10, 16) == CLURIMOON_DONE);
+  CHECK(clurimoon_open(r, vcs, WORDS, 1, 2, 10, 16) == CLURIMOON_DONE);
   for (slot = 0; slot < 5; ++slot) {
     s = clurimoon_slot(r, MEMORY, slot < 2 ? cell : NULL, slot < 2 ? 53 : 0);
     r = s.record;
@@ -214,7 +229,7 @@ static void debts(void) {
     CHECK(s.answer.space == (slot == 0 ? 0 : slot == 2 ? 1 : CLURIMOON_NONE));
     CHECK(vcs[12 + CLURIMOON_WORD_WAITING] == (slot == 1));
     CHECK(close_keeps(r, 1, CLURIMOON_WAITING));
-    CHECK(clurimoon_open(r, vcs, 12 * V, 1, 2, 10, 16) == CLURIMOON_ALREADY_OPEN);
+    CHECK(clurimoon_open(r, vcs, WORDS, 1, 2, 10, 16) == CLURIMOON_ALREADY_OPEN);
   }
   /* The words still hold slot 1's S, and C is held against that: 3 comes before 8. */
   CHECK(vcs[12 + CLURIMOON_WORD_S] == 16 && vcs[12 + CLURIMOON_WORD_LAST] == 1);
@@ -222,11 +237,11 @@ static void debts(void) {
   CHECK(close_keeps(r, 1, CLURIMOON_STORED));
   vcs[12 + CLURIMOON_WORD_S] = 16;
   r = clurimoon_slot(r, MEMORY, NULL, 0).record;
-  CHECK(clurimoon_close(r, vcs, 12 * V, 1) == CLURIMOON_DONE);
+  CHECK(clurimoon_close(r, vcs, WORDS, 1) == CLURIMOON_DONE);
   for (k = 0; k < 12; ++k) CHECK(vcs[12 + k] == 0);
   CHECK(close_keeps(r, 1, CLURIMOON_NOT_OPEN));
   /* Reopened at once, it owes nothing. */
-  CHECK(clurimoon_open(r, vcs, 12 * V, 1, 2, 10, 16) == CLURIMOON_DONE);
+  CHECK(clurimoon_open(r, vcs, WORDS, 1, 2, 10, 16) == CLURIMOON_DONE);
   s = clurimoon_slot(r, MEMORY, cell, 53);
   CHECK(s.answer.verdict == CLURIMOON_ACCEPTED && s.answer.d == 0 && s.answer.out_vci == 1);
   CHECK(close_keeps(s.record, 1, CLURIMOON_WAITING));
@@ -238,17 +253,17 @@ static void waits_alone(void) {
   static const uint8_t arrives[9] = {2, 2, 3, 3, 0, 1, 1, 0, 0};
   uint8_t cell[53];
   unsigned slot;
-  clurimoon_record r = clurimoon_setup(N, V, false, MEMORY).record;
-  CHECK(clurimoon_open(r, vcs, 12 * V, 1, 0, 1, 1) == CLURIMOON_DONE);
-  CHECK(clurimoon_open(r, vcs, 12 * V, 2, 0, 5, 9) == CLURIMOON_DONE);
-  CHECK(clurimoon_open(r, vcs, 12 * V, 3, 0, 3, 5) == CLURIMOON_DONE);
+  clurimoon_record r = clurimoon_setup(N, V, false, CLURIMOON_UNI, MEMORY).record;
+  CHECK(clurimoon_open(r, vcs, WORDS, 1, 0, 1, 1) == CLURIMOON_DONE);
+  CHECK(clurimoon_open(r, vcs, WORDS, 2, 0, 5, 9) == CLURIMOON_DONE);
+  CHECK(clurimoon_open(r, vcs, WORDS, 3, 0, 3, 5) == CLURIMOON_DONE);
   for (slot = 0; slot < 9; ++slot) {
     put_cell(cell, arrives[slot], slot);
     r = clurimoon_slot(r, MEMORY, cell, arrives[slot] ? 53 : 0).record;
     /* Slot 6: a debt of 1, and a cell waits; slot 7: the cell alone; slot 8: it has left. */
     if (slot == 6 || slot == 7) CHECK(close_keeps(r, 1, CLURIMOON_WAITING));
   }
-  CHECK(clurimoon_close(r, vcs, 12 * V, 1) == CLURIMOON_DONE);
+  CHECK(clurimoon_close(r, vcs, WORDS, 1) == CLURIMOON_DONE);
 }
 
 /* Four verdicts, and all six numbers of each answer. */
@@ -260,9 +275,9 @@ static int answers_with(clurimoon_answer a, unsigned verdict, unsigned vci, unsi
 
 static void verdicts(void) {
   uint8_t cell[53];
-  clurimoon_record r = clurimoon_setup(N, V, false, MEMORY).record;
+  clurimoon_record r = clurimoon_setup(N, V, false, CLURIMOON_UNI, MEMORY).record;
   clurimoon_served s;
-  CHECK(clurimoon_open(r, vcs, 12 * V, 3, 0, 2, 5) == CLURIMOON_DONE);
+  CHECK(clurimoon_open(r, vcs, WORDS, 3, 0, 2, 5) == CLURIMOON_DONE);
   put_cell(cell, 3, 0x33);
   s = clurimoon_slot(r, MEMORY, cell, 53);
   CHECK(answers_with(s.answer, 1, 3, 0, 0, 3));
@@ -327,8 +342,8 @@ static void known_octets(void) {
 static void raw_single(unsigned bit) {
   uint8_t clean[53], cell[53];
   clurimoon_served s;
-  clurimoon_record r = clurimoon_setup(N, V, true, MEMORY).record;
-  CHECK(clurimoon_open(r, vcs, 12 * V, 3, 0, 1, 1) == CLURIMOON_DONE);
+  clurimoon_record r = clurimoon_setup(N, V, true, CLURIMOON_UNI, MEMORY).record;
+  CHECK(clurimoon_open(r, vcs, WORDS, 3, 0, 1, 1) == CLURIMOON_DONE);
   put_raw(clean, 3, 0x33, 0, 0), put_raw(cell, 3, 0x33, 1, bit);
   s = raw_slot(r, cell);
   CHECK(answers_with(s.answer, CLURIMOON_ACCEPTED, 3, 0, 0, 3) && s.record.mode == CLURIMOON_DETECTION);
@@ -350,8 +365,8 @@ static void raw_single(unsigned bit) {
 static void raw_double(unsigned bit) {
   uint8_t clean[53], cell[53];
   clurimoon_served s;
-  clurimoon_record r = clurimoon_setup(N, V, true, MEMORY).record;
-  CHECK(clurimoon_open(r, vcs, 12 * V, 3, 0, 2, 5) == CLURIMOON_DONE);
+  clurimoon_record r = clurimoon_setup(N, V, true, CLURIMOON_UNI, MEMORY).record;
+  CHECK(clurimoon_open(r, vcs, WORDS, 3, 0, 2, 5) == CLURIMOON_DONE);
   put_raw(clean, 3, 0x33, 0, 0), put_raw(cell, 3, 0x33, 2, bit);
   r = raw_slot(r, clean).record;
   s = raw_slot(r, clean);
@@ -359,9 +374,9 @@ static void raw_double(unsigned bit) {
   s = raw_slot(s.record, cell);
   CHECK(answers_with(s.answer, CLURIMOON_DROPPED, 0, 0, 1, 3) && s.record.mode == CLURIMOON_DETECTION);
   CHECK(vcs[3 * 12 + CLURIMOON_WORD_WAITING] == 0);
-  r = clurimoon_setup(N, V, false, MEMORY).record;
+  r = clurimoon_setup(N, V, false, CLURIMOON_UNI, MEMORY).record;
   put_cell(cell, 3, 0x33), cell[4] = (uint8_t)(octet_5(cell) ^ bit);
-  CHECK(clurimoon_open(r, vcs, 12 * V, 3, 0, 2, 5) == CLURIMOON_DONE);
+  CHECK(clurimoon_open(r, vcs, WORDS, 3, 0, 2, 5) == CLURIMOON_DONE);
   s = raw_slot(r, cell);
   CHECK(answers_with(s.answer, CLURIMOON_ACCEPTED, 3, 0, 0, 3) && shown(s.answer, cell));
   CHECK(s.record.raw == 0 && s.record.mode == 0);
@@ -371,7 +386,7 @@ static void raw_double(unsigned bit) {
 static void raw_idle(void) {
   uint8_t cell[53], wrong[53];
   clurimoon_served s;
-  clurimoon_record r = clurimoon_setup(N, V, true, MEMORY).record;
+  clurimoon_record r = clurimoon_setup(N, V, true, CLURIMOON_UNI, MEMORY).record;
   unsigned last;
   for (last = 0; last < 2; ++last) {
     memset(cell, 0x6a, 53), memset(cell, 0, 4);
@@ -391,7 +406,7 @@ static void raw_idle(void) {
 static void raw_unfit(void) {
   uint8_t cell[54];
   clurimoon_served s;
-  clurimoon_record good = clurimoon_setup(N, V, true, MEMORY).record, r = good;
+  clurimoon_record good = clurimoon_setup(N, V, true, CLURIMOON_UNI, MEMORY).record, r = good;
   put_raw(cell, 3, 0x33, 0, 0);
   r.raw = 2;
   CHECK(!clurimoon_audit(r, MEMORY));
@@ -400,7 +415,7 @@ static void raw_unfit(void) {
   s = clurimoon_slot(r, MEMORY, NULL, 0);
   CHECK(s.answer.number == CLURIMOON_DONE && s.record.raw == 2);
   CHECK(refused(clurimoon_slot(r, MEMORY, cell, 52).answer, CLURIMOON_CELL_LENGTH));
-  CHECK(refused(clurimoon_slot(r, NULL, 0, links, N, calendar, 2 * N, vcs, 12 * V, cell, 53).answer,
+  CHECK(refused(clurimoon_slot(r, NULL, 0, links, N, calendar, 2 * N, vcs, WORDS, cell, 53).answer,
                 CLURIMOON_LENGTH));
   r.n = 0;
   CHECK(refused(clurimoon_slot(r, MEMORY, cell, 53).answer, CLURIMOON_RANGE));
@@ -430,8 +445,8 @@ static void raw_burst(void) {
   uint8_t clean[53];
   unsigned k;
   clurimoon_burst_end e;
-  clurimoon_record r = clurimoon_setup(N, V, true, MEMORY).record;
-  CHECK(clurimoon_open(r, vcs, 12 * V, 3, 0, 1, 1) == CLURIMOON_DONE);
+  clurimoon_record r = clurimoon_setup(N, V, true, CLURIMOON_UNI, MEMORY).record;
+  CHECK(clurimoon_open(r, vcs, WORDS, 3, 0, 1, 1) == CLURIMOON_DONE);
   for (k = 0; k < K; ++k) put_raw(arrivals + 53 * k, 3, 0x40 + k, wrong[k], 5 * k + 30), sizes[k] = 53;
   memcpy(before, arrivals, sizeof before), memset(departures, 0xee, sizeof departures);
   e = clurimoon_burst(r, MEMORY, arrivals, sizeof arrivals, sizes, K, departures, sizeof departures, answers,
@@ -451,20 +466,20 @@ static void raw_burst(void) {
 /* Opens VC 1 with a second bucket, which is to be refused with this number, and nothing written. */
 static int opens_with(clurimoon_record r, uint8_t m, uint32_t f, uint32_t c, uint8_t m2, uint32_t f2, uint32_t c2,
                       uint8_t tag, unsigned number) {
-  uint32_t before[12 * V];
+  uint32_t before[WORDS];
   memcpy(before, vcs, sizeof vcs);
-  return clurimoon_open_sustained(r, vcs, 12 * V, 1, m, f, c, m2, f2, c2, tag) == number &&
+  return clurimoon_open_sustained(r, vcs, WORDS, 1, m, f, c, m2, f2, c2, tag) == number &&
          (number == 0 || memcmp(before, vcs, sizeof vcs) == 0);
 }
 
 /* Every limit of 11, on both sides; 6 comes before it, and 5 before both. */
 static void second_limits(void) {
-  clurimoon_record r = clurimoon_setup(N, V, false, MEMORY).record, small = r;
+  clurimoon_record r = clurimoon_setup(N, V, false, CLURIMOON_UNI, MEMORY).record, small = r;
   unsigned k;
   small.v = 1;
   CHECK(opens_with(small, 0, 1, 1, 0, 1, 1, 0, CLURIMOON_RANGE));
   CHECK(clurimoon_open_sustained(r, vcs, 7 * V, 1, 0, 1, 1, 0, 1, 1, 0) == CLURIMOON_LENGTH);
-  CHECK(clurimoon_open_sustained(r, vcs, 12 * V, V, 0, 1, 1, 16, 1, 1, 0) == CLURIMOON_VCI);
+  CHECK(clurimoon_open_sustained(r, vcs, WORDS, V, 0, 1, 1, 16, 1, 1, 0) == CLURIMOON_VCI);
   CHECK(opens_with(r, 2, 10, 30, 16, 1, 1, 2, CLURIMOON_RULES));
   CHECK(opens_with(r, 2, 10, 29, 16, 1, 1, 0, CLURIMOON_SECOND));
   CHECK(opens_with(r, 2, 10, 29, 0, 0, 1, 0, CLURIMOON_SECOND));
@@ -491,9 +506,151 @@ static void second_limits(void) {
     CHECK(!clurimoon_audit(r, MEMORY));
     vcs[12 + k] = before;
   }
-  CHECK(clurimoon_close(r, vcs, 12 * V, 1) == CLURIMOON_DONE);
+  CHECK(clurimoon_close(r, vcs, WORDS, 1) == CLURIMOON_DONE);
   for (k = 0; k < 12; ++k) CHECK(vcs[12 + k] == 0);
   CHECK(opens_with(r, 15, 32768, 32768, 0, 0, 0, 0, CLURIMOON_DONE) && vcs[12 + CLURIMOON_WORD_C] == 32768);
+}
+
+/* A cell with this VPI, of twelve bits at the NNI; at the UNI the high four are the GFC. */
+static void put_path_cell(uint8_t *cell, unsigned vpi, unsigned vci, unsigned fill) {
+  put_cell(cell, vci, fill);
+  cell[0] = (uint8_t)(vpi >> 4), cell[1] = (uint8_t)(cell[1] | (vpi & 15) << 4);
+}
+
+/* Every refusal of a path's open and close, and all twelve words in their places. */
+static void path_calls(void) {
+  static const uint16_t outside[4] = {0, 256, 257, 65535};
+  enum { P = 12 * (V + 7) };
+  uint32_t before[WORDS];
+  clurimoon_record r = clurimoon_setup(N, V, false, CLURIMOON_UNI, MEMORY).record, small = r;
+  unsigned k;
+  small.v = 1;
+  CHECK(clurimoon_open_path(small, vcs, WORDS, 7, 2, 10, 29, 0, 0, 0, 0) == CLURIMOON_RANGE);
+  CHECK(clurimoon_close_path(small, vcs, WORDS, 7) == CLURIMOON_RANGE);
+  CHECK(clurimoon_open_path(r, vcs, 12 * V, 7, 2, 10, 29, 0, 0, 0, 0) == CLURIMOON_LENGTH);
+  CHECK(clurimoon_close_path(r, vcs, WORDS - 12, 7) == CLURIMOON_LENGTH);
+  for (k = 0; k < 4; ++k) {
+    CHECK(clurimoon_open_path(r, vcs, WORDS, outside[k], 16, 0, 0, 16, 0, 0, 2) == CLURIMOON_VCI);
+    CHECK(clurimoon_close_path(r, vcs, WORDS, outside[k]) == CLURIMOON_VCI);
+  }
+  CHECK(clurimoon_open_path(r, vcs, WORDS, 7, 2, 10, 30, 16, 1, 1, 0) == CLURIMOON_RULES);
+  CHECK(clurimoon_open_path(r, vcs, WORDS, 7, 2, 10, 29, 16, 1, 1, 0) == CLURIMOON_SECOND);
+  CHECK(clurimoon_close_path(r, vcs, WORDS, 7) == CLURIMOON_NOT_OPEN);
+  memcpy(before, vcs, sizeof vcs);
+  CHECK(clurimoon_open_path(r, vcs, WORDS, 7, 2, 10, 29, 15, 3, CLURIMOON_C2_MAX, 1) == CLURIMOON_DONE);
+  CHECK(vcs[P + CLURIMOON_WORD_OPEN] == 1 && vcs[P + CLURIMOON_WORD_M] == 2 && vcs[P + CLURIMOON_WORD_F] == 10);
+  CHECK(vcs[P + CLURIMOON_WORD_C] == 29 && vcs[P + CLURIMOON_WORD_S] == 0 && vcs[P + CLURIMOON_WORD_WAITING] == 0);
+  CHECK(vcs[P + CLURIMOON_WORD_LAST] == 4294967295u && vcs[P + CLURIMOON_WORD_M2] == 15);
+  CHECK(vcs[P + CLURIMOON_WORD_F2] == 3 && vcs[P + CLURIMOON_WORD_C2] == CLURIMOON_C2_MAX);
+  CHECK(vcs[P + CLURIMOON_WORD_S2] == 0 && vcs[P + CLURIMOON_WORD_TAG] == 1);
+  CHECK(clurimoon_open_path(r, vcs, WORDS, 7, 16, 0, 0, 16, 0, 0, 2) == CLURIMOON_ALREADY_OPEN);
+  /* Path 7 is not VC 7, and not VC V + 7. */
+  CHECK(clurimoon_close(r, vcs, WORDS, 7) == CLURIMOON_NOT_OPEN && clurimoon_close(r, vcs, WORDS, V + 7) == CLURIMOON_VCI);
+  CHECK(clurimoon_audit(r, MEMORY));
+  vcs[P] = 2;
+  CHECK(clurimoon_open_path(r, vcs, WORDS, 7, 16, 0, 0, 16, 0, 0, 2) == CLURIMOON_STORED);
+  CHECK(clurimoon_close_path(r, vcs, WORDS, 7) == CLURIMOON_STORED && !clurimoon_audit(r, MEMORY));
+  vcs[P] = 1;
+  CHECK(clurimoon_close_path(r, vcs, WORDS, 7) == CLURIMOON_DONE && memcmp(before, vcs, sizeof vcs) == 0);
+  /* The words of numbers 0 and V are nobody's. */
+  vcs[0] = vcs[12 * V] = 2, vcs[12 * V + CLURIMOON_WORD_WAITING] = 99;
+  CHECK(clurimoon_audit(r, MEMORY));
+  r.rotation = V - 1;
+  CHECK(clurimoon_slot(r, MEMORY, NULL, 0).answer.number == CLURIMOON_DONE);
+  r.rotation = V + 256;
+  CHECK(!clurimoon_audit(r, MEMORY) && refused(clurimoon_slot(r, MEMORY, NULL, 0).answer, CLURIMOON_STORED));
+}
+
+/* One bucket for a path's cells, whatever their VCI, beside a VC whose VCI they may have. */
+static void path_traffic(uint16_t kind, bool raw) {
+  static const unsigned vcis[5] = {3, 0, 65535, V, 1};
+  const unsigned gfc = kind == CLURIMOON_UNI ? 0xa00 : 0; /* above the eight bits of the VPI */
+  uint8_t cell[53];
+  unsigned k;
+  clurimoon_record r = clurimoon_setup(N, V, raw, kind, MEMORY).record;
+  clurimoon_served s;
+  CHECK(clurimoon_open(r, vcs, WORDS, 3, 0, 1, 1) == CLURIMOON_DONE);
+  CHECK(clurimoon_open_path(r, vcs, WORDS, 255, 0, 2, 4, 0, 0, 0, 0) == CLURIMOON_DONE);
+  for (k = 0; k < 5; ++k) {
+    /* A cell in each slot, of a path with one in two: D 0, 1, 2, excess, 2. */
+    static const unsigned d[5] = {0, 1, 2, 0, 2}, space[5] = {0, CLURIMOON_NONE, 1, CLURIMOON_NONE, 2};
+    put_path_cell(cell, 255 | gfc, vcis[k], k), cell[4] = (uint8_t)octet_5(cell);
+    s = raw_slot(r, cell);
+    CHECK(answers_with(s.answer, k == 3 ? CLURIMOON_EXCESS : CLURIMOON_ACCEPTED, V + 255, d[k], space[k], space[k] == CLURIMOON_NONE ? 0 : V + 255));
+    r = s.record;
+  }
+  CHECK(clurimoon_audit(r, MEMORY) && vcs[12 * (V + 255) + CLURIMOON_WORD_WAITING] == 1);
+  CHECK(clurimoon_close_path(r, vcs, WORDS, 255) == CLURIMOON_WAITING);
+  /* VC 3 has its own bucket, and its cells have VPI 0; a closed path is unknown, with the VCI as read. */
+  put_path_cell(cell, gfc, 3, 0x44), cell[4] = (uint8_t)octet_5(cell);
+  s = raw_slot(r, cell);
+  CHECK(answers_with(s.answer, CLURIMOON_ACCEPTED, 3, 0, 4, 3) && shown(s.answer, cell));
+  put_path_cell(cell, 254 | gfc, 3, 0x44), cell[4] = (uint8_t)octet_5(cell);
+  s = raw_slot(s.record, cell);
+  CHECK(answers_with(s.answer, CLURIMOON_UNKNOWN, 3, 0, 3, V + 255));
+  put_path_cell(cell, 254 | gfc, 0, 0x44), cell[4] = (uint8_t)octet_5(cell);
+  s = raw_slot(s.record, cell);
+  CHECK(answers_with(s.answer, CLURIMOON_UNKNOWN, 0, 0, CLURIMOON_NONE, 0));
+  /* Four bits above a VC's header, and above the path's: GFC at the UNI, VPI at the NNI. */
+  put_path_cell(cell, 0x100, 3, 0x45), cell[4] = (uint8_t)octet_5(cell);
+  s = raw_slot(s.record, cell);
+  CHECK(kind == CLURIMOON_UNI ? answers_with(s.answer, CLURIMOON_ACCEPTED, 3, 0, 0, 3)
+                              : answers_with(s.answer, CLURIMOON_UNKNOWN, 3, 0, CLURIMOON_NONE, 0));
+  put_path_cell(cell, 0xfff, 3, 0x46), cell[4] = (uint8_t)octet_5(cell);
+  s = raw_slot(s.record, cell);
+  CHECK(s.answer.verdict == (kind == CLURIMOON_UNI ? CLURIMOON_ACCEPTED : CLURIMOON_UNKNOWN));
+  CHECK(s.answer.vci == (kind == CLURIMOON_UNI ? V + 255 : 3));
+  put_path_cell(cell, 0x800, 0, 0x47), cell[4] = (uint8_t)octet_5(cell);
+  s = raw_slot(s.record, cell);
+  CHECK(s.answer.verdict == (kind == CLURIMOON_UNI ? CLURIMOON_NOTHING : CLURIMOON_UNKNOWN) && s.answer.vci == 0);
+  CHECK(clurimoon_audit(s.record, MEMORY));
+}
+
+/* The kind is read where a header is: of a cell that was not dropped, and of one that departs. */
+static void kind_unfit(void) {
+  uint8_t cell[54];
+  clurimoon_served s;
+  clurimoon_record good = clurimoon_setup(N, V, true, CLURIMOON_NNI, MEMORY).record, r;
+  memset(cell, 0, sizeof cell), put_raw(cell, 3, 0x33, 0, 0);
+  CHECK(clurimoon_open(good, vcs, WORDS, 3, 0, 2, 5) == CLURIMOON_DONE);
+  r = good, r.kind = 2;
+  CHECK(!clurimoon_audit(r, MEMORY));
+  s = raw_slot(r, cell);
+  CHECK(refused(s.answer, CLURIMOON_STORED) && same_record(s.record, r));
+  CHECK(clurimoon_close(r, vcs, WORDS, 3) == CLURIMOON_DONE && clurimoon_open(r, vcs, WORDS, 3, 0, 2, 5) == CLURIMOON_DONE);
+  CHECK(refused(clurimoon_slot(r, MEMORY, cell, 54).answer, CLURIMOON_CELL_LENGTH));
+  s = clurimoon_slot(r, MEMORY, NULL, 0);
+  CHECK(answers_with(s.answer, 0, 0, 0, CLURIMOON_NONE, 0) && s.record.kind == 2);
+  change_bit(cell, 3), change_bit(cell, 17);
+  s = raw_slot(r, cell);
+  CHECK(answers_with(s.answer, CLURIMOON_DROPPED, 0, 0, CLURIMOON_NONE, 0) && s.record.kind == 2);
+  /* An idle cell has a header, too. */
+  memset(cell, 0, 53), cell[4] = 0x55;
+  CHECK(refused(raw_slot(r, cell).answer, CLURIMOON_STORED));
+  put_raw(cell, 3, 0x33, 0, 0);
+  r = raw_slot(good, cell).record;
+  r = raw_slot(r, cell).record;
+  /* The second is due in the next slot: then its header is read. */
+  r.kind = 65535;
+  s = clurimoon_slot(r, MEMORY, NULL, 0);
+  CHECK(refused(s.answer, CLURIMOON_STORED) && same_record(s.record, r));
+  r.kind = CLURIMOON_NNI;
+  CHECK(answers_with(clurimoon_slot(r, MEMORY, NULL, 0).answer, 0, 0, 0, 1, 3));
+}
+
+/* A path with a second bucket: above it a cell is tagged, whatever its VCI. */
+static void path_tags(void) {
+  uint8_t cell[53], line[53];
+  clurimoon_record r = clurimoon_setup(N, V, false, CLURIMOON_NNI, MEMORY).record;
+  clurimoon_served s;
+  CHECK(clurimoon_open_path(r, vcs, WORDS, 9, 0, 1, 1, 0, 9, 9, 1) == CLURIMOON_DONE);
+  put_path_cell(cell, 9, 77, 0x31);
+  s = clurimoon_slot(r, MEMORY, cell, 53);
+  CHECK(answers_with(s.answer, CLURIMOON_ACCEPTED, V + 9, 0, 0, V + 9) && shown(s.answer, cell));
+  put_path_cell(cell, 9, 78, 0x32);
+  memcpy(line, cell, 53), line[3] = (uint8_t)(line[3] | 1), line[4] = (uint8_t)octet_5(line);
+  s = clurimoon_slot(s.record, MEMORY, cell, 53);
+  CHECK(answers_with(s.answer, CLURIMOON_TAGGED, V + 9, 0, 1, V + 9) && shown(s.answer, line));
 }
 
 /* VC 3 at line rate, beside one CLP 0 cell in four slots and a tolerance of four: with and without the flag. */
@@ -501,8 +658,8 @@ static void tagging(bool tags, bool raw) {
   static const unsigned clp[8] = {0, 0, 0, 1, 0, 0, 0, 1}, fits[8] = {1, 1, 0, 1, 1, 0, 0, 1};
   uint8_t cell[53], line[53];
   unsigned k, space = 0;
-  clurimoon_record r = clurimoon_setup(N, V, raw, MEMORY).record;
-  CHECK(clurimoon_open_sustained(r, vcs, 12 * V, 3, 0, 1, 1, 2, 16, 32, tags ? 1 : 0) == CLURIMOON_DONE);
+  clurimoon_record r = clurimoon_setup(N, V, raw, CLURIMOON_UNI, MEMORY).record;
+  CHECK(clurimoon_open_sustained(r, vcs, WORDS, 3, 0, 1, 1, 2, 16, 32, tags ? 1 : 0) == CLURIMOON_DONE);
   for (k = 0; k < 8; ++k) {
     const unsigned verdict = fits[k] ? CLURIMOON_ACCEPTED : tags ? CLURIMOON_TAGGED : CLURIMOON_EXCESS;
     clurimoon_served s;
@@ -525,16 +682,16 @@ static void tagging(bool tags, bool raw) {
   CHECK(vcs[36 + CLURIMOON_WORD_S2] == 20 && vcs[36 + CLURIMOON_WORD_LAST] == 7);
   CHECK(close_keeps(r, 3, CLURIMOON_WAITING));
   r = clurimoon_slot(r, MEMORY, NULL, 0).record;
-  CHECK(clurimoon_close(r, vcs, 12 * V, 3) == CLURIMOON_DONE && clurimoon_audit(r, MEMORY));
+  CHECK(clurimoon_close(r, vcs, WORDS, 3) == CLURIMOON_DONE && clurimoon_audit(r, MEMORY));
   for (k = 0; k < 12; ++k) CHECK(vcs[36 + k] == 0);
 }
 
 /* Above both buckets a cell is excess, whatever the flag. */
 static void above_both(void) {
   uint8_t cell[53];
-  clurimoon_record r = clurimoon_setup(N, V, false, MEMORY).record;
+  clurimoon_record r = clurimoon_setup(N, V, false, CLURIMOON_UNI, MEMORY).record;
   clurimoon_served s;
-  CHECK(clurimoon_open_sustained(r, vcs, 12 * V, 3, 0, 2, 2, 0, 9, 9, 1) == CLURIMOON_DONE);
+  CHECK(clurimoon_open_sustained(r, vcs, WORDS, 3, 0, 2, 2, 0, 9, 9, 1) == CLURIMOON_DONE);
   put_cell(cell, 3, 0x33);
   s = clurimoon_slot(r, MEMORY, cell, 53);
   CHECK(answers_with(s.answer, CLURIMOON_ACCEPTED, 3, 0, 0, 3));
@@ -559,16 +716,18 @@ static void line_parts(void) {
 
 /* Every slice, of length 0, as NULL. */
 static void nulls(void) {
-  clurimoon_set set = clurimoon_setup(N, V, false, NULL, 0, NULL, 0, NULL, 0, NULL, 0);
+  clurimoon_set set = clurimoon_setup(N, V, false, CLURIMOON_UNI, NULL, 0, NULL, 0, NULL, 0, NULL, 0);
   clurimoon_record r;
   clurimoon_part part;
   clurimoon_burst_end e;
   CHECK(set.number == CLURIMOON_LENGTH);
-  set = clurimoon_setup(N, V, false, MEMORY);
+  set = clurimoon_setup(N, V, false, CLURIMOON_UNI, MEMORY);
   r = set.record;
   CHECK(clurimoon_open(r, NULL, 0, 1, 2, 10, 26) == CLURIMOON_LENGTH);
   CHECK(clurimoon_open_sustained(r, NULL, 0, 1, 2, 10, 26, 0, 0, 0, 0) == CLURIMOON_LENGTH);
   CHECK(clurimoon_close(r, NULL, 0, 1) == CLURIMOON_LENGTH);
+  CHECK(clurimoon_open_path(r, NULL, 0, 1, 2, 10, 26, 0, 0, 0, 0) == CLURIMOON_LENGTH);
+  CHECK(clurimoon_close_path(r, NULL, 0, 1) == CLURIMOON_LENGTH);
   CHECK(refused(clurimoon_slot(r, NULL, 0, NULL, 0, NULL, 0, NULL, 0, NULL, 0).answer, CLURIMOON_LENGTH));
   CHECK(clurimoon_slot(r, MEMORY, NULL, 0).answer.number == CLURIMOON_DONE);
   part = clurimoon_line(NULL, 0, NULL, 0, 0);
@@ -586,27 +745,28 @@ static void bursts(void) {
   static uint8_t arrivals[53 * K], sizes[K], departures[53 * K];
   static uint16_t answers[6 * K];
   unsigned k;
-  clurimoon_record r = clurimoon_setup(1, 2, false, cells, 53, links, 1, calendar, 2, vcs, 24).record;
+  enum { W = 12 * 258 };
+  clurimoon_record r = clurimoon_setup(1, 2, false, CLURIMOON_NNI, cells, 53, links, 1, calendar, 2, vcs, W).record;
   clurimoon_burst_end e;
-  CHECK(clurimoon_open(r, vcs, 24, 1, 0, 1, 1) == CLURIMOON_DONE);
+  CHECK(clurimoon_open(r, vcs, W, 1, 0, 1, 1) == CLURIMOON_DONE && clurimoon_open_path(r, vcs, W, 5, 0, 1, 1, 0, 0, 0, 0) == CLURIMOON_DONE);
   memset(departures, 0xee, sizeof departures), memset(answers, 0xee, sizeof answers);
-  for (k = 0; k < K; ++k) put_cell(arrivals + 53 * k, 1, 100 + k), sizes[k] = k == 4 ? 0 : 53;
+  for (k = 0; k < K; ++k) put_path_cell(arrivals + 53 * k, k == 2 ? 5 : 0, 1, 100 + k), sizes[k] = k == 4 ? 0 : 53;
   sizes[7] = 52;
-  e = clurimoon_burst(r, cells, 53, links, 1, calendar, 2, vcs, 24, arrivals, sizeof arrivals, sizes, K,
+  e = clurimoon_burst(r, cells, 53, links, 1, calendar, 2, vcs, W, arrivals, sizeof arrivals, sizes, K,
                       departures, sizeof departures, answers, 6 * K);
   CHECK(e.number == CLURIMOON_CELL_LENGTH && e.done == 7 && e.record.t == 6);
   for (k = 0; k < K; ++k) {
     const int served = k < 7, left = served && k != 4;
     CHECK(answers[6 * k + CLURIMOON_ANSWER_NUMBER] == (served ? 0 : 0xeeee));
     CHECK(answers[6 * k + CLURIMOON_ANSWER_VERDICT] == (left ? CLURIMOON_ACCEPTED : served ? 0 : 0xeeee));
-    CHECK(answers[6 * k + CLURIMOON_ANSWER_VCI] == (left ? 1 : served ? 0 : 0xeeee));
+    CHECK(answers[6 * k + CLURIMOON_ANSWER_VCI] == (left ? k == 2 ? 7 : 1 : served ? 0 : 0xeeee));
     CHECK(answers[6 * k + CLURIMOON_ANSWER_D] == (served ? 0 : 0xeeee));
     CHECK(answers[6 * k + CLURIMOON_ANSWER_SPACE] == (left ? 0 : served ? CLURIMOON_NONE : 0xeeee));
-    CHECK(answers[6 * k + CLURIMOON_ANSWER_OUT_VCI] == (left ? 1 : served ? 0 : 0xeeee));
+    CHECK(answers[6 * k + CLURIMOON_ANSWER_OUT_VCI] == (left ? k == 2 ? 7 : 1 : served ? 0 : 0xeeee));
     if (left) CHECK(memcmp(departures + 53 * k, arrivals + 53 * k, 53) == 0);
     else CHECK(departures[53 * k] == 0xee && departures[53 * k + 52] == 0xee);
   }
-  e = clurimoon_burst(r, cells, 53, links, 1, calendar, 2, vcs, 24, arrivals, sizeof arrivals, sizes, K,
+  e = clurimoon_burst(r, cells, 53, links, 1, calendar, 2, vcs, W, arrivals, sizeof arrivals, sizes, K,
                       departures, sizeof departures - 1, answers, 6 * K);
   CHECK(e.number == CLURIMOON_LENGTH && e.done == 0 && same_record(e.record, r));
 }
@@ -664,8 +824,8 @@ int main(void) {
   unsigned bit;
   structs();
   macros();
-  setup_fields(false);
-  setup_fields(true);
+  setup_fields(false, CLURIMOON_UNI);
+  setup_fields(true, CLURIMOON_NNI);
   record_fields();
   every_number();
   debts();
@@ -679,6 +839,10 @@ int main(void) {
   second_limits();
   for (bit = 0; bit < 4; ++bit) tagging(bit % 2 == 1, bit >= 2);
   above_both();
+  path_calls();
+  for (bit = 0; bit < 4; ++bit) path_traffic(bit % 2 == 1 ? CLURIMOON_NNI : CLURIMOON_UNI, bit >= 2);
+  kind_unfit();
+  path_tags();
   line_parts();
   nulls();
   bursts();

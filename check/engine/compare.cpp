@@ -61,6 +61,8 @@ enum Met {
   BESIDE_DROPPED,
   BESIDE_MENDED,
   BESIDE_NOTHING,
+  BESIDE_PATH_ACCEPTED,
+  BESIDE_PATH_EXCESS,
   METS
 };
 const char *const names[METS] = {"0",
@@ -96,7 +98,9 @@ const char *const names[METS] = {"0",
                                  "unknown",
                                  "dropped",
                                  "mended",
-                                 "no cell"};
+                                 "no cell",
+                                 "accepted of a path",
+                                 "excess of a path"};
 uint64_t met[METS], of_m[16], calls, cells_beside;
 
 Told archive(const Kept &kept, const Contract &k, uint64_t arrival) {
@@ -247,47 +251,62 @@ void connection(Random &random) {
   }
 }
 
-// What arrives in a slot beside the policer: the octets lent, and whether they are a cell of VC v as sent.
-struct Arrived {
-  std::vector<uint8_t> octets;
-  bool of_v;
+// The one connection that is open: VC v, or the path on VPI v.
+struct One {
+  bool path;
+  unsigned v;
 };
 
-Arrived arrives(Random &random, unsigned v, unsigned vcs, bool raw) {
+// What arrives in a slot beside the policer: the octets lent, and whether they are a cell of that connection as sent.
+struct Arrived {
+  std::vector<uint8_t> octets;
+  bool of_it;
+};
+
+Arrived arrives(Random &random, const One &one, unsigned vcs, bool raw) {
   if (random.percent(25)) return {{}, false};
-  const bool of_v = random.percent(80);
-  const unsigned vci = of_v ? v : random.percent(30) ? 0 : static_cast<unsigned>(random.below(2 * vcs));
+  const bool of_it = random.percent(80);
+  const unsigned other = random.percent(30) ? 0 : static_cast<unsigned>(random.below(2 * vcs));
+  unsigned vpi = one.path && of_it ? one.v : 0;
+  const unsigned vci = of_it && !one.path ? one.v : other;
+  if (!of_it && random.once_in(4)) vpi = static_cast<unsigned>(random.below(256));
   std::vector<uint8_t> cell(53, static_cast<uint8_t>(random.next()));
-  second::Header h{0, static_cast<uint8_t>(vci >> 12), static_cast<uint8_t>(vci >> 4),
-                   static_cast<uint8_t>(vci << 4 & 0xf0), 0};
+  second::Header h{static_cast<uint8_t>(vpi >> 4), static_cast<uint8_t>((vpi & 15) << 4 | vci >> 12),
+                   static_cast<uint8_t>(vci >> 4), static_cast<uint8_t>(vci << 4 & 0xf0), 0};
   h[4] = second::octet5(h);
   if (raw)
     for (uint64_t wrong = random.percent(70) ? 0 : random.between(1, 3); wrong > 0; --wrong)
       h = second::with_bit_changed(h, static_cast<unsigned>(random.below(40)));
   std::copy(h.begin(), h.end(), cell.begin());
-  return {cell, vci == v};
+  return {cell, one.path ? vpi == one.v : vpi == 0 && vci == one.v};
 }
 
-// One VC, opened before the first slot and never closed: the archive's slot and its engine say the same of each cell.
+// One VC or path, opened before the first slot and never closed: the archive's slot and its engine say the same of each
+// cell.
 void beside(Random &random) {
   Contract k = sound(random);
   while (k.f >> k.m > 40) k = sound(random);
   k.n = std::min<uint64_t>(k.n, 80), k.c = std::min(k.c, k.f + k.n * (uint64_t{1} << k.m) - 1);
   const uint16_t n = static_cast<uint16_t>(k.n), vcs = static_cast<uint16_t>(random.between(2, 9)),
-                 v = static_cast<uint16_t>(random.between(1, vcs - 1u));
-  const bool raw = random.percent(50);
+                 kind = random.once_in(2) ? CLURIMOON_UNI : CLURIMOON_NNI;
+  const bool raw = random.percent(50), path = random.once_in(3);
+  const One one = {path, static_cast<unsigned>(random.between(1, path ? 255 : vcs - 1u))};
+  const unsigned shown = path ? vcs + one.v : one.v;
   std::vector<uint8_t> cells(CLURIMOON_CELLS(n));
   std::vector<uint16_t> links(CLURIMOON_LINKS(n)), calendar(CLURIMOON_CALENDAR(n));
   std::vector<uint32_t> words(CLURIMOON_VCS(vcs));
-  const clurimoon_set set = clurimoon_setup(n, vcs, raw, cells.data(), cells.size(), links.data(), links.size(),
+  const clurimoon_set set = clurimoon_setup(n, vcs, raw, kind, cells.data(), cells.size(), links.data(), links.size(),
                                             calendar.data(), calendar.size(), words.data(), words.size());
   clurimoon_record record = set.record;
-  if (set.number != 0 || clurimoon_open(record, words.data(), words.size(), v, static_cast<uint8_t>(k.m),
-                                        static_cast<uint32_t>(k.f), static_cast<uint32_t>(k.c)) != 0)
+  const uint16_t name = static_cast<uint16_t>(one.v);
+  const uint8_t m = static_cast<uint8_t>(k.m);
+  const uint32_t f = static_cast<uint32_t>(k.f), c = static_cast<uint32_t>(k.c);
+  if (set.number != 0 || (path ? clurimoon_open_path(record, words.data(), words.size(), name, m, f, c, 0, 0, 0, 0)
+                               : clurimoon_open(record, words.data(), words.size(), name, m, f, c)) != 0)
     std::printf("engine: no policer\n"), std::exit(1);
   Kept kept;
   for (uint64_t slot = 0, slots = random.between(20, 300); slot < slots; ++slot) {
-    const Arrived a = arrives(random, v, vcs, raw);
+    const Arrived a = arrives(random, one, vcs, raw);
     const clurimoon_served s =
         clurimoon_slot(record, cells.data(), cells.size(), links.data(), links.size(), calendar.data(), calendar.size(),
                        words.data(), words.size(), a.octets.data(), a.octets.size());
@@ -295,7 +314,7 @@ void beside(Random &random) {
     record = s.record;
     meet(BESIDE_UNKNOWN, verdict == 3), meet(BESIDE_DROPPED, verdict == 4), meet(BESIDE_NOTHING, a.octets.empty());
     const bool judged = verdict == CLURIMOON_ACCEPTED || verdict == CLURIMOON_EXCESS;
-    if (s.answer.number != 0 || (judged && s.answer.vci != v) || (!raw && judged != a.of_v))
+    if (s.answer.number != 0 || (judged && s.answer.vci != shown) || (!raw && judged != a.of_it))
       std::printf("engine: the policer is astray\n"), std::exit(1);
     if (!judged) continue;
     const Told t = both(kept, k, slot);
@@ -310,6 +329,7 @@ void beside(Random &random) {
     meet(BESIDE_ACCEPTED, verdict == 1), meet(BESIDE_EXCESS, verdict == 2),
         meet(BESIDE_LONGEST, k.n > 1 && d == k.n - 1);
     meet(BESIDE_MENDED, raw && record.mode == CLURIMOON_DETECTION);
+    meet(BESIDE_PATH_ACCEPTED, path && verdict == 1), meet(BESIDE_PATH_EXCESS, path && verdict == 2);
   }
 }
 

@@ -63,9 +63,9 @@ constexpr size_t block = 250;
 class Run {
 public:
   Run(unsigned sources, uint64_t seed) : n(sources), random(seed + sources) {
-    const clurimoon_set set = clurimoon_setup(N, V, false, cells.data(), cells.size(), links.data(),
-                                              links.size(), calendar.data(), calendar.size(), vcs.data(),
-                                              vcs.size());
+    const clurimoon_set set = clurimoon_setup(N, V, false, CLURIMOON_UNI, cells.data(), cells.size(),
+                                              links.data(), links.size(), calendar.data(), calendar.size(),
+                                              vcs.data(), vcs.size());
     if (set.number != 0) fail("setup was refused");
     record = set.record;
     const uint64_t leak = 1u << 15, f = (leak * n * 1000 + 408) / 816;

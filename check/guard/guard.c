@@ -3,8 +3,9 @@
  * end of its buffer, and took the cards down where no memory followed. Here every
  * lent buffer ends exactly at an unreadable page, and then begins exactly after
  * one, for every N from 1 to 1,024, while setup, opens, slots at full load, burst,
- * line and audit run. An octet read outside a buffer ends the program; an octet
- * written on its free side is found by comparing what was put there.
+ * line and audit run, with VCs and paths, at both line kinds. An octet read outside
+ * a buffer ends the program; an octet written on its free side is found by comparing
+ * what was put there. The words of path 255 end where the buffer ends.
  *
  * A routine like that one is run in a child process on the same buffers and must
  * fault, so that the test is known to bite.
@@ -36,17 +37,18 @@ static size_t page;
 static bool at_end; /* buffers end at an unreadable page, or begin after one */
 static unsigned now_n, now_v;
 static bool raw; /* the policer checks headers */
+static uint16_t kind;
 
 /* A slot that has no header check, in the place of the archive's, is run with NOT_RAW defined. */
 #ifdef NOT_RAW
-enum { rounds = 2, damages = 10 };
+enum { rounds = 2, damages = 12 };
 #else
-enum { rounds = 4, damages = 14 };
+enum { rounds = 4, damages = 16 };
 #endif
 static const char *now_doing = "nothing";
 
 static void fail(const char *what) {
-  printf("guard: FAILED: N %u, V %u%s, %s, in %s: %s\n", now_n, now_v, raw ? ", raw" : "",
+  printf("guard: FAILED: N %u, V %u%s%s, %s, in %s: %s\n", now_n, now_v, raw ? ", raw" : "", kind ? ", NNI" : "",
          at_end ? "buffers end at a guard page" : "buffers begin after a guard page", now_doing, what);
   exit(1);
 }
@@ -55,8 +57,8 @@ static void on_fault(int number) {
   static char text[200];
   int length = snprintf(
       text, sizeof text,
-      "guard: FAILED: N %u, V %u%s, %s, in %s: signal %d (touched memory that was not lent)\n", now_n, now_v,
-      raw ? ", raw" : "", at_end ? "buffers end at a guard page" : "buffers begin after a guard page",
+      "guard: FAILED: N %u, V %u%s%s, %s, in %s: signal %d (touched memory that was not lent)\n", now_n, now_v,
+      raw ? ", raw" : "", kind ? ", NNI" : "", at_end ? "buffers end at a guard page" : "buffers begin after a guard page",
       now_doing, number);
   if (write(1, text, (size_t)length) < 0) _exit(3);
   _exit(2);
@@ -101,11 +103,12 @@ static uint8_t *cells, *cell, *idle, *arrivals, *sizes, *departures;
 static uint16_t *links, *calendar, *answers;
 static uint32_t *vcs;
 static unsigned long long slots_served, cells_sent, calls_made, refused, mended, dropped, tagged, not_sustained;
+static unsigned long long of_paths[2];
 static unsigned greatest_space, greatest_d;
 
 static void make_fences(void) {
   cells_fence = make_fence(CLURIMOON_CELLS(1024)), links_fence = make_fence(2 * 1024);
-  calendar_fence = make_fence(4 * 1024), vcs_fence = make_fence(48 * 1024);
+  calendar_fence = make_fence(4 * 1024), vcs_fence = make_fence(4 * CLURIMOON_VCS(1024));
   cell_fence = make_fence(53), idle_fence = make_fence(53);
   arrivals_fence = make_fence(53 * slots_in_burst), sizes_fence = make_fence(slots_in_burst);
   departures_fence = make_fence(53 * slots_in_burst), answers_fence = make_fence(12 * slots_in_burst);
@@ -134,9 +137,12 @@ static void all_untouched(void) {
       untouched(&answers_fence, "written beside the answers");
 }
 
-static void write_cell(uint8_t *to, unsigned vci, unsigned mark) {
+/* A cell of the connection with this number: of a path with any VCI, and at the UNI with any GFC. */
+static void write_cell(uint8_t *to, unsigned connection, unsigned mark) {
+  const unsigned vpi = connection > now_v ? connection - now_v : 0, vci = vpi ? mark * 977 % 65536 : connection;
   memset(to, (int)(mark & 255), 53);
-  to[0] = 0, to[1] = (uint8_t)(vci >> 12), to[2] = (uint8_t)(vci >> 4), to[3] = (uint8_t)((vci & 15) << 4);
+  to[0] = (uint8_t)(vpi >> 4 | (kind == CLURIMOON_UNI ? (mark & 15) << 4 : 0));
+  to[1] = (uint8_t)((vpi & 15) << 4 | vci >> 12), to[2] = (uint8_t)(vci >> 4), to[3] = (uint8_t)((vci & 15) << 4);
   if (!raw) return;
   unsigned rest = 0; /* octet 5, by long division */
   for (unsigned k = 0; k < 40; ++k) {
@@ -166,25 +172,45 @@ static void judge_check(unsigned verdict, unsigned mode, unsigned wrong, bool le
   dropped += drops, mended += lent && wrong == 1 && !drops;
 }
 
-/* The last VC tags what is above its sustainable rate, no other does; of VC 1, whose peak is the line's, only the
-   second bucket can make a cell excess. */
-static void judge_second(unsigned verdict, unsigned vci, unsigned v) {
-  if (verdict == CLURIMOON_TAGGED && vci != v - 1) fail("a cell was tagged though its VC does not ask for it");
+/* The last VC and the last path tag what is above their sustainable rate, no other does; of VC 1, whose peak is the
+   line's, only the second bucket can make a cell excess. A cell that is not unknown is of the connection that sent it. */
+static void judge_verdict(unsigned verdict, unsigned vci, unsigned connection, unsigned v) {
+  const bool known = verdict == CLURIMOON_ACCEPTED || verdict == CLURIMOON_EXCESS || verdict == CLURIMOON_TAGGED;
+  if (known && vci != connection) fail("a cell was taken for one of another connection");
+  if (verdict == CLURIMOON_UNKNOWN) fail("a cell of an open VC or path was unknown");
+  if (verdict == CLURIMOON_TAGGED && vci != v - 1 && vci != v + 255) fail("a cell was tagged though nobody asked for it");
   tagged += verdict == CLURIMOON_TAGGED;
   not_sustained += verdict == CLURIMOON_EXCESS && vci == 1 && v > 2;
+  of_paths[kind] += known && vci > v;
 }
 
-/* Every VC but the last has the line's rate for its peak if it is VC 1, and a third of it otherwise; VC 1 and the last have
-   a second bucket, the last with the flag. Tolerances are the greatest, so that the memory fills. */
-static uint16_t open_vc(clurimoon_record r, unsigned n, unsigned v, unsigned vci) {
-  const uint32_t f = vci == 1 && v > 2 ? 16 : 48, c = f + 16 * n - 1;
+/* Every VC but the last has the line's rate for its peak if it is VC 1, and a third of it otherwise, as paths have; VC 1
+   has a second bucket, and the last VC and the last path have one with the flag. Tolerances are the greatest, so that the
+   memory fills. */
+static uint16_t open_one(clurimoon_record r, unsigned n, unsigned v, unsigned connection) {
+  const uint32_t f = connection == 1 && v > 2 ? 16 : 48, c = f + 16 * n - 1;
+  const uint16_t vci = (uint16_t)connection, vpi = (uint16_t)(connection - v);
   ++calls_made;
-  if (vci == v - 1) return clurimoon_open_sustained(r, vcs, CLURIMOON_VCS(v), (uint16_t)vci, 4, f, c, 2, 24, 90, 1);
-  if (vci == 1) return clurimoon_open_sustained(r, vcs, CLURIMOON_VCS(v), (uint16_t)vci, 4, f, c, 15, 98304, 98304, 0);
-  return clurimoon_open(r, vcs, CLURIMOON_VCS(v), (uint16_t)vci, 4, f, c);
+  if (connection == v + 255) return clurimoon_open_path(r, vcs, CLURIMOON_VCS(v), vpi, 4, f, c, 2, 24, 90, 1);
+  if (connection > v) return clurimoon_open_path(r, vcs, CLURIMOON_VCS(v), vpi, 4, f, c, 0, 0, 0, 0);
+  if (connection == v - 1) return clurimoon_open_sustained(r, vcs, CLURIMOON_VCS(v), vci, 4, f, c, 2, 24, 90, 1);
+  if (connection == 1) return clurimoon_open_sustained(r, vcs, CLURIMOON_VCS(v), vci, 4, f, c, 15, 327680, 327680, 0);
+  return clurimoon_open(r, vcs, CLURIMOON_VCS(v), vci, 4, f, c);
+}
+static uint16_t close_one(clurimoon_record r, unsigned v, unsigned connection) {
+  ++calls_made;
+  if (connection > v) return clurimoon_close_path(r, vcs, CLURIMOON_VCS(v), (uint16_t)(connection - v));
+  return clurimoon_close(r, vcs, CLURIMOON_VCS(v), (uint16_t)connection);
 }
 
-static clurimoon_record one_slot(clurimoon_record r, unsigned n, unsigned v, size_t length, unsigned wrong) {
+/* The connections that are open: VCs 1, 2 and the last, paths 1 and 255; which of them has the k-th cell. */
+static unsigned of_the_open(unsigned v, unsigned k) {
+  const unsigned open[5] = {v - 1, 1, v > 2 ? 2 : 1, v + 1, v + 255};
+  return open[k % 5];
+}
+
+static clurimoon_record one_slot(clurimoon_record r, unsigned n, unsigned v, size_t length, unsigned wrong,
+                                 unsigned connection) {
   /* An empty cell is lent as a pointer to unreadable memory. */
   const uint8_t *lent = length == 0 ? cell_fence.start + cell_fence.room : cell;
   now_doing = "slot";
@@ -192,7 +218,7 @@ static clurimoon_record one_slot(clurimoon_record r, unsigned n, unsigned v, siz
   if (s.answer.number != 0) fail("a slot was refused");
   ++slots_served, ++calls_made;
   judge_check(s.answer.verdict, r.mode, wrong, length != 0);
-  judge_second(s.answer.verdict, s.answer.vci, v);
+  if (wrong < 2) judge_verdict(s.answer.verdict, s.answer.vci, connection, v);
   if (s.record.mode != (length == 0 ? r.mode : wrong ? 1 : 0)) fail("the header check is in the wrong mode");
   now_doing = "line";
   clurimoon_part part = clurimoon_line(cells, CLURIMOON_CELLS(n), idle, 53, s.answer.space);
@@ -211,10 +237,11 @@ static clurimoon_record one_slot(clurimoon_record r, unsigned n, unsigned v, siz
 }
 
 static clurimoon_record one_burst(clurimoon_record r, unsigned n, unsigned v, unsigned seed) {
-  unsigned wrong[slots_in_burst], mode = r.mode;
+  unsigned wrong[slots_in_burst], connection[slots_in_burst], mode = r.mode;
   for (unsigned k = 0; k < slots_in_burst; ++k) {
     sizes[k] = (k + seed) % 7 == 0 ? 0 : 53;
-    write_cell(arrivals + 53 * k, 1 + (k + seed) % (v - 1), k);
+    connection[k] = of_the_open(v, k + seed);
+    write_cell(arrivals + 53 * k, connection[k], k);
     wrong[k] = damage_header(arrivals + 53 * k, k + seed);
   }
   now_doing = "burst";
@@ -224,7 +251,7 @@ static clurimoon_record one_burst(clurimoon_record r, unsigned n, unsigned v, un
   slots_served += e.done, ++calls_made;
   for (unsigned k = 0; k < slots_in_burst; ++k) {
     judge_check(answers[6 * k + CLURIMOON_ANSWER_VERDICT], mode, wrong[k], sizes[k] != 0);
-    judge_second(answers[6 * k + CLURIMOON_ANSWER_VERDICT], answers[6 * k + CLURIMOON_ANSWER_VCI], v);
+    if (wrong[k] < 2) judge_verdict(answers[6 * k + CLURIMOON_ANSWER_VERDICT], answers[6 * k + CLURIMOON_ANSWER_VCI], connection[k], v);
     if (sizes[k] != 0) mode = wrong[k] ? 1 : 0;
   }
   if (e.record.mode != mode) fail("the header check is in the wrong mode");
@@ -239,17 +266,18 @@ static clurimoon_record one_burst(clurimoon_record r, unsigned n, unsigned v, un
 /* Numbers out of range, right where a careless call would follow them. */
 static void run_damaged(clurimoon_record good, unsigned n, unsigned v) {
   now_doing = "slot or audit in a damaged state";
-  for (unsigned kind = 0; kind < damages; ++kind) {
+  for (unsigned which = 0; which < damages; ++which) {
     clurimoon_record r = good;
-    const uint16_t bad = (uint16_t)(kind % 2 == 0 ? n : 65534);
-    if (kind / 2 == 0) r.T = bad;
-    if (kind / 2 == 1) r.rotation = kind % 2 == 0 ? (uint16_t)v : bad;
-    if (kind / 2 == 2) r.free_head = bad, r.free_tail = 0;
-    if (kind / 2 == 3) r.out_head = 0, r.out_tail = bad;
-    if (kind / 2 == 4) r.out_head = r.out_tail = bad;
-    if (kind / 2 == 5) r.raw = (uint16_t)(kind % 2 == 0 ? 2 : 65535);
-    if (kind / 2 == 6) r.mode = (uint16_t)(kind % 2 == 0 ? 2 : 65535);
-    write_cell(cell, v - 1, kind);
+    const uint16_t bad = (uint16_t)(which % 2 == 0 ? n : 65534), bad_flag = (uint16_t)(which % 2 == 0 ? 2 : 65535);
+    if (which / 2 == 0) r.T = bad;
+    if (which / 2 == 1) r.rotation = which % 2 == 0 ? (uint16_t)(v + 256) : 65534;
+    if (which / 2 == 2) r.free_head = bad, r.free_tail = 0;
+    if (which / 2 == 3) r.out_head = 0, r.out_tail = bad;
+    if (which / 2 == 4) r.out_head = r.out_tail = bad;
+    if (which / 2 == 5) r.kind = bad_flag;
+    if (which / 2 == 6) r.raw = bad_flag;
+    if (which / 2 == 7) r.mode = bad_flag;
+    write_cell(cell, which % 3 == 0 ? v + 255 : v - 1, which);
     refused += clurimoon_slot(r, MEMORY, cell, 53).answer.number == CLURIMOON_STORED;
     if (clurimoon_audit(r, MEMORY)) fail("the audit says yes in a damaged state");
     calls_made += 2;
@@ -266,9 +294,9 @@ static void run_damaged(clurimoon_record good, unsigned n, unsigned v) {
 /* A record that claims more than was lent: refused before anything is read. */
 static void run_too_small(clurimoon_record good, unsigned n, unsigned v) {
   now_doing = "a call whose record claims more than was lent";
-  for (unsigned kind = 0; kind < 2; ++kind) {
+  for (unsigned which = 0; which < 2; ++which) {
     clurimoon_record r = good;
-    if (kind == 0) r.n = (uint16_t)(n < 1024 ? n + 1 : n - 1);
+    if (which == 0) r.n = (uint16_t)(n < 1024 ? n + 1 : n - 1);
     else r.v = (uint16_t)(v < 1024 ? v + 1 : v - 1);
     if (clurimoon_slot(r, MEMORY, cell, 53).answer.number != CLURIMOON_LENGTH)
       fail("wrong lengths were not refused");
@@ -287,28 +315,36 @@ static void run_too_small(clurimoon_record good, unsigned n, unsigned v) {
     fail("open_sustained was not refused");
   if (clurimoon_close(wide, vcs, CLURIMOON_VCS(v), (uint16_t)(wide.v - 1)) != CLURIMOON_LENGTH)
     fail("close was not refused");
+  if (clurimoon_open_path(wide, vcs, CLURIMOON_VCS(v), 255, 0, 1, 1, 0, 1, 1, 1) != CLURIMOON_LENGTH)
+    fail("open_path was not refused");
+  if (clurimoon_close_path(wide, vcs, CLURIMOON_VCS(v), 255) != CLURIMOON_LENGTH) fail("close_path was not refused");
+  for (unsigned vpi = 256; vpi < 65536; vpi = vpi * 17 / 16) {
+    if (clurimoon_open_path(good, vcs, CLURIMOON_VCS(v), (uint16_t)vpi, 0, 1, 1, 0, 1, 1, 1) != CLURIMOON_VCI)
+      fail("a path past the last was opened");
+    if (clurimoon_close_path(good, vcs, CLURIMOON_VCS(v), (uint16_t)vpi) != CLURIMOON_VCI)
+      fail("a path past the last was closed");
+    calls_made += 2, refused += 2;
+  }
   if (clurimoon_line(cells, CLURIMOON_CELLS(n), idle, 53, (uint16_t)n).length != 0)
     fail("the line shows a space past the last");
-  calls_made += 4, refused += 4;
+  calls_made += 6, refused += 6;
 }
 
-/* Closes the last VC, whose words end where the buffer ends, and opens it again. After a cell of it
-   close is refused: its debt is at most C, n+3 slots, and its cells leave within 2(n-1). */
-static clurimoon_record close_last(clurimoon_record r, unsigned n, unsigned v) {
-  const uint16_t last = (uint16_t)(v - 1);
+/* Closes a connection, such as the last path, whose words end where the buffer ends, and opens it again. After a cell
+   of it close is refused: its debt is at most C, n+3 slots, and its cells leave within 2(n-1). */
+static clurimoon_record close_again(clurimoon_record r, unsigned n, unsigned v, unsigned connection) {
   unsigned k = 0;
-  write_cell(cell, last, 0);
-  r = one_slot(r, n, v, 53, 0);
+  write_cell(cell, connection, 0);
+  r = one_slot(r, n, v, 53, 0, connection);
   now_doing = "close";
-  while (clurimoon_close(r, vcs, CLURIMOON_VCS(v), last) == CLURIMOON_WAITING) {
+  while (close_one(r, v, connection) == CLURIMOON_WAITING) {
     if (++k > 2 * n + 4) fail("a close was refused for too long");
-    r = one_slot(r, n, v, 0, 0);
+    r = one_slot(r, n, v, 0, 0, 0);
     now_doing = "close";
-    ++calls_made, ++refused;
+    ++refused;
   }
   if (k == 0) fail("a close wiped a debt");
-  if (open_vc(r, n, v, last) != 0) fail("the VC was not closed");
-  calls_made += 1;
+  if (open_one(r, n, v, connection) != 0) fail("the VC or path was not closed");
   return r;
 }
 
@@ -317,27 +353,32 @@ static void run_policer(unsigned n, unsigned v) {
   now_n = n, now_v = v;
   lend_all(n, v);
   now_doing = "setup";
-  clurimoon_set set = clurimoon_setup((uint16_t)n, (uint16_t)v, raw, MEMORY);
+  clurimoon_set set = clurimoon_setup((uint16_t)n, (uint16_t)v, raw, kind, MEMORY);
   if (set.number != 0) fail("setup was refused");
   clurimoon_record r = set.record;
   now_doing = "open";
-  /* Two bursty VCs and the last, with the greatest tolerance: they fill the memory. */
-  for (unsigned vci = 1; vci < v; vci = vci < 3 ? vci + 1 : vci < v - 1 ? v - 1 : v) {
-    if (open_vc(r, n, v, vci) != 0) fail("an open was refused");
+  /* Bursty VCs and paths, with the greatest tolerance: they fill the memory. */
+  for (unsigned k = 0; k < 5; ++k) {
+    bool again = false; /* V 2 and V 3 have fewer VCs */
+    for (unsigned before = 0; before < k; ++before) again = again || of_the_open(v, before) == of_the_open(v, k);
+    if (open_one(r, n, v, of_the_open(v, k)) != (again ? CLURIMOON_ALREADY_OPEN : CLURIMOON_DONE)) fail("an open was refused");
   }
   greatest_space = greatest_d = 0;
-  /* Long enough to use every space, and for rotation to name every VC. */
-  for (unsigned k = 0; k < 3 * n + 40 || k < v + 2; ++k) {
-    /* One VC alone first: its delays climb to N-1. */
-    write_cell(cell, k % 3 == 0 || k < 5 * n / 8 + 8 ? v - 1 : 1 + k % (v > 2 ? 2 : 1), k);
+  const unsigned first = kind == CLURIMOON_NNI ? v + 255 : v - 1;
+  /* Long enough to use every space, and for rotation to name every VC and path. */
+  for (unsigned k = 0; k < 3 * n + 40 || k < v + 258; ++k) {
+    /* One of them alone first: its delays climb to N-1. */
+    const unsigned connection = k % 3 == 0 || k < 5 * n / 8 + 8 ? first : of_the_open(v, k);
+    write_cell(cell, connection, k);
     const unsigned wrong = damage_header(cell, k);
-    r = one_slot(r, n, v, k % 11 == 10 ? 0 : 53, wrong);
+    r = one_slot(r, n, v, k % 11 == 10 ? 0 : 53, wrong, connection);
   }
   r = one_burst(r, n, v, n);
   now_doing = "audit";
   if (!clurimoon_audit(r, MEMORY)) fail("the audit says no");
   calls_made += 1;
-  r = close_last(r, n, v);
+  r = close_again(r, n, v, v - 1);
+  r = close_again(r, n, v, v + 255);
   if (greatest_space != n - 1 || greatest_d != n - 1) fail("the last space or the last entry was never used");
   all_untouched();
   run_too_small(r, n, v);
@@ -408,18 +449,25 @@ int main(void) {
   signal(SIGSEGV, on_fault), signal(SIGBUS, on_fault);
   for (int side = 0; side < rounds; ++side) {
     at_end = side % 2 == 0, raw = side >= 2;
+    /* Where the policer may be raw, each N has both line kinds on either side. */
     for (unsigned n = 1; n <= 1024; ++n) {
       static const unsigned edges[] = {2, 3, 64, 1023, 1024};
+      kind = (n + (raw ? 1 : 0)) % 2 ? CLURIMOON_NNI : CLURIMOON_UNI;
       run_policer(n, n % 8 == 0 ? edges[n / 8 % 5] : 2 + n * 7 % 121);
     }
-    for (unsigned v = 2; v <= 1024; ++v) run_policer(1 + v % 9, v);
+    for (unsigned v = 2; v <= 1024; ++v) {
+      kind = (v + (raw ? 1 : 0)) % 2 ? CLURIMOON_NNI : CLURIMOON_UNI;
+      run_policer(1 + v % 9, v);
+    }
     printf("  every N and every V%s with buffers %s\n", raw ? ", raw," : "",
            at_end ? "ending at an unreadable page" : "beginning after one");
     fflush(stdout);
   }
   printf("guard: N 1 to 1,024 and V 2 to 1,024, twice%s: %llu calls (%llu refused), %llu slots, %llu "
-         "cells sent, %llu mended, %llu dropped, %llu tagged, %llu above a sustainable rate without the flag, no octet touched outside\n",
-         rounds == 4 ? ", raw and not" : "", calls_made, refused, slots_served, cells_sent, mended, dropped, tagged, not_sustained);
+         "cells sent, %llu mended, %llu dropped, %llu tagged, %llu above a sustainable rate without the flag, %llu and %llu of paths at the UNI and the NNI, no octet touched outside\n",
+         rounds == 4 ? ", raw and not" : "", calls_made, refused, slots_served, cells_sent, mended, dropped, tagged, not_sustained,
+         of_paths[CLURIMOON_UNI], of_paths[CLURIMOON_NNI]);
   if (tagged < 10000 || not_sustained < 10000) fail("too few cells were above a sustainable rate");
+  if (of_paths[CLURIMOON_UNI] < 10000 || of_paths[CLURIMOON_NNI] < 10000) fail("too few cells were of paths");
   return 0;
 }

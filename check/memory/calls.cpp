@@ -31,11 +31,18 @@ const char *const check_name[check_count] = {
     CALLS_CHECKS(X)
 #undef X
 };
+const char *const path_name[path_count] = {
+#define X(name) #name,
+    CALLS_PATHS(X)
+#undef X
+};
 Tally tally;
 
 namespace {
 
 constexpr uint16_t empty = 65535;
+// "Path records, 256 with the first unused, stand after the V records".
+constexpr unsigned paths = 256;
 
 // Thrown where a call reads a stored number outside its range.
 struct Unfit {
@@ -45,7 +52,7 @@ void need(bool fit, Clause clause) {
   if (!fit) throw Unfit{clause};
 }
 
-// The words of a VC, by name.
+// The words of a connection, by name.
 enum Word { w_open, w_m, w_F, w_C, w_S, w_last, w_waiting, w_m2, w_F2, w_C2, w_S2, w_tag, word_count };
 
 // What was written, with the value before: undone from the last to the first.
@@ -80,7 +87,7 @@ bool sizes_in_range(uint16_t n, uint16_t v) { return 1 <= n && n <= 1024 && 2 <=
 
 bool lengths_fit(uint16_t n, uint16_t v, const Memory &lent) {
   return lent.cells.length == size_t{53} * n && lent.links.length == n &&
-         lent.calendar.length == size_t{2} * n && lent.vcs.length == size_t{word_count} * v;
+         lent.calendar.length == size_t{2} * n && lent.vcs.length == size_t{word_count} * (v + paths);
 }
 
 // The rules on m, F and C; `first` is the clause for m, the others follow it.
@@ -138,12 +145,17 @@ void need_pair(uint16_t n, uint16_t head, uint16_t tail, Clause first) {
 
 struct Header {
   unsigned vpi, vci, clp;
+  bool is_user() const { return vpi != 0 || vci != 0; }
+  // The number of the VC or path that it names, open or not; 0 where it names none.
+  unsigned connection(unsigned v) const { return vpi == 0 ? (vci < v ? vci : 0) : vpi < paths ? v + vpi : 0; }
 };
-Header read_header(const uint8_t *octet) {
+// At the NNI the four bits of the GFC are the VPI's too.
+Header read_header(unsigned kind, const uint8_t *octet) {
   const uint32_t word =
       uint32_t{octet[0]} << 24 | uint32_t{octet[1]} << 16 | uint32_t{octet[2]} << 8 | uint32_t{octet[3]};
-  return {word >> 20 & 0xff, word >> 4 & 0xffff, word & 1};
+  return {word >> 20 & (kind == CLURIMOON_NNI ? 0xfffu : 0xffu), word >> 4 & 0xffff, word & 1};
 }
+void meet(Path what) { tally.path[what] += 1; }
 
 // One slot, step by step, on the lent memory itself.
 class Slot {
@@ -159,7 +171,10 @@ public:
       if (r.raw == 1) lets_through = check_header();
     }
     tick();
-    if (r.rotation != 0) update_named_by_rotation();
+    // Neither record 0 nor record V is ever read.
+    if (r.rotation != 0 && r.rotation != v) update_named_by_rotation();
+    if (r.rotation == v) meet(rotation_at_V);
+    if (r.rotation == v && vc(v)[w_open] != 0) meet(rotation_at_V_in_disguise);
     if (lets_through) arrive();
     transfer();
     if (r.out_head != empty) depart();
@@ -193,10 +208,11 @@ private:
 
   void tick() {
     need(r.T < n, slot_T);
-    need(r.rotation < v, slot_rotation);
+    need(r.rotation < v + paths, slot_rotation);
     r.t += 1;
     r.T = static_cast<uint16_t>((r.T + 1) % n);
-    r.rotation = static_cast<uint16_t>((r.rotation + 1) % v);
+    r.rotation = static_cast<uint16_t>((r.rotation + 1) % (v + paths));
+    if (r.rotation == 0) meet(rotation_wraps);
   }
 
   void bring_up_to_date(uint32_t *words, Clause m_clause) {
@@ -208,17 +224,22 @@ private:
     uint32_t *words = vc(r.rotation);
     need(words[w_open] <= 1, rotation_open);
     if (words[w_open] == 1) bring_up_to_date(words, rotation_m);
+    if (words[w_open] == 1 && r.rotation > v) meet(rotation_updates_a_path);
   }
 
   void arrive() {
-    const Header header = read_header(arriving.data());
-    if (header.vpi == 0 && header.vci == 0) return;
+    if (r.kind > 1 && !read_header(CLURIMOON_UNI, arriving.data()).is_user()) meet(kind_read_of_an_idle_cell);
+    need(r.kind <= 1, arrival_kind);
+    const Header header = read_header(r.kind, arriving.data());
+    if (!header.is_user()) return;
     answer.vci = static_cast<uint16_t>(header.vci);
     answer.verdict = CLURIMOON_UNKNOWN;
-    if (header.vpi != 0 || header.vci >= v) return;
-    uint32_t *words = vc(header.vci);
+    const unsigned connection = header.connection(v);
+    if (connection == 0) return;
+    uint32_t *words = vc(connection);
     need(words[w_open] <= 1, arrival_open);
     if (words[w_open] == 0) return;
+    answer.vci = static_cast<uint16_t>(connection);
     bring_up_to_date(words, arrival_m);
     const bool above_peak = words[w_S] > words[w_C] - words[w_F];
     const bool above_second = words[w_S2] > words[w_C2] - words[w_F2];
@@ -302,11 +323,13 @@ private:
       need(lent.links.at[space] < n, output_link);
       r.out_head = lent.links.at[space];
     }
-    const Header header = read_header(lent.cells.at + size_t{53} * space);
-    need(header.vpi == 0, departing_vpi);
-    need(header.vci != 0, departing_vci_0);
-    need(header.vci < v, departing_vci_high);
-    uint32_t *words = vc(header.vci);
+    need(r.kind <= 1, departing_kind);
+    const Header header = read_header(r.kind, lent.cells.at + size_t{53} * space);
+    need(header.vpi < paths, departing_vpi_high);
+    need(header.is_user(), departing_vci_0);
+    const unsigned connection = header.connection(v);
+    need(connection != 0, departing_vci_high);
+    uint32_t *words = vc(connection);
     need(words[w_open] != 0, departing_closed);
     need(words[w_open] == 1, departing_open);
     need(words[w_waiting] != 0, departing_waiting_0);
@@ -314,7 +337,7 @@ private:
     journal.put(words[w_waiting], words[w_waiting] - 1);
     give_back(space);
     answer.space = space;
-    answer.out_vci = static_cast<uint16_t>(header.vci);
+    answer.out_vci = static_cast<uint16_t>(connection);
   }
 
   void give_back(uint16_t space) {
@@ -325,21 +348,29 @@ private:
   }
 };
 
-// What open and close read of a VC: of a closed one only the open word.
-void need_vc(uint16_t n, const uint32_t *words, Clause open_clause) {
+// What open and close read of a connection: of a closed one only the open word.
+void need_connection(uint16_t n, const uint32_t *words, Clause open_clause) {
   need(words[w_open] <= 1, open_clause);
   if (words[w_open] == 0) return;
   need_rules(n, words, static_cast<Clause>(open_clause + 1));
   need(words[w_waiting] <= n, static_cast<Clause>(open_clause + 14));
 }
 
+// A connection's words; it is one that has a name.
+uint32_t *words_of(const clurimoon_record &record, Lent<uint32_t> vcs, Name name) {
+  return vcs.at + size_t{word_count} * (name.path ? record.v + size_t{name.number} : name.number);
+}
+
 // The refusals that open and close share, up to 3; 0 if there is none.
-uint16_t refuse_vc(const clurimoon_record &record, Lent<uint32_t> vcs, uint16_t vci, Clause open_clause) {
+uint16_t refuse(const clurimoon_record &record, Lent<uint32_t> vcs, Name name, Clause open_clause) {
   if (!sizes_in_range(record.n, record.v)) return 1;
-  if (vcs.length != size_t{word_count} * record.v) return 2;
-  if (vci < 1 || vci >= record.v) return 4;
+  if (vcs.length != size_t{word_count} * (record.v + paths)) return 2;
+  if (name.number < 1 || name.number >= (name.path ? paths : record.v)) {
+    if (name.path) meet(name.number == 0 ? refused_4_path_0 : name.number == paths ? refused_4_path_256 : refused_4_path_above);
+    return 4;
+  }
   try {
-    need_vc(record.n, vcs.at + size_t{word_count} * vci, open_clause);
+    need_connection(record.n, words_of(record, vcs, name), open_clause);
   } catch (const Unfit &unfit) {
     tally.clause[unfit.clause] += 1;
     return 3;
@@ -353,8 +384,15 @@ clurimoon_served refused(const clurimoon_record &record, uint16_t number) {
 
 } // namespace
 
-clurimoon_set setup(uint16_t n, uint16_t v, bool raw, Memory lent) {
-  if (!sizes_in_range(n, v)) return {1, {}};
+clurimoon_set setup(uint16_t n, uint16_t v, bool raw, uint16_t kind, Memory lent) {
+  if (!sizes_in_range(n, v)) {
+    if (kind > 1) meet(refused_1_before_13);
+    return {1, {}};
+  }
+  if (kind > 1) {
+    meet(lengths_fit(n, v, lent) ? refused_13 : refused_13_before_2);
+    return {13, {}};
+  }
   if (!lengths_fit(n, v, lent)) return {2, {}};
   std::fill_n(lent.cells.at, lent.cells.length, uint8_t{0});
   std::fill_n(lent.links.at, lent.links.length, uint16_t{0});
@@ -365,16 +403,16 @@ clurimoon_set setup(uint16_t n, uint16_t v, bool raw, Memory lent) {
   record.n = n, record.v = v;
   record.t = UINT32_MAX;
   record.T = static_cast<uint16_t>(n - 1);
-  record.rotation = static_cast<uint16_t>(v - 1);
+  record.rotation = static_cast<uint16_t>(v + paths - 1);
   record.free_head = 0, record.free_tail = static_cast<uint16_t>(n - 1);
   record.out_head = record.out_tail = empty;
-  record.raw = raw ? 1 : 0, record.mode = CLURIMOON_CORRECTION;
+  record.raw = raw ? 1 : 0, record.mode = CLURIMOON_CORRECTION, record.kind = kind;
   return {0, record};
 }
 
-uint16_t open(const clurimoon_record &record, Lent<uint32_t> vcs, uint16_t vci, const Rates &rates) {
-  if (const uint16_t number = refuse_vc(record, vcs, vci, open_open)) return number;
-  uint32_t *words = vcs.at + size_t{word_count} * vci;
+uint16_t open(const clurimoon_record &record, Lent<uint32_t> vcs, Name name, const Rates &rates) {
+  if (const uint16_t number = refuse(record, vcs, name, open_open)) return number;
+  uint32_t *words = words_of(record, vcs, name);
   if (words[w_open] == 1) return 5;
   const int limit = limit_broken(rates.m2, rates.f2, rates.c2, rates.tag);
   if (rule_broken(record.n, rates.m, rates.f, rates.c) != rules_kept) {
@@ -391,6 +429,7 @@ uint16_t open(const clurimoon_record &record, Lent<uint32_t> vcs, uint16_t vci, 
   const uint32_t fresh[word_count] = {1,        rates.m,  rates.f,  rates.c,  0, record.t,
                                       0,        rates.m2, rates.f2, rates.c2, 0, rates.tag};
   std::copy(fresh, fresh + word_count, words);
+  if (name.path) meet(path_opened);
   return 0;
 }
 
@@ -418,12 +457,12 @@ void tally_close(const uint32_t *before, uint32_t owed, uint32_t t) {
 
 } // namespace
 
-// The VC is brought up to date in its words; a refusal takes that back.
-uint16_t close(const clurimoon_record &record, Lent<uint32_t> vcs, uint16_t vci) {
-  const uint16_t number = refuse_vc(record, vcs, vci, close_open);
-  if (number == 3) tally_3_of_close(vcs.at + size_t{word_count} * vci, record.t);
+// The connection is brought up to date in its words; a refusal takes that back.
+uint16_t close(const clurimoon_record &record, Lent<uint32_t> vcs, Name name) {
+  const uint16_t number = refuse(record, vcs, name, close_open);
+  if (number == 3) tally_3_of_close(words_of(record, vcs, name), record.t);
   if (number != 0) return number;
-  uint32_t *words = vcs.at + size_t{word_count} * vci;
+  uint32_t *words = words_of(record, vcs, name);
   if (words[w_open] == 0) return 7;
   uint32_t before[word_count];
   std::copy(words, words + word_count, before);
@@ -433,6 +472,7 @@ uint16_t close(const clurimoon_record &record, Lent<uint32_t> vcs, uint16_t vci)
   tally_close(before, owed, record.t);
   if (owed != 0 || words[w_waiting] != 0) return journal.undo(), 8;
   std::fill_n(words, size_t{word_count}, 0u);
+  if (name.path) meet(path_closed);
   return 0;
 }
 
@@ -456,8 +496,7 @@ void tally_check(const clurimoon_record &record, Lent<const uint8_t> cell, const
   }
   const unsigned bit = second::wrong_bit(header);
   const bool detecting = record.mode == CLURIMOON_DETECTION;
-  const Header read = read_header(header.data());
-  const bool user = read.vpi != 0 || read.vci != 0;
+  const bool user = read_header(record.kind, header.data()).is_user();
   if (bit == 40) {
     if (done) return met(detecting ? clean_in_detection : clean_in_correction);
     if (detecting) met(clean_and_refused_in_detection);
@@ -479,6 +518,56 @@ void tally_check(const clurimoon_record &record, Lent<const uint8_t> cell, const
   }
 }
 
+// Which connections were open before a slot, of those that its cell's header could be taken to name.
+struct Open {
+  bool vc = false, path_by_8_bits = false, path_by_vci = false;
+};
+Open open_before(const clurimoon_record &record, const Memory &lent, Lent<const uint8_t> cell) {
+  Open open;
+  if (!sizes_in_range(record.n, record.v) || !lengths_fit(record.n, record.v, lent) || cell.length != 53) return open;
+  const auto is_open = [&](unsigned c) { return lent.vcs.at[size_t{word_count} * c] == 1; };
+  const Header uni = read_header(CLURIMOON_UNI, cell.at);
+  open.vc = uni.vci != 0 && uni.vci < record.v && is_open(uni.vci);
+  open.path_by_8_bits = uni.vpi != 0 && is_open(record.v + uni.vpi);
+  open.path_by_vci = uni.vci > record.v && uni.vci < record.v + paths && is_open(uni.vci);
+  return open;
+}
+
+// What line kind and paths had to do with a slot, from the state and the cell before it and from its answer. A mended
+// cell is not looked at as it came.
+void tally_paths(const clurimoon_record &record, const Open &open, Lent<const uint8_t> cell, bool mended,
+                 const clurimoon_answer &a) {
+  const bool lent = cell.length == 53, done = a.number == 0;
+  if (record.kind > 1 && done) meet(a.verdict == CLURIMOON_DROPPED ? kind_not_read_for_a_dropped_cell : kind_not_read_without_a_cell);
+  if (record.kind > 1 && (a.number == 1 || a.number == 2 || a.number == 9)) meet(kind_after_1_2_9);
+  if (!done) return;
+  const bool nni = record.kind == CLURIMOON_NNI;
+  if (a.out_vci > record.v) meet(nni ? path_departed_nni : path_departed_uni);
+  if (!lent || a.verdict == CLURIMOON_DROPPED) return;
+  const auto by_kind = [&](Path uni) { meet(static_cast<Path>(uni + (nni ? 1 : 0))); };
+  const bool of_path = a.vci > record.v && a.verdict != CLURIMOON_UNKNOWN;
+  if (of_path && a.verdict == CLURIMOON_ACCEPTED) by_kind(path_accepted_uni);
+  if (of_path && a.verdict == CLURIMOON_EXCESS) by_kind(path_excess_uni);
+  if (of_path && a.verdict == CLURIMOON_TAGGED) by_kind(path_tagged_uni);
+  if (of_path && mended) meet(path_mended);
+  if (mended) return;
+  const Header header = read_header(record.kind, cell.at), uni = read_header(CLURIMOON_UNI, cell.at);
+  const bool gfc = !nni && cell.at[0] >= 16;
+  if (gfc && !header.is_user()) meet(no_user_cell_with_gfc);
+  if (of_path && header.vci == 0) meet(path_vci_0);
+  if (of_path && open.vc) meet(path_vci_of_an_open_vc);
+  if (of_path && gfc) meet(path_with_gfc);
+  if (of_path && header.vpi == 255) meet(path_255);
+  if (header.vpi == 0 && open.vc && gfc) meet(vc_with_gfc);
+  if (header.vpi == 0 && open.vc && nni) meet(vc_at_the_nni);
+  if (nni && header.vpi != 0 && uni.vpi == 0 && open.vc) meet(gfc_bits_are_vpi);
+  if (header.vpi > 255) meet(vpi_above_255);
+  if (header.vpi > 255 && open.path_by_8_bits) meet(vpi_above_255_ends_as_an_open_path);
+  if (a.verdict != CLURIMOON_UNKNOWN) return;
+  if (header.vpi != 0 && header.vpi < paths) meet(open.vc ? closed_path_vci_of_an_open_vc : closed_path);
+  if (header.vpi == 0 && open.path_by_vci) meet(vci_is_number_of_an_open_path);
+}
+
 clurimoon_served judged_slot(const clurimoon_record &record, Memory lent, Lent<const uint8_t> cell) {
   if (!sizes_in_range(record.n, record.v)) return refused(record, 1);
   if (!lengths_fit(record.n, record.v, lent)) return refused(record, 2);
@@ -497,8 +586,11 @@ clurimoon_served judged_slot(const clurimoon_record &record, Memory lent, Lent<c
 } // namespace
 
 clurimoon_served slot(const clurimoon_record &record, Memory lent, Lent<const uint8_t> cell) {
+  const Open open = open_before(record, lent, cell);
   const clurimoon_served served = judged_slot(record, lent, cell);
   tally_check(record, cell, served.answer);
+  const bool mended = record.raw == 1 && served.record.mode == CLURIMOON_DETECTION && cell.length == 53;
+  tally_paths(record, open, cell, mended, served.answer);
   return served;
 }
 
@@ -524,24 +616,26 @@ void must(bool holds, Fault fault) {
 class Audit {
 public:
   Audit(const clurimoon_record &record, const Memory &lent)
-      : r(record), lent(lent), seen(record.n, false), queued(record.v, 0) {}
+      : r(record), lent(lent), seen(record.n, false), queued(record.v + paths, 0) {}
 
   void run() {
     must(r.T < r.n, no_T);
     must(r.raw <= 1, no_raw);
     must(r.mode <= 1, no_mode);
-    must(r.rotation < r.v, no_rotation);
-    for (unsigned vci = 1; vci < r.v; ++vci) judge_vc(lent.vcs.at + size_t{word_count} * vci);
+    must(r.kind <= 1, no_kind);
+    must(r.rotation < r.v + paths, no_rotation);
+    for (unsigned c = 1; c < r.v + paths; ++c)
+      if (c != r.v) judge_connection(words(c));
     walk(r.free_head, r.free_tail, false);
     walk(r.out_head, r.out_tail, true);
     for (unsigned entry = 0; entry < r.n; ++entry)
       walk(lent.calendar.at[2 * entry], lent.calendar.at[2 * entry + 1], true);
     must(std::find(seen.begin(), seen.end(), false) == seen.end(), no_space_missing);
     must(lent.calendar.at[2 * r.T] == empty, no_entry_T);
-    for (unsigned vci = 1; vci < r.v; ++vci) {
-      const uint32_t *words = lent.vcs.at + size_t{word_count} * vci;
-      must(words[w_open] == 0 || words[w_waiting] == queued[vci], no_waiting_count);
-    }
+    for (unsigned c = 1; c < r.v + paths; ++c)
+      if (c != r.v) must(words(c)[w_open] == 0 || words(c)[w_waiting] == queued[c], no_waiting_count);
+    if (words(r.v)[w_open] != 0) meet(audited_with_record_V_in_disguise);
+    if (path_queued) meet(audited_with_a_path_queued);
   }
 
 private:
@@ -549,8 +643,11 @@ private:
   const Memory &lent;
   std::vector<bool> seen;
   std::vector<uint32_t> queued;
+  bool path_queued = false;
 
-  void judge_vc(const uint32_t *words) const {
+  const uint32_t *words(unsigned c) const { return lent.vcs.at + size_t{word_count} * c; }
+
+  void judge_connection(const uint32_t *words) const {
     must(words[w_open] <= 1, no_open_word);
     if (words[w_open] == 0) return;
     must(rule_broken(r.n, words[w_m], words[w_F], words[w_C]) == rules_kept, no_rules);
@@ -576,10 +673,14 @@ private:
   }
 
   void count(uint16_t space) {
-    const Header header = read_header(lent.cells.at + size_t{53} * space);
-    must(header.vpi == 0 && header.vci != 0 && header.vci < r.v, no_header);
-    must(lent.vcs.at[size_t{word_count} * header.vci + w_open] == 1, no_header);
-    queued[header.vci] += 1;
+    const Header header = read_header(r.kind, lent.cells.at + size_t{53} * space);
+    const unsigned connection = header.connection(r.v);
+    if (header.vpi >= paths) meet(no_for_a_vpi_above_255);
+    must(connection != 0, no_header);
+    if (header.vpi != 0 && words(connection)[w_open] == 0) meet(no_for_a_closed_path);
+    must(words(connection)[w_open] == 1, no_header);
+    queued[connection] += 1;
+    if (header.vpi != 0) path_queued = true;
   }
 };
 

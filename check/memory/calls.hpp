@@ -22,10 +22,11 @@ namespace calls {
 #define CALLS_CLAUSES(X)                                                                                     \
   X(slot_raw) X(slot_mode) X(slot_T) X(slot_rotation)                                                        \
   X(rotation_open) CALLS_RULES(X, rotation)                                                                  \
-  X(arrival_open) CALLS_RULES(X, arrival) X(arrival_waiting)                                                 \
+  X(arrival_kind) X(arrival_open) CALLS_RULES(X, arrival) X(arrival_waiting)                                 \
   CALLS_PAIR(X, take_pair) X(take_empty) X(take_link)                                                        \
   CALLS_PAIR(X, join_pair) CALLS_PAIR(X, entry_pair) CALLS_PAIR(X, output_pair) X(output_link)               \
-  X(departing_vpi) X(departing_vci_0) X(departing_vci_high) X(departing_closed) X(departing_open)            \
+  X(departing_kind) X(departing_vpi_high) X(departing_vci_0) X(departing_vci_high) X(departing_closed)       \
+  X(departing_open)                                                                                          \
   X(departing_waiting_0) X(departing_waiting_high)                                                           \
   CALLS_PAIR(X, give_pair)                                                                                   \
   X(open_open) CALLS_RULES(X, open) X(open_waiting)                                                          \
@@ -46,6 +47,7 @@ extern const char *const clause_name[clause_count];
   X(no_T)                                                                                                    \
   X(no_raw)                                                                                                  \
   X(no_mode)                                                                                                 \
+  X(no_kind)                                                                                                 \
   X(no_rotation)                                                                                             \
   X(no_open_word)                                                                                            \
   X(no_rules) X(no_S) X(no_second_limits) X(no_second_S) X(no_waiting_range) X(no_pair) X(no_link) X(no_space_twice) X(no_space_missing)        \
@@ -150,6 +152,42 @@ enum Bucket {
 };
 extern const char *const bucket_name[bucket_count];
 
+// What a slot made of line kind and VPI, what a path's calls answered, and what the audit saw of paths.
+#define CALLS_PATHS(X)                                                                                       \
+  X(kind_not_read_without_a_cell) /* stored outside 0 and 1, in a slot with no header to read */             \
+  X(kind_not_read_for_a_dropped_cell)                                                                        \
+  X(kind_read_of_an_idle_cell) /* 3, though the cell is no user cell */                                      \
+  X(kind_after_1_2_9) /* another refusal comes first */                                                      \
+  X(no_user_cell_with_gfc)                                                                                   \
+  X(vc_with_gfc)                                                                                             \
+  X(vc_at_the_nni)                                                                                           \
+  X(gfc_bits_are_vpi) /* what is a VC at the UNI is unknown at the NNI */                                    \
+  X(vpi_above_255)                                                                                           \
+  X(vpi_above_255_ends_as_an_open_path)                                                                      \
+  X(closed_path)                                                                                             \
+  X(closed_path_vci_of_an_open_vc)                                                                           \
+  X(vci_is_number_of_an_open_path) /* unknown: VCI of V or more */                                           \
+  X(path_accepted_uni) X(path_accepted_nni) X(path_excess_uni) X(path_excess_nni)                            \
+  X(path_tagged_uni) X(path_tagged_nni) X(path_vci_0) X(path_vci_of_an_open_vc) X(path_with_gfc)             \
+  X(path_255) X(path_mended)                                                                                 \
+  X(path_departed_uni) X(path_departed_nni)                                                                  \
+  X(rotation_at_V) /* record V is not read */                                                                \
+  X(rotation_at_V_in_disguise) /* though it looks like an open one */                                        \
+  X(rotation_updates_a_path)                                                                                 \
+  X(rotation_wraps)                                                                                          \
+  X(path_opened) X(path_closed) X(refused_4_path_0) X(refused_4_path_256) X(refused_4_path_above)            \
+  X(refused_13) X(refused_1_before_13) X(refused_13_before_2)                                                \
+  X(audited_with_a_path_queued) X(audited_with_record_V_in_disguise) X(no_for_a_vpi_above_255)               \
+  X(no_for_a_closed_path)
+
+enum Path {
+#define X(name) name,
+  CALLS_PATHS(X)
+#undef X
+      path_count
+};
+extern const char *const path_name[path_count];
+
 // What was met, for the summary of a run.
 struct Tally {
   std::array<uint64_t, clause_count> clause{};
@@ -157,6 +195,7 @@ struct Tally {
   std::array<uint64_t, close_count> close{};
   std::array<uint64_t, check_count> check{};
   std::array<uint64_t, bucket_count> bucket{};
+  std::array<uint64_t, path_count> path{};
   std::array<uint64_t, 40> mended_bit{};
 };
 extern Tally tally;
@@ -173,8 +212,13 @@ struct Memory {
   Lent<uint32_t> vcs;
 };
 
-clurimoon_set setup(uint16_t n, uint16_t v, bool raw, Memory);
-// What a VC is opened with: its peak bucket, and its second one or zeros.
+clurimoon_set setup(uint16_t n, uint16_t v, bool raw, uint16_t kind, Memory);
+// What is opened or closed: a VC by its VCI, or a path by its VPI.
+struct Name {
+  bool path;
+  uint16_t number;
+};
+// What it is opened with: its peak bucket, and its second one or zeros.
 struct Rates {
   uint8_t m;
   uint32_t f, c;
@@ -182,8 +226,8 @@ struct Rates {
   uint32_t f2, c2;
   uint8_t tag;
 };
-uint16_t open(const clurimoon_record &, Lent<uint32_t> vcs, uint16_t vci, const Rates &);
-uint16_t close(const clurimoon_record &, Lent<uint32_t> vcs, uint16_t vci);
+uint16_t open(const clurimoon_record &, Lent<uint32_t> vcs, Name, const Rates &);
+uint16_t close(const clurimoon_record &, Lent<uint32_t> vcs, Name);
 clurimoon_served slot(const clurimoon_record &, Memory, Lent<const uint8_t> cell);
 clurimoon_part line(size_t cells_length, size_t idle_length, uint16_t number);
 bool audit(const clurimoon_record &, Memory);

@@ -17,10 +17,12 @@ public:
   bool complete = true;
 
   void numbers() {
-    const std::map<std::string, std::vector<unsigned>> expected = {{"setup", {0, 1, 2}},
+    const std::map<std::string, std::vector<unsigned>> expected = {{"setup", {0, 1, 2, 13}},
                                                                    {"open", {0, 1, 2, 3, 4, 5, 6}},
                                                                    {"open_sustained", {0, 1, 2, 3, 4, 5, 6, 11}},
+                                                                   {"open_path", {0, 1, 2, 3, 4, 5, 6, 11}},
                                                                    {"close", {0, 1, 2, 3, 4, 7, 8}},
+                                                                   {"close_path", {0, 1, 2, 3, 4, 7, 8}},
                                                                    {"slot", {0, 1, 2, 3, 9}},
                                                                    {"burst", {0, 1, 2, 3, 9}}};
     for (const auto &[call, which] : expected) {
@@ -63,7 +65,7 @@ private:
 
   static bool of_the_header_check(const std::string &name) {
     return name == "slot_raw" || name == "slot_mode" || name == "no_raw" || name == "no_mode" ||
-           name == "tagged_and_mended";
+           name == "tagged_and_mended" || name == "path_mended" || name == "kind_not_read_for_a_dropped_cell";
   }
   void item(const std::string &name, uint64_t times) {
     std::printf("%s %llu%s", name.c_str(), static_cast<unsigned long long>(times),
@@ -102,6 +104,7 @@ int main(int count_arguments, char **arguments) {
   summary.clauses("the audit's no by clause:", calls::fault_name, calls::tally.fault);
   summary.clauses("close by what is left of S:", calls::close_name, calls::tally.close);
   summary.clauses("cells and openings by the second bucket:", calls::bucket_name, calls::tally.bucket);
+  summary.clauses("line kind and paths:", calls::path_name, calls::tally.path);
   if (may_be_raw) summary.clauses("the header check:", calls::check_name, calls::tally.check), summary.bits();
   std::printf("memories: %llu calls in %llu scenarios compared, all equal\n",
               static_cast<unsigned long long>(made), static_cast<unsigned long long>(scenario));

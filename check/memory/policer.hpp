@@ -16,7 +16,7 @@ constexpr bool may_be_raw = false;
 constexpr bool may_be_raw = true;
 #endif
 
-constexpr size_t words_per_vc = 12;
+constexpr size_t words_per_connection = 12, paths = 256;
 
 class Policer {
 protected:
@@ -34,7 +34,18 @@ protected:
   bool fresh = true; // since setup each call got what the call before left
   unsigned load = 90;
   unsigned wrong = 10; // cells in a hundred that come with a wrong header, where it is checked
-  std::vector<uint16_t> favourites;
+  unsigned of_paths = 30; // cells in a hundred that are of a path
+  std::vector<uint16_t> favourites, favourite_paths; // VCIs and VPIs
+
+  size_t connections() const { return v + paths; }
+  // The number of a VC or path that is in use.
+  uint16_t likely_connection() {
+    if (random.percent(50)) return random.pick(favourites);
+    return static_cast<uint16_t>(v + random.pick(favourite_paths));
+  }
+  calls::Name name_of(size_t connection) const {
+    return {connection > v, static_cast<uint16_t>(connection > v ? connection - v : connection)};
+  }
 
   void choose_sizes() {
     const uint64_t kind = random.below(100);
@@ -47,8 +58,14 @@ protected:
     else v = random.pick<uint16_t>({2, 3, 64, 255, 256, 1023, 1024});
     load = random.pick({20u, 60u, 90u, 100u, 100u});
     wrong = random.pick({0u, 3u, 10u, 40u});
+    of_paths = random.pick({0u, 15u, 40u, 90u});
     for (uint64_t k = random.between(1, 5); k > 0; --k)
       favourites.push_back(static_cast<uint16_t>(random.between(1, v - 1u)));
+    // Rotation comes to the first paths soon, and to the last one just before it begins again.
+    for (uint64_t k = random.between(1, 5); k > 0; --k) {
+      const uint16_t any = static_cast<uint16_t>(random.between(1, 255));
+      favourite_paths.push_back(random.pick<uint16_t>({any, 1, 2, 3, 5, 15, 16, 128, 255}));
+    }
   }
 
   // Buffers of the lengths that n and v ask for, with old content in them.
@@ -58,7 +75,7 @@ protected:
     memory.cells.resize(size_t{53} * n, cell_of_vc_1);
     memory.links.resize(n, {0});
     memory.calendar.resize(size_t{2} * n, {none});
-    memory.vcs.resize(words_per_vc * v, {1, 2, 10, 10, 0, 0, 1, 2, 20, 60, 0, 1});
+    memory.vcs.resize(words_per_connection * connections(), {1, 2, 10, 10, 0, 0, 1, 2, 20, 60, 0, 1});
     for (size_t k = 0; k < memory.cells.size(); k += random.between(1, 60))
       memory.cells.set(k, static_cast<uint8_t>(random.next()));
     for (size_t k = 0; k < memory.vcs.size(); k += random.between(1, 20))
@@ -72,22 +89,25 @@ protected:
     if (random.once_in(12)) asked_n = random.pick<uint16_t>({0, 1025, 65535, 1024, 1});
     if (random.once_in(12)) asked_v = random.pick<uint16_t>({0, 1, 1025, 65535, 1024, 2});
     const Lengths lent = random.once_in(12) ? wrong_lengths() : lengths();
-    const clurimoon_set got = setup(asked_n, asked_v, may_be_raw && random.once_in(2), lent);
+    uint16_t kind = random.once_in(2) ? CLURIMOON_UNI : CLURIMOON_NNI;
+    if (random.once_in(12)) kind = random.pick<uint16_t>({2, 3, 256, 257, 65535});
+    const clurimoon_set got = setup(asked_n, asked_v, may_be_raw && random.once_in(2), kind, lent);
     record = got.record;
     // Another size with just its lengths is done, too, and is not the policer that follows.
     if (got.number != 0 || asked_n != n || asked_v != v) return false;
-    if (random.once_in(2)) disguise_vc_0();
+    if (random.once_in(2)) disguise(0);
+    if (random.once_in(2)) disguise(v);
     for (uint64_t k = random.between(1, 12); k > 0; --k) any_open();
     return true;
   }
 
-  // VC 0's words don't matter: here they look like those of an open VC, or like none.
-  void disguise_vc_0() {
+  // The words of numbers 0 and V don't matter: here they look like those of an open VC, or like none.
+  void disguise(size_t connection) {
     const uint32_t open = random.pick<uint32_t>({1, 1, 2, UINT32_MAX});
     const uint32_t s = random.pick<uint32_t>({0, 10, 11}), waiting = random.pick<uint32_t>({0, 1, n, n + 1u});
-    const uint32_t words[words_per_vc] = {
+    const uint32_t words[words_per_connection] = {
         open, 2, 10, 10, s, 0, waiting, 2, 20, 60, random.pick<uint32_t>({0, 60, 61}), random.pick<uint32_t>({0, 1, 2})};
-    for (size_t k = 0; k < words_per_vc; ++k) memory.vcs.set(k, words[k]);
+    for (size_t k = 0; k < words_per_connection; ++k) memory.vcs.set(words_per_connection * connection + k, words[k]);
   }
 
   // A state that is as sound as can be, but for an N or V just outside its range.
@@ -95,9 +115,9 @@ protected:
     n = random.pick<uint16_t>({1, 5, 1024, 1025, 1025});
     v = random.pick<uint16_t>({1, 1, 2, 1025});
     if (n <= 1024 && v == 2) v = 1025;
-    favourites = {1};
+    favourites = {1}, favourite_paths = {1, 255};
     make_buffers();
-    setup(n, v, may_be_raw && random.once_in(2), lengths());
+    setup(n, v, may_be_raw && random.once_in(2), random.pick<uint16_t>({0, 1, 2, 65535}), lengths());
     for (uint16_t space = 0; space < n; ++space) memory.links.set(space, static_cast<uint16_t>(space + 1));
     for (size_t k = 0; k < memory.calendar.size(); ++k) memory.calendar.set(k, none);
     for (size_t k = 0; k < memory.vcs.size(); ++k) memory.vcs.set(k, 0);
@@ -105,13 +125,14 @@ protected:
               v,
               UINT32_MAX,
               static_cast<uint16_t>(n - 1),
-              static_cast<uint16_t>(v - 1),
+              static_cast<uint16_t>(v + paths - 1),
               0,
               static_cast<uint16_t>(n - 1),
               none,
               none,
               static_cast<uint16_t>(may_be_raw ? random.below(4) : 0),
-              static_cast<uint16_t>(may_be_raw ? random.below(3) : 0)};
+              static_cast<uint16_t>(may_be_raw ? random.below(3) : 0),
+              static_cast<uint16_t>(random.below(4))};
     fresh = false;
   }
 
@@ -132,7 +153,9 @@ protected:
     if (which == 0 || which == 4) lent.cells = wrong_length(lent.cells, 53);
     if (which == 1 || which == 4) lent.links = wrong_length(lent.links, 1);
     if (which == 2 || which == 4) lent.calendar = wrong_length(lent.calendar, 2);
-    if (which == 3 || which == 4) lent.vcs = random.once_in(4) ? size_t{7} * v : wrong_length(lent.vcs, words_per_vc);
+    // those of (iv) and of document 01, and of 256 paths with none unused before them
+    const size_t other = random.pick<size_t>({size_t{7} * v, size_t{12} * v, size_t{7} * connections()});
+    if (which == 3 || which == 4) lent.vcs = random.once_in(3) ? other : wrong_length(lent.vcs, words_per_connection);
     return lent;
   }
   Lengths usual_lengths() { return random.once_in(60) ? wrong_lengths() : lengths(); }
@@ -152,11 +175,11 @@ protected:
     made += 1;
   }
 
-  clurimoon_set setup(uint16_t asked_n, uint16_t asked_v, bool raw, const Lengths &lent) {
+  clurimoon_set setup(uint16_t asked_n, uint16_t asked_v, bool raw, uint16_t kind, const Lengths &lent) {
     begin_call("setup");
-    const clurimoon_set expected = calls::setup(asked_n, asked_v, raw, lend_ours(lent));
+    const clurimoon_set expected = calls::setup(asked_n, asked_v, raw, kind, lend_ours(lent));
     const clurimoon_set got =
-        clurimoon_setup(asked_n, asked_v, raw, memory.cells.lend_theirs(lent.cells, lent.null), lent.cells,
+        clurimoon_setup(asked_n, asked_v, raw, kind, memory.cells.lend_theirs(lent.cells, lent.null), lent.cells,
                         memory.links.lend_theirs(lent.links, lent.null), lent.links,
                         memory.calendar.lend_theirs(lent.calendar, lent.null), lent.calendar,
                         memory.vcs.lend_theirs(lent.vcs, lent.null), lent.vcs);
@@ -195,7 +218,13 @@ protected:
   uint16_t any_vci() {
     if (random.percent(80)) return random.pick(favourites);
     return random.pick<uint16_t>({0, 1, static_cast<uint16_t>(v - 1), v, static_cast<uint16_t>(v + 1), 65535,
-                                  static_cast<uint16_t>(random.below(v))});
+                                  static_cast<uint16_t>(random.below(v)),
+                                  static_cast<uint16_t>(v + random.pick(favourite_paths))});
+  }
+  uint16_t any_vpi() {
+    if (random.percent(80)) return random.pick(favourite_paths);
+    return random.pick<uint16_t>({0, 1, 2, 254, 255, 256, 256, 257, 511, 4095, 65535, v, static_cast<uint16_t>(random.below(256)),
+                                  static_cast<uint16_t>(v + random.pick(favourite_paths))});
   }
 
   // A second bucket within its limits: mostly slower than the peak and with a tolerance of some
@@ -230,8 +259,10 @@ protected:
   }
 
   void any_open() {
-    if (random.percent(30)) open();
-    else open_sustained();
+    const uint64_t kind = random.below(100);
+    if (kind < 20) open();
+    else if (kind < 60) open_sustained();
+    else open_path();
   }
   calls::Rates peak_alone() {
     calls::Rates rates{};
@@ -244,13 +275,12 @@ protected:
     if (random.percent(15)) break_rules(rates.m, rates.f, rates.c);
     const uint16_t vci = any_vci();
     const size_t lent = usual_lengths().vcs;
-    const uint16_t expected = calls::open(record, memory.vcs.lend_ours(lent), vci, rates);
+    const uint16_t expected = calls::open(record, memory.vcs.lend_ours(lent), {false, vci}, rates);
     const uint16_t got = clurimoon_open(record, memory.vcs.lend_theirs(lent, random.once_in(2)), lent, vci, rates.m,
                                         rates.f, rates.c);
     opened("open", expected, got);
   }
-  void open_sustained() {
-    begin_call("open_sustained");
+  calls::Rates any_rates() {
     calls::Rates rates = peak_alone();
     if (random.percent(90)) {
       choose_second(rates, rates.m2, rates.f2, rates.c2);
@@ -258,13 +288,28 @@ protected:
     }
     if (random.percent(15)) break_limits(rates);
     if (random.percent(8)) break_rules(rates.m, rates.f, rates.c);
+    return rates;
+  }
+  void open_sustained() {
+    begin_call("open_sustained");
+    const calls::Rates rates = any_rates();
     const uint16_t vci = any_vci();
     const size_t lent = usual_lengths().vcs;
-    const uint16_t expected = calls::open(record, memory.vcs.lend_ours(lent), vci, rates);
+    const uint16_t expected = calls::open(record, memory.vcs.lend_ours(lent), {false, vci}, rates);
     const uint16_t got =
         clurimoon_open_sustained(record, memory.vcs.lend_theirs(lent, random.once_in(2)), lent, vci, rates.m, rates.f,
                                  rates.c, rates.m2, rates.f2, rates.c2, rates.tag);
     opened("open_sustained", expected, got);
+  }
+  void open_path() {
+    begin_call("open_path");
+    const calls::Rates rates = any_rates();
+    const uint16_t vpi = any_vpi();
+    const size_t lent = usual_lengths().vcs;
+    const uint16_t expected = calls::open(record, memory.vcs.lend_ours(lent), {true, vpi}, rates);
+    const uint16_t got = clurimoon_open_path(record, memory.vcs.lend_theirs(lent, random.once_in(2)), lent, vpi, rates.m,
+                                             rates.f, rates.c, rates.m2, rates.f2, rates.c2, rates.tag);
+    opened("open_path", expected, got);
   }
   void opened(const char *call, uint16_t expected, uint16_t got) {
     same<uint64_t>("number", expected, got);
@@ -272,36 +317,47 @@ protected:
     count(call, got);
     never_3(got);
   }
-  void close() { close_of(any_vci()); }
-  void close_of(uint16_t vci) {
-    begin_call("close");
+  void close() {
+    if (random.once_in(2)) close_of({false, any_vci()});
+    else close_of({true, any_vpi()});
+  }
+  void close_of(calls::Name name) {
+    const char *const call = name.path ? "close_path" : "close";
+    begin_call(call);
     const size_t lent = usual_lengths().vcs;
-    const uint16_t expected = calls::close(record, memory.vcs.lend_ours(lent), vci);
-    const uint16_t got = clurimoon_close(record, memory.vcs.lend_theirs(lent, random.once_in(2)), lent, vci);
+    const uint16_t expected = calls::close(record, memory.vcs.lend_ours(lent), name);
+    uint32_t *const words = memory.vcs.lend_theirs(lent, random.once_in(2));
+    const uint16_t got = name.path ? clurimoon_close_path(record, words, lent, name.number) : clurimoon_close(record, words, lent, name.number);
     same<uint64_t>("number", expected, got);
     compare_memories();
-    count("close", got);
+    count(call, got);
     never_3(got);
   }
   void never_3(unsigned number) const {
     if (fresh && number == 3) fail("refusal 3 from a fresh state");
   }
 
-  // A cell: mostly of a favourite VC, with any GFC, PTI, CLP, HEC and payload.
+  // A cell: mostly of a favourite VC or path, with any GFC, PTI, CLP, HEC and payload.
   void write_cell(uint8_t *cell) {
     for (size_t k = 0; k < 53; k += 8) {
       const uint64_t octets = random.next();
       std::memcpy(cell + k, &octets, 53 - k < 8 ? 53 - k : 8);
     }
     uint32_t vpi = 0, vci = random.pick(favourites);
+    if (random.percent(of_paths)) vpi = random.pick(favourite_paths), vci = any_vci_of_a_path();
     const uint64_t kind = random.below(100);
-    if (kind < 4) vpi = random.pick<uint32_t>({1, 15, 16, 128, 240, 255});
+    if (kind < 4) vpi = random.pick<uint32_t>({1, 15, 16, 128, 240, 255, random.pick(favourite_paths)});
     if (kind >= 4 && kind < 8) vci = any_vci();
     if (kind == 8) vci = 0;
-    if (kind == 9)
-      vpi = static_cast<uint32_t>(random.below(256)), vci = static_cast<uint32_t>(random.below(65536));
+    if (kind == 9) vpi = static_cast<uint32_t>(random.below(256)), vci = static_cast<uint32_t>(random.below(65536));
+    if (kind == 10) vpi = vci = 0;
+    // at the NNI four bits more, above a VC's header or a path's
+    if (kind >= 11 && kind < 15) vpi |= 256 * random.pick<uint32_t>({1, 2, 8, 15, static_cast<uint32_t>(random.between(1, 15))});
     put_header(cell, vpi, vci);
     if (record.raw == 1) put_octet_5(cell);
+  }
+  uint32_t any_vci_of_a_path() {
+    return random.pick<uint32_t>({0, random.pick(favourites), any_vci(), 65535, static_cast<uint32_t>(random.below(65536))});
   }
   // Where headers are checked octet 5 is mostly right; else some of the forty bits are wrong.
   void put_octet_5(uint8_t *cell) {
@@ -315,8 +371,9 @@ protected:
     }
     std::copy_n(header.begin(), 5, cell);
   }
-  static void put_header(uint8_t *cell, uint32_t vpi, uint32_t vci) {
-    cell[0] = static_cast<uint8_t>((cell[0] & 0xf0) | vpi >> 4);
+  // At the NNI a VPI of twelve bits, at the UNI one of eight, and the GFC stays what it was.
+  void put_header(uint8_t *cell, uint32_t vpi, uint32_t vci) const {
+    cell[0] = static_cast<uint8_t>(record.kind == CLURIMOON_NNI ? vpi >> 4 : (cell[0] & 0xf0) | (vpi >> 4 & 15));
     cell[1] = static_cast<uint8_t>((vpi & 15) << 4 | vci >> 12);
     cell[2] = static_cast<uint8_t>(vci >> 4);
     cell[3] = static_cast<uint8_t>((vci & 15) << 4 | (cell[3] & 15));

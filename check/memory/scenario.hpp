@@ -39,12 +39,24 @@ private:
     return random.pick<uint16_t>({0, 1, static_cast<uint16_t>(n - 1), n, static_cast<uint16_t>(n + 1), 65534,
                                   none, static_cast<uint16_t>(random.below(n)),
                                   static_cast<uint16_t>(random.below(n)),
-                                  static_cast<uint16_t>(random.next()), static_cast<uint16_t>(v - 1), v});
+                                  static_cast<uint16_t>(random.next()), static_cast<uint16_t>(v - 1), v,
+                                  static_cast<uint16_t>(v + 255), static_cast<uint16_t>(v + 256)});
   }
-  // The VC that the next slots are likely to read.
-  uint16_t likely_vc() {
-    if (random.percent(40)) return static_cast<uint16_t>((record.rotation + 1u) % v);
-    return static_cast<uint16_t>(random.percent(80) ? random.pick(favourites) : random.below(v));
+  // The connection of the cell that leaves next, or 0.
+  uint16_t next_departing() const {
+    const uint16_t space = record.out_head < n ? record.out_head : next_due_space();
+    if (space >= n) return 0;
+    const auto octet = [&](size_t k) { return static_cast<size_t>(memory.cells.get(size_t{53} * space + k)); };
+    const size_t vpi = (record.kind == CLURIMOON_NNI ? octet(0) : octet(0) % 16) * 16 + octet(1) / 16;
+    const size_t vci = octet(1) % 16 * 4096 + octet(2) * 16 + octet(3) / 16;
+    const size_t connection = vpi == 0 ? vci : v + vpi;
+    return static_cast<uint16_t>(connection < connections() ? connection : 0);
+  }
+  // The connection that the next slots are likely to read.
+  uint16_t next_read() {
+    if (random.percent(25) && next_departing() != 0) return next_departing();
+    if (random.percent(30)) return static_cast<uint16_t>((record.rotation + 1u) % connections());
+    return random.percent(85) ? likely_connection() : static_cast<uint16_t>(random.below(connections()));
   }
   // The space that the next slots are likely to read.
   uint16_t likely_space() {
@@ -61,13 +73,13 @@ private:
   void damage() {
     fresh = false;
     damages += 1;
-    switch (random.below(may_be_raw ? 20 : 18)) {
+    switch (random.below(may_be_raw ? 26 : 24)) {
     case 0: damage_record(); break;
     case 1: memory.links.set(likely_space(), edge_number()); break;
     case 2: memory.calendar.set(2 * likely_entry() + random.below(2), edge_number()); break;
     case 3:
     case 4:
-    case 5: damage_vc(); break;
+    case 5: damage_connection(); break;
     case 6: damage_pair(); break;
     case 7: alias_pairs(); break;
     case 8: memory.links.set(likely_space(), likely_space()); break;
@@ -82,9 +94,20 @@ private:
     case 15:
     case 16:
     case 17: damage_second(); break;
-    case 18: record.raw = random.pick<uint16_t>({0, 1, 1, 2, 256, 65535}); break;
-    case 19: record.mode = random.pick<uint16_t>({0, 1, 1, 2, 256, 65535}); break;
+    case 18: record.kind = random.pick<uint16_t>({0, 1, 2, 2, 256, 257, 65535}); break;
+    case 19: record.kind = static_cast<uint16_t>(record.kind ^ 1); break;
+    case 20: aim_rotation(), damage_connection(); break;
+    case 21: aim_rotation(), damage_second(); break;
+    case 22: damage_header(); break;
+    case 23: record.rotation = random.pick<uint16_t>({static_cast<uint16_t>(v - 1), v, static_cast<uint16_t>(v + 254), static_cast<uint16_t>(v + 255), static_cast<uint16_t>(v + 256), 65535}); break;
+    case 24: record.raw = random.pick<uint16_t>({0, 1, 1, 2, 256, 65535}); break;
+    case 25: record.mode = random.pick<uint16_t>({0, 1, 1, 2, 256, 65535}); break;
     }
+  }
+  // A connection in use is the next that rotation names. A sound state stays sound.
+  void aim_rotation() {
+    const size_t connection = likely_connection();
+    record.rotation = static_cast<uint16_t>((connection + connections() - 1) % connections());
   }
   void damage_record() {
     switch (random.below(10)) {
@@ -100,13 +123,14 @@ private:
     case 9: record.T = static_cast<uint16_t>(random.below(n)); break;
     }
   }
-  void damage_vc() {
-    const size_t at = words_per_vc * likely_vc();
+  void damage_connection() {
+    const size_t at = words_per_connection * next_read();
     const uint32_t m = memory.vcs.get(at + 1), f = memory.vcs.get(at + 2), c = memory.vcs.get(at + 3);
     const uint32_t leak = m < 16 ? uint32_t{1} << m : 1;
     const uint32_t any = static_cast<uint32_t>(random.next());
-    switch (random.below(9)) {
-    case 0: memory.vcs.set(at, random.pick<uint32_t>({0, 1, 2, 256, 65536, UINT32_MAX, any})); break;
+    switch (random.below(10)) {
+    case 9:
+    case 0: memory.vcs.set(at, random.pick<uint32_t>({0, 0, 1, 2, 256, 65536, UINT32_MAX, any})); break;
     case 1:
       memory.vcs.set(at + 1, random.pick<uint32_t>({0, 15, 16, 31, 32, 64, 256, 65536, UINT32_MAX}));
       break;
@@ -142,12 +166,12 @@ private:
     memory.vcs.set(at + 5, random.once_in(6) ? record.t - static_cast<uint32_t>((uint64_t{1} << 32) / leak)
                                              : record.t - elapsed);
     memory.vcs.set(at + 6, 0);
-    close_of(static_cast<uint16_t>(at / words_per_vc));
+    close_of(name_of(at / words_per_connection));
   }
-  // One word of the second bucket, or several that stand at an edge together; each call that reads the VC may come next.
+  // One word of the second bucket, or several that stand at an edge together; each call that reads it may come next.
   void damage_second() {
-    const uint16_t vci = likely_vc();
-    const size_t at = words_per_vc * vci + 7;
+    const uint16_t connection = next_read();
+    const size_t at = words_per_connection * connection + 7;
     const uint32_t f = memory.vcs.get(at + 1), c = memory.vcs.get(at + 2);
     const uint32_t any = static_cast<uint32_t>(random.next());
     switch (random.below(9)) {
@@ -164,7 +188,7 @@ private:
     // Full to the brim, or by one part: the next CLP 0 cell is above it, or just within.
     case 8: put_second(at, {0, 1000, 5000, random.pick<uint32_t>({4000, 4001, 4002, 5000, 5001}), random.pick<uint32_t>({0, 1})}); break;
     }
-    if (random.once_in(6)) close_of(vci);
+    if (random.once_in(6)) close_of(name_of(connection));
   }
   void put_second(size_t at, std::array<uint32_t, 5> words) {
     for (size_t k = 0; k < 5; ++k) memory.vcs.set(at + k, words[k]);
@@ -212,12 +236,13 @@ private:
     uint8_t cell[4];
     const size_t at = size_t{53} * likely_space();
     for (size_t k = 0; k < 4; ++k) cell[k] = memory.cells.get(at + k);
-    const uint32_t vpi = random.percent(40) ? random.pick<uint32_t>({1, 16, 128, 255}) : 0;
+    const uint32_t path = random.pick(favourite_paths);
+    const uint32_t vpi = random.percent(50) ? random.pick<uint32_t>({1, 16, 128, 255, path, path, 256, 256 + path, 4095}) : 0;
     // A wrong VPI alone must be seen, too.
     const uint32_t named = (cell[1] & 15u) << 12 | static_cast<uint32_t>(cell[2]) << 4 | cell[3] >> 4;
     const uint32_t vci = vpi != 0 && random.percent(70)
                              ? named
-                             : random.pick<uint32_t>({0, v, v + 1u, 65535, 1, random.pick(favourites),
+                             : random.pick<uint32_t>({0, v, v + 1u, v + path, 65535, 1, random.pick(favourites),
                                                       static_cast<uint32_t>(random.below(v))});
     put_header(cell, vpi, vci);
     for (size_t k = 0; k < 4; ++k) memory.cells.set(at + k, cell[k]);
@@ -227,9 +252,8 @@ private:
     const uint32_t by = random.pick<uint32_t>(
         {UINT32_MAX - record.t, UINT32_MAX - record.t - 3, static_cast<uint32_t>(random.next())});
     record.t += by;
-    for (size_t vci = 1; vci < v; ++vci)
-      if (memory.vcs.get(words_per_vc * vci) == 1)
-        memory.vcs.set(words_per_vc * vci + 5, memory.vcs.get(words_per_vc * vci + 5) + by);
+    for (size_t at = 0; at < memory.vcs.size(); at += words_per_connection)
+      if (memory.vcs.get(at) == 1) memory.vcs.set(at + 5, memory.vcs.get(at + 5) + by);
   }
   // T at the next marked entry: every chain is sound, but entry T isn't empty.
   void mark_entry_T() {

@@ -14,7 +14,7 @@ namespace memories {
 
 using calls::Lent;
 constexpr uint16_t none = CLURIMOON_NONE;
-// Elements around every lent buffer that no call may touch: whole cells, whole VCs.
+// Elements around every lent buffer that no call may touch: whole cells, whole connections.
 constexpr size_t slack = 53 * 12;
 
 inline uint64_t scenario, made;
@@ -76,7 +76,8 @@ inline std::string show(const clurimoon_record &r) {
   std::string text = "{";
   for (uint32_t number :
        {uint32_t{r.n}, uint32_t{r.v}, r.t, uint32_t{r.T}, uint32_t{r.rotation}, uint32_t{r.free_head},
-        uint32_t{r.free_tail}, uint32_t{r.out_head}, uint32_t{r.out_tail}, uint32_t{r.raw}, uint32_t{r.mode}})
+        uint32_t{r.free_tail}, uint32_t{r.out_head}, uint32_t{r.out_tail}, uint32_t{r.raw}, uint32_t{r.mode},
+        uint32_t{r.kind}})
     text += " " + std::to_string(number);
   return text + " }";
 }
@@ -97,17 +98,17 @@ inline void same_record(const clurimoon_record &expected, const clurimoon_record
                      expected.T == got.T && expected.rotation == got.rotation &&
                      expected.free_head == got.free_head && expected.free_tail == got.free_tail &&
                      expected.out_head == got.out_head && expected.out_tail == got.out_tail &&
-                     expected.raw == got.raw && expected.mode == got.mode;
+                     expected.raw == got.raw && expected.mode == got.mode && expected.kind == got.kind;
   if (!equal) same("record", expected, got);
 }
 
 // How often each call gave each number, and each verdict was met.
-inline std::map<std::string, std::array<uint64_t, 12>> met;
+inline std::map<std::string, std::array<uint64_t, 14>> met;
 inline std::array<uint64_t, 6> verdicts;
 inline uint64_t sent, audits_yes, audits_no, parts_empty, parts_idle, parts_cell, burst_slots, damages;
 
 inline void count(const char *call, unsigned number) {
-  if (number > 11) fail("a number above 11");
+  if (number > 13) fail("a number above 13");
   met[call][number] += 1;
 }
 

@@ -4,7 +4,7 @@
 //   vectors FILE
 //
 // A vector is some lines up to an empty one: `vector NAME CALL STATE`; the record, the lengths and what the memories hold
-// (spaces and VCs that aren't named are 0); `args`; `answer`; then `after same`, or `after` and the lines that have changed.
+// (spaces and connections that aren't named are 0); `args`; `answer`; then `after same`, or `after` and the lines that have changed.
 #include <cstdio>
 #include <cstdlib>
 #include <fstream>
@@ -110,7 +110,7 @@ clurimoon_record read_record(const std::string &line) {
   r.n = f.half("N"), r.v = f.half("V"), r.t = f.word("t"), r.T = f.half("T"), r.rotation = f.half("rotation");
   r.free_head = f.half("free_head"), r.free_tail = f.half("free_tail");
   r.out_head = f.half("out_head"), r.out_tail = f.half("out_tail");
-  r.raw = f.half("raw"), r.mode = f.half("mode");
+  r.raw = f.half("raw"), r.mode = f.half("mode"), r.kind = f.half("kind");
   return f.done(), r;
 }
 
@@ -128,7 +128,7 @@ State read_state(Lines lines) {
 }
 
 std::vector<uint64_t> numbers_of(const clurimoon_record &r) {
-  return {r.n, r.v, r.t, r.T, r.rotation, r.free_head, r.free_tail, r.out_head, r.out_tail, r.raw, r.mode};
+  return {r.n, r.v, r.t, r.T, r.rotation, r.free_head, r.free_tail, r.out_head, r.out_tail, r.raw, r.mode, r.kind};
 }
 template <class Word> void same_memory(const std::string &what, const std::vector<Word> &expected, const std::vector<Word> &got) {
   for (size_t k = 0; k < expected.size(); ++k)
@@ -144,28 +144,31 @@ std::string make(bool archive, const std::string &call, const std::string &argum
   if (call == "setup") {
     const uint16_t n = f.half("N"), v = f.half("V");
     const bool raw = f.number("raw", 1) == 1;
-    const clurimoon_set set = archive ? clurimoon_setup(n, v, raw, THEIRS) : calls::setup(n, v, raw, s.lend());
+    const uint16_t kind = f.half("kind");
+    const clurimoon_set set = archive ? clurimoon_setup(n, v, raw, kind, THEIRS) : calls::setup(n, v, raw, kind, s.lend());
     s.record = set.record;
     answer = "number=" + std::to_string(set.number);
   } else if (call == "open") {
-    f.number("path", 0);
-    const uint16_t vci = f.half("number");
+    const bool path = f.number("path", 1) == 1;
+    const uint16_t number_asked = f.half("number");
     calls::Rates r{};
     r.m = f.octet("m"), r.f = f.word("F"), r.c = f.word("C");
     r.m2 = f.octet("m2"), r.f2 = f.word("F2"), r.c2 = f.word("C2"), r.tag = f.octet("flag");
     State once_more = s;
-    const uint16_t number = archive ? clurimoon_open_sustained(s.record, s.vcs.data(), s.vcs.size(), vci, r.m, r.f, r.c, r.m2, r.f2, r.c2, r.tag)
-                                    : calls::open(s.record, s.lend().vcs, vci, r);
-    if (archive && r.m2 == 0 && r.f2 == 0 && r.c2 == 0 && r.tag == 0) {
-      const uint16_t plain = clurimoon_open(once_more.record, once_more.vcs.data(), once_more.vcs.size(), vci, r.m, r.f, r.c);
+    const auto theirs = path ? clurimoon_open_path : clurimoon_open_sustained;
+    const uint16_t number = archive ? theirs(s.record, s.vcs.data(), s.vcs.size(), number_asked, r.m, r.f, r.c, r.m2, r.f2, r.c2, r.tag)
+                                    : calls::open(s.record, s.lend().vcs, {path, number_asked}, r);
+    if (archive && !path && r.m2 == 0 && r.f2 == 0 && r.c2 == 0 && r.tag == 0) {
+      const uint16_t plain = clurimoon_open(once_more.record, once_more.vcs.data(), once_more.vcs.size(), number_asked, r.m, r.f, r.c);
       if (plain != number || once_more.vcs != s.vcs) fail("open differs from open_sustained with zeros");
     }
     answer = "number=" + std::to_string(number);
   } else if (call == "close") {
-    f.number("path", 0);
-    const uint16_t vci = f.half("number");
-    answer = "number=" + std::to_string(archive ? clurimoon_close(s.record, s.vcs.data(), s.vcs.size(), vci)
-                                                : calls::close(s.record, s.lend().vcs, vci));
+    const bool path = f.number("path", 1) == 1;
+    const uint16_t number_asked = f.half("number");
+    const auto theirs = path ? clurimoon_close_path : clurimoon_close;
+    answer = "number=" + std::to_string(archive ? theirs(s.record, s.vcs.data(), s.vcs.size(), number_asked)
+                                                : calls::close(s.record, s.lend().vcs, {path, number_asked}));
   } else if (call == "slot") {
     const std::string digits = f.text("cell");
     const std::vector<uint8_t> cell = from_hex(digits == "-" ? "" : digits), before = cell;

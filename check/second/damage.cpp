@@ -121,14 +121,14 @@ void damage_once(Random &random, Octets &octets) {
   case 4: octets.resize(at); break;
   case 5: std::fill(place, place + static_cast<std::ptrdiff_t>(long_), uint8_t{0}); break;
   case 6: {
-    const char *mark = random.pick({"GM", "GR", "VO", "VX", "CA", "SL"});
+    const char *mark = random.pick({"GM", "GR", "GN", "VO", "VS", "VX", "PO", "PX", "CA", "SL"});
     octets.insert(place, mark, mark + 2);
     break;
   }
   default: {
     // letters of marks, as damage that looks like records
     Octets letters(long_);
-    for (uint8_t &octet : letters) octet = static_cast<uint8_t>(random.pick({'S', 'L', 'V', 'X', 'O', 'C', 'A', 'G', 'M', 'R', '\0', '\1'}));
+    for (uint8_t &octet : letters) octet = static_cast<uint8_t>(random.pick({'S', 'L', 'V', 'X', 'O', 'C', 'A', 'G', 'M', 'R', 'N', 'P', '\0', '\1'}));
     octets.insert(place, letters.begin(), letters.end());
   }
   }
@@ -136,15 +136,18 @@ void damage_once(Random &random, Octets &octets) {
 
 // Short records by themselves: holes, lone octets and records that are not resumed at lie close together.
 Octets dense(Random &random) {
-  Octets octets = random.percent(90) ? second::gm(5, 64) : second::gr(5, 64);
+  const uint64_t head = random.below(20);
+  Octets octets = head == 0 ? second::gr(5, 64) : head <= 3 ? second::gn(5, 64) : second::gm(5, 64);
   for (uint64_t k = random.below(40); k > 0; --k) {
     Octets more;
-    switch (random.below(8)) {
+    switch (random.below(10)) {
     case 0: more = second::vx(static_cast<unsigned>(random.below(70000))); break;
     case 1: more = second::sl(static_cast<unsigned>(random.below(3))); break;
-    case 2: more = {static_cast<uint8_t>(random.pick({'S', 'V', 'G', '\0'}))}; break;
-    case 3: more = random.once_in(4) ? second::gm(1, 2) : second::sl(7); break;
+    case 2: more = {static_cast<uint8_t>(random.pick({'S', 'V', 'G', 'P', '\0'}))}; break;
+    case 3: more = random.once_in(4) ? second::gm(1, 2) : random.once_in(4) ? second::gn(1, 2) : second::sl(7); break;
     case 4: more = second::vo(1, 2, 10, 26); break;
+    case 6: more = second::px(static_cast<unsigned>(random.below(300))); break;
+    case 7: more = second::po(1, 2, 10, 26); break;
     case 5: more = random.once_in(3) ? second::ca(random, 0, 40) : second::vx(1); break;
     default: more = second::sl(static_cast<unsigned>(random.between(1, 65535)));
     }
@@ -237,10 +240,10 @@ bool met_enough(const second::Met &met) {
                                        "stretch: half a mark",
                                        "stretch: a short record",
                                        "stretch: SL of 0",
-                                       "stretch: a later GM or GR",
+                                       "stretch: a later GM, GR or GN",
                                        "stretch: nothing kept there",
                                        "record kept after a stretch",
-                                       "resumed before a GM or GR",
+                                       "resumed before a GM, GR or GN",
                                        "resumed at the last record",
                                        "not resumed at: one octet behind it",
                                        "not resumed at: no mark behind it",

@@ -23,6 +23,10 @@ Octets gr(unsigned n, unsigned v) {
   Octets to = marked("GR");
   return put(to, n, 2), put(to, v, 2), to;
 }
+Octets gn(unsigned n, unsigned v) {
+  Octets to = marked("GN");
+  return put(to, n, 2), put(to, v, 2), to;
+}
 Octets vo(unsigned vci, unsigned m, uint32_t f, uint32_t c) {
   Octets to = marked("VO");
   return put(to, vci, 2), put(to, m, 1), put(to, f, 4), put(to, c, 4), to;
@@ -36,15 +40,23 @@ Octets vx(unsigned vci) {
   Octets to = marked("VX");
   return put(to, vci, 2), to;
 }
+Octets po(unsigned vpi, unsigned m, uint32_t f, uint32_t c) {
+  Octets to = vo(vpi, m, f, c);
+  return to[0] = 'P', to;
+}
+Octets px(unsigned vpi) {
+  Octets to = vx(vpi);
+  return to[0] = 'P', to;
+}
 Octets sl(unsigned count) {
   Octets to = marked("SL");
   return put(to, count, 2), to;
 }
 // GFC, PTI, CLP, HEC and the payload are random: of them only CLP matters where headers aren't checked.
-Octets ca(Random &random, unsigned vpi, unsigned vci) {
+Octets ca(Random &random, unsigned vpi, unsigned vci, bool nni) {
   Octets to = marked("CA");
-  const uint64_t rest = random.next();
-  put(to, (rest & 15) << 28 | uint64_t{vpi} << 20 | uint64_t{vci} << 4 | (rest >> 4 & 15), 4);
+  const uint64_t rest = random.next(), first = nni ? vpi : (rest & 15) << 8 | (vpi & 255);
+  put(to, first << 20 | uint64_t{vci} << 4 | (rest >> 4 & 15), 4);
   put(to, rest >> 8, 1);
   for (unsigned k = 0; k < 6; ++k) put(to, random.next(), 8);
   return to;
@@ -74,6 +86,8 @@ public:
         {"header bits", &Generator::bits},      {"raw traffic", &Generator::raw_traffic},
         {"sustained", &Generator::sustained},   {"limits of 11", &Generator::limits},
         {"second debts", &Generator::second_debts},
+        {"paths", &Generator::paths},           {"path numbers", &Generator::path_numbers},
+        {"paths beside VCs", &Generator::beside},
     };
     const Kind &kind = kinds[index % (sizeof kinds / sizeof kinds[0])];
     trace.kind = kind.name;
@@ -86,9 +100,11 @@ private:
   const uint64_t index;
   Trace trace;
   unsigned n = 1, v = 2;
-  bool raw = false;
+  bool raw = false, nni = false;
+  bool by_path = false; // the connections 1 and 2 of some kinds of trace are paths
   unsigned wrong = 0; // cells in a hundred with a wrong header, in a raw trace
-  std::vector<unsigned> in_use;
+  unsigned of_paths = 0; // cells in a hundred that are of a path, where one was opened
+  std::vector<unsigned> in_use, paths_in_use; // VCIs and VPIs
 
   void add(Octets record) { trace.records.push_back(std::move(record)); }
   unsigned small(unsigned most) { return static_cast<unsigned>(random.below(most)); }
@@ -147,16 +163,47 @@ private:
   }
   void open_some(unsigned most, unsigned slowest) {
     for (unsigned k = 1 + small(most); k > 0; --k) open_good(some_vci(), slowest);
+    if (random.once_in(3)) open_some_paths(3, slowest);
   }
-  // The trace's first record: raw once in so many times, then with some wrong headers.
+  unsigned some_vpi() {
+    const unsigned any = 1 + small(255);
+    return random.pick({any, 1u, 2u, 15u, 16u, 128u, 255u});
+  }
+  void open_some_paths(unsigned most, unsigned slowest) {
+    for (unsigned k = 1 + small(most); k > 0; --k) open_path(some_vpi(), slowest);
+    of_paths = random.pick({20u, 50u, 90u});
+  }
+  // As a VC would be opened, with the VPI.
+  void open_path(unsigned vpi, unsigned slowest) {
+    open_peak(vpi, slowest);
+    in_use.pop_back();
+    trace.records.back()[0] = 'P';
+    paths_in_use.push_back(vpi);
+  }
+  // The trace's first record: raw once in so many times, then with some wrong headers; otherwise at times of the NNI.
   void set_up(unsigned times) {
     raw = random.once_in(times);
+    nni = !raw && random.once_in(2);
+    by_path = random.once_in(3);
     wrong = random.pick({0u, 2u, 10u, 40u});
-    add(raw ? gr(n, v) : gm(n, v));
+    add(raw ? gr(n, v) : nni ? gn(n, v) : gm(n, v));
+  }
+  // What a trace does with a connection that is VC 1 or 2, or path 1 or 2.
+  Octets opens(unsigned c, unsigned m, uint32_t f, uint32_t cap) const { return by_path ? po(c, m, f, cap) : vo(c, m, f, cap); }
+  Octets closes(unsigned c) const { return by_path ? px(c) : vx(c); }
+  void arrives(unsigned c) {
+    if (!by_path) return arrive(0, c);
+    const unsigned vci = vci_within();
+    arrive(c, vci);
+  }
+  // Any VCI of a path's cell: 0, that of a VC, the path's number, the greatest, any.
+  unsigned vci_within() {
+    const unsigned any = small(65536), vc = small(v);
+    return random.pick({0u, vc, v, v + 1, 65535u, any, any});
   }
   // A cell arrives. In a raw trace its octet 5 is right, but for some wrong bits now and then.
   void arrive(unsigned vpi, unsigned vci) {
-    Octets record = ca(random, vpi, vci);
+    Octets record = ca(random, vpi, vci, nni);
     if (raw) put_octet_5(record), spoil(record);
     add(std::move(record));
   }
@@ -174,12 +221,19 @@ private:
   }
   // A cell with CLP 0 or 1.
   void arrive_with(unsigned vci, unsigned clp) {
-    Octets record = ca(random, 0, vci);
+    Octets record = ca(random, 0, vci, nni);
     record[5] = static_cast<uint8_t>((record[5] & 254u) | clp);
     if (raw) put_octet_5(record), spoil(record);
     add(std::move(record));
   }
-  void cell() { arrive(0, random.pick(in_use)); }
+  void cell() {
+    if (paths_in_use.empty() || !random.percent(of_paths)) return arrive(0, random.pick(in_use));
+    path_cell();
+  }
+  void path_cell() {
+    const unsigned vpi = random.pick(paths_in_use), vci = vci_within();
+    arrive(vpi, random.once_in(4) ? random.pick(in_use) : vci);
+  }
   void quiet(unsigned most) { add(sl(1 + small(most))); }
 
   void mixed() {
@@ -194,18 +248,33 @@ private:
     if (random.percent(70)) quiet(2 * n + 5);
   }
   void odd_event() {
-    switch (random.below(6)) {
+    switch (random.below(10)) {
     case 0: add(vx(some_vci())); break;
     case 1: open_good(some_vci(), 6); break;
     case 2: arrive(0, some_vci()); break;
     case 3: odd_header(); break;
     case 4: quiet(200); break;
     case 5: add(vx(random.pick({0u, v, 65535u}))); break;
+    case 6: add(px(paths_in_use.empty() ? some_vpi() : random.pick(paths_in_use))); break;
+    case 7: open_path(some_vpi(), 6); break;
+    case 8: add(px(random.pick({0u, 256u, 257u, 65535u, v}))); break;
+    case 9: odd_path(); break;
     }
   }
   void odd_header() {
     const unsigned vci = random.pick({0u, v, 65535u});
     arrive(random.pick({0u, 1u, 255u}), vci);
+  }
+  // Headers beside those of open paths: another VPI, at the NNI one that ends alike in four bits more, and a VCI that is the
+  // number of a path.
+  void odd_path() {
+    const unsigned vpi = paths_in_use.empty() ? some_vpi() : random.pick(paths_in_use), vci = random.pick(in_use);
+    const unsigned more = 256 * (1 + small(15)), above = random.pick({256u, 4095u, 3840u}), which = small(5);
+    if (which == 0) arrive(nni ? vpi | more : (vpi ^ 1) & 255, vci);
+    if (which == 1) arrive(nni ? more : some_vpi(), vci);
+    if (which == 2) arrive(0, v + vpi);
+    if (which == 3) arrive(nni ? above : 255, random.once_in(2) ? 0 : vci);
+    if (which == 4) arrive(vpi, 0);
   }
   void full_load() {
     begin();
@@ -220,9 +289,10 @@ private:
     const unsigned vci = some_vci(), interval = 1 + small(60), m = small(16);
     const uint64_t leak = 1u << m;
     const uint64_t f = std::max<uint64_t>(leak, leak * interval + random.between(0, leak) - leak / 2);
-    add(vo(vci, m, static_cast<uint32_t>(f), static_cast<uint32_t>(f + random.below(n * leak))));
+    const unsigned connection = by_path ? (vci - 1) % 255 + 1 : vci;
+    add(opens(connection, m, static_cast<uint32_t>(f), static_cast<uint32_t>(f + random.below(n * leak))));
     for (unsigned k = small(400); k > 0; --k) {
-      arrive(0, vci);
+      arrives(connection);
       if (interval > 1) add(sl(interval - 1));
     }
   }
@@ -230,16 +300,25 @@ private:
     begin();
     open_some(5, 8);
     for (unsigned k = small(30); k > 0; --k) {
-      const unsigned vci = random.pick(in_use);
-      for (unsigned cells = small(40); cells > 0; --cells) arrive(0, vci);
+      const unsigned vci = random.pick(in_use), cells = small(40);
+      if (!paths_in_use.empty() && random.once_in(2)) burst_of_path(random.pick(paths_in_use), cells);
+      else
+        for (unsigned left = cells; left > 0; --left) arrive(0, vci);
       quiet(random.pick({2u, 20u, 300u}));
     }
+  }
+  void burst_of_path(unsigned vpi, unsigned cells) {
+    for (; cells > 0; --cells) arrive(vpi, vci_within());
   }
   void churn() {
     begin();
     open_some(3, 4);
     for (unsigned k = small(400); k > 0; --k) {
       const unsigned vci = random.percent(85) ? random.pick(in_use) : some_vci();
+      if (!paths_in_use.empty() && random.once_in(3)) {
+        churn_path(random.percent(85) ? random.pick(paths_in_use) : some_vpi());
+        continue;
+      }
       switch (random.below(8)) {
       case 0: add(vx(vci)); break;
       case 1: open_good(vci, 4); break;
@@ -249,11 +328,21 @@ private:
       }
     }
   }
+  void churn_path(unsigned vpi) {
+    switch (random.below(8)) {
+    case 0: add(px(vpi)); break;
+    case 1: open_path(vpi, 4); break;
+    case 2: quiet(n + 2); break;
+    case 3: add(px(vpi)), open_path(vpi, 4); break;
+    default: arrive(vpi, vci_within()); break;
+    }
+  }
   // Both sides of every rule of 6, then cells that show what opened.
   void rules() {
     begin();
     for (unsigned k = 1 + small(25); k > 0; --k) {
-      const unsigned vci = random.once_in(10) ? random.pick({0u, v, v + 1, 65535u}) : some_vci();
+      const bool path = random.once_in(4);
+      const unsigned vci = random.once_in(10) ? random.pick({0u, v, v + 1, 65535u}) : path ? some_vpi() : some_vci();
       unsigned m = small(16);
       const uint32_t leak = 1u << m;
       uint32_t f = random.pick({leak, leak, leak + small(5 * leak), 16777216u});
@@ -271,10 +360,11 @@ private:
       case 9: c = 0; break;
       default: break;
       }
-      add(vo(vci, m, f, c));
-      in_use.push_back(vci);
+      add(path ? po(vci, m, f, c) : vo(vci, m, f, c));
+      if (path) paths_in_use.push_back(vci % 256), of_paths = 40;
+      if (!path || in_use.empty()) in_use.push_back(vci);
       for (unsigned cells = small(8); cells > 0; --cells) cell();
-      if (random.once_in(4)) add(vx(random.pick(in_use)));
+      if (random.once_in(4)) add(path ? px(random.pick(paths_in_use)) : vx(random.pick(in_use)));
       if (random.once_in(4)) quiet(n);
     }
     for (unsigned cells = small(60); cells > 0; --cells) cell();
@@ -294,7 +384,7 @@ private:
   void reader() {
     if (!random.once_in(8)) mixed_short();
     const size_t last = trace.records.size();
-    switch (random.below(14)) {
+    switch (random.below(16)) {
     case 0: trace.records.clear(); break;
     case 1: cut(); break;
     case 2: cut(); break;
@@ -311,6 +401,8 @@ private:
     case 11: add(gm(n, v)); break;
     case 12: add(gr(n, v)); break;
     case 13: insert(gr(n, v)); break;
+    case 14: add(gn(n, v)); break;
+    case 15: insert(gn(n, v)); break;
     }
   }
   void mixed_short() {
@@ -334,8 +426,9 @@ private:
   }
   Octets unknown_mark() {
     static const char *const marks[] = {"gm", "MG", "VV", "OV", "CX", "AC", "LS", "SX",
-                                        "VA", "GO", "CL", "  ", "ca", "VM", "SO", "GN",
-                                        "gr", "RG", "VR", "SR", "GX", "vs", "SV", "GS", "CS", "SS"};
+                                        "VA", "GO", "CL", "  ", "ca", "VM", "SO", "VN",
+                                        "gr", "RG", "VR", "SR", "GX", "vs", "SV", "GS", "CS", "SS",
+                                        "PS", "PA", "PL", "PM", "PN", "OP", "XP", "po", "px", "gn", "NG", "PP", "GP", "SN"};
     Octets record = marked(marks[random.below(sizeof marks / sizeof marks[0])]);
     record.resize(2 + random.below(55), 0);
     return record;
@@ -381,12 +474,11 @@ private:
     unsigned m = 0;
     while (1u << m < n - 1) ++m;
     const uint32_t leak = 1u << m;
-    add(vo(1, m, leak, leak + small(2)));
-    add(vo(2, m, leak + 1, leak + 1 + n * leak - 1));
+    add(opens(1, m, leak, leak + small(2)));
+    add(opens(2, m, leak + 1, leak + 1 + n * leak - 1));
     const unsigned change = random.once_in(3) ? small(4) : 0;
-    for (unsigned k = n * leak - std::min(change, n * leak); k > 0 && trace.records.size() < 1100; --k)
-      arrive(0, 2);
-    for (unsigned k = n - 1; k > 0; --k) arrive(0, random.once_in(40) ? 2 : 1);
+    for (unsigned k = n * leak - std::min(change, n * leak); k > 0 && trace.records.size() < 1100; --k) arrives(2);
+    for (unsigned k = n - 1; k > 0; --k) arrives(random.once_in(40) ? 2 : 1);
     quiet(3 * n);
   }
   // A VC that sends, stops, and is closed and reopened: at once, a slot before its
@@ -396,23 +488,23 @@ private:
     set_up(4);
     uint64_t now = 0, next_due = 0;
     const bool crowd = random.once_in(3);
-    if (crowd) add(vo(2, 0, 1, 1));
+    if (crowd) add(opens(2, 0, 1, 1));
     for (unsigned openings = 1 + small(6); openings > 0; --openings) {
       const unsigned m = random.percent(60) ? small(4) : small(16);
       const uint64_t leak = uint64_t{1} << m;
       const uint64_t f = leak + random.below(leak * random.pick({1u, 3u, 30u}) + 1);
       const uint64_t spare = random.percent(60) ? n * leak - 1 : random.below(n * leak);
-      add(vo(1, m, static_cast<uint32_t>(f), static_cast<uint32_t>(f + spare)));
+      add(opens(1, m, static_cast<uint32_t>(f), static_cast<uint32_t>(f + spare)));
       next_due = 0;
       for (unsigned cells = small(9); cells > 0; --cells) {
         const uint64_t due = std::max(now * leak, next_due);
         if (due - now * leak <= spare) next_due = due + f;
-        arrive(0, 1), now += 1;
+        arrives(1), now += 1;
         if (random.once_in(6)) add(sl(1)), now += 1;
-        if (random.once_in(6)) add(vx(1));
+        if (random.once_in(6)) add(closes(1));
       }
-      add(vx(1));
-      if (random.once_in(3)) add(vo(1, m, static_cast<uint32_t>(f), static_cast<uint32_t>(f)));
+      add(closes(1));
+      if (random.once_in(3)) add(opens(1, m, static_cast<uint32_t>(f), static_cast<uint32_t>(f)));
       now = wait_out(now, (next_due + leak - 1) / leak, crowd);
     }
   }
@@ -421,17 +513,17 @@ private:
     const uint64_t before = paid - std::min<uint64_t>(paid, small(4));
     while (now < before) {
       const uint64_t slots = crowd ? 1 : std::min<uint64_t>(before - now, 1 + random.below(9000));
-      if (crowd && random.percent(70)) arrive(0, 2);
+      if (crowd && random.percent(70)) arrives(2);
       else add(sl(static_cast<unsigned>(slots)));
       now += slots;
-      if (crowd || random.once_in(4)) add(vx(1));
+      if (crowd || random.once_in(4)) add(closes(1));
     }
     // Slot `now` comes next: closes from slot paid-1 to paid+1, mostly in each.
     while (now <= paid + (random.once_in(3) ? 1 : 0)) {
-      if (random.percent(80)) add(vx(1));
+      if (random.percent(80)) add(closes(1));
       add(sl(1)), now += 1;
     }
-    add(vx(1));
+    add(closes(1));
     return now;
   }
   // Cells that leave so late that their VC has no debt any more, with closes all the while.
@@ -441,18 +533,18 @@ private:
     unsigned m = 0;
     while (1u << m < n - 1) ++m;
     const uint32_t leak = 1u << m;
-    add(vo(1, m, leak, leak + small(2)));
-    add(vo(2, m, leak + 1, leak + 1 + n * leak - 1));
-    for (unsigned k = n * leak - small(4); k > 0; --k) arrive(0, 2);
-    for (unsigned k = n - 1; k > 0; --k) arrive(0, 1);
+    add(opens(1, m, leak, leak + small(2)));
+    add(opens(2, m, leak + 1, leak + 1 + n * leak - 1));
+    for (unsigned k = n * leak - small(4); k > 0; --k) arrives(2);
+    for (unsigned k = n - 1; k > 0; --k) arrives(1);
     for (unsigned k = 2 * n; k > 0; --k) {
-      for (unsigned vci = 1; vci <= 2; ++vci)
-        if (random.percent(70)) add(vx(vci));
-      if (random.once_in(8)) add(vo(1 + small(2), m, leak, leak));
-      if (random.once_in(5)) arrive(0, 1 + small(2));
+      for (unsigned c = 1; c <= 2; ++c)
+        if (random.percent(70)) add(closes(c));
+      if (random.once_in(8)) add(opens(1 + small(2), m, leak, leak));
+      if (random.once_in(5)) arrives(1 + small(2));
       else add(sl(1));
     }
-    add(vx(1)), add(vx(2));
+    add(closes(1)), add(closes(2));
   }
   // Sources of variable rate: bursts of mostly CLP 0 cells at some interval, then a pause.
   void sustained() {
@@ -537,7 +629,7 @@ private:
   // and unassigned cells, clean and spoilt, lead back, are mended or are dropped like others.
   void bits() {
     begin();
-    raw = true, wrong = 0;
+    raw = true, nni = false, wrong = 0;
     trace.records = {gr(n, v)};
     open_some(4, 2);
     const unsigned first = small(40);
@@ -563,7 +655,7 @@ private:
   }
   void raw_traffic() {
     begin();
-    raw = true;
+    raw = true, nni = false;
     trace.records = {gr(n, v)};
     open_some(6, 6);
     for (unsigned k = small(500); k > 0; --k) {
@@ -574,13 +666,68 @@ private:
     }
     if (random.percent(70)) quiet(2 * n + 5);
   }
+  // Paths of both line kinds with cells of many VCIs, closed and opened again, and what lies beside them.
+  void paths() {
+    begin();
+    open_some(3, 4);
+    open_some_paths(6, 6);
+    const unsigned load = random.pick({50u, 80u, 100u});
+    for (unsigned k = small(500); k > 0; --k) {
+      if (!random.percent(load)) quiet(3);
+      else if (random.percent(70)) path_cell();
+      else cell();
+      if (random.once_in(12)) odd_path();
+      if (random.once_in(25)) churn_path(random.pick(paths_in_use));
+      if (random.once_in(60)) odd_event();
+    }
+    if (random.percent(70)) quiet(2 * n + 5);
+  }
+  // Both sides of every edge of a path's number, in opens, closes and cells, at the least and the greatest V.
+  void path_numbers() {
+    begin();
+    if (random.once_in(3)) v = random.pick({2u, 3u, 1023u, 1024u}), trace.records.clear(), set_up(4);
+    open_some(2, 3);
+    for (unsigned k = 1 + small(40); k > 0; --k) {
+      const unsigned any = small(65536), vpi = random.pick({0u, 1u, 1u, 2u, 254u, 255u, 255u, 256u, 256u, 257u, 511u, 4095u, 65535u, v, any});
+      switch (random.below(4)) {
+      case 0: add(px(vpi)); break;
+      case 1:
+      case 2: open_path(vpi, 3); break;
+      default: add(vx(random.pick({v, v + 1, v + 255, vpi}))); break;
+      }
+      if (vpi > 255 && !paths_in_use.empty() && paths_in_use.back() == vpi) paths_in_use.pop_back();
+      for (unsigned cells = small(4); cells > 0; --cells) {
+        const unsigned from = random.pick({0u, 1u, 254u, 255u, 256u, 257u, 511u, 4095u}), vci = vci_within();
+        arrive(nni ? from : from & 255, vci);
+      }
+    }
+    quiet(n + 5);
+  }
+  // A path and VCs whose cells look alike but for their VPI: each has its own bucket, at its peak or above.
+  void beside() {
+    begin();
+    const unsigned vpi = some_vpi(), vci = some_vci(), other = vpi == 255 ? 254 : vpi + 1;
+    open_peak(vci, 3), open_path(vpi, 3);
+    if (random.once_in(2)) open_path(other, 3);
+    for (unsigned k = small(200); k > 0; --k) {
+      const unsigned which = small(4);
+      if (which == 0) arrive(0, vci);
+      if (which == 1) arrive(vpi, vci);
+      if (which == 2) arrive(other, vci);
+      if (which == 3) arrive(nni ? vpi + 256 * (1 + small(15)) : vpi, vci);
+      if (random.once_in(3)) quiet(4);
+      if (random.once_in(30)) add(random.once_in(2) ? vx(vci) : px(vpi));
+      if (random.once_in(30)) open_path(vpi, 3);
+    }
+    quiet(2 * n + 5);
+  }
   // Any VPI and VCI, idle and unassigned cells among them.
   void headers() {
     begin();
     open_some(8, 2);
     for (unsigned k = small(300); k > 0; --k) {
-      const unsigned vpi =
-          random.percent(70) ? 0 : random.pick({1u, 2u, 4u, 8u, 15u, 16u, 32u, 64u, 128u, 240u, 255u});
+      const unsigned above = nni && random.percent(20) ? 256 * (1 + small(15)) : 0;
+      const unsigned vpi = above + (random.percent(70) ? 0 : random.pick({1u, 2u, 4u, 8u, 15u, 16u, 32u, 64u, 128u, 240u, 255u}));
       const unsigned vci = random.pick({0u, 1u, v - 1, v, v + 1, 65535u, 4096u, 256u, random.pick(in_use),
                                         random.pick(in_use), random.pick(in_use) | 4096u, small(65536)});
       arrive(vpi, vci);

@@ -21,6 +21,7 @@ struct Trace {
 
 Octets gm(unsigned n, unsigned v);
 Octets gr(unsigned n, unsigned v);
+Octets gn(unsigned n, unsigned v);
 Octets vo(unsigned vci, unsigned m, uint32_t f, uint32_t c);
 struct SecondBucket {
   unsigned m = 0;
@@ -29,7 +30,10 @@ struct SecondBucket {
 };
 Octets vs(unsigned vci, unsigned m, uint32_t f, uint32_t c, const SecondBucket &);
 Octets vx(unsigned vci);
-Octets ca(Random &, unsigned vpi, unsigned vci);
+Octets po(unsigned vpi, unsigned m, uint32_t f, uint32_t c);
+Octets px(unsigned vpi);
+// With a VPI of eight bits and any GFC, or at the NNI with a VPI of twelve.
+Octets ca(Random &, unsigned vpi, unsigned vci, bool nni = false);
 Octets sl(unsigned count);
 
 // Trace number `index` of a run with this seed.

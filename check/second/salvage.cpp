@@ -12,8 +12,9 @@ struct Known {
   size_t size;
   bool first;
 };
-const std::map<std::string, Known> marks = {{"GM", {6, true}},   {"GR", {6, true}},  {"VO", {13, false}},
-                                            {"VS", {23, false}}, {"VX", {4, false}}, {"CA", {55, false}},
+const std::map<std::string, Known> marks = {{"GM", {6, true}},   {"GR", {6, true}},   {"GN", {6, true}},
+                                            {"VO", {13, false}}, {"VS", {23, false}}, {"VX", {4, false}},
+                                            {"PO", {13, false}}, {"PX", {4, false}},  {"CA", {55, false}},
                                             {"SL", {4, false}}};
 
 class Table {
@@ -56,7 +57,7 @@ const char *why(const Table &table, size_t place) {
   const Known *known = table.mark(place);
   if (place == table.kept) return "nothing kept there";
   if (!known) return place + 2 > table.kept ? "half a mark" : "no mark";
-  if (known->first) return "a later GM or GR";
+  if (known->first) return "a later GM, GR or GN";
   return place + known->size > table.kept ? "a short record" : "SL of 0";
 }
 
@@ -74,7 +75,7 @@ void meet(const Table &table, size_t from, size_t end, Met &met) {
   else met(end - from == 1 ? "stretch of one octet" : "stretch of more");
   if (end < table.input.size() && table.mark(end + table.record(end)) &&
       table.mark(end + table.record(end))->first)
-    met("resumed before a GM or GR");
+    met("resumed before a GM, GR or GN");
   if (end < table.input.size() && end + table.record(end) == table.input.size()) met("resumed at the last record");
 }
 

@@ -15,9 +15,9 @@ std::string text32(uint64_t number) { return std::to_string(number % (uint64_t{1
 size_t record_size(uint8_t first, uint8_t second) {
   const std::string mark{static_cast<char>(first), static_cast<char>(second)};
   static const std::map<std::string, size_t> sizes = {
-      {"GM", 2 + 2 + 2}, {"GR", 2 + 2 + 2}, {"VO", 2 + 2 + 1 + 4 + 4},
-      {"VX", 2 + 2},     {"CA", 2 + 53},    {"SL", 2 + 2},
-      {"VS", 2 + 2 + 1 + 4 + 4 + 1 + 4 + 4 + 1}};
+      {"GM", 2 + 2 + 2}, {"GR", 2 + 2 + 2}, {"GN", 2 + 2 + 2}, {"VO", 2 + 2 + 1 + 4 + 4},
+      {"VX", 2 + 2},     {"CA", 2 + 53},    {"SL", 2 + 2},     {"PO", 2 + 2 + 1 + 4 + 4},
+      {"PX", 2 + 2},     {"VS", 2 + 2 + 1 + 4 + 4 + 1 + 4 + 4 + 1}};
   const auto found = sizes.find(mark);
   return found == sizes.end() ? 0 : found->second;
 }
@@ -34,7 +34,7 @@ std::string Spacer::list() {
   const bool more = input.size() > limit;
   run(std::min(input.size(), limit), more);
   uint64_t waiting = 0;
-  for (const Opening &vc : openings) waiting += vc.waiting;
+  for (const Opening &connection : openings) waiting += connection.waiting;
   listing += "end " + text32(accepted) + " " + text32(excess) + " " + text32(unknown) + " " + text32(sent) +
              " " + text32(waiting) + "\n";
   return listing;
@@ -54,9 +54,9 @@ void Spacer::run(size_t readable, bool more) {
     if (left < 2) return stop(place, more ? "mark cut by the limit" : "one octet of a mark");
     if (size == 0) return stop(place, place == 0 ? "first mark unknown" : "mark unknown");
     const char mark = static_cast<char>(input[place + 1]);
-    const bool sets_up = mark == 'M' || mark == 'R';
-    if (place == 0 && !sets_up) return stop(place, "first is neither GM nor GR");
-    if (place != 0 && sets_up) return stop(place, mark == 'M' ? "a later GM" : "a later GR");
+    const bool sets_up = mark == 'M' || mark == 'R' || mark == 'N';
+    if (place == 0 && !sets_up) return stop(place, "first is none of GM, GR and GN");
+    if (place != 0 && sets_up) return stop(place, mark == 'M' ? "a later GM" : mark == 'R' ? "a later GR" : "a later GN");
     if (size > left) return stop(place, more ? "record cut by the limit" : "record cut by the end");
     if (mark == 'L' && number(place + 2, 2) == 0) return stop(place, "SL of 0");
     if (sets_up && !setup(place)) return;
@@ -73,7 +73,7 @@ void Spacer::run(size_t readable, bool more) {
 
 bool Spacer::setup(size_t place) {
   spaces = number(place + 2, 2), vcs = number(place + 4, 2);
-  raw = input[place + 1] == 'R';
+  raw = input[place + 1] == 'R', nni = input[place + 1] == 'N';
   const bool good = spaces >= 1 && spaces <= 1024 && vcs >= 2 && vcs <= 1024;
   listing += "setup " + text(spaces) + " " + text(vcs) + (good ? " 0\n" : " 1\n");
   if (good && (spaces == 1 || spaces == 1024)) met("N at an edge");
@@ -82,7 +82,9 @@ bool Spacer::setup(size_t place) {
   if (vcs == 1 || vcs == 1025) met("V one past an edge");
   met(good ? "setup 0" : "setup 1");
   if (raw) met(good ? "GR: setup 0" : "GR: setup 1");
-  if (good) openings.resize(vcs), pasts.resize(vcs);
+  if (nni) met(good ? "GN: setup 0" : "GN: setup 1");
+  // "Path records, 256 with the first unused, stand after the V records and follow the same rules".
+  if (good) openings.resize(vcs + 256), pasts.resize(vcs + 256);
   return good;
 }
 
@@ -152,57 +154,71 @@ bool Spacer::within_limits(const Opening &asked, uint64_t m2, uint64_t flag) {
   return true;
 }
 
-// VO, or VS: "as VO, then m (8), F (32), C (32), flag (8)".
+// What an open or close names: a VC by its VCI, 1 to V-1, or a path by its VPI, 1 to 255.
+Spacer::Named Spacer::named_at(size_t place) {
+  const uint64_t asked = number(place + 2, 2);
+  const bool path = input[place] == 'P', exists = asked >= 1 && asked <= (path ? 255 : vcs - 1);
+  if (path && (asked == 1 || asked == 255)) met("path number at an edge");
+  if (path && (asked == 0 || asked == 256)) met("path number one past an edge");
+  if (path && vcs + asked == 66559) met("path number 66559");
+  if (!path && asked > vcs && asked < vcs + 256 && openings[asked].open) met("4: VCI that is the number of an open path");
+  return {path ? vcs + asked : asked, exists};
+}
+
+// VO; PO, which is VO with the VPI; or VS: "as VO, then m (8), F (32), C (32), flag (8)".
 void Spacer::open(size_t place) {
   const bool sustained = input[place + 1] == 'S';
-  const uint64_t vci = number(place + 2, 2), m = number(place + 4, 1);
+  const Named named = named_at(place);
+  const uint64_t m = number(place + 4, 1);
   const uint64_t m2 = sustained ? number(place + 13, 1) : 0, flag = sustained ? number(place + 22, 1) : 0;
   Opening asked;
   asked.open = true;
   asked.f = number(place + 5, 4), asked.c = number(place + 9, 4);
   if (sustained) asked.f2 = number(place + 14, 4), asked.c2 = number(place + 18, 4);
-  const int answer = open_with(asked, vci, m, m2, flag);
-  met((sustained ? "VS: open " : "open ") + text(static_cast<uint64_t>(answer)));
+  const int answer = open_with(asked, named, m, m2, flag);
+  met((sustained ? "VS: open " : input[place] == 'P' ? "PO: open " : "open ") + text(static_cast<uint64_t>(answer)));
   if (sustained && answer == 0 && asked.f2 == 0) met("VS: open 0, zeros");
-  listing += "open " + text(vci) + " " + text(static_cast<uint64_t>(answer)) + "\n";
+  listing += "open " + text(named.number) + " " + text(static_cast<uint64_t>(answer)) + "\n";
 }
 
-int Spacer::open_with(const Opening &asked, uint64_t vci, uint64_t m, uint64_t m2, uint64_t flag) {
-  if (vci < 1 || vci > vcs - 1) return 4;
-  if (openings[vci].open) return 5;
+int Spacer::open_with(const Opening &asked, const Named &named, uint64_t m, uint64_t m2, uint64_t flag) {
+  if (!named.exists) return 4;
+  const uint64_t c = named.number;
+  if (openings[c].open) return 5;
   if (!within_rules(m, asked.f, asked.c)) {
     if (broken_limit(m2, asked.f2, asked.c2, flag)) met("6 before 11");
     return 6;
   }
   if (!within_limits(asked, m2, flag)) return 11;
-  openings[vci] = asked;
-  openings[vci].m = static_cast<unsigned>(m), openings[vci].m2 = static_cast<unsigned>(m2);
-  openings[vci].tags = flag == 1;
-  const bool at_once = pasts[vci].next_due != 0 && pasts[vci].closed_at == now;
-  if (at_once) met("reopened at once");
-  if (at_once && pasts[vci].owed2 && asked.f2 != 0) met("reopened at once, the second debt wiped");
+  openings[c] = asked;
+  openings[c].m = static_cast<unsigned>(m), openings[c].m2 = static_cast<unsigned>(m2);
+  openings[c].tags = flag == 1;
+  const bool at_once = pasts[c].next_due != 0 && pasts[c].closed_at == now;
+  if (at_once) met(c < vcs ? "reopened at once" : "path reopened at once");
+  if (at_once && pasts[c].owed2 && asked.f2 != 0) met("reopened at once, the second debt wiped");
   return 0;
 }
 
 void Spacer::close(size_t place) {
-  const uint64_t vci = number(place + 2, 2);
+  const Named named = named_at(place);
+  const uint64_t c = named.number;
   int answer = 0;
-  if (vci < 1 || vci > vcs - 1) answer = 4;
-  else if (!openings[vci].open) answer = 7;
-  else if (!may_close(openings[vci])) answer = 8;
+  if (!named.exists) answer = 4;
+  else if (!openings[c].open) answer = 7;
+  else if (!may_close(openings[c])) answer = 8;
   if (answer == 0) {
-    const Opening &vc = openings[vci];
+    const Opening &vc = openings[c];
     // "Closing looks at the peak bucket only."
     const bool owed2 = vc.next_due2 > 0 && vc.next_due2 > (now - 1) << vc.m2;
     if (vc.f2 != 0) met(owed2 ? "close 0: second bucket not empty" : "close 0: second bucket empty");
-    if (vc.next_due != 0) pasts[vci] = {vc.next_due, vc.m, now, owed2};
-    openings[vci] = Opening();
+    if (vc.next_due != 0) pasts[c] = {vc.next_due, vc.m, now, owed2};
+    openings[c] = Opening();
   }
-  met("close " + text(static_cast<uint64_t>(answer)));
-  listing += "close " + text(vci) + " " + text(static_cast<uint64_t>(answer)) + "\n";
+  met((input[place] == 'P' ? "PX: close " : "close ") + text(static_cast<uint64_t>(answer)));
+  listing += "close " + text(c) + " " + text(static_cast<uint64_t>(answer)) + "\n";
 }
 
-// A VC may be closed when all its cells have left and a further cell, had it come in
+// A connection may be closed when all its cells have left and a further cell, had it come in
 // the slot just served, would not have been early by any part of a slot.
 bool Spacer::may_close(const Opening &vc) {
   if (vc.next_due == 0) return met("close 0: no cell accepted"), true;
@@ -230,10 +246,11 @@ void Spacer::slot(const uint8_t *cell) {
   } else {
     const Cell first = leaving.front();
     leaving.pop_front();
-    openings[first.vci].waiting -= 1;
+    openings[first.connection].waiting -= 1;
     sent += 1;
-    if (spaces > 1 && now - first.due_slot == spaces - 1) met("left N-1 slots late");
-    listing += " " + text(first.vci) + "\n";
+    if (spaces > 1 && now - first.due_slot == spaces - 1)
+      met(first.connection < vcs ? "left N-1 slots late" : "path: left N-1 slots late");
+    listing += " " + text(first.connection) + "\n";
   }
   now += 1;
 }
@@ -270,19 +287,62 @@ void Spacer::meet_check(const Header &came, bool correcting, bool taken, char ve
   if (no_user_cell && verdict != '.') met("raw: mended from no user cell");
 }
 
+// At the UNI octet 1 is GFC and the VPI's high four bits; at the NNI all eight of it are the VPI's.
+Spacer::Read Spacer::read(const Header &cell) const {
+  const unsigned high = nni ? cell[0] : cell[0] % 16;
+  return {high * 16 + cell[1] / 16, cell[1] % 16 * 4096u + cell[2] * 16u + cell[3] / 16, cell[3] % 2 == 1};
+}
+
 std::string Spacer::arrive(const Header &cell) {
-  const unsigned vpi = (cell[0] & 15u) * 16 + cell[1] / 16;
-  const unsigned vci = (cell[1] & 15u) * 4096 + cell[2] * 16u + cell[3] / 16;
-  if (vpi == 0 && vci == 0) return met("no user cell"), ". - -";
-  if (vpi == 0 && vci < vcs && openings[vci].open) return arrive_open(openings[vci], vci, cell[3] % 2 == 1);
+  const Read header = read(cell);
+  const bool gfc = !nni && cell[0] >= 16;
+  if (header.vpi == 0 && header.vci == 0) return met(gfc ? "no user cell, with GFC" : "no user cell"), ". - -";
+  if (header.vpi == 0 && header.vci < vcs && openings[header.vci].open) {
+    met(nni ? "VC at the NNI" : gfc ? "VC with GFC" : "VC");
+    return arrive_open(openings[header.vci], header.vci, header.clp);
+  }
+  // "On VPI 1 to 255 all cells with that VPI share one bucket, whatever their VCI."
+  const unsigned path = static_cast<unsigned>(vcs) + header.vpi;
+  if (header.vpi >= 1 && header.vpi <= 255 && openings[path].open) {
+    const std::string said = arrive_open(openings[path], path, header.clp);
+    meet_path(openings[path], cell, header, said[0]);
+    return said;
+  }
+  return arrive_unknown(header);
+}
+
+// "Any other VPI above 0 is unknown", and the VCI is the one that was read.
+std::string Spacer::arrive_unknown(const Read &header) {
+  const auto [vpi, vci, clp] = header;
   unknown += 1;
-  met(vpi != 0     ? vci == 0 ? "U: VPI not 0, VCI 0" : "U: VPI not 0"
-      : vci >= vcs ? "U: VCI high"
-                   : "U: not open");
+  const bool names_vc = vci < vcs && openings[vci].open;
+  const std::string where = nni ? " at the NNI" : " at the UNI";
+  if (vpi == 0) met(vci >= vcs ? "U: VCI high" : "U: not open");
+  else if (vpi <= 255) met("U: closed path" + where);
+  else met("U: VPI above 255");
+  if (vpi == 0 && vci > vcs && vci < vcs + 256 && openings[vci].open) met("U: VCI that is the number of an open path");
+  if (vpi != 0 && vci == 0) met("U: VPI not 0, VCI 0");
+  if (vpi != 0 && vpi <= 255 && names_vc) met("U: closed path, VCI of an open VC");
+  if (vpi == 256) met("U: VPI 256");
+  if (vpi == 4095) met("U: VPI 4095");
+  if (vpi > 255 && vpi % 256 == 0 && names_vc) met("U: VPI above 255 that ends in 0, VCI of an open VC");
+  if (vpi > 255 && vpi % 256 != 0 && openings[vcs + vpi % 256].open) met("U: VPI above 255 that ends as an open path's");
   return "U " + text(vci) + " -";
 }
 
-std::string Spacer::arrive_open(Opening &vc, unsigned vci, bool clp) {
+void Spacer::meet_path(Opening &path, const Header &cell, const Read &header, char verdict) {
+  const std::string where = nni ? " at the NNI" : " at the UNI";
+  met(std::string("path: ") + verdict + where);
+  if (header.vci == 0) met("path: VCI 0" + where);
+  if (header.vci < vcs && openings[header.vci].open) met("path: VCI of an open VC");
+  if (header.vci >= vcs) met("path: VCI of V or more");
+  if (header.vpi == 1 || header.vpi == 255) met("path: VPI at an edge" + where);
+  if (!nni && cell[0] >= 16) met("path: with GFC");
+  if (path.has_vci && path.last_vci != header.vci) met(verdict == 'X' ? "path: X, another VCI than the cell before" : "path: another VCI than the cell before");
+  path.last_vci = header.vci, path.has_vci = true;
+}
+
+std::string Spacer::arrive_open(Opening &vc, unsigned connection, bool clp) {
   const uint64_t leak = uint64_t{1} << vc.m, arrival = now * leak;
   const uint64_t due_time = std::max(arrival, vc.next_due);
   // The exact leak rule: what is still owed may be at most C-F.
@@ -292,20 +352,20 @@ std::string Spacer::arrive_open(Opening &vc, unsigned vci, bool clp) {
   if (above_peak || (!within && !vc.tags)) {
     excess += 1;
     if (above_peak && due_time - arrival == vc.c - vc.f + 1) met("X: one part too early");
-    return met(above_peak ? "X" : "X: by the second bucket"), "X " + text(vci) + " -";
+    return met(above_peak ? "X" : "X: by the second bucket"), "X " + text(connection) + " -";
   }
   if (due_time != arrival && due_time - arrival == vc.c - vc.f) met("A: just in time");
-  if (vc.next_due == 0 && pasts[vci].next_due != 0) meet_reopening(vc, pasts[vci], due_time);
+  if (vc.next_due == 0 && pasts[connection].next_due != 0) meet_reopening(vc, pasts[connection], due_time);
   vc.next_due = due_time + vc.f;
   vc.waiting += 1;
   accepted += 1;
   const uint64_t due_slot = due_time / leak;
-  due[due_slot].push_back({vci, due_slot});
+  due[due_slot].push_back({connection, due_slot});
   if (spaces > 1 && due_slot - now == spaces - 1) met("A: D is N-1");
   if (due[due_slot].size() > 1) met("A: joins others");
   const char *const letter = within ? "A" : "T";
   if (!within && due_slot != now) met("T: D above 0");
-  return met(letter), letter + (" " + text(vci)) + " " + text(due_slot - now);
+  return met(letter), letter + (" " + text(connection)) + " " + text(due_slot - now);
 }
 
 // Whether the cell is within the sustainable rate; if so, and CLP 0 and not above the peak, it counts against it. A cell

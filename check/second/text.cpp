@@ -12,8 +12,9 @@ namespace {
 // The fields behind a mark, in octets; 53 is a cell.
 const std::map<std::string, std::vector<size_t>> &fields() {
   static const std::map<std::string, std::vector<size_t>> all = {
-      {"GM", {2, 2}}, {"GR", {2, 2}}, {"VO", {2, 1, 4, 4}}, {"VX", {2}}, {"CA", {53}}, {"SL", {2}},
-      {"VS", {2, 1, 4, 4, 1, 4, 4, 1}}};
+      {"GM", {2, 2}}, {"GR", {2, 2}},       {"GN", {2, 2}}, {"VO", {2, 1, 4, 4}},
+      {"VX", {2}},    {"PO", {2, 1, 4, 4}}, {"PX", {2}},    {"VS", {2, 1, 4, 4, 1, 4, 4, 1}},
+      {"CA", {53}},   {"SL", {2}}};
   return all;
 }
 

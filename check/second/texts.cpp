@@ -110,16 +110,23 @@ std::string pause(Random &random, uint64_t most) {
 }
 
 std::string head(Random &random) {
-  return std::string(random.once_in(3) ? "GR " : "GM ") + number(random, 65535) + " " + number(random, 65535);
+  const std::string mark = random.pick<const char *>({"GM", "GM", "GR", "GN"}), n = number(random, 65535);
+  met["line: " + mark] += 1;
+  return mark + " " + n + " " + number(random, 65535);
 }
 
 std::string later(Random &random, uint64_t most_pause) {
   const uint64_t kind = random.below(10);
   if (kind < 5) return pause(random, most_pause);
-  if (kind < 6) return "VX " + number(random, 65535);
+  if (kind < 6) {
+    const std::string mark = random.once_in(2) ? "PX" : "VX";
+    met["line: " + mark] += 1;
+    return mark + " " + number(random, 65535);
+  }
   if (kind < 8) {
-    const bool sustained = random.once_in(2);
-    std::string line = sustained ? "VS" : "VO";
+    std::string line = random.pick<const char *>({"VS", "VS", "VO", "PO"});
+    met["line: " + line] += 1;
+    const bool sustained = line == "VS";
     for (uint64_t most : {uint64_t{65535}, uint64_t{255}, wide, wide}) line += " " + number(random, most);
     if (sustained)
       for (uint64_t most : {uint64_t{255}, wide, wide, uint64_t{255}}) line += " " + number(random, most);
@@ -206,9 +213,10 @@ const std::vector<Class> &classes() {
       {"0x1", [](Random &r, const std::string &line) { return with_number(r, line, "0x1"); }},
       {"octet beside the digits", [](Random &r, const std::string &line) { return with_number(r, line, r.pick<const char *>({"3/", ":3", "1,0", "1.0"})); }},
       {"no number", [](Random &r, const std::string &line) { return with_number(r, line, ""); }},
-      {"16 bits, one too many", [](Random &r, const std::string &) { return "VX " + std::to_string(65536 + r.below(3)); }},
-      {"16 bits in GM", [](Random &r, const std::string &) { return r.once_in(2) ? std::string("GM 65536 4") : "GR 5 " + std::to_string(65536 + r.below(9)); }},
-      {"8 bits, one too many", [](Random &r, const std::string &) { return "VO 1 " + std::to_string(256 + r.below(3)) + " 3 4"; }},
+      {"16 bits, one too many", [](Random &r, const std::string &) { return r.pick<const char *>({"VX ", "PX "}) + std::to_string(65536 + r.below(3)); }},
+      {"16 bits in GM", [](Random &r, const std::string &) { return r.pick<const char *>({"GM 65536 4", "GR 5 65536", "GR 5 65540", "GN 65536 4", "GN 5 65536"}); }},
+      {"16 bits in PO", [](Random &r, const std::string &) { return "PO " + std::to_string(65536 + r.below(9)) + " 0 1 1"; }},
+      {"8 bits, one too many", [](Random &r, const std::string &) { return r.pick<const char *>({"VO 1 ", "PO 1 "}) + std::to_string(256 + r.below(3)) + " 3 4"; }},
       {"32 bits, one too many", [](Random &r, const std::string &) { return r.once_in(2) ? "VO 1 2 4294967296 4" : "VO 1 2 3 4294967296"; }},
       {"pause, one too many", [](Random &r, const std::string &) { return "SL " + std::to_string(wide + 1 + r.below(9)); }},
       {"wraps into range at 2^32", [](Random &r, const std::string &line) { return with_number(r, line, std::to_string(wide + 2 + r.below(200))); }},
@@ -221,7 +229,7 @@ const std::vector<Class> &classes() {
       {"104 hex digits", [](Random &r, const std::string &) { return spoiled_cell(r, 104, ""); }},
       {"no hex digit", [](Random &r, const std::string &) { return spoiled_cell(r, 106, "/:@G`g \n\xff"); }},
       {"SL 0", [](Random &, const std::string &) { return std::string("SL 0"); }},
-      {"unknown mark", [](Random &r, const std::string &line) { return r.pick<const char *>({"XX", "SO", "VL", "CS", "GA"}) + line.substr(2); }},
+      {"unknown mark", [](Random &r, const std::string &line) { return r.pick<const char *>({"XX", "SO", "VL", "CS", "GA", "PS", "PM", "VN", "GP"}) + line.substr(2); }},
       {"small letters", [](Random &r, std::string line) { return line[r.below(2)] |= 32, line; }},
       {"half a mark", [](Random &, const std::string &line) { return line.substr(1); }},
       {"three letters", [](Random &, const std::string &line) { return line.substr(0, 2) + line.substr(1); }},
@@ -328,10 +336,10 @@ void bad_trace(Random &random, const std::string &unscribe, size_t index) {
   switch (kind) {
   case 0: records.clear(); break;
   case 1: records.erase(records.begin()); break;
-  case 2: records.insert(records.begin() + static_cast<long>(at), random.once_in(2) ? records[0] : "GR" + std::string(4, '\1')); break;
+  case 2: records.insert(records.begin() + static_cast<long>(at), random.once_in(2) ? records[0] : random.pick<const char *>({"GM", "GR", "GN"}) + std::string(4, '\1')); break;
   case 3: records.insert(records.begin() + static_cast<long>(at), "SL" + std::string(2, '\0')); break;
   case 4: records[at][random.below(2)] = random.pick<char>({'Q', '\0', '\xff'}); break;
-  case 5: records.resize(at), records.push_back(random.pick<const char *>({"C", "S", "V", "G"})); break;
+  case 5: records.resize(at), records.push_back(random.pick<const char *>({"C", "S", "V", "G", "P"})); break;
   case 6: records[at][random.below(2)] |= 32; break;
   default: records.resize(at + 1), records[at].resize(1 + random.below(records[at].size() - 1)); break;
   }
@@ -440,6 +448,7 @@ bool met_enough() {
                                      "trace: a record lacks one octet at the limit", "unreadable: no octet", "unreadable: no GM first",
                                      "unreadable: a later GM", "unreadable: SL of 0", "unreadable: unknown mark", "unreadable: half a mark",
                                      "unreadable: small letters", "unreadable: short",
+                                     "line: GM", "line: GR", "line: GN", "line: VO", "line: VS", "line: VX", "line: PO", "line: PX",
                                      "room: filled", "room: an octet too many, 14", "room: a record too many, 14", "room: 10 before 14"};
   for (const Class &kind : classes())
     for (const char *where : {", first line", ", later line"}) needed.push_back(std::string(kind.name) + where);
