@@ -1,19 +1,22 @@
 -- The first of the refusals worked out is the one that document 01's order gives; and once none of those that open and
--- close share is given, the VC's seven words are lent.
+-- close share is given, the connection's words are lent.
 use Prim.Native.Nat.{ℕ, _+_, _*_, _≤_, _<_}
 use mathlib.Core.Path.{_≡_, refl}
 use mathlib.Core.Bool.{Bool, true, false, not, _&&_}
 use mathlib.Core.List.{List}
 use native.Mathlib.Omega.{arith}
-use borrow.Author.Tests.{eqb-true, ne-eqb, ltb-true}
+use borrow.Author.Tests.{eqb-true, ne-eqb}
 use lib.ListN.{length}
 use Rattle.meaning.specs.declared.Record.{Record}
-use Rattle.meaning.specs.Plain.{if_then_else_, _<?_, _≤?_}
-use Rattle.meaning.specs.Numbers.{rangesHold, wordsPerConnection, connectionPlace}
-use Rattle.meaning.specs.State.{wordsLong}
+use Rattle.meaning.specs.Plain.{if_then_else_, _≤?_}
+use Rattle.meaning.specs.Numbers.{rangesHold, mostV, wordsIn}
+use Rattle.meaning.specs.State.{wordsLong, HasConnection}
+use Rattle.meaning.specs.Header.{Name, named, numberIn}
 use Rattle.meaning.specs.Words.{connectionAt, openWordFits, bucketFits, secondFits, bucketsFit, connectionFits}
 use Rattle.meaning.specs.Calls.{sharedRefusal}
+use Rattle.meaning.proofs.NamesLaws.{number-low}
 use Rattle.leaf_bucket.proofs.Rules.{both}
+use Rattle.leaf_refusal.proofs.Ranges.{ranges-facts}
 use Rattle.mem_words.proofs.Fits.{bucket-facts}
 use Rattle.leaf_refusal.specs.Order.{refuseOf, firstOf}
 
@@ -45,24 +48,28 @@ order-late false true false e h = absurd (omega arith)
 order-late false false true e h = absurd (omega arith)
 order-late false false false e h = absurd (omega arith)
 
-early-none : (a b d : Bool) → early a b d ≡ 0 → (b ≡ true) × (d ≡ true)
-early-none true true true h = (refl, refl)
+early-none : (a b d : Bool) → early a b d ≡ 0 → (a ≡ true) × (b ≡ true) × (d ≡ true)
+early-none true true true h = (refl, refl, refl)
 early-none true true false h = absurd (omega arith)
 early-none true false true h = absurd (omega arith)
 early-none true false false h = absurd (omega arith)
-early-none false true true h = (refl, refl)
+early-none false true true h = absurd (omega arith)
 early-none false true false h = absurd (omega arith)
 early-none false false true h = absurd (omega arith)
 early-none false false false h = absurd (omega arith)
 
-shared-zero : (a b d e : Bool) → inOrder a b d e ≡ 0 → (b ≡ true) × (d ≡ true) × (e ≡ true)
-shared-zero true true true true h = (refl, refl, refl)
+shared-zero : (a b d e : Bool) → inOrder a b d e ≡ 0 → (a ≡ true) × (b ≡ true) × (d ≡ true) × (e ≡ true)
+shared-zero true true true true h = (refl, refl, refl, refl)
 shared-zero true true true false h = absurd (omega arith)
 shared-zero true true false e h = absurd (omega arith)
 shared-zero true false d e h = absurd (omega arith)
 shared-zero false b d e h = absurd (omega arith)
 
-module _ (r : Record) (words : List ℕ) (vci : ℕ) where
+module _ (r : Record) (words : List ℕ) (name : Name) where
+  -- the connection's number
+  abbrev pub numbered : ℕ
+  numbered = numberIn (r .v) name
+
   -- what refusals 1, 2, 4 and 3 test
   abbrev inRange : Bool
   inRange = rangesHold (r .n) (r .v)
@@ -71,46 +78,59 @@ module _ (r : Record) (words : List ℕ) (vci : ℕ) where
   isLong = wordsLong (r .v) words
 
   abbrev isNamed : Bool
-  isNamed = 1 ≤? vci && vci <? r .v
+  isNamed = named (r .v) name
 
   abbrev fits : Bool
-  fits = connectionFits (r .n) (connectionAt words vci)
+  fits = connectionFits (r .n) (connectionAt words numbered)
 
   abbrev pub earlyRefusal : ℕ
   earlyRefusal = early inRange isLong isNamed
 
-  pub shared-early : (earlyRefusal ≡ 0 → ⊥) → earlyRefusal ≡ sharedRefusal r words vci
+  pub shared-early : (earlyRefusal ≡ 0 → ⊥) → earlyRefusal ≡ sharedRefusal r words name
   unfolding sharedRefusal
   shared-early h = order-early inRange isLong isNamed fits h
 
-  pub shared-late : earlyRefusal ≡ 0 → refuseOf 3 (not fits) ≡ sharedRefusal r words vci
+  pub shared-late : earlyRefusal ≡ 0 → refuseOf 3 (not fits) ≡ sharedRefusal r words name
   unfolding sharedRefusal
   shared-late h = order-late inRange isLong isNamed fits h
 
-  -- words of the right length, and a VCI below V
-  lent : isLong ≡ true → isNamed ≡ true → connectionPlace vci + wordsPerConnection ≤ length words
-  unfolding wordsLong
-  lent p q =
-      omega (
-        arith,
-        eqb-true (length words) (wordsPerConnection * r .v) p,
-        ltb-true vci (r .v) (both (1 ≤? vci) (vci <? r .v) q .1),
-      )
+  -- V in its range and such a connection: what its number needs
+  abbrev Named : Type 0
+  Named = (r .v ≤ mostV) × (named (r .v) name ≡ true)
 
-  pub early-lent : earlyRefusal ≡ 0 → connectionPlace vci + wordsPerConnection ≤ length words
-  early-lent h = let p = early-none inRange isLong isNamed h in lent (p .0) (p .1)
+  pub early-named : earlyRefusal ≡ 0 → Named
+  early-named h =
+      let p = early-none inRange isLong isNamed h in (ranges-facts (r .n) (r .v) (p .0) .V-most, p .2)
 
-  pub shared-lent : sharedRefusal r words vci ≡ 0 → connectionPlace vci + wordsPerConnection ≤ length words
+  pub shared-named : sharedRefusal r words name ≡ 0 → Named
   unfolding sharedRefusal
-  shared-lent h = let p = shared-zero inRange isLong isNamed fits h in lent (p .0) (p .1)
+  shared-named h =
+      let p = shared-zero inRange isLong isNamed fits h in (ranges-facts (r .n) (r .v) (p .0) .V-most, p .2)
 
-  -- and an open VC's m is in its range
-  pub shared-m : sharedRefusal r words vci ≡ 0 → (connectionAt words vci .opened ≡ 0 → ⊥) → connectionAt words vci .bucket .m ≤ 15
+  -- words of the right length, and a number below V + 256
+  lent : isLong ≡ true → isNamed ≡ true → HasConnection numbered words
+  unfolding wordsLong
+  lent p q = omega (arith, eqb-true (length words) (wordsIn (r .v)) p, number-low (r .v) name q)
+
+  pub early-lent : earlyRefusal ≡ 0 → HasConnection numbered words
+  early-lent h = let p = early-none inRange isLong isNamed h in lent (p .1) (p .2)
+
+  pub shared-lent : sharedRefusal r words name ≡ 0 → HasConnection numbered words
+  unfolding sharedRefusal
+  shared-lent h = let p = shared-zero inRange isLong isNamed fits h in lent (p .1) (p .2)
+
+  m-low : sharedRefusal r words name ≡ 0 → (connectionAt words numbered .opened ≡ 0 → ⊥)
+      → connectionAt words numbered .bucket .m ≤ 15
   unfolding sharedRefusal connectionFits bucketsFit
-  shared-m h o =
-      let vc = connectionAt words vci in
-      let e : connectionFits (r .n) vc ≡ true = shared-zero inRange isLong isNamed fits h .2 in
-      let f : openWordFits vc && bucketsFit (r .n) vc && vc .waiting ≤? r .n ≡ true = rw (ne-eqb (vc .opened) 0 o) at e in
-      let g = both (openWordFits vc && bucketsFit (r .n) vc) (vc .waiting ≤? r .n) f .0 in
-      let k = both (openWordFits vc) (bucketsFit (r .n) vc) g .1 in
-      bucket-facts (r .n) (vc .bucket) (both (bucketFits (r .n) (vc .bucket)) (secondFits (vc .second) (vc .tag)) k .0) .rules .m-low
+  m-low h o =
+      let conn = connectionAt words numbered in
+      let e : connectionFits (r .n) conn ≡ true = shared-zero inRange isLong isNamed fits h .3 in
+      let f : openWordFits conn && bucketsFit (r .n) conn && conn .waiting ≤? r .n ≡ true = rw (ne-eqb (conn .opened) 0 o) at e in
+      let g = both (openWordFits conn && bucketsFit (r .n) conn) (conn .waiting ≤? r .n) f .0 in
+      let k = both (openWordFits conn) (bucketsFit (r .n) conn) g .1 in
+      bucket-facts (r .n) (conn .bucket) (both (bucketFits (r .n) (conn .bucket)) (secondFits (conn .second) (conn .tag)) k .0) .rules .m-low
+
+  -- an open connection's m is in its range; c is its number
+  pub shared-m : (c : ℕ) → c ≡ numbered → sharedRefusal r words name ≡ 0 → (connectionAt words c .opened ≡ 0 → ⊥)
+      → connectionAt words c .bucket .m ≤ 15
+  shared-m c is h o = rw is (m-low h (λ e. o (rw is e)))

@@ -7,17 +7,29 @@ use native.Mathlib.Omega.{arith}
 use borrow.Author.Tests.{eq-eqb, ne-eqb}
 use Rattle.meaning.specs.declared.Record.{Record}
 use Rattle.meaning.specs.Plain.{if_then_else_, _=?_}
+use Rattle.meaning.specs.Header.{Name, numberIn}
 use Rattle.meaning.specs.Bucket.{bucketOf, obeysRules}
 use Rattle.meaning.specs.Words.{Connection, Second, connectionAt, writeConnection, secondObeys, openedConnection, closedConnection, debt}
 use Rattle.meaning.specs.Calls.{Called, calledOf, sharedRefusal, openCall, closeCall}
 use Rattle.leaf_refusal.specs.Order.{refuseOf, firstOf}
 use Rattle.call_connection.specs.NotYet.{notYet}
 
+-- ---- the shared ones
+module _ (r : Record) (words : List ℕ) (name : Name) (given : sharedRefusal r words name ≡ 0 → ⊥) where
+  pub open-shared : (m F C : ℕ) (x : Second) → calledOf (sharedRefusal r words name) words ≡ openCall r words name m F C x
+  unfolding openCall
+  open-shared m F C x = simp (ne-eqb (sharedRefusal r words name) 0 given)
+
+  pub close-shared : calledOf (sharedRefusal r words name) words ≡ closeCall r words name
+  unfolding closeCall
+  close-shared = simp (ne-eqb (sharedRefusal r words name) 0 given)
+
 -- ---- open
-module _ (r : Record) (words : List ℕ) (vci m F C : ℕ) (x : Second) where
+-- c is the connection's number
+module _ (r : Record) (words : List ℕ) (name : Name) (c : ℕ) (is : c ≡ numberIn (r .v) name) (m F C : ℕ) (x : Second) where
   -- "already open"
   abbrev already : Bool
-  already = connectionAt words vci .opened =? 1
+  already = connectionAt words c .opened =? 1
 
   -- "m, F or C against the rules above"
   abbrev against : Bool
@@ -32,44 +44,39 @@ module _ (r : Record) (words : List ℕ) (vci m F C : ℕ) (x : Second) where
 
   -- "Each leaves everything as it came."
   abbrev told : Bool → Bool → Bool → Called
-  told a b c =
-      if a then calledOf 5 words else if b then calledOf 6 words else if c then calledOf 11 words
-      else calledOf 0 (writeConnection words vci (openedConnection (r .t) (bucketOf m F C 0) x))
+  told a b d =
+      if a then calledOf 5 words else if b then calledOf 6 words else if d then calledOf 11 words
+      else calledOf 0 (writeConnection words c (openedConnection (r .t) (bucketOf m F C 0) x))
 
-  three-given : (a b c : Bool) → (firstOf (firstOf (refuseOf 5 a) (refuseOf 6 b)) (refuseOf 11 c) ≡ 0 → ⊥)
-      → calledOf (firstOf (firstOf (refuseOf 5 a) (refuseOf 6 b)) (refuseOf 11 c)) words ≡ told a b c
-  three-given true b c h = go b
+  three-given : (a b d : Bool) → (firstOf (firstOf (refuseOf 5 a) (refuseOf 6 b)) (refuseOf 11 d) ≡ 0 → ⊥)
+      → calledOf (firstOf (firstOf (refuseOf 5 a) (refuseOf 6 b)) (refuseOf 11 d)) words ≡ told a b d
+  three-given true b d h = go b
     where
-      go : (b : Bool) → calledOf (firstOf (firstOf 5 (refuseOf 6 b)) (refuseOf 11 c)) words ≡ calledOf 5 words
+      go : (b : Bool) → calledOf (firstOf (firstOf 5 (refuseOf 6 b)) (refuseOf 11 d)) words ≡ calledOf 5 words
       go true = refl
       go false = refl
-  three-given false true c h = refl
+  three-given false true d h = refl
   three-given false false true h = refl
   three-given false false false h = absurd (h refl)
 
-  three-none : (a b c : Bool) → firstOf (firstOf (refuseOf 5 a) (refuseOf 6 b)) (refuseOf 11 c) ≡ 0
-      → calledOf 0 (writeConnection words vci (openedConnection (r .t) (bucketOf m F C 0) x)) ≡ told a b c
-  three-none true true c h = absurd (omega arith)
-  three-none true false c h = absurd (omega arith)
-  three-none false true c h = absurd (omega arith)
+  three-none : (a b d : Bool) → firstOf (firstOf (refuseOf 5 a) (refuseOf 6 b)) (refuseOf 11 d) ≡ 0
+      → calledOf 0 (writeConnection words c (openedConnection (r .t) (bucketOf m F C 0) x)) ≡ told a b d
+  three-none true true d h = absurd (omega arith)
+  three-none true false d h = absurd (omega arith)
+  three-none false true d h = absurd (omega arith)
   three-none false false true h = absurd (omega arith)
   three-none false false false h = refl
 
-  pub open-shared : (sharedRefusal r words vci ≡ 0 → ⊥)
-      → calledOf (sharedRefusal r words vci) words ≡ openCall r words vci m F C x
-  unfolding openCall
-  open-shared h = simp (ne-eqb (sharedRefusal r words vci) 0 h)
-
-  pub open-refused : sharedRefusal r words vci ≡ 0
+  pub open-refused : sharedRefusal r words name ≡ 0
       → (openRefusal ≡ 0 → ⊥)
-      → calledOf openRefusal words ≡ openCall r words vci m F C x
+      → calledOf openRefusal words ≡ openCall r words name m F C x
   unfolding openCall
-  open-refused e h = rw (eq-eqb (sharedRefusal r words vci) 0 e) (three-given already against beyond h)
+  open-refused e h = rw (eq-eqb (sharedRefusal r words name) 0 e, ← is) (three-given already against beyond h)
 
-  pub open-done : sharedRefusal r words vci ≡ 0 → openRefusal ≡ 0
-      → calledOf 0 (writeConnection words vci (openedConnection (r .t) (bucketOf m F C 0) x)) ≡ openCall r words vci m F C x
+  pub open-done : sharedRefusal r words name ≡ 0 → openRefusal ≡ 0
+      → calledOf 0 (writeConnection words c (openedConnection (r .t) (bucketOf m F C 0) x)) ≡ openCall r words name m F C x
   unfolding openCall
-  open-done e h = rw (eq-eqb (sharedRefusal r words vci) 0 e) (three-none already against beyond h)
+  open-done e h = rw (eq-eqb (sharedRefusal r words name) 0 e, ← is) (three-none already against beyond h)
 
 -- ---- close
 -- 8 is given exactly where one of its two halves is
@@ -86,32 +93,28 @@ halves-none true false h = absurd (omega arith)
 halves-none false true h = absurd (omega arith)
 halves-none false false h = absurd (omega arith)
 
-module _ (r : Record) (words : List ℕ) (vci : ℕ) where
-  abbrev vc : Connection
-  vc = connectionAt words vci
+module _ (r : Record) (words : List ℕ) (name : Name) (c : ℕ) (is : c ≡ numberIn (r .v) name) where
+  abbrev conn : Connection
+  conn = connectionAt words c
 
-  pub close-shared : (sharedRefusal r words vci ≡ 0 → ⊥)
-      → calledOf (sharedRefusal r words vci) words ≡ closeCall r words vci
+  pub close-closed : sharedRefusal r words name ≡ 0 → conn .opened ≡ 0 → calledOf 7 words ≡ closeCall r words name
   unfolding closeCall
-  close-shared h = simp (ne-eqb (sharedRefusal r words vci) 0 h)
+  close-closed e o = rw (eq-eqb (sharedRefusal r words name) 0 e, ← is, eq-eqb (conn .opened) 0 o)
 
-  pub close-closed : sharedRefusal r words vci ≡ 0 → vc .opened ≡ 0 → calledOf 7 words ≡ closeCall r words vci
-  unfolding closeCall
-  close-closed e o = rw (eq-eqb (sharedRefusal r words vci) 0 e, eq-eqb (vc .opened) 0 o)
-
-  pub close-not-yet : sharedRefusal r words vci ≡ 0 → (vc .opened ≡ 0 → ⊥) → (notYet (r .t) vc ≡ 0 → ⊥)
-      → calledOf (notYet (r .t) vc) words ≡ closeCall r words vci
+  pub close-not-yet : sharedRefusal r words name ≡ 0 → (conn .opened ≡ 0 → ⊥) → (notYet (r .t) conn ≡ 0 → ⊥)
+      → calledOf (notYet (r .t) conn) words ≡ closeCall r words name
   unfolding closeCall
   close-not-yet e o h =
-      let g = halves-given (vc .waiting =? 0) (debt (r .t) vc =? 0) h in
-      rw (eq-eqb (sharedRefusal r words vci) 0 e, ne-eqb (vc .opened) 0 o, g .0, g .1)
+      let g = halves-given (conn .waiting =? 0) (debt (r .t) conn =? 0) h in
+      rw (eq-eqb (sharedRefusal r words name) 0 e, ← is, ne-eqb (conn .opened) 0 o, g .0, g .1)
 
-  pub close-done : sharedRefusal r words vci ≡ 0 → (vc .opened ≡ 0 → ⊥) → notYet (r .t) vc ≡ 0
-      → calledOf 0 (writeConnection words vci closedConnection) ≡ closeCall r words vci
+  pub close-done : sharedRefusal r words name ≡ 0 → (conn .opened ≡ 0 → ⊥) → notYet (r .t) conn ≡ 0
+      → calledOf 0 (writeConnection words c closedConnection) ≡ closeCall r words name
   unfolding closeCall
   close-done e o h =
       rw (
-        eq-eqb (sharedRefusal r words vci) 0 e,
-        ne-eqb (vc .opened) 0 o,
-        halves-none (vc .waiting =? 0) (debt (r .t) vc =? 0) h,
+        eq-eqb (sharedRefusal r words name) 0 e,
+        ← is,
+        ne-eqb (conn .opened) 0 o,
+        halves-none (conn .waiting =? 0) (debt (r .t) conn =? 0) h,
       )

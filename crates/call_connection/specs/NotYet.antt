@@ -1,4 +1,4 @@
--- Refusal 8 of a VC that is open, or 0.
+-- Refusal 8 of a connection that is open, or 0.
 use Prim.Native.Nat.{ℕ}
 use mathlib.Core.Bool.{not}
 use Rattle.meaning.specs.Plain.{_=?_}

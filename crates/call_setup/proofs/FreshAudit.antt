@@ -1,4 +1,4 @@
--- From a setup that answered 0 the audit's clauses hold: all spaces stand in the Free List, in order, and no VC is open.
+-- From a setup that answered 0 the audit's clauses hold: all spaces stand in the Free List, in order, and no connection is open.
 use Prim.Native.Nat.{ℕ, zero, suc, _+_, _-_, _*_, _≤_, _<_}
 use mathlib.Core.Path.{_≡_, refl, sym, _∙_, ap, subst}
 use mathlib.Core.Bool.{Bool, true, false, not}
@@ -8,11 +8,11 @@ use borrow.Author.Tests.{eq-eqb}
 use lib.ListN.{length, getD, replicate, length-replicate, getD-replicate, length-append, List·getD-append}
 use Rattle.meaning.specs.declared.Fresh.{Fresh}
 use Rattle.meaning.specs.Plain.{if_then_else_}
-use Rattle.meaning.specs.Numbers.{rangesHold, wordsPerConnection}
+use Rattle.meaning.specs.Numbers.{rangesHold, wordsIn, openPlace, kindFits}
 use Rattle.meaning.specs.State.{stateOf, wordsLong, lengthsHold}
 use Rattle.meaning.specs.Words.{connectionAt, connectionFits}
 use Rattle.meaning.specs.Lists.{entryAt}
-use Rattle.meaning.specs.Calls.{SetUp, setUpOf, zeros, rawNumber, setup, countUp, freshRecord, freshState}
+use Rattle.meaning.specs.Calls.{SetUp, setUpOf, zeros, rawNumber, Kind, UNI, NNI, kindNumber, kindOf, Options, optionsOf, setup, countUp, freshRecord, freshState}
 use Rattle.meaning.specs.Promises.{setupPromise}
 use Rattle.meaning.specs.Audit.{Chain, count, joined, AuditHolds}
 use Rattle.leaf_refusal.proofs.Ranges.{InRange, ranges-facts}
@@ -30,14 +30,14 @@ module _ (N z : ℕ) (r : InRange N z) where
   links-long : length links ≡ N
   links-long = length-append (countUp (N - 1) 1) (0 ∷ []) ∙ rw (length-countUp (N - 1) 1) (omega (arith, r .N-least))
 
-  lengths-hold : lengthsHold N z (replicate (53 * N) 0) links (replicate (2 * N) 65535) (replicate (wordsPerConnection * z) 0) ≡ true
+  lengths-hold : lengthsHold N z (replicate (53 * N) 0) links (replicate (2 * N) 65535) (replicate (wordsIn z) 0) ≡ true
   unfolding lengthsHold wordsLong
   lengths-hold =
       simp (
         eq-eqb _ _ (length-replicate {A = ℕ} (53 * N) 0),
         eq-eqb _ _ links-long,
         eq-eqb _ _ (length-replicate {A = ℕ} (2 * N) 65535),
-        eq-eqb _ _ (length-replicate {A = ℕ} (wordsPerConnection * z) 0),
+        eq-eqb _ _ (length-replicate {A = ℕ} (wordsIn z) 0),
       )
 
   -- each space below N-1 is followed by the next
@@ -66,31 +66,37 @@ module _ (N z : ℕ) (r : InRange N z) where
   nothing-queued : (x : ℕ) → 0 < count x queued → ⊥
   nothing-queued x h = omega (arith, ap (count x) (joined-none N))
 
-  closed : (vci : ℕ) → connectionAt (replicate (wordsPerConnection * z) 0) vci .opened ≡ 0
+  closed : (c : ℕ) → connectionAt (replicate (wordsIn z) 0) c .opened ≡ 0
   unfolding connectionAt
-  closed vci = getD-zeros (wordsPerConnection * z) (wordsPerConnection * vci + 0)
+  closed c = getD-zeros (wordsIn z) (openPlace c)
 
-  fits : (vci : ℕ) → connectionFits N (connectionAt (replicate (wordsPerConnection * z) 0) vci) ≡ true
+  fits : (c : ℕ) → connectionFits N (connectionAt (replicate (wordsIn z) 0) c) ≡ true
   unfolding connectionFits
-  fits vci = simp (closed vci)
+  fits c = simp (closed c)
 
 -- raw is 1 or 0 in the record
 raw-low : (raw : Bool) → rawNumber raw ≤ 1
 raw-low true = omega arith
 raw-low false = omega arith
 
-pub fresh-audit : (N z : ℕ) (raw : Bool) → rangesHold N z ≡ true → AuditHolds (freshState N z raw)
+-- and so is the line kind
+kind-low : (kind : Kind) → kindNumber kind ≤ 1
+kind-low UNI = omega arith
+kind-low NNI = omega arith
+
+pub fresh-audit : (N z : ℕ) (o : Options) → rangesHold N z ≡ true → AuditHolds (freshState N z o)
 unfolding freshState freshRecord
-fresh-audit N z raw h =
+fresh-audit N z o h =
     let r = ranges-facts N z h in
     record {
       ranges = h;
       lengths = lengths-hold N z r;
       turn-low = omega (arith, r .N-least);
       rotation-low = omega (arith, r .V-least);
-      raw-low = raw-low raw;
+      raw-low = raw-low (o .raw);
       mode-low = omega arith;
-      connections-fit = λ vci a b. fits N z r vci;
+      kind-low = kind-low (o .kind);
+      connections-fit = λ c a b. fits N z r c;
       free = countUp N 0;
       output = [];
       queues = replicate N [];
@@ -102,30 +108,37 @@ fresh-audit N z raw h =
       no-other = λ x l. counted N z r x ∙ count-past N 0 x (omega arith);
       turn-empty = getD-replicate {A = List ℕ} N (N - 1) [] [] (omega (arith, r .N-least));
       named = λ x p. absurd (nothing-queued N z r x p);
-      waits = λ vci a b o. absurd (omega (arith, o, closed N z r vci));
+      waits = λ c a b o. absurd (omega (arith, o, closed N z r c));
     }
 
 -- what setup's promise allows with number 0 meets the audit's clauses
-pub setup-audit : (N z : ℕ) (raw : Bool) (cells links calendar words : List ℕ) (r : Fresh) (cells′ links′ calendar′ words′ : List ℕ)
-    → setupPromise N z raw (stateOf zeros cells links calendar words) (setUpOf (r .number) (stateOf (r .ctl) cells′ links′ calendar′ words′))
+pub setup-audit : (N z : ℕ) (raw : Bool) (kind : ℕ) (cells links calendar words : List ℕ) (r : Fresh) (cells′ links′ calendar′ words′ : List ℕ)
+    → setupPromise N z raw kind (stateOf zeros cells links calendar words) (setUpOf (r .number) (stateOf (r .ctl) cells′ links′ calendar′ words′))
     → r .number ≡ 0
     → AuditHolds (stateOf (r .ctl) cells′ links′ calendar′ words′)
 unfolding setup
-setup-audit N z raw cells links calendar words r cells′ links′ calendar′ words′ p e =
-    subst AuditHolds (sym (ap (λ (s : SetUp). s .state) p)) (go inRange long refl (sym (ap (λ (s : SetUp). s .number) p) ∙ e))
+setup-audit N z raw kind cells links calendar words r cells′ links′ calendar′ words′ p e =
+    subst AuditHolds (sym (ap (λ (s : SetUp). s .state) p)) (go inRange known long refl (sym (ap (λ (s : SetUp). s .number) p) ∙ e))
   where
     inRange : Bool
     inRange = rangesHold N z
 
+    known : Bool
+    known = kindFits kind
+
     long : Bool
     long = lengthsHold N z cells links calendar words
 
-    after : Bool → Bool → SetUp
-    after a b =
+    after : Bool → Bool → Bool → SetUp
+    after a b d =
         let asItCame = stateOf zeros cells links calendar words in
-        if not a then setUpOf 1 asItCame else if not b then setUpOf 2 asItCame else setUpOf 0 (freshState N z raw)
+        if not a then setUpOf 1 asItCame
+        else if not b then setUpOf 13 asItCame
+        else if not d then setUpOf 2 asItCame
+        else setUpOf 0 (freshState N z (optionsOf raw (kindOf kind)))
 
-    go : (a b : Bool) → inRange ≡ a → after a b .number ≡ 0 → AuditHolds (after a b .state)
-    go true true h k = fresh-audit N z raw h
-    go true false h k = absurd (omega arith)
-    go false b h k = absurd (omega arith)
+    go : (a b d : Bool) → inRange ≡ a → after a b d .number ≡ 0 → AuditHolds (after a b d .state)
+    go true true true h k = fresh-audit N z (optionsOf raw (kindOf kind)) h
+    go true true false h k = absurd (omega arith)
+    go true false d h k = absurd (omega arith)
+    go false b d h k = absurd (omega arith)

@@ -22,9 +22,3 @@ module _ {A : Type 0} (p q : ℕ) (p-some : (p =? 0) ≡ false) (q-some : (q =? 
   two-none true b h = absurd (eqb-false p 0 p-some (rw p-some at h))
   two-none false true h = absurd (eqb-false q 0 q-some h)
   two-none false false h = refl
-
-  -- then neither holds
-  pub two-passed : (a b : Bool) → firstOf (refuseOf p a) (refuseOf q b) ≡ 0 → (a ≡ false) × (b ≡ false)
-  two-passed true b h = absurd (eqb-false p 0 p-some (rw p-some at h))
-  two-passed false true h = absurd (eqb-false q 0 q-some h)
-  two-passed false false h = (refl, refl)

@@ -3,8 +3,9 @@ ghost use mathlib.Core.Path.{_≡_};
 ghost use mathlib.Core.Bool.{_&&_};
 ghost use Prim.Native.Nat.{_*_};
 ghost use Rattle.meaning.specs.Plain.{_=?_};
-ghost use Rattle.meaning.specs.Numbers.{rangesHold, octets, perEntry, wordsIn};
+ghost use Rattle.meaning.specs.Numbers.{rangesHold, kindFits, octets, perEntry, wordsIn};
 ghost use Rattle.leaf_refusal.specs.Order.{refuseOf, firstOf};
+use meaning::PATHS;
 use meaning::WORDS_PER_CONNECTION;
 
 // Refusal 1: "N cell spaces, 1 to 1,024"; "V, 2 to 1,024".
@@ -23,7 +24,21 @@ pub fn ranges_hold(n: u16, v: u16) -> bool
     v <= 1024
 }
 
-// Refusal 2: "53 × N octets of cells; N links; 2 × N calendar numbers; 7 × V words", which are 12 × V with a second bucket.
+// Refusal 13: the line kind is 0, UNI, or 1, NNI.
+pub fn kind_fits(kind: u16) -> bool
+    ensures { λ r. ⌜ r ≡ kindFits kind ⌝ }
+{
+    kind <= 1
+}
+
+// "7 × V words": with a second bucket and the path records after the V records, 12 × (V + 256).
+pub fn words_in(v: u16) -> usize
+    ensures { λ r. ⌜ r ≡ wordsIn v ⌝ }
+{
+    WORDS_PER_CONNECTION * (v as usize + PATHS as usize)
+}
+
+// Refusal 2: "53 × N octets of cells; N links; 2 × N calendar numbers; 7 × V words", of which document 02 made 12 × (V + 256).
 pub fn lengths_hold(
     n: u16,
     v: u16,
@@ -43,7 +58,7 @@ pub fn lengths_hold(
     if calendar != 2 * (n as usize) {
         return false;
     }
-    words == WORDS_PER_CONNECTION * (v as usize)
+    words == words_in(v)
 }
 
 // The number of a refusal, or 0 where it isn't given.

@@ -4,24 +4,24 @@ use mathlib.Core.Path.{_≡_, sym, _∙_, ap}
 use native.Mathlib.Omega.{arith}
 use Rattle.meaning.specs.declared.Record.{Record}
 use Rattle.meaning.specs.State.{State, stateOf}
-use Rattle.meaning.specs.Calls.{setUpOf, zeros}
+use Rattle.meaning.specs.Calls.{setUpOf, zeros, kindOf, optionsOf}
 use Rattle.call_setup.proofs.Refusals.{Lent, setupRefusal, setup-refused, setup-done, setup-lent, fresh-is}
 use borrow.Author.Needs.{needs}
 use Rattle.call_setup.proofs.setup.Statement.{statement}
 use Rattle.call_setup.proofs.setup.Tie as tie
 
--- once neither refusal is given
+-- once no refusal is given
 none-given : (c : tie.Else1)
     → let a = c .before .before .before .before .before .before .args in
-    setupRefusal (a .n) (a .v) (a .cells .now) (a .links .now) (a .calendar .now) (a .words .now) ≡ 0
+    setupRefusal (a .n) (a .v) (a .kind) (a .cells .now) (a .links .now) (a .calendar .now) (a .words .now) ≡ 0
 none-given c = sym (c .before .setup-refusal .ensures) ∙ c .if1 .left
 
 lent : (c : tie.Else1)
     → let a = c .before .before .before .before .before .before .args in
-    Lent (a .n) (a .v) (a .cells .now) (a .links .now) (a .calendar .now) (a .words .now)
+    Lent (a .n) (a .v) (a .kind) (a .cells .now) (a .links .now) (a .calendar .now) (a .words .now)
 lent c =
     let a = c .before .before .before .before .before .before .args in
-    setup-lent (a .n) (a .v) (a .cells .now) (a .links .now) (a .calendar .now) (a .words .now) (none-given c)
+    setup-lent (a .n) (a .v) (a .kind) (a .cells .now) (a .links .now) (a .calendar .now) (a .words .now) (none-given c)
 
 returns : tie.Need-returns
 returns c =
@@ -31,7 +31,7 @@ returns c =
     (λ (r : Record). setUpOf (c .before .before .setup-refusal .result) (stateOf r (a .cells .now) (a .links .now) (a .calendar .now) (a .words .now)))
     (c .no-record .ensures)
     ∙ (ap (λ (k : ℕ). setUpOf k (stateOf zeros (a .cells .now) (a .links .now) (a .calendar .now) (a .words .now))) e
-    ∙ setup-refused (a .n) (a .v) (a .cells .now) (a .links .now) (a .calendar .now) (a .words .now) (a .raw) (λ z. c .before .if1 .taken (e ∙ z)))
+    ∙ setup-refused (a .n) (a .v) (a .kind) (a .cells .now) (a .links .now) (a .calendar .now) (a .words .now) (a .raw) (λ z. c .before .if1 .taken (e ∙ z)))
 
 chain-links-requires : tie.Need-chain-links-requires
 chain-links-requires c κs =
@@ -41,7 +41,7 @@ chain-links-requires c κs =
 fresh-record-requires : tie.Need-fresh-record-requires
 fresh-record-requires c κs =
     let l = lent (c .before .before .before .before .before .before .before .before .before .before .before .before .before .before .before .before) in
-    omega (arith, l .ranges .N-least, l .ranges .V-least)
+    omega (arith, l .ranges .N-least, l .ranges .V-most, l .kind-low)
 
 returns-2 : tie.Need-returns-2
 returns-2 c =
@@ -52,9 +52,9 @@ returns-2 c =
     let none = first .before .before in
     let a = none .before .before .before .before .before .before .args in
     ap (λ (s : State). setUpOf 0 s)
-    (fresh-is (a .n) (a .v) (a .cells .now) (a .links .now) (a .calendar .now) (a .words .now)
+    (fresh-is (a .n) (a .v) (a .kind) (a .cells .now) (a .links .now) (a .calendar .now) (a .words .now)
     (lent none)
-    (a .raw)
+    (optionsOf (a .raw) (kindOf (a .kind)))
     _
     _
     _
@@ -65,7 +65,7 @@ returns-2 c =
     (chained .chain-links .ensures)
     (emptied .empty-calendar .ensures)
     (cleared .clear-words .ensures))
-    ∙ setup-done (a .n) (a .v) (a .cells .now) (a .links .now) (a .calendar .now) (a .words .now) (a .raw) (none-given none)
+    ∙ setup-done (a .n) (a .v) (a .kind) (a .cells .now) (a .links .now) (a .calendar .now) (a .words .now) (a .raw) (none-given none)
 
 pub setup-spec : {M : Type 1} → statement M
 setup-spec =

@@ -19,9 +19,10 @@ returns-3 c = simp (
 
 returns-4 : tie.Need-returns-4
 returns-4 c = simp (
-  eq-eqb _ _ (c .before .before .if1 .left),
-  eq-eqb _ _ (c .before .if2 .left),
-  eq-eqb _ _ (c .if3 .left),
+  c .words-in .ensures,
+  eq-eqb _ _ (c .before .before .before .if1 .left),
+  eq-eqb _ _ (c .before .before .if2 .left),
+  eq-eqb _ _ (c .before .if3 .left),
 )
 
 pub lengths-hold-spec : {M : Type 1} → statement M
