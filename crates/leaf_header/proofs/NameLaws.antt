@@ -1,50 +1,64 @@
--- VPI and VCI as one number: of four octets it is their 24 bits after GFC and before PTI; it is 0 exactly where it is no
--- user cell, and from 1 to V-1 exactly where the header names a VC, which is then this number.
+-- VPI and VCI as one number: of four octets it is their 28 bits before PTI, or the 24 after GFC at the UNI; it is 0 exactly where
+-- it is no user cell, and the connection that a header names can be told from it.
 use Prim.Native.Nat.{ℕ, _+_, _*_, _/_, _%_, _≤_, _<_}
-use mathlib.Core.Path.{_≡_, refl}
+use mathlib.Core.Path.{_≡_, refl, sym, _∙_, ap}
 use mathlib.Core.Logic.{_≢_}
 use mathlib.Core.Bool.{Bool, true, false, _&&_}
 use mathlib.Core.List.{List}
 use native.Mathlib.Omega.{arith}
-use borrow.Author.Tests.{ltb-true, leb-true, eqb-true, lt-ltb, le-leb, eq-eqb}
+use native.Mathlib.Decide.{decLt, ℕ-discrete}
+use borrow.Author.Tests.{eqb-true, lt-ltb, le-ltb, le-leb, lt-leb, eq-eqb, ne-eqb}
 use lib.ListN.{getD}
-use Rattle.meaning.specs.Plain.{_<?_, _≤?_, _=?_}
-use Rattle.meaning.specs.Header.{Header, headerOf, headerAt, noUserCell, namesConnection}
-use Rattle.leaf_header.specs.Name.{nameOf}
+use Rattle.meaning.specs.Plain.{if_then_else_, _<?_, _≤?_, _=?_}
+use Rattle.meaning.specs.Numbers.{mostV, paths, kindFits}
+use Rattle.meaning.specs.Header.{Header, vpiHigh, headerOf, headerAt, noUserCell, connection, namesConnection}
+use Rattle.meaning.proofs.NamesLaws.{vc-number, vc-named, path-number, path-named}
+use Rattle.leaf_header.specs.Name.{nameOf, noName, nameAt, Reads, numberFor, numbered}
 
--- ---- four octets, the first with GFC, the last with PTI and CLP
+-- ---- four octets, the first with GFC at the UNI, the last with PTI and CLP
 abbrev word : ℕ → ℕ → ℕ → ℕ → ℕ
 word a b c d = a * 16777216 + b * 65536 + c * 256 + d
 
-module _ (a b c d e : ℕ) (pa : a < 256) (pb : b < 256) (pc : c < 256) (pd : d < 256) where
-  name-octets : word a b c d / 16 % 16777216 ≡ nameOf (headerOf a b c d e)
-  unfolding nameOf headerOf
-  name-octets = omega arith
+module _ (l : List ℕ) (i a b c d : ℕ)
+    (p : (a ≡ getD l i 0) × (a < 256))
+    (q : (b ≡ getD l (i + 1) 0) × (b < 256))
+    (r : (c ≡ getD l (i + 2) 0) × (c < 256))
+    (s : (d ≡ getD l (i + 3) 0) × (d < 256)) where
+  pub name-uni : (kind : ℕ) → kind ≡ 0
+      → (word a b c d / 16 % 16777216 ≡ nameAt kind l i) × Reads kind (headerAt kind l i) (word a b c d / 16 % 16777216)
+  unfolding nameAt kindFits nameOf headerAt headerOf vpiHigh
+  name-uni kind e =
+      rw (e, ← p .0, ← q .0, ← r .0, ← s .0) (
+        omega (arith, p .1, q .1, r .1, s .1),
+        λ _. (omega (arith, p .1, q .1, r .1, s .1), omega (arith, p .1, q .1, r .1, s .1)),
+      )
 
-  vci-octets : word a b c d / 16 % 16777216 % 65536 ≡ headerOf a b c d e .vci
-  unfolding headerOf
-  vci-octets = omega arith
+  pub name-nni : (kind : ℕ) → kind ≡ 1
+      → (word a b c d / 16 ≡ nameAt kind l i) × Reads kind (headerAt kind l i) (word a b c d / 16)
+  unfolding nameAt kindFits nameOf headerAt headerOf vpiHigh
+  name-nni kind e =
+      rw (e, ← p .0, ← q .0, ← r .0, ← s .0) (
+        omega (arith, p .1, q .1, r .1, s .1),
+        λ _. (omega (arith, p .1, q .1, r .1, s .1), omega (arith, p .1, q .1, r .1, s .1)),
+      )
 
--- ---- the four octets as they are read
-pub name-read : (l : List ℕ) (i a b c d : ℕ)
-    → (a ≡ getD l i 0) × (a < 256)
-    → (b ≡ getD l (i + 1) 0) × (b < 256)
-    → (c ≡ getD l (i + 2) 0) × (c < 256)
-    → (d ≡ getD l (i + 3) 0) × (d < 256)
-    → (word a b c d / 16 % 16777216 ≡ nameOf (headerAt l i)) × (word a b c d / 16 % 16777216 % 65536 ≡ headerAt l i .vci)
-unfolding headerAt
-name-read l i a b c d p q r s =
-    let e = getD l (i + 4) 0 in (
-      rw (← p .0, ← q .0, ← r .0, ← s .0) (name-octets a b c d e (p .1) (q .1) (r .1) (s .1)),
-      rw (← p .0, ← q .0, ← r .0, ← s .0) (vci-octets a b c d e (p .1) (q .1) (r .1) (s .1)),
-    )
+kind-none : (kind : ℕ) → kind ≢ 0 → kind ≢ 1 → kindFits kind ≡ false
+unfolding kindFits
+kind-none kind a b = lt-leb kind 1 (omega (arith, a, b))
+
+pub name-none-at : (kind : ℕ) (l : List ℕ) (i : ℕ) → kind ≢ 0 → kind ≢ 1
+    → (noName ≡ nameAt kind l i) × Reads kind (headerAt kind l i) noName
+unfolding nameAt
+name-none-at kind l i a b =
+    let e = kind-none kind a b in
+    (rw e, λ f. absurd (let y : _≡_ {A = Bool} true false = sym f ∙ e in let w : _≡_ {A = ℕ} 0 1 = cc in omega arith))
 
 -- ---- no user cell
 first : (a b : Bool) → a && b ≡ true → a ≡ true
 first true b p = refl
 first false b p = p
 
-second : (a b : Bool) → a && b ≡ true → b ≡ true
+pub second : (a b : Bool) → a && b ≡ true → b ≡ true
 second true b p = p
 second false true p = refl
 second false false p = p
@@ -67,41 +81,117 @@ name-user h ne = go (noUserCell h) refl
     go true e = absurd (ne (none-name h e))
     go false e = e
 
--- ---- a VC's name, among V of at most 65,536
-pub names-some : (z : ℕ) (h : Header) → namesConnection z h ≡ true → 1 ≤ nameOf h
-unfolding nameOf namesConnection
-names-some z h e =
-    let q = leb-true 1 (h .vci) (second (h .vpi =? 0) (1 ≤? h .vci) (first (h .vpi =? 0 && 1 ≤? h .vci) (h .vci <? z) e)) in
-    omega arith
+-- ---- the connection that a name stands for
+pub number-vc : (z name : ℕ) → name < z → name ≡ numberFor z name
+unfolding numberFor
+number-vc z name h = rw (lt-ltb name z h)
 
-pub names-vci : (z : ℕ) (h : Header) → namesConnection z h ≡ true → h .vci ≡ nameOf h
-unfolding nameOf namesConnection
-names-vci z h e =
-    let p = eqb-true (h .vpi) 0 (first (h .vpi =? 0) (1 ≤? h .vci) (first (h .vpi =? 0 && 1 ≤? h .vci) (h .vci <? z) e)) in
-    omega arith
+pub number-path : (z name : ℕ) → z ≤ name → name / 65536 ≢ 0 → name / 65536 < 256 → z + name / 65536 ≡ numberFor z name
+unfolding numberFor
+number-path z name h some low = rw (le-ltb name z h, ne-eqb _ 0 some, lt-ltb (name / 65536) 256 low)
 
-pub names-below : (z : ℕ) (h : Header) → namesConnection z h ≡ true → nameOf h < z
-unfolding namesConnection
-names-below z h e =
-    let q = ltb-true (h .vci) z (second (h .vpi =? 0 && 1 ≤? h .vci) (h .vci <? z) e) in
-    omega (arith, names-vci z h e)
+pub number-high : (z name : ℕ) → z ≤ name → name / 65536 ≢ 0 → 256 ≤ name / 65536 → 0 ≡ numberFor z name
+unfolding numberFor
+number-high z name h some high = rw (le-ltb name z h, ne-eqb _ 0 some, le-ltb (name / 65536) 256 high)
 
-pub name-names : (z : ℕ) (h : Header) → z ≤ 65536 → 1 ≤ nameOf h → nameOf h < z → namesConnection z h ≡ true
-unfolding nameOf namesConnection
-name-names z h few some below =
-    let p : h .vpi ≡ 0 = omega arith in
-    simp (eq-eqb (h .vpi) 0 p, le-leb 1 (h .vci) (omega arith), lt-ltb (h .vci) z (omega arith))
+pub number-past : (z name : ℕ) → z ≤ name → name / 65536 ≡ 0 → 0 ≡ numberFor z name
+unfolding numberFor
+number-past z name h none = rw (le-ltb name z h, eq-eqb _ 0 none)
 
-pub name-past : (z : ℕ) (h : Header) → z ≤ nameOf h → namesConnection z h ≡ false
-name-past z h past = go (namesConnection z h) refl
-  where
-    go : (b : Bool) → namesConnection z h ≡ b → namesConnection z h ≡ false
-    go true e = absurd (let q = names-below z h e in omega arith)
-    go false e = e
+-- no header has this name
+pub number-no-name : (z : ℕ) → z ≤ mostV → numberFor z noName ≡ 0
+number-no-name z few = sym (number-high z noName (omega arith) (λ e. omega arith) (omega arith))
 
-pub name-zero : (z : ℕ) (h : Header) → nameOf h ≡ 0 → namesConnection z h ≡ false
-name-zero z h none = go (namesConnection z h) refl
-  where
-    go : (b : Bool) → namesConnection z h ≡ b → namesConnection z h ≡ false
-    go true e = absurd (let q = names-some z h e in omega arith)
-    go false e = e
+-- ---- from the header: a VC where the VPI is 0, else a path
+and-false : (b : Bool) → b && false ≡ false
+and-false true = refl
+and-false false = refl
+
+module _ (z : ℕ) (h : Header) (few : z ≤ mostV) (small : h .vci < 65536) where
+  by-vci : h .vpi ≡ 0 → numberFor z (nameOf h) ≡ (if namesConnection z h then connection z h else 0)
+  unfolding nameOf
+  by-vci e = go (decLt (h .vci) z) (ℕ-discrete (h .vci) 0)
+    where
+      name : h .vpi * 65536 + h .vci ≡ h .vci
+      name = omega (arith, e)
+
+      go : Dec (h .vci < z) → Dec (h .vci ≡ 0)
+          → numberFor z (h .vpi * 65536 + h .vci) ≡ (if namesConnection z h then connection z h else 0)
+      go (yes low) (yes none) =
+          rw (name, vc-named z h e, vc-number z h e) (rw none (sym (number-vc z 0 (omega (arith, low, none)))))
+      go (yes low) (no some) =
+          rw (name, vc-named z h e, vc-number z h e, le-leb 1 (h .vci) (omega (arith, some)), lt-ltb (h .vci) z low)
+          (sym (number-vc z (h .vci) low))
+      go (no high) k =
+          rw (name, vc-named z h e, vc-number z h e, le-ltb (h .vci) z (omega (arith, high)), and-false (1 ≤? h .vci))
+          (sym (number-past z (h .vci) (omega (arith, high)) (omega (arith, small))))
+
+  by-vpi : h .vpi ≢ 0 → numberFor z (nameOf h) ≡ (if namesConnection z h then connection z h else 0)
+  unfolding nameOf
+  by-vpi ne = go (decLt (h .vpi) 256)
+    where
+      name : ℕ
+      name = h .vpi * 65536 + h .vci
+
+      vpi-is : (h .vpi * 65536 + h .vci) / 65536 ≡ h .vpi
+      vpi-is = omega (arith, small)
+
+      past : z ≤ h .vpi * 65536 + h .vci
+      past = omega (arith, ne, few)
+
+      go : Dec (h .vpi < 256)
+          → numberFor z (h .vpi * 65536 + h .vci) ≡ (if namesConnection z h then connection z h else 0)
+      go (yes low) =
+          rw (path-named z h ne, path-number z h ne, le-leb 1 (h .vpi) (omega (arith, ne)), lt-ltb (h .vpi) 256 low)
+          (sym (number-path z _ past (λ f. ne (sym vpi-is ∙ f)) (rw vpi-is low)) ∙ ap (λ (k : ℕ). z + k) vpi-is)
+      go (no high) =
+          rw (path-named z h ne, le-ltb (h .vpi) 256 (omega (arith, high)), and-false (1 ≤? h .vpi))
+          (sym (number-high z _ past (λ f. ne (sym vpi-is ∙ f)) (rw vpi-is (omega (arith, high)))))
+
+  pub number-named : numberFor z (nameOf h) ≡ (if namesConnection z h then connection z h else 0)
+  number-named = go (ℕ-discrete (h .vpi) 0)
+    where
+      go : Dec (h .vpi ≡ 0) → numberFor z (nameOf h) ≡ (if namesConnection z h then connection z h else 0)
+      go (yes e) = by-vci e
+      go (no ne) = by-vpi ne
+
+-- ---- where the kind is one, and where it is none; what is read at a place
+module _ (kind z : ℕ) where
+  pub numbered-is : z ≤ mostV → (l : List ℕ) (i name : ℕ) → name ≡ nameAt kind l i → Reads kind (headerAt kind l i) name
+      → numberFor z name ≡ numbered kind z (headerAt kind l i)
+  unfolding numbered nameAt
+  numbered-is few l i name e f = go (kindFits kind) refl
+    where
+      go : (b : Bool) → kindFits kind ≡ b → numberFor z name ≡ numbered kind z (headerAt kind l i)
+      go true k =
+          let small : headerAt kind l i .vci < 65536 = omega (arith, f k .0) in
+          rw k (ap (numberFor z) (rw k at e) ∙ number-named z (headerAt kind l i) few small)
+      go false k = rw k (ap (numberFor z) (rw k at e) ∙ number-no-name z few)
+
+  pub numbered-yes : (h : Header) → kindFits kind ≡ true → namesConnection z h ≡ true → numbered kind z h ≡ connection z h
+  unfolding numbered
+  numbered-yes h k e = rw (k, e)
+
+  pub numbered-no : (h : Header) → namesConnection z h ≡ false → numbered kind z h ≡ 0
+  unfolding numbered
+  numbered-no h e = rw (e, and-false (kindFits kind))
+
+  pub numbered-fits : (h : Header) → kindFits kind ≡ true → numbered kind z h ≡ (if namesConnection z h then connection z h else 0)
+  unfolding numbered
+  numbered-fits h e = rw e
+
+  pub numbered-off : (h : Header) → kindFits kind ≡ false → numbered kind z h ≡ 0
+  unfolding numbered
+  numbered-off h e = rw e
+
+  -- 0 is no connection's number
+  pub numbered-some : (h : Header) → numbered kind z h ≢ 0
+      → (kindFits kind ≡ true) × (namesConnection z h ≡ true) × (numbered kind z h ≡ connection z h)
+  unfolding numbered
+  numbered-some h ne = go (kindFits kind) (namesConnection z h) refl refl
+    where
+      go : (a b : Bool) → kindFits kind ≡ a → namesConnection z h ≡ b
+          → (kindFits kind ≡ true) × (namesConnection z h ≡ true) × (numbered kind z h ≡ connection z h)
+      go true true p q = (p, q, rw (p, q))
+      go true false p q = absurd (ne (rw (p, q)))
+      go false b p q = absurd (ne (rw p))

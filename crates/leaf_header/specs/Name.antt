@@ -1,8 +1,36 @@
--- VPI and VCI of a header as one number, which one comparison tests.
+-- VPI and VCI of a header as one number, and the number of the connection that it names.
 --
---   nameOf h   == VPI × 65,536 + VCI: 0 where it is no user cell; from 1 to V-1 exactly where it names a VC
-use Prim.Native.Nat.{ℕ, _+_, _*_}
-use Rattle.meaning.specs.Header.{Header}
+--   nameOf h           == VPI × 65,536 + VCI: 0 where it is no user cell
+--   nameAt kind l i    == that of the header at place i of l; 2^32-1, which no header has, where the kind is none
+--   Reads kind h name  == it tells the VCI, and is a header's, where the kind is one
+--   numberFor z name   == the connection that such a number names, by its own number, V being z; 0 for none
+--   numbered kind z h  == the same from the header itself
+use Prim.Native.Nat.{ℕ, _+_, _*_, _/_, _%_, _<_}
+use mathlib.Core.Path.{_≡_}
+use mathlib.Core.Bool.{true, _&&_}
+use mathlib.Core.List.{List}
+use Rattle.meaning.specs.Plain.{if_then_else_, _<?_, _=?_}
+use Rattle.meaning.specs.Numbers.{paths, kindFits}
+use Rattle.meaning.specs.Header.{Header, headerAt, connection, namesConnection}
 
 unfoldable pub nameOf : Header → ℕ
 nameOf h = h .vpi * 65536 + h .vci
+
+abbrev pub noName : ℕ
+noName = 4_294_967_295
+
+unfoldable pub nameAt : ℕ → List ℕ → ℕ → ℕ
+nameAt kind l i = if kindFits kind then nameOf (headerAt kind l i) else noName
+
+abbrev pub Reads : ℕ → Header → ℕ → Type 0
+Reads kind h name = kindFits kind ≡ true → (name % 65536 ≡ h .vci) × (name < noName)
+
+unfoldable pub numberFor : ℕ → ℕ → ℕ
+numberFor z name =
+    if name <? z then name
+    else if name / 65536 =? 0 then 0
+    else if name / 65536 <? paths then z + name / 65536
+    else 0
+
+unfoldable pub numbered : ℕ → ℕ → Header → ℕ
+numbered kind z h = if kindFits kind && namesConnection z h then connection z h else 0

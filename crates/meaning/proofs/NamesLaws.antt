@@ -36,13 +36,21 @@ pub used-is : (z c : ℕ) → c ≢ 0 → c ≢ z → unused z c ≡ false
 unfolding unused
 used-is z c a b = rw (ne-eqb c 0 a, ne-eqb c z b)
 
-pub used-not-0 : (z c : ℕ) → unused z c ≡ false → c ≢ 0
-unfolding unused
-used-not-0 z c e a = absurd (let f : unused z c ≡ true = rw (eq-eqb c 0 a) in let k : _≡_ {A = ℕ} 0 1 = cc in omega arith)
-
 or-true : (b : Bool) → (b || true) ≡ true
 or-true true = refl
 or-true false = refl
+
+pub unused-0 : (z c : ℕ) → c ≡ 0 → unused z c ≡ true
+unfolding unused
+unused-0 z c e = rw (eq-eqb c 0 e)
+
+pub unused-z : (z c : ℕ) → c ≡ z → unused z c ≡ true
+unfolding unused
+unused-z z c e = rw (eq-eqb c z e, or-true (c =? 0))
+
+pub used-not-0 : (z c : ℕ) → unused z c ≡ false → c ≢ 0
+unfolding unused
+used-not-0 z c e a = absurd (let f : unused z c ≡ true = rw (eq-eqb c 0 a) in let k : _≡_ {A = ℕ} 0 1 = cc in omega arith)
 
 pub used-not-z : (z c : ℕ) → unused z c ≡ false → c ≢ z
 unfolding unused

@@ -1,4 +1,4 @@
--- Memory once a cell has been accepted: its header stands in its space, and its VC is open and counts it; every other header,
+-- Memory once a cell has been accepted: its header stands in its space, and its connection is open and counts it; every other header,
 -- open word and waiting stays.
 use Prim.Native.Nat.{ℕ, _+_, _*_, _≤_}
 use mathlib.Core.Path.{_≡_, refl, _∙_, ap}
@@ -11,24 +11,23 @@ use lib.Seq.{getD-set-same, getD-set-other}
 use Rattle.meaning.specs.Plain.{if_then_else_}
 use Rattle.meaning.specs.Numbers.{openPlace, sPlace, lastPlace, secondSPlace, waitingPlace, wordsPerConnection, connectionPlace}
 use Rattle.meaning.specs.State.{writeCell}
-use Rattle.meaning.specs.Header.{Header, headerAt}
+use Rattle.meaning.specs.Header.{headerAt}
 use Rattle.meaning.specs.Words.{connectionAt}
 use Rattle.meaning.proofs.CellsLaws.{header-own, header-other}
+use Rattle.leaf_header.specs.Name.{numbered}
 use Rattle.mem_lists.specs.Spaces.{Stored, Counted}
 
 -- ---- the cells
-pub stored : (own x : ℕ) (cells cell : List ℕ) → 53 * x + 53 ≤ length cells → length cell ≡ 53
-    → headerAt cell 0 .vpi ≡ 0
-    → headerAt cell 0 .vci ≡ own
-    → Stored own x cells (writeCell cells x cell)
-stored own x cells cell inside long vpi vci =
+pub stored : (z kind own x : ℕ) (cells cell : List ℕ) → 53 * x + 53 ≤ length cells → length cell ≡ 53
+    → numbered kind z (headerAt kind cell 0) ≡ own
+    → Stored z kind own x cells (writeCell cells x cell)
+stored z kind own x cells cell inside long named =
     record {
-      vpi-own = ap (λ (h : Header). h .vpi) (header-own cells x cell inside long) ∙ vpi;
-      vci-own = ap (λ (h : Header). h .vci) (header-own cells x cell inside long) ∙ vci;
-      others = λ y ne. header-other cells x cell inside long y ne;
+      named-own = ap (numbered kind z) (header-own cells x cell inside long kind) ∙ named;
+      others = λ y ne. header-other cells x cell inside long kind y ne;
     }
 
--- ---- words of which each VC's open word and waiting are kept
+-- ---- words of which each connection's open word and waiting are kept
 pub record Kept (words words₂ : List ℕ) : Type 0 where
   pub long : length words₂ ≡ length words
   pub opened : (u : ℕ) → getD words₂ (openPlace u) 0 ≡ getD words (openPlace u) 0
@@ -59,7 +58,7 @@ kept-both r S t words =
 kept-second : (r S : ℕ) (words : List ℕ) → Kept words (set words (secondSPlace r) S)
 kept-second r S words = kept-set words (secondSPlace r) S (λ u e. omega arith) (λ u e. omega arith)
 
--- S and last of a VC written, where on
+-- S and last of a connection written, where on
 pub kept-fall : (on : Bool) (r S S₂ t : ℕ) (words : List ℕ)
     → Kept words (if on then set (set (set words (sPlace r) S) (lastPlace r) t) (secondSPlace r) S₂ else words)
 kept-fall false r S S₂ t words = record { long = refl; opened = λ u. refl; waiting = λ u. refl }

@@ -2,7 +2,7 @@
 --
 --   linked on i x l   == the links l, with link i naming x where on
 --   seatOf            == where an accepted cell goes: its space, the Free List without it, its entry and that entry's ends
---   offOf             == what departs from a list of spaces: space, VC, and what is left of the list
+--   offOf             == what departs from a list of spaces: space, connection, and what is left of the list
 use Prim.Native.Nat.{ℕ, _+_, _-_, _≤_}
 use mathlib.Core.Path.{_≡_}
 use mathlib.Core.Logic.{_≢_}
@@ -10,12 +10,13 @@ use mathlib.Core.Bool.{Bool, true, false, _&&_}
 use mathlib.Core.List.{List}
 use lib.ListN.{getD, set}
 use Rattle.meaning.specs.Plain.{if_then_else_, _<?_, _≤?_, _=?_}
-use Rattle.meaning.specs.Numbers.{empty, cellStart}
+use Rattle.meaning.specs.Numbers.{empty, cellStart, kindFits}
 use Rattle.meaning.specs.State.{Ends}
 pub use Rattle.meaning.specs.State.{endsOf}
-use Rattle.meaning.specs.Header.{headerAt, namesOpen}
+use Rattle.meaning.specs.Header.{headerAt, connection, namesOpen}
 use Rattle.meaning.specs.Words.{connectionAt}
 use Rattle.meaning.specs.Lists.{endsFit, entryAt}
+use Rattle.leaf_header.specs.Name.{numbered}
 use Rattle.mem_lists.specs.declared.Seat.{Seat}
 use Rattle.mem_lists.specs.declared.Off.{Off}
 
@@ -70,31 +71,31 @@ offAs ok space vci left = record { ok = ok; space = space; vci = vci; head = lef
 abbrev pub noneOff : Off
 noneOff = offAs false 0 0 (endsOf 0 0)
 
--- the cell in space x may depart: "the departing header names an open VC", "waiting at most N .. above 0"
-unfoldable pub mayLeave : ℕ → ℕ → List ℕ → List ℕ → ℕ → Bool
-mayLeave N z cells words x =
-    let h = headerAt cells (cellStart x) in
-    let waiting = connectionAt words (h .vci) .waiting in
-    namesOpen z words h && 1 ≤? waiting && waiting ≤? N
+-- the cell in space x may depart: "the departing header names an open VC", or an open path, by the line kind, which fits;
+-- "waiting at most N .. above 0"
+unfoldable pub mayLeave : ℕ → ℕ → ℕ → List ℕ → List ℕ → ℕ → Bool
+mayLeave N z kind cells words x =
+    let h = headerAt kind cells (cellStart x) in
+    let waiting = connectionAt words (connection z h) .waiting in
+    (kindFits kind && namesOpen z words h) && 1 ≤? waiting && waiting ≤? N
 
 -- the head of the list from x to tail departs
-unfoldable pub offOf : ℕ → ℕ → List ℕ → List ℕ → List ℕ → ℕ → ℕ → Off
-offOf N z cells links words x tail =
-    let vci = headerAt cells (cellStart x) .vci in
+unfoldable pub offOf : ℕ → ℕ → ℕ → List ℕ → List ℕ → List ℕ → ℕ → ℕ → Off
+offOf N z kind cells links words x tail =
+    let c = connection z (headerAt kind cells (cellStart x)) in
     let follower = getD links x 0 in
-    if mayLeave N z cells words x
-    then (if x =? tail then offAs true x vci (endsOf empty empty)
-    else if follower <? N then offAs true x vci (endsOf follower tail)
+    if mayLeave N z kind cells words x
+    then (if x =? tail then offAs true x c (endsOf empty empty)
+    else if follower <? N then offAs true x c (endsOf follower tail)
     else noneOff)
     else noneOff
 
--- cells′ are the cells once a cell of VC own stands in space x
-pub record Stored (own x : ℕ) (cells cells′ : List ℕ) : Type 0 where
-  pub vpi-own : headerAt cells′ (cellStart x) .vpi ≡ 0
-  pub vci-own : headerAt cells′ (cellStart x) .vci ≡ own
-  pub others : (y : ℕ) → y ≢ x → headerAt cells′ (cellStart y) ≡ headerAt cells (cellStart y)
+-- cells′ are the cells once a cell of the connection own stands in space x
+pub record Stored (z kind own x : ℕ) (cells cells′ : List ℕ) : Type 0 where
+  pub named-own : numbered kind z (headerAt kind cells′ (cellStart x)) ≡ own
+  pub others : (y : ℕ) → y ≢ x → headerAt kind cells′ (cellStart y) ≡ headerAt kind cells (cellStart y)
 
--- words′ are the words once that cell is counted: VC own is open and has 1 to N cells waiting
+-- words′ are the words once that cell is counted: the connection own is open and has 1 to N cells waiting
 pub record Counted (N own : ℕ) (words words′ : List ℕ) : Type 0 where
   pub open-own : connectionAt words′ own .opened ≡ 1
   pub some-own : 1 ≤ connectionAt words′ own .waiting

@@ -3,11 +3,13 @@ ghost use mathlib.Core.Path.{_≡_};
 ghost use mathlib.Core.Bool.{true};
 ghost use Prim.Native.Nat.{_+_, _*_, _≤_, _<_};
 ghost use lib.ListN.{length, getD, set};
-ghost use Rattle.meaning.specs.Numbers.{mostN, mostV, octets, cellStart, perEntry, wordsIn};
+ghost use Rattle.meaning.specs.Numbers.{mostN, mostV, octets, cellStart, perEntry, connectionsIn, wordsIn};
 ghost use Rattle.meaning.specs.State.{HasConnection};
+ghost use Rattle.meaning.specs.Header.{headerAt};
 ghost use Rattle.meaning.specs.Lists.{endsFit, writeEntry};
+ghost use Rattle.leaf_header.specs.Name.{numbered};
 ghost use Rattle.mem_lists.specs.Spaces.{endsOf, linked, noSeat, seatIn, seatAt, seatOf, offOf};
-ghost use Rattle.mem_lists.specs.Leaver.{mayGo, namedConnection, leaverOf, offFrom, leaverAfter, offAfter};
+ghost use Rattle.mem_lists.specs.Leaver.{mayGo, goesAs, leaverOf, offFrom, leaverAfter, offAfter};
 use meaning::AT_WAITING;
 use meaning::WORDS_PER_CONNECTION;
 
@@ -22,7 +24,7 @@ pub struct Seat {
     pub tail: u16,
 }
 
-// What departs: the space, its VC, and what is left of the Output List.
+// What departs: the space, its connection, and what is left of the Output List.
 pub struct Off {
     pub ok: bool,
     pub space: u16,
@@ -151,7 +153,7 @@ pub fn seat_for(
     no_seat()
 }
 
-// VC u is open and has 1 to N cells waiting.
+// The connection u is open and has 1 to N cells waiting.
 fn may_go(n: u16, words: &[u32], u: u16) -> bool
     requires { ⌜ HasConnection u (now words) ⌝ }
     ensures { λ r. ⌜ r ≡ mayGo n (now (words .entry)) u ⌝ }
@@ -166,47 +168,63 @@ fn may_go(n: u16, words: &[u32], u: u16) -> bool
     false
 }
 
-// The VC that VPI and VCI as one number name, if a cell of it may depart, else 0.
-fn named_connection(n: u16, v: u16, words: &[u32], name: u32) -> u16
-    requires { ⌜ length (now words) ≡ wordsIn v ⌝ }
-    ensures { λ r. ⌜ r ≡ namedConnection n v (now (words .entry)) name ⌝ }
+// The connection u, if a cell of it may depart, else 0; 0 is no connection.
+fn goes(n: u16, words: &[u32], u: u16) -> u16
+    requires { ⌜ HasConnection u (now words) ⌝ }
+    ensures { λ r. ⌜ r ≡ goesAs n (now (words .entry)) u ⌝ }
 {
-    if name != 0 {
-        if name < v as u32 {
-            let u = name as u16;
-            if may_go(n, words, u) {
-                return u;
-            }
+    if u != 0 {
+        if may_go(n, words, u) {
+            return u;
         }
     }
     0
 }
 
-// The VC whose cell is in space x, if that cell may depart, else 0.
-pub fn leaver(n: u16, v: u16, cells: &[u8], words: &[u32], x: u16) -> u16
-    requires { ⌜ (v ≤ mostV) × (cellStart x + octets ≤ length (now cells)) × (length (now words) ≡ wordsIn v) ⌝ }
-    ensures { λ r. ⌜ r ≡ leaverOf n v (now (cells .entry)) (now (words .entry)) x ⌝ }
+// The connection that the header in space x names, by its number; 0 for none.
+fn number_in(v: u16, kind: u16, cells: &[u8], x: u16) -> u16
+    requires { ⌜ (v ≤ mostV) × (cellStart x + octets ≤ length (now cells)) ⌝ }
+    ensures number { λ r. ⌜ r ≡ numbered kind v (headerAt kind (now (cells .entry)) (cellStart x)) ⌝ }
+    ensures low { λ r. ⌜ r < connectionsIn v ⌝ }
 {
-    let name = leaf_header::name_at(cells, 53 * (x as usize));
-    named_connection(n, v, words, name)
+    let name = leaf_header::name_at(cells, 53 * (x as usize), kind);
+    leaf_header::number_for(v, name)
 }
 
-// The same once a cell of VC own has been accepted into space s: own's words need no reading.
-fn leaver_after(n: u16, v: u16, cells: &[u8], words: &[u32], own: u16, s: u16, x: u16) -> u16
-    requires { ⌜ (v ≤ mostV) × (1 ≤ own) × (own < v) × (cellStart x + octets ≤ length (now cells)) × (length (now words) ≡ wordsIn v) ⌝ }
-    ensures { λ r. ⌜ r ≡ leaverAfter n v (now (cells .entry)) (now (words .entry)) own s x ⌝ }
+// The connection whose cell is in space x, if that cell may depart, else 0.
+pub fn leaver(n: u16, v: u16, kind: u16, cells: &[u8], words: &[u32], x: u16) -> u16
+    requires { ⌜ (v ≤ mostV) × (cellStart x + octets ≤ length (now cells)) × (length (now words) ≡ wordsIn v) ⌝ }
+    ensures { λ r. ⌜ r ≡ leaverOf n v kind (now (cells .entry)) (now (words .entry)) x ⌝ }
+{
+    let u = number_in(v, kind, cells, x);
+    goes(n, words, u)
+}
+
+// The same once a cell of the connection own has been accepted into space s: own's words need no reading.
+fn leaver_after(
+    n: u16,
+    v: u16,
+    kind: u16,
+    cells: &[u8],
+    words: &[u32],
+    own: u16,
+    s: u16,
+    x: u16,
+) -> u16
+    requires { ⌜ (v ≤ mostV) × (cellStart x + octets ≤ length (now cells)) × (length (now words) ≡ wordsIn v) ⌝ }
+    ensures { λ r. ⌜ r ≡ leaverAfter n v kind (now (cells .entry)) (now (words .entry)) own s x ⌝ }
 {
     if x == s {
         return own;
     }
-    let name = leaf_header::name_at(cells, 53 * (x as usize));
-    if name == own as u32 {
+    let u = number_in(v, kind, cells, x);
+    if u == own {
         return own;
     }
-    named_connection(n, v, words, name)
+    goes(n, words, u)
 }
 
-// Space x departs with a cell of VC vci (0: it may not), follower being the next in its list, if it is not the tail.
+// Space x departs with a cell of the connection vci (0: it may not), follower being the next in its list, if it is not the tail.
 fn off_from(n: u16, vci: u16, x: u16, follower: u16, tail: u16) -> Off
     ensures { λ r. ⌜ r ≡ offFrom n vci x follower tail ⌝ }
 {
@@ -244,6 +262,7 @@ fn off_from(n: u16, vci: u16, x: u16, follower: u16, tail: u16) -> Off
 pub fn off_head(
     n: u16,
     v: u16,
+    kind: u16,
     cells: &[u8],
     links: &[u16],
     words: &[u32],
@@ -251,9 +270,9 @@ pub fn off_head(
     tail: u16,
 ) -> Off
     requires { ⌜ (n ≤ mostN) × (v ≤ mostV) × (x < n) × (length (now cells) ≡ octets * n) × (length (now links) ≡ n) × (length (now words) ≡ wordsIn v) ⌝ }
-    ensures { λ r. ⌜ r ≡ offOf n v (now (cells .entry)) (now (links .entry)) (now (words .entry)) x tail ⌝ }
+    ensures { λ r. ⌜ r ≡ offOf n v kind (now (cells .entry)) (now (links .entry)) (now (words .entry)) x tail ⌝ }
 {
-    let vci = leaver(n, v, cells, words, x);
+    let vci = leaver(n, v, kind, cells, words, x);
     let follower = if x == tail { 65535 } else { links[x as usize] };
     let o = off_from(n, vci, x, follower, tail);
     Off {
@@ -282,6 +301,7 @@ fn link_after(links: &[u16], on: bool, i: u16, y: u16, x: u16) -> u16
 pub fn off_joined(
     n: u16,
     v: u16,
+    kind: u16,
     cells: &[u8],
     links: &[u16],
     words: &[u32],
@@ -291,9 +311,9 @@ pub fn off_joined(
     tail: u16,
 ) -> Off
     requires { ⌜ (n ≤ mostN) × (v ≤ mostV) × (x < n) × (length (now cells) ≡ octets * n) × (length (now links) ≡ n) × (length (now words) ≡ wordsIn v) ⌝ }
-    ensures { λ r. ⌜ r ≡ offOf n v (now (cells .entry)) (set (now (links .entry)) old head) (now (words .entry)) x tail ⌝ }
+    ensures { λ r. ⌜ r ≡ offOf n v kind (now (cells .entry)) (set (now (links .entry)) old head) (now (words .entry)) x tail ⌝ }
 {
-    let vci = leaver(n, v, cells, words, x);
+    let vci = leaver(n, v, kind, cells, words, x);
     let follower = if x == tail {
         65535
     } else {
@@ -331,10 +351,11 @@ fn links_after(
     link_after(links, named, s, y, x)
 }
 
-// The same once a cell of VC own has been accepted into space s, whose link names y where named, and, where joins, link old names head.
+// The same once a cell of the connection own has been accepted into space s, whose link names y where named, and, where joins, link old names head.
 pub fn off_after(
     n: u16,
     v: u16,
+    kind: u16,
     cells: &[u8],
     links: &[u16],
     words: &[u32],
@@ -348,10 +369,10 @@ pub fn off_after(
     x: u16,
     tail: u16,
 ) -> Off
-    requires { ⌜ (n ≤ mostN) × (v ≤ mostV) × (x < n) × (1 ≤ own) × (own < v) × (length (now cells) ≡ octets * n) × (length (now links) ≡ n) × (length (now words) ≡ wordsIn v) ⌝ }
-    ensures { λ r. ⌜ r ≡ offAfter n v (now (cells .entry)) (linked joins old head (linked named s y (now (links .entry)))) (now (words .entry)) own s x tail ⌝ }
+    requires { ⌜ (n ≤ mostN) × (v ≤ mostV) × (x < n) × (length (now cells) ≡ octets * n) × (length (now links) ≡ n) × (length (now words) ≡ wordsIn v) ⌝ }
+    ensures { λ r. ⌜ r ≡ offAfter n v kind (now (cells .entry)) (linked joins old head (linked named s y (now (links .entry)))) (now (words .entry)) own s x tail ⌝ }
 {
-    let vci = leaver_after(n, v, cells, words, own, s, x);
+    let vci = leaver_after(n, v, kind, cells, words, own, s, x);
     let follower = if x == tail {
         65535
     } else {

@@ -1,4 +1,4 @@
--- The ranges of a VC's words for refusal 3, as they are tested one after the other, and as plain facts once they fit.
+-- The ranges of a connection's words for refusal 3, as they are tested one after the other, and as plain facts once they fit.
 use Prim.Native.Nat.{ℕ, _*_, _≤_, _<_}
 use mathlib.Core.Path.{_≡_, sym, _∙_}
 use mathlib.Core.Bool.{true, false, _&&_}
@@ -79,31 +79,31 @@ second-facts b tag e = go (ℕ-discrete (b .F) 0)
           C-most = leb-true _ _ (e2 .1);
         }
 
--- ---- a VC, of which the open word is tested first
-pub connection-closed : (N : ℕ) (vc : Connection) → vc .opened ≡ 0 → true ≡ connectionFits N vc
+-- ---- a connection, of which the open word is tested first
+pub connection-closed : (N : ℕ) (conn : Connection) → conn .opened ≡ 0 → true ≡ connectionFits N conn
 unfolding connectionFits
-connection-closed N vc e = simp (eq-eqb _ _ e)
+connection-closed N conn e = simp (eq-eqb _ _ e)
 
-pub connection-open-breaks : (N : ℕ) (vc : Connection) → 1 < vc .opened → false ≡ connectionFits N vc
+pub connection-open-breaks : (N : ℕ) (conn : Connection) → 1 < conn .opened → false ≡ connectionFits N conn
 unfolding connectionFits openWordFits
-connection-open-breaks N vc h = simp (ne-eqb (vc .opened) 0 (λ e. omega arith), lt-leb _ _ h)
+connection-open-breaks N conn h = simp (ne-eqb (conn .opened) 0 (λ e. omega arith), lt-leb _ _ h)
 
-pub connection-bucket-breaks : (N : ℕ) (vc : Connection) → vc .opened ≡ 1 → bucketFits N (vc .bucket) ≡ false → false ≡ connectionFits N vc
+pub connection-bucket-breaks : (N : ℕ) (conn : Connection) → conn .opened ≡ 1 → bucketFits N (conn .bucket) ≡ false → false ≡ connectionFits N conn
 unfolding connectionFits openWordFits bucketsFit
-connection-bucket-breaks N vc h e = simp (h, e)
+connection-bucket-breaks N conn h e = simp (h, e)
 
-pub connection-second-breaks : (N : ℕ) (vc : Connection)
-    → vc .opened ≡ 1
-    → bucketFits N (vc .bucket) ≡ true
-    → secondFits (vc .second) (vc .tag) ≡ false
-    → false ≡ connectionFits N vc
+pub connection-second-breaks : (N : ℕ) (conn : Connection)
+    → conn .opened ≡ 1
+    → bucketFits N (conn .bucket) ≡ true
+    → secondFits (conn .second) (conn .tag) ≡ false
+    → false ≡ connectionFits N conn
 unfolding connectionFits openWordFits bucketsFit
-connection-second-breaks N vc h e f = simp (h, e, f)
+connection-second-breaks N conn h e f = simp (h, e, f)
 
-pub connection-open-fits : (N : ℕ) (vc : Connection)
-    → vc .opened ≡ 1
-    → bucketFits N (vc .bucket) ≡ true
-    → secondFits (vc .second) (vc .tag) ≡ true
-    → (vc .waiting ≤? N) ≡ connectionFits N vc
+pub connection-open-fits : (N : ℕ) (conn : Connection)
+    → conn .opened ≡ 1
+    → bucketFits N (conn .bucket) ≡ true
+    → secondFits (conn .second) (conn .tag) ≡ true
+    → (conn .waiting ≤? N) ≡ connectionFits N conn
 unfolding connectionFits openWordFits bucketsFit
-connection-open-fits N vc h e f = simp (h, e, f)
+connection-open-fits N conn h e f = simp (h, e, f)

@@ -27,34 +27,34 @@ or-none a b = go (ℕ-discrete a 0) (ℕ-discrete b 0)
     go (no p) d = simp (ne-eqb (bitOr a b) 0 (λ e. p (omega (arith, or-add-and a b, and-le-r a b))), ne-eqb a 0 p)
 
 -- no second bucket: told by its m, F and C, and then by its S and the flag
-module _ (vc : Connection) where
+module _ (conn : Connection) where
   abbrev rates : ℕ
-  rates = bitOr (bitOr (vc .second .m) (vc .second .F)) (vc .second .C)
+  rates = bitOr (bitOr (conn .second .m) (conn .second .F)) (conn .second .C)
 
-  three : (rates =? 0) ≡ (vc .second .m =? 0 && vc .second .F =? 0 && vc .second .C =? 0)
-  three = or-none (bitOr (vc .second .m) (vc .second .F)) (vc .second .C) ∙ rw (or-none (vc .second .m) (vc .second .F))
+  three : (rates =? 0) ≡ (conn .second .m =? 0 && conn .second .F =? 0 && conn .second .C =? 0)
+  three = or-none (bitOr (conn .second .m) (conn .second .F)) (conn .second .C) ∙ rw (or-none (conn .second .m) (conn .second .F))
 
-  pub some-rate : rates ≢ 0 → false ≡ hasNone vc
+  pub some-rate : rates ≢ 0 → false ≡ hasNone conn
   unfolding hasNone
   some-rate ne = rw (sym three ∙ ne-eqb rates 0 ne)
 
-  pub no-rate : rates ≡ 0 → (bitOr (vc .second .S) (vc .tag) =? 0) ≡ hasNone vc
+  pub no-rate : rates ≡ 0 → (bitOr (conn .second .S) (conn .tag) =? 0) ≡ hasNone conn
   unfolding hasNone
-  no-rate e = rw (sym three ∙ eq-eqb rates 0 e) (or-none (vc .second .S) (vc .tag))
+  no-rate e = rw (sym three ∙ eq-eqb rates 0 e) (or-none (conn .second .S) (conn .tag))
 
--- what is known of a VC without a second bucket
-pub record None (vc : Connection) : Type 0 where
-  pub m-is : vc .second .m ≡ 0
-  pub F-is : vc .second .F ≡ 0
-  pub C-is : vc .second .C ≡ 0
-  pub S-is : vc .second .S ≡ 0
-  pub tag-is : vc .tag ≡ 0
+-- what is known of a connection without a second bucket
+pub record None (conn : Connection) : Type 0 where
+  pub m-is : conn .second .m ≡ 0
+  pub F-is : conn .second .F ≡ 0
+  pub C-is : conn .second .C ≡ 0
+  pub S-is : conn .second .S ≡ 0
+  pub tag-is : conn .tag ≡ 0
 
-pub none-facts : (vc : Connection) → hasNone vc ≡ true → None vc
+pub none-facts : (conn : Connection) → hasNone conn ≡ true → None conn
 unfolding hasNone
-none-facts vc e =
-    let b = vc .second in
-    let e4 = both (b .m =? 0 && b .F =? 0 && b .C =? 0 && b .S =? 0) (vc .tag =? 0) e in
+none-facts conn e =
+    let b = conn .second in
+    let e4 = both (b .m =? 0 && b .F =? 0 && b .C =? 0 && b .S =? 0) (conn .tag =? 0) e in
     let e3 = both (b .m =? 0 && b .F =? 0 && b .C =? 0) (b .S =? 0) (e4 .0) in
     let e2 = both (b .m =? 0 && b .F =? 0) (b .C =? 0) (e3 .0) in
     let e1 = both (b .m =? 0) (b .F =? 0) (e2 .0) in
@@ -66,13 +66,13 @@ none-facts vc e =
       tag-is = eqb-true _ _ (e4 .1);
     }
 
-pub none-fits : (vc : Connection) → None vc → secondFits (vc .second) (vc .tag) ≡ true
+pub none-fits : (conn : Connection) → None conn → secondFits (conn .second) (conn .tag) ≡ true
 unfolding secondFits secondObeys isNone
-none-fits vc n =
+none-fits conn n =
     simp (
       eq-eqb _ _ (n .m-is),
       eq-eqb _ _ (n .F-is),
       eq-eqb _ _ (n .C-is),
       eq-eqb _ _ (n .tag-is),
-      le-leb (vc .second .S) (vc .second .C) (omega (arith, n .S-is)),
+      le-leb (conn .second .S) (conn .second .C) (omega (arith, n .S-is)),
     )

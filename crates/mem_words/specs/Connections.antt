@@ -1,5 +1,5 @@
--- A VC whose buckets are empty, as an opening or a closing leaves it, and its words written in two parts; and the common case of
--- a VC without a second bucket.
+-- A connection whose buckets are empty, as an opening or a closing leaves it, and its words written in two parts; and the common case of
+-- a connection without a second bucket.
 use Prim.Native.Nat.{ℕ}
 use mathlib.Core.Bool.{Bool, _&&_}
 use mathlib.Core.List.{List}
@@ -23,25 +23,25 @@ bareConnection opened b last x =
     }
 
 unfoldable pub firstWritten : List ℕ → ℕ → ℕ → Bucket → ℕ → List ℕ
-firstWritten words vci opened b last =
-    let w1 = set words (openPlace vci) opened in
-    let w2 = set w1 (mPlace vci) (b .m) in
-    let w3 = set w2 (fPlace vci) (b .F) in
-    let w4 = set w3 (cPlace vci) (b .C) in
-    let w5 = set w4 (sPlace vci) (b .S) in
-    let w6 = set w5 (lastPlace vci) last in
-    set w6 (waitingPlace vci) 0
+firstWritten words conn opened b last =
+    let w1 = set words (openPlace conn) opened in
+    let w2 = set w1 (mPlace conn) (b .m) in
+    let w3 = set w2 (fPlace conn) (b .F) in
+    let w4 = set w3 (cPlace conn) (b .C) in
+    let w5 = set w4 (sPlace conn) (b .S) in
+    let w6 = set w5 (lastPlace conn) last in
+    set w6 (waitingPlace conn) 0
 
 unfoldable pub secondWritten : List ℕ → ℕ → Second → List ℕ
-secondWritten words vci x =
-    let w1 = set words (secondMPlace vci) (x .m) in
-    let w2 = set w1 (secondFPlace vci) (x .F) in
-    let w3 = set w2 (secondCPlace vci) (x .C) in
-    let w4 = set w3 (secondSPlace vci) 0 in
-    set w4 (tagPlace vci) (x .tag)
+secondWritten words conn x =
+    let w1 = set words (secondMPlace conn) (x .m) in
+    let w2 = set w1 (secondFPlace conn) (x .F) in
+    let w3 = set w2 (secondCPlace conn) (x .C) in
+    let w4 = set w3 (secondSPlace conn) 0 in
+    set w4 (tagPlace conn) (x .tag)
 
 -- no second bucket: all its words are 0
 unfoldable pub hasNone : Connection → Bool
-hasNone vc =
-    let b = vc .second in
-    b .m =? 0 && b .F =? 0 && b .C =? 0 && b .S =? 0 && vc .tag =? 0
+hasNone conn =
+    let b = conn .second in
+    b .m =? 0 && b .F =? 0 && b .C =? 0 && b .S =? 0 && conn .tag =? 0

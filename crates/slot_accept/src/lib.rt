@@ -4,7 +4,7 @@ ghost use mathlib.Core.Bool.{true};
 ghost use Prim.Native.Nat.{_+_, _*_, _≤_, _<_};
 ghost use lib.ListN.{length, getD};
 ghost use Rattle.meaning.specs.Plain.{_andThen_};
-ghost use Rattle.meaning.specs.Numbers.{waitingPlace, mostN, mostV, octets, wordsIn};
+ghost use Rattle.meaning.specs.Numbers.{waitingPlace, mostN, mostV, octets, connectionsIn, wordsIn};
 ghost use Rattle.meaning.specs.Lists.{emptyList, endsFit, entryAt, writeEntry};
 ghost use Rattle.meaning.specs.Slot.{step4, step5};
 ghost use Rattle.meaning.specs.Lent.{here, before, servedAfter, Gives};
@@ -41,7 +41,7 @@ fn accept_end(
     requires { ⌜ Accepted k j (now cell) (now words) ⌝ }
     requires { ⌜ Seated k a ⌝ }
     requires { ⌜ (joins ≡ true → k .outtail < k .n) ⌝ }
-    requires { ⌜ (o .vci < k .v) × (1 ≤ getD (filled (j .vci) (j .s) (j .second) (k .t) (j .waiting) (rotated k b (now words))) (waitingPlace (o .vci)) 0) ⌝ }
+    requires { ⌜ (o .vci < connectionsIn (k .v)) × (1 ≤ getD (filled (j .vci) (j .s) (j .second) (k .t) (j .waiting) (rotated k b (now words))) (waitingPlace (o .vci)) 0) ⌝ }
     ensures { λ s. ⌜ servedAfter s cells links calendar words ≡ acceptLeft (before k cells links calendar words) b j a (now (cell .entry)) o joins head clears ⌝ }
 {
     slot_store::store(k, b, j, a, cells, links, calendar, words, cell);
@@ -65,7 +65,7 @@ fn off_stored(
     links: &[u16],
     words: &[u32],
 ) -> Off
-    requires { ⌜ (k .n ≤ mostN) × (k .v ≤ mostV) × (1 ≤ j .vci) × (j .vci < k .v) × (length (now cells) ≡ octets * k .n) × (length (now links) ≡ k .n) × (length (now words) ≡ wordsIn (k .v)) ⌝ }
+    requires { ⌜ (k .n ≤ mostN) × (k .v ≤ mostV) × (length (now cells) ≡ octets * k .n) × (length (now links) ≡ k .n) × (length (now words) ≡ wordsIn (k .v)) ⌝ }
     requires { ⌜ joinedHead k (endsOf head tail) < k .n ⌝ }
     ensures { λ r. ⌜ OffStored k j a (now (cells .entry)) (now (links .entry)) (now (words .entry)) joins (endsOf head tail) r ⌝ }
 {
@@ -73,6 +73,7 @@ fn off_stored(
     let o = mem_lists::off_after(
         k.n,
         k.v,
+        k.kind,
         cells,
         links,
         words,

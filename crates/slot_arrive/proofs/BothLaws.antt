@@ -1,4 +1,4 @@
--- Step 3 at an open VC, test after test, is its verdict and what that writes; without a second bucket the peak alone decides.
+-- Step 3 at an open connection, test after test, is its verdict and what that writes; without a second bucket the peak alone decides.
 use Prim.Native.Nat.{ℕ, _+_, _-_}
 use mathlib.Core.Path.{_≡_, refl, ap}
 use mathlib.Core.Bool.{Bool, true, false}
@@ -16,7 +16,7 @@ use Rattle.slot_arrive.specs.Arrival.{connectionNow, judgedAs, outOfRang
 use Rattle.slot_arrive.specs.Both.{letInAs, judgedPeak, judgedSecond, judgedBoth}
 use Rattle.slot_arrive.proofs.BroughtLaws.{now-none}
 
--- the tests one after the other, of a VC with its buckets at this slot
+-- the tests one after the other, of a connection with its buckets at this slot
 abbrev byTests : ℕ → ℕ → Connection → Bool → Bool → Bool → Bool → Judged
 byTests N vci vc over zero above untagged =
     if over then judgedAs true excess vci 0 (vc .bucket .S) 0 (vc .second .S)
@@ -47,7 +47,7 @@ nothing : (vc : Connection) → None vc → fill (withS (vc .second) 0) .S ≡ 0
 unfolding fill
 nothing vc n = omega (arith, n .F-is)
 
--- the same of the VC's words and s, as the peak bucket has fallen
+-- the same of the connection's words and s, as the peak bucket has fallen
 pub both-is : (N t vci clp s : ℕ) (vc : Connection) → s ≡ connectionNow t vc .bucket .S
     → judgedBoth N t vci clp s vc
     ≡ (if secondFits (vc .second) (vc .tag) then judgedBuckets N vci clp (connectionNow t vc) else outOfRange)

@@ -1,22 +1,24 @@
--- Step 3 by cases, as its tests come one after the other: of a VC by its open word, of a cell by its length and name.
+-- Step 3 by cases, as its tests come one after the other: of a connection by its open word, of a cell by its length and name.
 use Prim.Native.Nat.{ℕ, _*_, _/_, _%_, _^_, _≤_, _<_}
 use mathlib.Core.Path.{_≡_, refl, sym, _∙_, ap}
 use mathlib.Core.Logic.{_≢_}
-use mathlib.Core.Bool.{true, false}
+use mathlib.Core.Bool.{Bool, true, false}
 use mathlib.Core.List.{List}
 use native.Mathlib.Omega.{arith}
-use native.Mathlib.Decide.{ℕ-discrete, decLt}
+use native.Mathlib.Decide.{ℕ-discrete}
 use native.Mathlib.Nat.{div-lt-iff-lt-mul, mul-le-mul}
-use borrow.Author.Tests.{eq-eqb, ne-eqb, lt-ltb, le-ltb}
+use borrow.Author.Tests.{eq-eqb, ne-eqb}
 use lib.ListN.{length, getD}
 use lib.Pow.{pow-pos, pow-mono}
-use Rattle.meaning.specs.Numbers.{nothing, unknown, wordsPerConnection}
-use Rattle.meaning.specs.Header.{Header, headerAt}
+use Rattle.meaning.specs.Plain.{if_then_else_}
+use Rattle.meaning.specs.Numbers.{mostV, kindFits, nothing, unknown, wordsPerConnection}
+use Rattle.meaning.specs.Header.{Header, headerAt, clpIn, connection, namesConnection}
 use Rattle.meaning.specs.Words.{connectionAt, bucketFits, bucketsFit}
-use Rattle.leaf_header.specs.Name.{nameOf}
-use Rattle.leaf_header.proofs.NameLaws.{name-none, name-user, name-names, name-past, names-vci}
+use Rattle.meaning.proofs.NamesLaws.{names-not-0}
+use Rattle.leaf_header.specs.Name.{nameOf, noName, nameAt, Reads, numberFor, numbered}
+use Rattle.leaf_header.proofs.NameLaws.{name-none, name-user, number-named, number-no-name, numbered-yes, numbered-no, numbered-fits}
 use Rattle.mem_words.proofs.Fits.{opened-at}
-use Rattle.slot_arrive.specs.Arrival.{Named, connectionNow, judgedAs, outOfRange, judgedConnection, cellName, judgedName, judgedOf}
+use Rattle.slot_arrive.specs.Arrival.{connectionNow, judgedAs, outOfRange, judgedConnection, cellName, judgedName, judgedOf}
 use Rattle.slot_arrive.specs.Both.{judgedBoth}
 use Rattle.slot_arrive.proofs.BothLaws.{both-is}
 
@@ -32,32 +34,32 @@ room-low N m room low small near =
     let most = div-lt-iff-lt-mul {k = 2 ^ m} {x = room} {y = N} (pow-pos m) .0 near in
     omega (arith, most, mul-le-mul {n₁ = N} {m₁ = 2 ^ m} {n₂ = 65_535} {m₂ = 32_768} (omega arith) (pow-mono {i = m} {j = 15} low))
 
--- ---- a VC
-module _ (N t : ℕ) (words : List ℕ) (vci clp : ℕ) where
-  pub judged-closed : getD words (wordsPerConnection * vci) 0 ≡ 0 → judgedAs true unknown vci 0 0 0 0 ≡ judgedConnection N t words vci clp
+-- ---- a connection
+module _ (N t : ℕ) (words : List ℕ) (vci c clp : ℕ) where
+  pub judged-closed : getD words (wordsPerConnection * c) 0 ≡ 0 → judgedAs true unknown vci 0 0 0 0 ≡ judgedConnection N t words vci c clp
   unfolding judgedConnection
-  judged-closed o = simp (eq-eqb _ _ (opened-at words vci ∙ o))
+  judged-closed o = simp (eq-eqb _ _ (opened-at words c ∙ o))
 
   -- with the peak bucket in range, the second one decides
-  pub judged-both : (s : ℕ) → getD words (wordsPerConnection * vci) 0 ≡ 1 → bucketFits N (connectionAt words vci .bucket) ≡ true
-      → s ≡ connectionNow t (connectionAt words vci) .bucket .S
-      → judgedBoth N t vci clp s (connectionAt words vci) ≡ judgedConnection N t words vci clp
+  pub judged-both : (s : ℕ) → getD words (wordsPerConnection * c) 0 ≡ 1 → bucketFits N (connectionAt words c .bucket) ≡ true
+      → s ≡ connectionNow t (connectionAt words c) .bucket .S
+      → judgedBoth N t c clp s (connectionAt words c) ≡ judgedConnection N t words vci c clp
   unfolding judgedConnection bucketsFit
   judged-both s o fits e =
-      simp (opened-at words vci ∙ o, fits) (both-is N t vci clp s (connectionAt words vci) e)
+      simp (opened-at words c ∙ o, fits) (both-is N t c clp s (connectionAt words c) e)
 
-  pub judged-unfit : getD words (wordsPerConnection * vci) 0 ≡ 1 → bucketFits N (connectionAt words vci .bucket) ≡ false
-      → outOfRange ≡ judgedConnection N t words vci clp
+  pub judged-unfit : getD words (wordsPerConnection * c) 0 ≡ 1 → bucketFits N (connectionAt words c .bucket) ≡ false
+      → outOfRange ≡ judgedConnection N t words vci c clp
   unfolding judgedConnection bucketsFit
-  judged-unfit o fits = simp (opened-at words vci ∙ o, fits)
+  judged-unfit o fits = simp (opened-at words c ∙ o, fits)
 
-  pub judged-other : getD words (wordsPerConnection * vci) 0 ≢ 0 → getD words (wordsPerConnection * vci) 0 ≢ 1
-      → outOfRange ≡ judgedConnection N t words vci clp
+  pub judged-other : getD words (wordsPerConnection * c) 0 ≢ 0 → getD words (wordsPerConnection * c) 0 ≢ 1
+      → outOfRange ≡ judgedConnection N t words vci c clp
   unfolding judgedConnection
   judged-other o₀ o₁ =
       simp (
-        ne-eqb (connectionAt words vci .opened) 0 (λ e. o₀ (sym (opened-at words vci) ∙ e)),
-        ne-eqb (connectionAt words vci .opened) 1 (λ e. o₁ (sym (opened-at words vci) ∙ e)),
+        ne-eqb (connectionAt words c .opened) 0 (λ e. o₀ (sym (opened-at words c) ∙ e)),
+        ne-eqb (connectionAt words c .opened) 1 (λ e. o₁ (sym (opened-at words c) ∙ e)),
       )
 
 -- ---- a name
@@ -66,85 +68,63 @@ module _ (N z t : ℕ) (words : List ℕ) (name clp : ℕ) where
   unfolding judgedName
   by-none e = simp (eq-eqb _ _ e)
 
-  pub by-connection : name ≢ 0 → name < z → judgedConnection N t words name clp ≡ judgedName N z t words name clp
+  pub by-connection : (c : ℕ) → c ≡ numberFor z name → name ≢ 0 → c ≢ 0
+      → judgedConnection N t words (name % 65536) c clp ≡ judgedName N z t words name clp
   unfolding judgedName
-  by-connection user below = simp (ne-eqb _ _ user, lt-ltb _ _ below)
+  by-connection c is user some = rw is (simp (ne-eqb _ _ user, ne-eqb _ _ (λ e. some (is ∙ e))))
 
-  pub by-unknown : name ≢ 0 → z ≤ name → judgedAs true unknown (name % 65536) 0 0 0 0 ≡ judgedName N z t words name clp
+  pub by-no-kind : numberFor z name ≡ 0 → name ≢ 0 → name ≡ noName → outOfRange ≡ judgedName N z t words name clp
   unfolding judgedName
-  by-unknown user past = simp (ne-eqb _ _ user, le-ltb name z past)
+  by-no-kind none user bad = simp (ne-eqb _ _ user, eq-eqb _ _ none, eq-eqb _ _ bad)
+
+  pub by-unknown : numberFor z name ≡ 0 → name ≢ 0 → name ≢ noName
+      → judgedAs true unknown (name % 65536) 0 0 0 0 ≡ judgedName N z t words name clp
+  unfolding judgedName
+  by-unknown none user good = simp (ne-eqb _ _ user, eq-eqb _ _ none, ne-eqb _ _ good)
 
 -- ---- a cell of 0 or 53 octets
-module _ (N z t : ℕ) (words cell : List ℕ) where
+module _ (N z kind t : ℕ) (words cell : List ℕ) where
   abbrev h : Header
-  h = headerAt cell 0
+  h = headerAt kind cell 0
 
-  pub judged-absent : length cell ≡ 0 → judgedAs true nothing 0 0 0 0 0 ≡ judgedOf N z t words cell
+  -- a header that is read, by the name that stands for it
+  known : (name : ℕ) → z ≤ mostV → kindFits kind ≡ true → Reads kind h name → name ≡ nameOf h → length cell ≢ 0
+      → judgedName N z t words name (clpIn cell) ≡ judgedOf N z kind t words cell
   unfolding judgedOf
-  judged-absent e = simp (eq-eqb _ _ e)
-
-  pub judged-idle : length cell ≢ 0 → nameOf h ≡ 0 → judgedAs true nothing 0 0 0 0 0 ≡ judgedOf N z t words cell
-  unfolding judgedOf
-  judged-idle some e = simp (ne-eqb _ _ some, name-none h e)
-
-  pub judged-known : length cell ≢ 0 → z ≤ 65536 → nameOf h ≢ 0 → nameOf h < z
-      → judgedConnection N t words (nameOf h) (h .clp) ≡ judgedOf N z t words cell
-  unfolding judgedOf
-  judged-known some few user below =
-      let names = name-names z h few (omega arith) below in
-      ap (λ (u : ℕ). judgedConnection N t words u (h .clp)) (sym (names-vci z h names))
-      ∙ simp (ne-eqb _ _ some, name-user h user, names)
-
-  pub judged-unknown : length cell ≢ 0 → nameOf h ≢ 0 → z ≤ nameOf h
-      → judgedAs true unknown (h .vci) 0 0 0 0 ≡ judgedOf N z t words cell
-  unfolding judgedOf
-  judged-unknown some user past = simp (ne-eqb _ _ some, name-user h user, name-past z h past)
-
-  -- by the number that stands for the cell
-  pub named-none : (name : ℕ) → Named cell name → name ≡ 0 → judgedAs true nothing 0 0 0 0 0 ≡ judgedOf N z t words cell
-  named-none name named e = go (ℕ-discrete (length cell) 0)
+  known name few fits reads is some = go (ℕ-discrete name 0) (namesConnection z h) refl
     where
-      go : Dec (length cell ≡ 0) → judgedAs true nothing 0 0 0 0 0 ≡ judgedOf N z t words cell
-      go (yes none) = judged-absent none
-      go (no some) = judged-idle some (sym (named .present some .0) ∙ e)
+      clp : ℕ
+      clp = clpIn cell
 
-  named-there : (name : ℕ) → Named cell name → name ≢ 0 → length cell ≢ 0
-  named-there name named user none = user (named .absent none)
+      number : numberFor z name ≡ numbered kind z h
+      number = ap (numberFor z) is ∙ number-named z h few (omega (arith, reads fits .0)) ∙ rw-in
+        where
+          rw-in : (if namesConnection z h then connection z h else 0) ≡ numbered kind z h
+          rw-in = sym (numbered-fits kind z h fits)
 
-  pub named-known : (name : ℕ) → Named cell name → z ≤ 65536 → name ≢ 0 → name < z
-      → judgedConnection N t words name (h .clp) ≡ judgedOf N z t words cell
-  named-known name named few user below =
-      let some = named-there name named user in
-      let is = named .present some .0 in
-      ap (λ (u : ℕ). judgedConnection N t words u (h .clp)) is
-      ∙ judged-known some few (λ e. user (is ∙ e)) (omega (arith, is, below))
-
-  pub named-unknown : (name : ℕ) → Named cell name → name ≢ 0 → z ≤ name
-      → judgedAs true unknown (name % 65536) 0 0 0 0 ≡ judgedOf N z t words cell
-  named-unknown name named user past =
-      let some = named-there name named user in
-      let is = named .present some in
-      ap (λ (u : ℕ). judgedAs true unknown u 0 0 0 0) (is .1)
-      ∙ judged-unknown some (λ e. user (is .0 ∙ e)) (omega (arith, is .0, past))
-
-  named-cell : (name : ℕ) → name ≡ cellName cell → (length cell ≢ 0 → name % 65536 ≡ h .vci) → Named cell name
-  unfolding cellName
-  named-cell name is vci =
-      record {
-        absent = λ none. is ∙ simp (eq-eqb _ _ none);
-        present = λ some. (is ∙ simp (ne-eqb _ _ some), vci some);
-      }
+      go : Dec (name ≡ 0) → (b : Bool) → namesConnection z h ≡ b
+          → judgedName N z t words name (clpIn cell) ≡ judgedOf N z kind t words cell
+      go (yes e) b q = sym (by-none N z t words name clp e) ∙ simp (ne-eqb _ _ some, fits, name-none h (sym is ∙ e))
+      go (no user) true q =
+          let c = number ∙ numbered-yes kind z h fits q in
+          sym (by-connection N z t words name clp (connection z h) (sym c) user (names-not-0 z h q))
+          ∙ rw (reads fits .0) (simp (ne-eqb _ _ some, fits, name-user h (λ e. user (is ∙ e)), q))
+      go (no user) false q =
+          sym (by-unknown N z t words name clp (number ∙ numbered-no kind z h q) user (λ e. omega (arith, reads fits .1, e)))
+          ∙ rw (reads fits .0) (simp (ne-eqb _ _ some, fits, name-user h (λ e. user (is ∙ e)), q))
 
   -- the name says all that step 3 asks of a cell
-  pub judged-cell : (name : ℕ) → z ≤ 65536 → name ≡ cellName cell → (length cell ≢ 0 → name % 65536 ≡ h .vci)
-      → judgedName N z t words name (h .clp) ≡ judgedOf N z t words cell
-  judged-cell name few is vci = go (ℕ-discrete name 0) (decLt name z)
+  pub judged-cell : (name : ℕ) → z ≤ mostV → name ≡ cellName kind cell → (length cell ≢ 0 → Reads kind h name)
+      → judgedName N z t words name (clpIn cell) ≡ judgedOf N z kind t words cell
+  unfolding cellName nameAt judgedOf
+  judged-cell name few is reads = go (ℕ-discrete (length cell) 0) (kindFits kind) refl
     where
-      named : Named cell name
-      named = named-cell name is vci
-
-      go : Dec (name ≡ 0) → Dec (name < z) → judgedName N z t words name (h .clp) ≡ judgedOf N z t words cell
-      go (yes e) d = sym (by-none N z t words name (h .clp) e) ∙ named-none name named e
-      go (no user) (yes below) = sym (by-connection N z t words name (h .clp) user below) ∙ named-known name named few user below
-      go (no user) (no past) =
-          sym (by-unknown N z t words name (h .clp) user (omega arith)) ∙ named-unknown name named user (omega arith)
+      go : Dec (length cell ≡ 0) → (b : Bool) → kindFits kind ≡ b
+          → judgedName N z t words name (clpIn cell) ≡ judgedOf N z kind t words cell
+      go (yes none) b k =
+          sym (by-none N z t words name (clpIn cell) (is ∙ simp (eq-eqb _ _ none))) ∙ simp (eq-eqb _ _ none)
+      go (no some) true k = known name few k (reads some) (is ∙ simp (ne-eqb _ _ some, k)) some
+      go (no some) false k =
+          let bad : name ≡ noName = is ∙ simp (ne-eqb _ _ some, k) in
+          sym (by-no-kind N z t words name (clpIn cell) (ap (numberFor z) bad ∙ number-no-name z few) (λ e. omega (arith, bad, e)) bad)
+          ∙ simp (ne-eqb _ _ some, k)

@@ -1,6 +1,6 @@
--- Steps 2 and 3 at an open VC as the code has them: without a second bucket, and with one.
+-- Steps 2 and 3 at an open connection as the code has them: without a second bucket, and with one.
 --
---   Peaked N words vci     == the VC's words stand there, and its peak bucket is in range
+--   Peaked N words vci     == the connection's words stand there, and its peak bucket is in range
 --   Within N words vci s   == and s in it is within the peak
 --   SecondIn words vci     == its second bucket and the flag are in range
 --   letInAs ..             == a cell is let in with this verdict, unless waiting is out of range

@@ -1,13 +1,14 @@
-// Steps 2 and 3 of a slot, up to the VC words: what is read and decided, before anything is written.
+// Steps 2 and 3 of a slot, up to the words of connections: what is read and decided, before anything is written.
 ghost use mathlib.Core.Path.{_≡_};
 ghost use mathlib.Core.Bool.{true, false};
 ghost use Prim.Native.Nat.{_%_, _≤_, _<_};
 ghost use lib.ListN.{length, getD};
 ghost use Rattle.meaning.specs.Numbers.{nothing, excess, unknown, waitingPlace, mostV, wordsIn};
 ghost use Rattle.meaning.specs.State.{HasConnection};
-ghost use Rattle.meaning.specs.Header.{headerAt};
+ghost use Rattle.meaning.specs.Header.{headerAt, clpIn};
 ghost use Rattle.meaning.specs.Bucket.{withS};
 ghost use Rattle.meaning.specs.Words.{connectionAt};
+ghost use Rattle.leaf_header.specs.Name.{Reads};
 ghost use Rattle.slot_arrive.specs.Arrival.{fallOf, connectionNow, broughtOf, judgedAs, outOfRange, judgedConnection, cellName, judgedName, fallen, filled, oneLess};
 ghost use Rattle.slot_arrive.specs.Both.{Peaked, Within, SecondIn, broughtBoth, letInAs, judgedPeak, judgedSecond, judgedBoth};
 use meaning::AT_C;
@@ -32,7 +33,7 @@ pub struct Fall {
     pub second: u32,
 }
 
-// What step 3 found: ok where all that it reads of the VC is in range.
+// What step 3 found: ok where all that it reads of the connection is in range.
 pub struct Judged {
     pub ok: bool,
     pub verdict: u16,
@@ -54,7 +55,7 @@ fn no_fall(ok: bool) -> Fall
     }
 }
 
-// S of a VC's bucket as it has fallen to slot t.
+// S of a connection's bucket as it has fallen to slot t.
 fn peak_now(words: &[u32], vci: u16, t: u32) -> u32
     requires { ⌜ (HasConnection vci (now words)) × (connectionAt (now words) vci .bucket .m ≤ 15) ⌝ }
     ensures { λ r. ⌜ r ≡ connectionNow t (connectionAt (now (words .entry)) vci) .bucket .S ⌝ }
@@ -77,7 +78,7 @@ fn second_now(words: &[u32], vci: u16, t: u32) -> u32
     )
 }
 
-// Step 2 of an open VC that has a second bucket.
+// Step 2 of an open connection that has a second bucket.
 fn bring_both(words: &[u32], vci: u16, t: u32, s: u32) -> Fall
     requires { ⌜ HasConnection vci (now words) ⌝ }
     ensures { λ r. ⌜ r ≡ broughtBoth t (connectionAt (now (words .entry)) vci) s ⌝ }
@@ -94,12 +95,16 @@ fn bring_both(words: &[u32], vci: u16, t: u32, s: u32) -> Fall
     no_fall(false)
 }
 
-// Step 2: the VC that rotation names, brought up to date to slot t. Without a second bucket there is nothing to fall in it.
-pub fn bring(n: u16, words: &[u32], vci: u16, t: u32) -> Fall
+// Step 2: the connection that rotation names, brought up to date to slot t; numbers 0 and V are no connection's. Without a second
+// bucket there is nothing to fall in it.
+pub fn bring(n: u16, v: u16, words: &[u32], vci: u16, t: u32) -> Fall
     requires { ⌜ HasConnection vci (now words) ⌝ }
-    ensures { λ r. ⌜ r ≡ broughtOf n t (now (words .entry)) vci ⌝ }
+    ensures { λ r. ⌜ r ≡ broughtOf n v t (now (words .entry)) vci ⌝ }
 {
     if vci == 0 {
+        return no_fall(true);
+    }
+    if vci == v {
         return no_fall(true);
     }
     let o = words[WORDS_PER_CONNECTION * (vci as usize)];
@@ -165,7 +170,7 @@ fn no_connection(vci: u16) -> Judged
     }
 }
 
-// A cell of this VC is above a rate: what is in the buckets stays.
+// A cell of this connection is above a rate: what is in the buckets stays.
 fn above(vci: u16, s: u32, second: u32) -> Judged
     ensures { λ r. ⌜ r ≡ judgedAs true excess vci 0 s 0 second ⌝ }
 {
@@ -203,7 +208,7 @@ fn let_in(n: u16, words: &[u32], vci: u16, verdict: u16, s: u32, second: u32) ->
     out_of_range()
 }
 
-// Step 3 at an open VC without a second bucket, s being in its bucket.
+// Step 3 at an open connection without a second bucket, s being in its bucket.
 fn judge_peak(n: u16, words: &[u32], vci: u16, s: u32) -> Judged
     requires { ⌜ Peaked n (now words) vci ⌝ }
     ensures { λ r. ⌜ r ≡ judgedPeak n vci (withS (connectionAt (now (words .entry)) vci .bucket) s) (connectionAt (now (words .entry)) vci .waiting) ⌝ }
@@ -233,7 +238,7 @@ fn judge_second(n: u16, words: &[u32], vci: u16, s: u32, second: u32) -> Judged
     let_in(n, words, vci, 1, s, filled)
 }
 
-// Step 3 at an open VC with a second bucket, of a cell with this CLP, s being in its bucket.
+// Step 3 at an open connection with a second bucket, of a cell with this CLP, s being in its bucket.
 fn judge_both(n: u16, words: &[u32], vci: u16, t: u32, clp: u8, s: u32) -> Judged
     requires { ⌜ Peaked n (now words) vci ⌝ }
     ensures { λ r. ⌜ r ≡ judgedBoth n t vci clp s (connectionAt (now (words .entry)) vci) ⌝ }
@@ -255,19 +260,19 @@ fn judge_both(n: u16, words: &[u32], vci: u16, t: u32, clp: u8, s: u32) -> Judge
 // CLP of a cell: the low bit of octet 4.
 fn clp_of(cell: &[u8]) -> u8
     requires { ⌜ 4 ≤ length (now cell) ⌝ }
-    ensures { λ r. ⌜ r ≡ headerAt (now (cell .entry)) 0 .clp ⌝ }
+    ensures { λ r. ⌜ r ≡ clpIn (now (cell .entry)) ⌝ }
 {
     cell[3] % 2
 }
 
-// Step 3 at the VC vci, from 1 to V-1. The cell's CLP is read only where the VC has a second bucket.
-pub fn judge_connection(n: u16, words: &[u32], vci: u16, t: u32, cell: &[u8]) -> Judged
+// Step 3 at the connection vci, of a cell with this name. The cell's CLP is read only where the connection has a second bucket.
+pub fn judge_connection(n: u16, words: &[u32], vci: u16, name: u32, t: u32, cell: &[u8]) -> Judged
     requires { ⌜ (HasConnection vci (now words)) × (4 ≤ length (now cell)) ⌝ }
-    ensures { λ r. ⌜ r ≡ judgedConnection n t (now (words .entry)) vci (headerAt (now (cell .entry)) 0 .clp) ⌝ }
+    ensures { λ r. ⌜ r ≡ judgedConnection n t (now (words .entry)) (name % 65536) vci (clpIn (now (cell .entry))) ⌝ }
 {
     let o = words[WORDS_PER_CONNECTION * (vci as usize)];
     if o == 0 {
-        return no_connection(vci);
+        return no_connection((name % 65536) as u16);
     }
     if o == 1 {
         if mem_words::bucket_fits(n, words, vci) {
@@ -283,27 +288,31 @@ pub fn judge_connection(n: u16, words: &[u32], vci: u16, t: u32, cell: &[u8]) ->
 }
 
 // VPI and VCI of a cell of 0 or 53 octets as one number; 0 where there is none.
-pub fn name_of(cell: &[u8]) -> u32
+pub fn name_of(cell: &[u8], kind: u16) -> u32
     requires { ⌜ ((length (now cell) ≡ 0 → ⊥) → length (now cell) ≡ 53) ⌝ }
-    ensures name { λ r. ⌜ r ≡ cellName (now (cell .entry)) ⌝ }
-    ensures vci { λ r. ⌜ ((length (now (cell .entry)) ≡ 0 → ⊥) → r % 65536 ≡ headerAt (now (cell .entry)) 0 .vci) ⌝ }
+    ensures name { λ r. ⌜ r ≡ cellName kind (now (cell .entry)) ⌝ }
+    ensures reads { λ r. ⌜ ((length (now (cell .entry)) ≡ 0 → ⊥) → Reads kind (headerAt kind (now (cell .entry)) 0) r) ⌝ }
 {
     if cell.len() == 0 {
         return 0;
     }
-    leaf_header::name_at(cell, 0)
+    leaf_header::name_at(cell, 0, kind)
 }
 
 // Step 3 of a cell with this name. Apart from the name's reading, so that each of the two is laid into both of its users.
 pub fn judge(n: u16, v: u16, words: &[u32], name: u32, t: u32, cell: &[u8]) -> Judged
     requires { ⌜ (wordsIn v ≡ length (now words)) × (v ≤ mostV) × ((name ≡ 0 → ⊥) → length (now cell) ≡ 53) ⌝ }
-    ensures { λ r. ⌜ r ≡ judgedName n v t (now (words .entry)) name (headerAt (now (cell .entry)) 0 .clp) ⌝ }
+    ensures { λ r. ⌜ r ≡ judgedName n v t (now (words .entry)) name (clpIn (now (cell .entry))) ⌝ }
 {
     if name == 0 {
         return no_cell();
     }
-    if name < v as u32 {
-        return judge_connection(n, words, name as u16, t, cell);
+    let vci = leaf_header::number_for(v, name);
+    if vci != 0 {
+        return judge_connection(n, words, vci, name, t, cell);
+    }
+    if name == 4294967295 {
+        return out_of_range();
     }
     no_connection((name % 65536) as u16)
 }
@@ -321,7 +330,7 @@ pub fn put_fall(words: &mut [u32], on: bool, vci: u16, s: u32, second: u32, t: u
     }
 }
 
-// The words of the VC of a cell that is let in.
+// The words of the connection of a cell that is let in.
 pub fn put_fill(words: &mut [u32], vci: u16, s: u32, second: u32, t: u32, waiting: u32)
     requires { ⌜ HasConnection vci (now words) ⌝ }
     ensures { λ r. ⌜ now (words .exit) ≡ filled vci s second t waiting (now (words .entry)) ⌝ }
@@ -333,7 +342,7 @@ pub fn put_fill(words: &mut [u32], vci: u16, s: u32, second: u32, t: u32, waitin
     words[b + AT_SECOND_S] = second;
 }
 
-// Waiting of a VC falls by one.
+// Waiting of a connection falls by one.
 pub fn put_less(words: &mut [u32], vci: u16)
     requires { ⌜ (HasConnection vci (now words)) × (1 ≤ getD (now words) (waitingPlace vci) 0) ⌝ }
     ensures { λ r. ⌜ now (words .exit) ≡ oneLess vci (now (words .entry)) ⌝ }

@@ -1,4 +1,4 @@
--- The cases in which a cell is accepted, from what was read, the cell and its VC's words being written in thought, to
+-- The cases in which a cell is accepted, from what was read, the cell and its connection's words being written in thought, to
 -- what the five steps leave.
 use Prim.Native.Nat.{ℕ, _≤_, _<_}
 use lib.ListN.{length}
@@ -10,13 +10,15 @@ use native.Mathlib.Omega.{arith}
 use lib.ListN.{getD}
 use Rattle.meaning.specs.declared.Record.{Record}
 use Rattle.meaning.specs.Plain.{_=?_, refused, next, _andThen_}
-use Rattle.meaning.specs.Numbers.{empty, waitingPlace}
+use Rattle.meaning.specs.Numbers.{empty, connectionsIn, waitingPlace}
 use Rattle.meaning.specs.State.{Ends, stateOf, freeList, recordWith, writeCell}
+use Rattle.meaning.specs.Header.{headerAt}
 use Rattle.meaning.specs.Lists.{emptyList, endsFit, entryAt, writeEntry}
 use Rattle.meaning.specs.Work.{Work}
 use Rattle.meaning.specs.Slot.{step4, step5}
 use Rattle.meaning.specs.Arrival.{sentAs}
-use Rattle.meaning.proofs.TaggedLaws.{sent-length, sent-vpi, sent-vci}
+use Rattle.meaning.proofs.TaggedLaws.{sent-length, sent-connection, sent-named}
+use Rattle.leaf_header.specs.Name.{numbered}
 use Rattle.slot_arrive.specs.declared.Fall.{Fall}
 use Rattle.slot_arrive.specs.declared.Judged.{Judged}
 use Rattle.slot_arrive.specs.Arrival.{fallen, filled}
@@ -46,13 +48,17 @@ module _ (k : Record) (b : Fall) (j : Judged) (a : Seat) (cell cells links calen
   words₃ = filled (j .vci) (j .s) (j .second) (k .t) (j .waiting) (rotated k b words)
 
   module _ (z : Sized (stateOf k cells links calendar words)) (acc : Accepted k j cell words) (seat : Seated k a) where
-    is-stored : Stored (j .vci) (a .x) cells cells₃
-    is-stored =
+    -- tagged or not, the cell names what it named
+    still-names : numbered (k .kind) (k .v) (headerAt (k .kind) (sentAs (j .verdict) cell) 0) ≡ j .vci
+    unfolding numbered
+    still-names =
         let long : 4 < length cell = omega (arith, acc .cell-long) in
-        stored (j .vci) (a .x) cells (sentAs (j .verdict) cell) (omega (arith, z .cells-long, seat .x-low))
-        (sent-length (j .verdict) cell ∙ acc .cell-long)
-        (sent-vpi (j .verdict) cell long ∙ acc .vpi-is)
-        (sent-vci (j .verdict) cell long ∙ acc .vci-is)
+        rw (sent-named (k .kind) (k .v) (j .verdict) cell long, sent-connection (k .kind) (k .v) (j .verdict) cell long) (acc .names)
+
+    is-stored : Stored (k .v) (k .kind) (j .vci) (a .x) cells cells₃
+    is-stored =
+        stored (k .v) (k .kind) (j .vci) (a .x) cells (sentAs (j .verdict) cell) (omega (arith, z .cells-long, seat .x-low))
+        (sent-length (j .verdict) cell ∙ acc .cell-long) still-names
 
     is-counted : Counted (k .n) (j .vci) words words₃
     unfolding filled rotated fallen
@@ -66,11 +72,11 @@ module _ (k : Record) (b : Fall) (j : Judged) (a : Seat) (cell cells links calen
 
     -- what departs, judged in memory as it came, is what departs once the cell is stored and counted
     then-is : (joins : Bool) (entry : Ends) (o : Off) → OffStored k j a cells links words joins entry o
-        → o ≡ offOf (k .n) (k .v) cells₃ (linked joins (k .outtail) (entry .head) links₃) words₃ (joinedHead k entry) (entry .tail)
+        → o ≡ offOf (k .n) (k .v) (k .kind) cells₃ (linked joins (k .outtail) (entry .head) links₃) words₃ (joinedHead k entry) (entry .tail)
     then-is joins entry o is =
         is
-        ∙ off-after-is (k .n) (k .v) (j .vci) (a .x) cells (linked joins (k .outtail) (entry .head) links₃) words cells₃ words₃
-        (joinedHead k entry) (entry .tail) (omega (arith, z .v-high)) (acc .vci-low) (acc .vci-high) is-stored is-counted
+        ∙ off-after-is (k .n) (k .v) (k .kind) (j .vci) (a .x) cells (linked joins (k .outtail) (entry .head) links₃) words cells₃ words₃
+        (joinedHead k entry) (entry .tail) (λ e. omega (arith, acc .vci-low, e)) is-stored is-counted
 
     -- entry T is then marked, and is as it joins the Output List
     module _ (entry : Ends) (o : Off) (is : OffStored k j a cells links words (not (k .outhead =? empty)) entry o) where
@@ -102,7 +108,7 @@ module _ (k : Record) (b : Fall) (j : Judged) (a : Seat) (cell cells links calen
       unmarked-is : offUnmarked accept-work ≡ o
       unfolding offUnmarked acceptWork withEnds recordWith linked
       unmarked-is =
-          ap (λ (x : ℕ). offOf (k .n) (k .v) cells₃ links₃ words₃ x (k .outtail)) (sym (output-head k (endsOf 0 (k .outtail)) (z .n-high) low))
+          ap (λ (x : ℕ). offOf (k .n) (k .v) (k .kind) cells₃ links₃ words₃ x (k .outtail)) (sym (output-head k (endsOf 0 (k .outtail)) (z .n-high) low))
           ∙ sym (then-is false (endsOf 0 (k .outtail)) o is)
 
       output-is : leavingOutput accept-work ≡ leaving accept-work links₃ calendar₃ o
@@ -117,13 +123,13 @@ module _ (k : Record) (b : Fall) (j : Judged) (a : Seat) (cell cells links calen
       unfolding linked
       accept-output-goes e = output-is ∙ leaving-go accept-work links₃ calendar₃ o e free-fits
 
-    -- what departs is of a VC below V that has a cell waiting
+    -- what departs is of a connection below V + 256 that has a cell waiting
     pub accept-shows : (joins : Bool) (entry : Ends) (o : Off) → OffStored k j a cells links words joins entry o → o .ok ≡ true
-        → (o .vci < k .v) × (1 ≤ getD words₃ (waitingPlace (o .vci)) 0)
+        → (o .vci < connectionsIn (k .v)) × (1 ≤ getD words₃ (waitingPlace (o .vci)) 0)
     accept-shows joins entry o is e =
         let q = then-is joins entry o is in
         rw q
-        (off-shows (k .n) (k .v) cells₃ (linked joins (k .outtail) (entry .head) links₃) words₃ (joinedHead k entry) (entry .tail) (ap (λ (y : Off). y .ok) (sym q) ∙ e))
+        (off-shows (k .n) (k .v) (k .kind) cells₃ (linked joins (k .outtail) (entry .head) links₃) words₃ (joinedHead k entry) (entry .tail) (ap (λ (y : Off). y .ok) (sym q) ∙ e))
 
   -- entry T once the cell has joined its own
   pub joined-is : (head tail : ℕ) → head ≡ entryAt (writeEntry calendar (a .e) (seatEnds a)) (k .turn) .head
@@ -155,6 +161,6 @@ module _ (k : Record) (b : Fall) (j : Judged) (a : Seat) (cell cells links calen
 pub off-first : (k : Record) (j : Judged) (a : Seat) (cells links words : List ℕ) (joins : Bool) (entry : Ends) (x : ℕ) (o : Off)
     → x ≡ joinedHead k entry
     → o
-    ≡ offAfter (k .n) (k .v) cells (linked joins (k .outtail) (entry .head) (linked (not (a .head =? empty)) (a .x) (a .head) links)) words (j .vci) (a .x) x (entry .tail)
+    ≡ offAfter (k .n) (k .v) (k .kind) cells (linked joins (k .outtail) (entry .head) (linked (not (a .head =? empty)) (a .x) (a .head) links)) words (j .vci) (a .x) x (entry .tail)
     → OffStored k j a cells links words joins entry o
 off-first k j a cells links words joins entry x o e f = rw (← e) f

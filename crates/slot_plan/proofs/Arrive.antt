@@ -2,16 +2,16 @@
 use Prim.Native.Nat.{ℕ, _+_, _-_, _*_, _^_, _<_}
 use mathlib.Core.Path.{_≡_, refl, ap, _∙_}
 use mathlib.Core.Logic.{_⊎_, inl, inr}
-use mathlib.Core.Bool.{Bool, true, false, _&&_, _||_}
+use mathlib.Core.Bool.{Bool, true, false, _&&_}
 use mathlib.Core.List.{List}
 use native.Mathlib.Omega.{arith}
 use borrow.Author.Tests.{eq-eqb, ne-eqb, le-leb, lt-leb}
 use lib.ListN.{length}
 use Rattle.meaning.specs.declared.Record.{Record}
 use Rattle.meaning.specs.Plain.{if_then_else_, _<?_, _=?_, Out, refused, next}
-use Rattle.meaning.specs.Numbers.{accepted, excess, letsIn}
+use Rattle.meaning.specs.Numbers.{kindFits, accepted, excess, letsIn}
 use Rattle.meaning.specs.State.{stateOf, withWords}
-use Rattle.meaning.specs.Header.{Header, headerAt, noUserCell, namesConnection}
+use Rattle.meaning.specs.Header.{Header, headerAt, clpIn, noUserCell, connection, namesConnection}
 use Rattle.meaning.specs.Bucket.{Bucket, withS, elapsed, fall, fill}
 use Rattle.meaning.specs.Words.{Connection, connectionAt, writeConnection, withBuckets, withWaiting, bucketsFit, openWordFits, fallenTo, upToDate}
 use Rattle.meaning.specs.Work.{Work, workOf, answerOf}
@@ -34,7 +34,7 @@ second-is clp verdict S x = go (clp =? 0 && verdict =? accepted)
     go true = refl
     go false = refl
 
--- the words of the VC of a cell that is let in
+-- the words of the connection of a cell that is let in
 fill-is : (words : List ℕ) (vci t clp verdict : ℕ)
     → let vc = connectionNow t (connectionAt words vci) in
     writeConnection words vci (withWaiting (withBuckets vc (fill (vc .bucket)) (secondAfter clp verdict (vc .second))) (vc .waiting + 1))
@@ -63,58 +63,70 @@ arriving k j cell cells links calendar words =
 
 module _ (k : Record) (cell cells links calendar words : List ℕ) where
   abbrev h : Header
-  h = headerAt cell 0
+  h = headerAt (k .kind) cell 0
+
+  abbrev at : ℕ
+  at = connection (k .v) h
+
+  abbrev clp : ℕ
+  clp = clpIn cell
 
   abbrev vc : Connection
-  vc = connectionAt words (h .vci)
+  vc = connectionAt words at
 
   abbrev w : Work
   w = rotatedWork k cells links calendar words
 
-  -- the VC is open and its words but waiting are in range
-  judge-is : (x a : Bool) → (verdictOn (h .clp) (connectionNow (k .t) vc) =? excess) ≡ x → connectionNow (k .t) vc .waiting <? k .n ≡ a
-      → judge cell (h .vci) w (connectionNow (k .t) vc)
-      ≡ arriving k (judgedBuckets (k .n) (h .vci) (h .clp) (connectionNow (k .t) vc)) cell cells links calendar words
+  -- the connection is open and its words but waiting are in range
+  judge-is : (x a : Bool) → (verdictOn clp (connectionNow (k .t) vc) =? excess) ≡ x → connectionNow (k .t) vc .waiting <? k .n ≡ a
+      → judge cell at w (connectionNow (k .t) vc)
+      ≡ arriving k (judgedBuckets (k .n) at clp (connectionNow (k .t) vc)) cell cells links calendar words
   unfolding judge accept judgedBuckets arriving rotatedWork quietWork fallen seating seekingWork withWords letsIn
   judge-is true a ex ea =
       rw ex
-      (ap (λ (l : List ℕ). next (workOf (stateOf k cells links calendar l) (answerOf 0 excess (h .vci) 0 65535 0))) (update-is words (h .vci) (k .t)))
+      (ap (λ (l : List ℕ). next (workOf (stateOf k cells links calendar l) (answerOf 0 excess at 0 65535 0))) (update-is words at (k .t)))
   judge-is false true ex ea =
       rw (
         ex,
         ea,
-        not-excess (h .clp) (connectionNow (k .t) vc) ex .lets,
-        fill-is words (h .vci) (k .t) (h .clp) (verdictOn (h .clp) (connectionNow (k .t) vc)),
+        not-excess clp (connectionNow (k .t) vc) ex .lets,
+        fill-is words at (k .t) clp (verdictOn clp (connectionNow (k .t) vc)),
       )
   judge-is false false ex ea = rw (ex, ea)
 
   abbrev found : Judged
-  found = judgedOf (k .n) (k .v) (k .t) words cell
+  found = judgedOf (k .n) (k .v) (k .kind) (k .t) words cell
+
+  -- a header is read: there is a cell, the line kind fits, and it is a user's
+  abbrev Read : Type 0
+  Read = ((length cell =? 0) ≡ false) × (kindFits (k .kind) ≡ true) × (noUserCell h ≡ false)
 
   Goal : Type 0
   Goal = step3 cell w ≡ arriving k found cell cells links calendar words
 
-  fits : (f : Bool) → length cell =? 0 || noUserCell h ≡ false → namesConnection (k .v) h ≡ true → vc .opened ≡ 1 → bucketsFit (k .n) vc ≡ f → Goal
+  fits : (f : Bool) → Read → namesConnection (k .v) h ≡ true → vc .opened ≡ 1 → bucketsFit (k .n) vc ≡ f → Goal
   unfolding Goal step3 judgedOf judgedConnection rotatedWork openWordFits upToDate connectionNow arriving
   fits true c n o f =
-      rw (c, n, le-leb (vc .opened) 1 (omega arith), ne-eqb (vc .opened) 0 (λ q. omega arith), eq-eqb (vc .opened) 1 o, f)
-      (judge-is (verdictOn (h .clp) (connectionNow (k .t) vc) =? excess) (connectionNow (k .t) vc .waiting <? k .n) refl refl)
+      rw (c .0, c .1, c .2, n, le-leb (vc .opened) 1 (omega arith), ne-eqb (vc .opened) 0 (λ q. omega arith), eq-eqb (vc .opened) 1 o, f)
+      (judge-is (verdictOn clp (connectionNow (k .t) vc) =? excess) (connectionNow (k .t) vc .waiting <? k .n) refl refl)
   fits false c n o f =
-      rw (c, n, le-leb (vc .opened) 1 (omega arith), ne-eqb (vc .opened) 0 (λ q. omega arith), eq-eqb (vc .opened) 1 o, f)
+      rw (c .0, c .1, c .2, n, le-leb (vc .opened) 1 (omega arith), ne-eqb (vc .opened) 0 (λ q. omega arith), eq-eqb (vc .opened) 1 o, f)
 
-  at-connection : length cell =? 0 || noUserCell h ≡ false → namesConnection (k .v) h ≡ true
+  at-connection : Read → namesConnection (k .v) h ≡ true
       → (vc .opened ≡ 0) ⊎ ((vc .opened ≡ 1) ⊎ (1 < vc .opened)) → Goal
   unfolding Goal step3 judgedOf judgedConnection rotatedWork openWordFits arriving quietWork fallen letsIn
-  at-connection c n (inl o) = rw (c, n, le-leb (vc .opened) 1 (omega arith), eq-eqb (vc .opened) 0 o)
+  at-connection c n (inl o) = rw (c .0, c .1, c .2, n, le-leb (vc .opened) 1 (omega arith), eq-eqb (vc .opened) 0 o)
   at-connection c n (inr (inl o)) = fits (bucketsFit (k .n) vc) c n o refl
-  at-connection c n (inr (inr o)) = rw (c, n, lt-leb (vc .opened) 1 o, ne-eqb (vc .opened) 0 (λ q. omega arith), ne-eqb (vc .opened) 1 (λ q. omega arith))
+  at-connection c n (inr (inr o)) = rw (c .0, c .1, c .2, n, lt-leb (vc .opened) 1 o, ne-eqb (vc .opened) 0 (λ q. omega arith), ne-eqb (vc .opened) 1 (λ q. omega arith))
 
-  at-cell : (c n : Bool) → length cell =? 0 || noUserCell h ≡ c → namesConnection (k .v) h ≡ n → Goal
+  at-cell : (l u f n : Bool) → (length cell =? 0) ≡ l → kindFits (k .kind) ≡ f → noUserCell h ≡ u → namesConnection (k .v) h ≡ n → Goal
   unfolding Goal step3 judgedOf rotatedWork arriving quietWork fallen letsIn
-  at-cell true n ec en = rw ec
-  at-cell false true ec en = at-connection ec en (open-cases (vc .opened))
-  at-cell false false ec en = rw (ec, en)
+  at-cell true u f n el ef eu en = rw el
+  at-cell false u false n el ef eu en = rw (el, ef)
+  at-cell false true true n el ef eu en = rw (el, ef, eu)
+  at-cell false false true true el ef eu en = at-connection (el, ef, eu) en (open-cases (vc .opened))
+  at-cell false false true false el ef eu en = rw (el, ef, eu, en)
 
   pub arrive-is : step3 cell w ≡ arriving k found cell cells links calendar words
   unfolding Goal
-  arrive-is = at-cell (length cell =? 0 || noUserCell h) (namesConnection (k .v) h) refl refl
+  arrive-is = at-cell (length cell =? 0) (noUserCell h) (kindFits (k .kind)) (namesConnection (k .v) h) refl refl refl refl

@@ -162,10 +162,10 @@ module _ (k : Record) (b : Fall) (j : Judged) (cells links calendar words : List
       }
 
   pub quiet-marked-off : (entry : Ends)
-      → offMarked w entry ≡ offOf (k .n) (k .v) cells (joinedLinks k entry links) words (joinedHead k entry) (entry .tail)
+      → offMarked w entry ≡ offOf (k .n) (k .v) (k .kind) cells (joinedLinks k entry links) words (joinedHead k entry) (entry .tail)
   unfolding offMarked quietWork
-  quiet-marked-off entry = off-kept (k .n) (k .v) cells (joinedLinks k entry links) words (joinedHead k entry) (entry .tail) _ quiet-kept
+  quiet-marked-off entry = off-kept (k .n) (k .v) (k .kind) cells (joinedLinks k entry links) words (joinedHead k entry) (entry .tail) _ quiet-kept
 
-  pub quiet-output-off : offUnmarked w ≡ offOf (k .n) (k .v) cells links words (k .outhead) (k .outtail)
+  pub quiet-output-off : offUnmarked w ≡ offOf (k .n) (k .v) (k .kind) cells links words (k .outhead) (k .outtail)
   unfolding offUnmarked quietWork
-  quiet-output-off = off-kept (k .n) (k .v) cells links words (k .outhead) (k .outtail) _ quiet-kept
+  quiet-output-off = off-kept (k .n) (k .v) (k .kind) cells links words (k .outhead) (k .outtail) _ quiet-kept

@@ -2,21 +2,23 @@
 use Prim.Native.Nat.{ℕ, _+_, _-_, _*_, _/_, _^_, _≤_, _<_}
 use mathlib.Core.Path.{_≡_, refl, sym, _∙_}
 use mathlib.Core.Logic.{_⊎_, inl, inr}
-use mathlib.Core.Bool.{Bool, true, false, _&&_, _||_}
+use mathlib.Core.Bool.{Bool, true, false, _&&_}
 use mathlib.Core.List.{List}
 use native.Mathlib.Omega.{arith}
 use native.Mathlib.Nat.{div-lt-iff-lt-mul}
-use borrow.Author.Tests.{eq-eqb, ne-eqb, ltb-true, ltb-false, leb-true, eqb-true}
+use borrow.Author.Tests.{eq-eqb, ne-eqb, ltb-true, ltb-false}
 use lib.ListN.{length, getD}
 use lib.Pow.{pow-pos}
 use Rattle.meaning.specs.declared.Record.{Record}
 use Rattle.meaning.specs.Plain.{if_then_else_, _<?_, _≤?_, _=?_}
-use Rattle.meaning.specs.Numbers.{excess, letsIn}
-use Rattle.meaning.specs.Header.{Header, headerAt, noUserCell, namesConnection}
+use Rattle.meaning.specs.Numbers.{connectionsIn, kindFits, excess, letsIn}
+use Rattle.meaning.specs.Header.{Header, headerAt, clpIn, noUserCell, connection, namesConnection}
 use Rattle.meaning.specs.Bucket.{obeysRules, elapsed, fall, isExcess, delay}
 use Rattle.meaning.specs.Words.{Connection, connectionAt, bucketFits, secondFits, bucketsFit, fallenTo}
 use Rattle.meaning.specs.Arrival.{verdictOn}
 use Rattle.meaning.specs.Lists.{endsFit, entryAt}
+use Rattle.meaning.proofs.NamesLaws.{names-low, names-not-0}
+use Rattle.leaf_header.proofs.NameLaws.{numbered-yes}
 use Rattle.meaning.proofs.ListsLaws.{fit-marked, fit-empty}
 use Rattle.slot_arrive.specs.declared.Judged.{Judged}
 use Rattle.slot_arrive.specs.Arrival.{connectionNow, judgedBuckets, judgedConnection, judgedOf}
@@ -34,10 +36,6 @@ and false b e = no e
 
 no-false : {A : Type 0} → true ≡ false → A
 no-false e = no (sym e)
-
-neither : (a b : Bool) → a || b ≡ false → a ≡ true → ⊥
-neither true b e q = no (sym e)
-neither false b e q = no q
 
 -- ---- D is below N: S is at most C-F, of which rule 6 speaks
 below : (s e p n : ℕ) → 0 < p → s ≤ e → e / p < n → s / p < n
@@ -69,92 +67,97 @@ not-excess clp vc e = go (isExcess (vc .bucket)) (clp =? 0 && isExcess (vc .seco
     go false true false ex ey eg = λ h. record { within = ex; lets = rw (ex, ey, eg) }
     go false false g ex ey eg = λ h. record { within = ex; lets = rw (ex, ey) }
 
--- ---- a header that names a VC
-pub names-facts : (z : ℕ) (h : Header) → namesConnection z h ≡ true → (h .vpi ≡ 0) × (1 ≤ h .vci) × (h .vci < z)
-unfolding namesConnection
-names-facts z h e =
-    let p = and (h .vpi =? 0 && 1 ≤? h .vci) (h .vci <? z) e in
-    let q = and (h .vpi =? 0) (1 ≤? h .vci) (p .0) in
-    (eqb-true (h .vpi) 0 (q .0), leb-true 1 (h .vci) (q .1), ltb-true (h .vci) z (p .1))
-
 -- ---- the judged cell
 module _ (k : Record) (cell words : List ℕ) where
   abbrev h : Header
-  h = headerAt cell 0
+  h = headerAt (k .kind) cell 0
+
+  abbrev at : ℕ
+  at = connection (k .v) h
+
+  abbrev clp : ℕ
+  clp = clpIn cell
 
   abbrev vc : Connection
-  vc = connectionAt words (h .vci)
+  vc = connectionAt words at
 
   abbrev j : Judged
-  j = judgedOf (k .n) (k .v) (k .t) words cell
+  j = judgedOf (k .n) (k .v) (k .kind) (k .t) words cell
+
+  -- a header is read: there is a cell, the line kind fits, and it is a user's
+  abbrev Read : Type 0
+  Read = ((length cell =? 0) ≡ false) × (kindFits (k .kind) ≡ true) × (noUserCell h ≡ false)
 
   pub record Shows : Type 0 where
     pub accepted-is : ((length cell ≡ 0 → ⊥) → length cell ≡ 53) → j .ok ≡ true → letsIn (j .verdict) ≡ true → Accepted k j cell words
-    pub excess-is : j .ok ≡ true → j .verdict ≡ excess → j .vci < k .v
+    pub excess-is : j .ok ≡ true → j .verdict ≡ excess → j .vci < connectionsIn (k .v)
 
-  in-bucket : (x a : Bool) → length cell =? 0 || noUserCell h ≡ false → namesConnection (k .v) h ≡ true → vc .opened ≡ 1
-      → bucketsFit (k .n) vc ≡ true → (verdictOn (h .clp) (connectionNow (k .t) vc) =? excess) ≡ x → connectionNow (k .t) vc .waiting <? k .n ≡ a → Shows
+  in-bucket : (x a : Bool) → Read → namesConnection (k .v) h ≡ true → vc .opened ≡ 1
+      → bucketsFit (k .n) vc ≡ true → (verdictOn clp (connectionNow (k .t) vc) =? excess) ≡ x → connectionNow (k .t) vc .waiting <? k .n ≡ a → Shows
   unfolding judgedOf judgedConnection judgedBuckets letsIn
   in-bucket true a c n o f ex ea =
       record {
-        accepted-is = rw (c, n, ne-eqb (vc .opened) 0 (λ q. omega arith), eq-eqb (vc .opened) 1 o, f, ex) (λ l ok v. no v);
-        excess-is = rw (c, n, ne-eqb (vc .opened) 0 (λ q. omega arith), eq-eqb (vc .opened) 1 o, f, ex) (λ ok v. names-facts (k .v) h n .2);
+        accepted-is = rw (c .0, c .1, c .2, n, ne-eqb (vc .opened) 0 (λ q. omega arith), eq-eqb (vc .opened) 1 o, f, ex) (λ l ok v. no v);
+        excess-is = rw (c .0, c .1, c .2, n, ne-eqb (vc .opened) 0 (λ q. omega arith), eq-eqb (vc .opened) 1 o, f, ex) (λ ok v. names-low (k .v) h n);
       }
   in-bucket false true c n o f ex ea =
       record {
-        accepted-is = rw (c, n, ne-eqb (vc .opened) 0 (λ q. omega arith), eq-eqb (vc .opened) 1 o, f, ex, ea)
+        accepted-is = rw (c .0, c .1, c .2, n, ne-eqb (vc .opened) 0 (λ q. omega arith), eq-eqb (vc .opened) 1 o, f, ex, ea)
             (λ l ok v.
             record {
               let-in = v;
-              vci-low = names-facts (k .v) h n .1;
-              vci-high = names-facts (k .v) h n .2;
-              near = near (k .n) (k .t) vc f (not-excess (h .clp) (connectionNow (k .t) vc) ex .within);
+              vci-low = let some = names-not-0 (k .v) h n in omega (arith, some);
+              vci-high = names-low (k .v) h n;
+              near = near (k .n) (k .t) vc f (not-excess clp (connectionNow (k .t) vc) ex .within);
               waiting-low = omega arith;
               waiting-high = let low = ltb-true (connectionNow (k .t) vc .waiting) (k .n) ea in omega arith;
               is-open = o;
-              cell-long = l (λ q. neither (length cell =? 0) (noUserCell h) c (eq-eqb (length cell) 0 q));
-              vpi-is = names-facts (k .v) h n .0;
-              vci-is = refl;
+              cell-long = l (λ q. no-false (sym (eq-eqb (length cell) 0 q) ∙ c .0));
+              names = numbered-yes (k .kind) (k .v) h (c .1) n;
             });
-        excess-is = rw (c, n, ne-eqb (vc .opened) 0 (λ q. omega arith), eq-eqb (vc .opened) 1 o, f, ex, ea) (λ ok v. no-false (sym (eq-eqb _ _ v) ∙ ex));
+        excess-is = rw (c .0, c .1, c .2, n, ne-eqb (vc .opened) 0 (λ q. omega arith), eq-eqb (vc .opened) 1 o, f, ex, ea) (λ ok v. no-false (sym (eq-eqb _ _ v) ∙ ex));
       }
   in-bucket false false c n o f ex ea =
       record {
-        accepted-is = rw (c, n, ne-eqb (vc .opened) 0 (λ q. omega arith), eq-eqb (vc .opened) 1 o, f, ex, ea) (λ l ok v. no ok);
-        excess-is = rw (c, n, ne-eqb (vc .opened) 0 (λ q. omega arith), eq-eqb (vc .opened) 1 o, f, ex, ea) (λ ok v. no ok);
+        accepted-is = rw (c .0, c .1, c .2, n, ne-eqb (vc .opened) 0 (λ q. omega arith), eq-eqb (vc .opened) 1 o, f, ex, ea) (λ l ok v. no ok);
+        excess-is = rw (c .0, c .1, c .2, n, ne-eqb (vc .opened) 0 (λ q. omega arith), eq-eqb (vc .opened) 1 o, f, ex, ea) (λ ok v. no ok);
       }
 
-  at-connection : length cell =? 0 || noUserCell h ≡ false → namesConnection (k .v) h ≡ true
+  at-connection : Read → namesConnection (k .v) h ≡ true
       → (vc .opened ≡ 0) ⊎ ((vc .opened ≡ 1) ⊎ (1 < vc .opened)) → (f : Bool) → bucketsFit (k .n) vc ≡ f → Shows
   unfolding judgedOf judgedConnection letsIn
   at-connection c n (inl o) f ef =
       record {
-        accepted-is = rw (c, n, eq-eqb (vc .opened) 0 o) (λ l ok v. no v);
-        excess-is = rw (c, n, eq-eqb (vc .opened) 0 o) (λ ok v. absurd (omega arith));
+        accepted-is = rw (c .0, c .1, c .2, n, eq-eqb (vc .opened) 0 o) (λ l ok v. no v);
+        excess-is = rw (c .0, c .1, c .2, n, eq-eqb (vc .opened) 0 o) (λ ok v. absurd (omega arith));
       }
   at-connection c n (inr (inl o)) true ef =
-      in-bucket (verdictOn (h .clp) (connectionNow (k .t) vc) =? excess) (connectionNow (k .t) vc .waiting <? k .n) c n o ef refl refl
+      in-bucket (verdictOn clp (connectionNow (k .t) vc) =? excess) (connectionNow (k .t) vc .waiting <? k .n) c n o ef refl refl
   at-connection c n (inr (inl o)) false ef =
       record {
-        accepted-is = rw (c, n, ne-eqb (vc .opened) 0 (λ q. omega arith), eq-eqb (vc .opened) 1 o, ef) (λ l ok v. no ok);
-        excess-is = rw (c, n, ne-eqb (vc .opened) 0 (λ q. omega arith), eq-eqb (vc .opened) 1 o, ef) (λ ok v. no ok);
+        accepted-is = rw (c .0, c .1, c .2, n, ne-eqb (vc .opened) 0 (λ q. omega arith), eq-eqb (vc .opened) 1 o, ef) (λ l ok v. no ok);
+        excess-is = rw (c .0, c .1, c .2, n, ne-eqb (vc .opened) 0 (λ q. omega arith), eq-eqb (vc .opened) 1 o, ef) (λ ok v. no ok);
       }
   at-connection c n (inr (inr o)) f ef =
       record {
-        accepted-is = rw (c, n, ne-eqb (vc .opened) 0 (λ q. omega arith), ne-eqb (vc .opened) 1 (λ q. omega arith)) (λ l ok v. no ok);
-        excess-is = rw (c, n, ne-eqb (vc .opened) 0 (λ q. omega arith), ne-eqb (vc .opened) 1 (λ q. omega arith)) (λ ok v. no ok);
+        accepted-is = rw (c .0, c .1, c .2, n, ne-eqb (vc .opened) 0 (λ q. omega arith), ne-eqb (vc .opened) 1 (λ q. omega arith)) (λ l ok v. no ok);
+        excess-is = rw (c .0, c .1, c .2, n, ne-eqb (vc .opened) 0 (λ q. omega arith), ne-eqb (vc .opened) 1 (λ q. omega arith)) (λ ok v. no ok);
       }
 
-  at-cell : (c n : Bool) → length cell =? 0 || noUserCell h ≡ c → namesConnection (k .v) h ≡ n → Shows
+  at-cell : (l u f n : Bool) → (length cell =? 0) ≡ l → kindFits (k .kind) ≡ f → noUserCell h ≡ u → namesConnection (k .v) h ≡ n → Shows
   unfolding judgedOf letsIn
-  at-cell true n ec en =
-      record { accepted-is = rw ec (λ l ok v. no v); excess-is = rw ec (λ ok v. absurd (omega arith)) }
-  at-cell false true ec en = at-connection ec en (open-cases (vc .opened)) (bucketsFit (k .n) vc) refl
-  at-cell false false ec en =
-      record { accepted-is = rw (ec, en) (λ l ok v. no v); excess-is = rw (ec, en) (λ ok v. absurd (omega arith)) }
+  at-cell true u f n el ef eu en =
+      record { accepted-is = rw el (λ l ok v. no v); excess-is = rw el (λ ok v. absurd (omega arith)) }
+  at-cell false u false n el ef eu en = record { accepted-is = rw (el, ef) (λ l ok v. no ok); excess-is = rw (el, ef) (λ ok v. no ok) }
+  at-cell false true true n el ef eu en =
+      record { accepted-is = rw (el, ef, eu) (λ l ok v. no v); excess-is = rw (el, ef, eu) (λ ok v. absurd (omega arith)) }
+  at-cell false false true true el ef eu en =
+      at-connection (el, ef, eu) en (open-cases (vc .opened)) (bucketsFit (k .n) vc) refl
+  at-cell false false true false el ef eu en =
+      record { accepted-is = rw (el, ef, eu, en) (λ l ok v. no v); excess-is = rw (el, ef, eu, en) (λ ok v. absurd (omega arith)) }
 
   pub judged-shows : Shows
-  judged-shows = at-cell (length cell =? 0 || noUserCell h) (namesConnection (k .v) h) refl refl
+  judged-shows = at-cell (length cell =? 0) (noUserCell h) (kindFits (k .kind)) (namesConnection (k .v) h) refl refl refl refl
 
 -- ---- the seat
 entry-low : (N T D : ℕ) → T < N → D < N → entryOf N T D < N

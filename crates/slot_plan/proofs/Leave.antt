@@ -5,9 +5,9 @@ use mathlib.Core.Bool.{Bool, true, false, not, _&&_}
 use mathlib.Core.List.{List}
 use lib.ListN.{getD, set}
 use Rattle.meaning.specs.Plain.{if_then_else_, _<?_, _≤?_, _=?_, refused, next, needs, _andThen_}
-use Rattle.meaning.specs.Numbers.{empty, cellStart, waitingPlace}
+use Rattle.meaning.specs.Numbers.{empty, cellStart, waitingPlace, kindFits}
 use Rattle.meaning.specs.State.{State, stateOf, Ends, freeList, outputList, recordWith, withRecord, withLinks, withCalendar, withWords, withFreeList, withOutputList}
-use Rattle.meaning.specs.Header.{Header, headerAt, namesOpen}
+use Rattle.meaning.specs.Header.{Header, headerAt, connection, namesOpen}
 use Rattle.meaning.specs.Words.{Connection, connectionAt, writeConnection, withWaiting}
 use Rattle.meaning.specs.Lists.{emptyList, isEmpty, endsFit, entryAt, writeEntry, takeHead, Grown, joinTail, addTail}
 use Rattle.meaning.specs.Work.{Work, workOf, answerOf}
@@ -45,38 +45,41 @@ add-tail-is links free x = go (free .head =? empty)
 -- step 5, once the head x is taken and left is what remains of the Output List
 depart-is : (w : Work) (x : ℕ) (left : Ends)
     → depart w (record { space = x; left = left })
-    ≡ (if mayLeave (w .state .ctl .n) (w .state .ctl .v) (w .state .cells) (w .state .words) x
-    then leaving w (w .state .links) (w .state .calendar) (offAs true x (headerAt (w .state .cells) (cellStart x) .vci) left)
+    ≡ (if mayLeave (w .state .ctl .n) (w .state .ctl .v) (w .state .ctl .kind) (w .state .cells) (w .state .words) x
+    then leaving w (w .state .links) (w .state .calendar) (offAs true x (connection (w .state .ctl .v) (headerAt (w .state .ctl .kind) (w .state .cells) (cellStart x))) left)
     else refused)
 unfolding depart mayLeave leaving leftBy freed withEnds withOutputList withFreeList withLinks withWords withRecord recordWith
 depart-is w x left =
-    go (namesOpen (s .ctl .v) (s .words) h) (1 ≤? vc .waiting) (vc .waiting ≤? s .ctl .n) (endsFit (s .ctl .n) (freeList s))
+    go (kindFits (s .ctl .kind) && namesOpen (s .ctl .v) (s .words) h) (1 ≤? vc .waiting) (vc .waiting ≤? s .ctl .n) (endsFit (s .ctl .n) (freeList s))
   where
     s : State
     s = w .state
 
     h : Header
-    h = headerAt (s .cells) (cellStart x)
+    h = headerAt (s .ctl .kind) (s .cells) (cellStart x)
+
+    at : ℕ
+    at = connection (s .ctl .v) h
 
     vc : Connection
-    vc = connectionAt (s .words) (h .vci)
+    vc = connectionAt (s .words) at
 
     -- the work after the departure, from the Free List and the words as they then are
     made : Grown → List ℕ → Work
     made g words =
         workOf
         (stateOf (recordWith (s .ctl) (s .ctl .t) (s .ctl .turn) (s .ctl .rotation) (g .ends) left) (s .cells) (g .links) (s .calendar) words)
-        (answerOf (w .answer .number) (w .answer .verdict) (w .answer .vci) (w .answer .d) x (h .vci))
+        (answerOf (w .answer .number) (w .answer .verdict) (w .answer .vci) (w .answer .d) x at)
 
-    same : made (addTail (s .links) (freeList s) x) (writeConnection (s .words) (h .vci) (withWaiting vc (vc .waiting - 1)))
-        ≡ leftBy w (s .links) (s .calendar) (offAs true x (h .vci) left)
+    same : made (addTail (s .links) (freeList s) x) (writeConnection (s .words) at (withWaiting vc (vc .waiting - 1)))
+        ≡ leftBy w (s .links) (s .calendar) (offAs true x at left)
     same =
-        ap (λ (g : Grown). made g (writeConnection (s .words) (h .vci) (withWaiting vc (vc .waiting - 1)))) (add-tail-is (s .links) (freeList s) x)
-        ∙ ap (λ (l : List ℕ). made (grown (endsOf (if s .ctl .freehead =? empty then x else s .ctl .freehead) x) (linked (not (s .ctl .freehead =? empty)) (s .ctl .freetail) x (s .links))) l) (less-is (s .words) (h .vci))
+        ap (λ (g : Grown). made g (writeConnection (s .words) at (withWaiting vc (vc .waiting - 1)))) (add-tail-is (s .links) (freeList s) x)
+        ∙ ap (λ (l : List ℕ). made (grown (endsOf (if s .ctl .freehead =? empty then x else s .ctl .freehead) x) (linked (not (s .ctl .freehead =? empty)) (s .ctl .freetail) x (s .links))) l) (less-is (s .words) at)
 
     go : (a p q e : Bool)
-        → needs a (needs (p && q) (needs e (next (made (addTail (s .links) (freeList s) x) (writeConnection (s .words) (h .vci) (withWaiting vc (vc .waiting - 1)))))))
-        ≡ (if a && p && q then (if e then next (leftBy w (s .links) (s .calendar) (offAs true x (h .vci) left)) else refused) else refused)
+        → needs a (needs (p && q) (needs e (next (made (addTail (s .links) (freeList s) x) (writeConnection (s .words) at (withWaiting vc (vc .waiting - 1)))))))
+        ≡ (if a && p && q then (if e then next (leftBy w (s .links) (s .calendar) (offAs true x at left)) else refused) else refused)
     go true true true true = ap next same
     go true true true false = refl
     go true true false e = refl
@@ -86,7 +89,7 @@ depart-is w x left =
 -- what departs from any list, as numbers: the head is taken, then it departs
 take-off : (w : Work) (e : Ends)
     → (takeHead (w .state .ctl .n) (w .state .links) e andThen depart w)
-    ≡ leaving w (w .state .links) (w .state .calendar) (offOf (w .state .ctl .n) (w .state .ctl .v) (w .state .cells) (w .state .links) (w .state .words) (e .head) (e .tail))
+    ≡ leaving w (w .state .links) (w .state .calendar) (offOf (w .state .ctl .n) (w .state .ctl .v) (w .state .ctl .kind) (w .state .cells) (w .state .links) (w .state .words) (e .head) (e .tail))
 unfolding takeHead offOf leaving
 take-off w e = go (e .head =? e .tail) (follower <? s .ctl .n)
   where
@@ -94,13 +97,13 @@ take-off w e = go (e .head =? e .tail) (follower <? s .ctl .n)
     s = w .state
 
     vci : ℕ
-    vci = headerAt (s .cells) (cellStart (e .head)) .vci
+    vci = connection (s .ctl .v) (headerAt (s .ctl .kind) (s .cells) (cellStart (e .head)))
 
     follower : ℕ
     follower = getD (s .links) (e .head) 0
 
     may : Bool
-    may = mayLeave (s .ctl .n) (s .ctl .v) (s .cells) (s .words) (e .head)
+    may = mayLeave (s .ctl .n) (s .ctl .v) (s .ctl .kind) (s .cells) (s .words) (e .head)
 
     inside : (m : Bool) (o : Off) → (if m then leaving w (s .links) (s .calendar) o else refused) ≡ leaving w (s .links) (s .calendar) (if m then o else noneOff)
     inside true o = refl

@@ -6,41 +6,46 @@ use mathlib.Core.List.{List}
 use borrow.Author.Tests.{leb-true}
 use lib.ListN.{getD}
 use Rattle.meaning.specs.Plain.{if_then_else_, _<?_, _≤?_, _=?_}
-use Rattle.meaning.specs.Numbers.{empty, openPlace, waitingPlace, cellStart}
-use Rattle.meaning.specs.Header.{Header, headerAt, namesConnection, namesOpen}
+use Rattle.meaning.specs.Numbers.{empty, connectionsIn, kindFits, openPlace, waitingPlace, cellStart}
+use Rattle.meaning.specs.Header.{Header, headerAt, connection, namesConnection, namesOpen}
 use Rattle.meaning.specs.Words.{connectionAt}
+use Rattle.meaning.proofs.NamesLaws.{names-low}
 use Rattle.mem_lists.specs.declared.Off.{Off}
 use Rattle.mem_lists.specs.Spaces.{endsOf, offAs, noneOff, mayLeave, offOf}
 use Rattle.mem_lists.proofs.After.{Kept}
-use Rattle.slot_plan.proofs.Found.{no, and, names-facts}
+use Rattle.slot_plan.proofs.Found.{no, and}
 
-module _ (N z : ℕ) (cells links words : List ℕ) (x tail : ℕ) where
+module _ (N z kind : ℕ) (cells links words : List ℕ) (x tail : ℕ) where
   abbrev h : Header
-  h = headerAt cells (cellStart x)
+  h = headerAt kind cells (cellStart x)
+
+  abbrev at : ℕ
+  at = connection z h
 
   abbrev off : Off
-  off = offOf N z cells links words x tail
+  off = offOf N z kind cells links words x tail
 
-  may-shows : mayLeave N z cells words x ≡ true → (h .vci < z) × (1 ≤ getD words (waitingPlace (h .vci)) 0)
+  may-shows : mayLeave N z kind cells words x ≡ true → (at < connectionsIn z) × (1 ≤ getD words (waitingPlace at) 0)
   unfolding mayLeave namesOpen connectionAt
   may-shows e =
-      let p = and (namesConnection z h && getD words (openPlace (h .vci)) 0 =? 1 && 1 ≤? getD words (waitingPlace (h .vci)) 0) (getD words (waitingPlace (h .vci)) 0 ≤? N) e in
-      let q = and (namesConnection z h && getD words (openPlace (h .vci)) 0 =? 1) (1 ≤? getD words (waitingPlace (h .vci)) 0) (p .0) in
-      let r = and (namesConnection z h) (getD words (openPlace (h .vci)) 0 =? 1) (q .0) in
-      (names-facts z h (r .0) .2, leb-true _ _ (q .1))
+      let names = kindFits kind && (namesConnection z h && getD words (openPlace at) 0 =? 1) in
+      let p = and (names && 1 ≤? getD words (waitingPlace at) 0) (getD words (waitingPlace at) 0 ≤? N) e in
+      let q = and names (1 ≤? getD words (waitingPlace at) 0) (p .0) in
+      let r = and (kindFits kind) (namesConnection z h && getD words (openPlace at) 0 =? 1) (q .0) in
+      (names-low z h (and (namesConnection z h) (getD words (openPlace at) 0 =? 1) (r .1) .0), leb-true _ _ (q .1))
 
-  pub off-shows : off .ok ≡ true → (off .vci < z) × (1 ≤ getD words (waitingPlace (off .vci)) 0)
+  pub off-shows : off .ok ≡ true → (off .vci < connectionsIn z) × (1 ≤ getD words (waitingPlace (off .vci)) 0)
   unfolding offOf
-  off-shows = go (mayLeave N z cells words x) (x =? tail) (getD links x 0 <? N) refl
+  off-shows = go (mayLeave N z kind cells words x) (x =? tail) (getD links x 0 <? N) refl
     where
-      go : (m a f : Bool) → mayLeave N z cells words x ≡ m
-          → (let o = if m then (if a then offAs true x (h .vci) (endsOf empty empty) else if f then offAs true x (h .vci) (endsOf (getD links x 0) tail) else noneOff) else noneOff in
-          o .ok ≡ true → (o .vci < z) × (1 ≤ getD words (waitingPlace (o .vci)) 0))
+      go : (m a f : Bool) → mayLeave N z kind cells words x ≡ m
+          → (let o = if m then (if a then offAs true x at (endsOf empty empty) else if f then offAs true x at (endsOf (getD links x 0) tail) else noneOff) else noneOff in
+          o .ok ≡ true → (o .vci < connectionsIn z) × (1 ≤ getD words (waitingPlace (o .vci)) 0))
       go true true f e = λ ok. may-shows e
       go true false true e = λ ok. may-shows e
       go true false false e = λ ok. no ok
       go false a f e = λ ok. no ok
 
-  pub off-kept : (words′ : List ℕ) → Kept words words′ → offOf N z cells links words′ x tail ≡ off
+  pub off-kept : (words′ : List ℕ) → Kept words words′ → offOf N z kind cells links words′ x tail ≡ off
   unfolding offOf mayLeave namesOpen connectionAt
-  off-kept words′ kept = rw (kept .opened (h .vci), kept .waiting (h .vci))
+  off-kept words′ kept = rw (kept .opened at, kept .waiting at)

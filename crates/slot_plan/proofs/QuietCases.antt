@@ -36,7 +36,7 @@ module _ (k : Record) (b : Fall) (j : Judged) (cells links calendar words : List
   quiet-served s words′ p q e = rw (p, q, e)
 
   -- entry T is marked, from head to tail
-  module _ (head tail : ℕ) (o : Off) (is : o ≡ offOf (k .n) (k .v) cells (joinedLinks k (endsOf head tail) links) words (joinedHead k (endsOf head tail)) tail) where
+  module _ (head tail : ℕ) (o : Off) (is : o ≡ offOf (k .n) (k .v) (k .kind) cells (joinedLinks k (endsOf head tail) links) words (joinedHead k (endsOf head tail)) tail) where
     off-is : offMarked quiet-work (endsOf head tail) ≡ o
     off-is = quiet-marked-off k b j cells links calendar words (endsOf head tail) ∙ sym is
 
@@ -61,7 +61,7 @@ module _ (k : Record) (b : Fall) (j : Judged) (cells links calendar words : List
     marked-goes e f = marked-is ∙ leaving-go quiet-work _ _ o e f
 
   -- it is not, and the Output List has a head
-  module _ (o : Off) (is : o ≡ offOf (k .n) (k .v) cells links words (k .outhead) (k .outtail)) where
+  module _ (o : Off) (is : o ≡ offOf (k .n) (k .v) (k .kind) cells links words (k .outhead) (k .outtail)) where
     output-is : leavingOutput quiet-work ≡ leaving quiet-work links calendar o
     unfolding leavingOutput quietWork
     output-is = ap (leaving quiet-work links calendar) (quiet-output-off k b j cells links calendar words ∙ sym is)

@@ -1,5 +1,5 @@
--- Step 2 as it was found in numbers; and what step 3 then finds is what it would have found before step 2, since a VC
--- brought up to date at t is not moved by a second update at t.
+-- Step 2 as it was found in numbers; and what step 3 then finds is what it would have found before step 2, since a
+-- connection brought up to date at t is not moved by a second update at t.
 use Prim.Native.Nat.{ℕ, _+_, _-_, _*_, _%_, _^_, _≤_, _<_}
 use mathlib.Core.Path.{_≡_, refl, sym, _∙_, ap}
 use mathlib.Core.Logic.{_≢_, _⊎_, inl, inr}
@@ -12,9 +12,9 @@ use borrow.Author.Tests.{eq-eqb, ne-eqb, le-leb, lt-leb, leb-true}
 use lib.ListN.{length}
 use Rattle.meaning.specs.declared.Record.{Record}
 use Rattle.meaning.specs.Plain.{if_then_else_, _≤?_, _=?_, refused, next}
-use Rattle.meaning.specs.Numbers.{slotNumbers, unknown, wordsPerConnection, connectionPlace}
+use Rattle.meaning.specs.Numbers.{slotNumbers, unused, unknown, wordsPerConnection, connectionPlace}
 use Rattle.meaning.specs.State.{stateOf, withWords}
-use Rattle.meaning.specs.Header.{headerAt}
+use Rattle.meaning.specs.Header.{headerAt, clpIn, connection}
 use Rattle.meaning.specs.Bucket.{Bucket, withS, elapsed, fall, obeysRules, obeysSecond, isNone}
 use Rattle.meaning.specs.Words.{Connection, connectionAt, writeConnection, bucketFits, secondObeys, secondFits, bucketsFit, openWordFits, fallenTo, upToDate}
 use Rattle.meaning.specs.Work.{workOf, bareAnswer}
@@ -34,7 +34,7 @@ open-cases o = go (ℕ-discrete o 0) (ℕ-discrete o 1)
     go (no e) (yes f) = inr (inl f)
     go (no e) (no f) = inr (inr (omega arith))
 
--- a VC brought up to date at t is written as S of both buckets and last
+-- a connection brought up to date at t is written as S of both buckets and last
 pub update-is : (words : List ℕ) (vci t : ℕ)
     → writeConnection words vci (connectionNow t (connectionAt words vci))
     ≡ fallen true vci (connectionNow t (connectionAt words vci) .bucket .S) (connectionNow t (connectionAt words vci) .second .S) t words
@@ -43,11 +43,11 @@ update-is words vci t = write-fall words vci _ t _
 
 -- step 2 of a work whose record is k
 pub rotate-is : (k : Record) (cells links calendar words : List ℕ) (b : Fall)
-    → b ≡ broughtOf (k .n) (k .t) words (k .rotation)
+    → b ≡ broughtOf (k .n) (k .v) (k .t) words (k .rotation)
     → step2 (workOf (stateOf k cells links calendar words) (bareAnswer 0))
     ≡ (if b .ok then next (rotatedWork k cells links calendar (rotated k b words)) else refused)
 unfolding step2 broughtOf connectionNow rotatedWork rotated fallen openWordFits upToDate withWords
-rotate-is k cells links calendar words b e = rw e (first (ℕ-discrete vci 0))
+rotate-is k cells links calendar words b e = rw e (first (unused (k .v) vci) refl)
   where
     vci : ℕ
     vci = k .rotation
@@ -58,28 +58,28 @@ rotate-is k cells links calendar words b e = rw e (first (ℕ-discrete vci 0))
     Goal : Type 0
     Goal =
         step2 (workOf (stateOf k cells links calendar words) (bareAnswer 0))
-        ≡ (if broughtOf (k .n) (k .t) words vci .ok
-        then next (rotatedWork k cells links calendar (rotated k (broughtOf (k .n) (k .t) words vci) words))
+        ≡ (if broughtOf (k .n) (k .v) (k .t) words vci .ok
+        then next (rotatedWork k cells links calendar (rotated k (broughtOf (k .n) (k .v) (k .t) words vci) words))
         else refused)
 
-    fits : vci ≢ 0 → vc .opened ≡ 1 → (f : Bool) → bucketsFit (k .n) vc ≡ f → Goal
+    fits : unused (k .v) vci ≡ false → vc .opened ≡ 1 → (f : Bool) → bucketsFit (k .n) vc ≡ f → Goal
     fits h o true f =
-        rw (ne-eqb vci 0 h, le-leb (vc .opened) 1 (omega arith), ne-eqb (vc .opened) 0 (λ q. omega arith), eq-eqb (vc .opened) 1 o, f)
+        rw (h, le-leb (vc .opened) 1 (omega arith), ne-eqb (vc .opened) 0 (λ q. omega arith), eq-eqb (vc .opened) 1 o, f)
         (ap (λ (l : List ℕ). next (workOf (stateOf k cells links calendar l) (bareAnswer 0))) (update-is words vci (k .t)))
     fits h o false f =
-        rw (ne-eqb vci 0 h, le-leb (vc .opened) 1 (omega arith), ne-eqb (vc .opened) 0 (λ q. omega arith), eq-eqb (vc .opened) 1 o, f)
+        rw (h, le-leb (vc .opened) 1 (omega arith), ne-eqb (vc .opened) 0 (λ q. omega arith), eq-eqb (vc .opened) 1 o, f)
 
-    second : vci ≢ 0 → (vc .opened ≡ 0) ⊎ ((vc .opened ≡ 1) ⊎ (1 < vc .opened)) → Goal
-    second h (inl o) = rw (ne-eqb vci 0 h, le-leb (vc .opened) 1 (omega arith), eq-eqb (vc .opened) 0 o)
+    second : unused (k .v) vci ≡ false → (vc .opened ≡ 0) ⊎ ((vc .opened ≡ 1) ⊎ (1 < vc .opened)) → Goal
+    second h (inl o) = rw (h, le-leb (vc .opened) 1 (omega arith), eq-eqb (vc .opened) 0 o)
     second h (inr (inl o)) = fits h o (bucketsFit (k .n) vc) refl
     second h (inr (inr o)) =
-        rw (ne-eqb vci 0 h, lt-leb (vc .opened) 1 o, ne-eqb (vc .opened) 0 (λ q. omega arith), ne-eqb (vc .opened) 1 (λ q. omega arith))
+        rw (h, lt-leb (vc .opened) 1 o, ne-eqb (vc .opened) 0 (λ q. omega arith), ne-eqb (vc .opened) 1 (λ q. omega arith))
 
-    first : Dec (vci ≡ 0) → Goal
-    first (yes h) = rw (eq-eqb vci 0 h)
-    first (no h) = second h (open-cases (vc .opened))
+    first : (d : Bool) → unused (k .v) vci ≡ d → Goal
+    first true h = rw h
+    first false h = second h (open-cases (vc .opened))
 
--- what step 2 found of an open VC
+-- what step 2 found of an open connection
 pub record Brought (N t : ℕ) (vc : Connection) (b : Fall) : Type 0 where
   pub opened-one : vc .opened ≡ 1
   pub fits : bucketsFit N vc ≡ true
@@ -89,32 +89,32 @@ pub record Brought (N t : ℕ) (vc : Connection) (b : Fall) : Type 0 where
 no-fall : {A : Type 0} → false ≡ true → A
 no-fall e = let y : _≡_ {A = ℕ} 0 1 = cc in absurd (omega arith)
 
-pub brought-on : (N t : ℕ) (words : List ℕ) (vci : ℕ) → broughtOf N t words vci .on ≡ true
-    → Brought N t (connectionAt words vci) (broughtOf N t words vci)
+pub brought-on : (N z t : ℕ) (words : List ℕ) (vci : ℕ) → broughtOf N z t words vci .on ≡ true
+    → Brought N t (connectionAt words vci) (broughtOf N z t words vci)
 unfolding broughtOf
-brought-on N t words vci = first (ℕ-discrete vci 0)
+brought-on N z t words vci = first (unused z vci) refl
   where
     vc : Connection
     vc = connectionAt words vci
 
     Goal : Type 0
-    Goal = broughtOf N t words vci .on ≡ true → Brought N t vc (broughtOf N t words vci)
+    Goal = broughtOf N z t words vci .on ≡ true → Brought N t vc (broughtOf N z t words vci)
 
-    fits : vci ≢ 0 → vc .opened ≡ 1 → (f : Bool) → bucketsFit N vc ≡ f → Goal
+    fits : unused z vci ≡ false → vc .opened ≡ 1 → (f : Bool) → bucketsFit N vc ≡ f → Goal
     fits h o true f =
-        rw (ne-eqb vci 0 h, ne-eqb (vc .opened) 0 (λ q. omega arith), eq-eqb (vc .opened) 1 o, f)
+        rw (h, ne-eqb (vc .opened) 0 (λ q. omega arith), eq-eqb (vc .opened) 1 o, f)
         (λ on. record { opened-one = o; fits = f; falls-to = refl; second-to = refl })
-    fits h o false f = rw (ne-eqb vci 0 h, ne-eqb (vc .opened) 0 (λ q. omega arith), eq-eqb (vc .opened) 1 o, f) no-fall
+    fits h o false f = rw (h, ne-eqb (vc .opened) 0 (λ q. omega arith), eq-eqb (vc .opened) 1 o, f) no-fall
 
-    second : vci ≢ 0 → (vc .opened ≡ 0) ⊎ ((vc .opened ≡ 1) ⊎ (1 < vc .opened)) → Goal
-    second h (inl o) = rw (ne-eqb vci 0 h, eq-eqb (vc .opened) 0 o) no-fall
+    second : unused z vci ≡ false → (vc .opened ≡ 0) ⊎ ((vc .opened ≡ 1) ⊎ (1 < vc .opened)) → Goal
+    second h (inl o) = rw (h, eq-eqb (vc .opened) 0 o) no-fall
     second h (inr (inl o)) = fits h o (bucketsFit N vc) refl
     second h (inr (inr o)) =
-        rw (ne-eqb vci 0 h, ne-eqb (vc .opened) 0 (λ q. omega arith), ne-eqb (vc .opened) 1 (λ q. omega arith)) no-fall
+        rw (h, ne-eqb (vc .opened) 0 (λ q. omega arith), ne-eqb (vc .opened) 1 (λ q. omega arith)) no-fall
 
-    first : Dec (vci ≡ 0) → Goal
-    first (yes h) = rw (eq-eqb vci 0 h) no-fall
-    first (no h) = second h (open-cases (vc .opened))
+    first : (d : Bool) → unused z vci ≡ d → Goal
+    first true h = rw h no-fall
+    first false h = second h (open-cases (vc .opened))
 
 -- no slot has passed since t
 elapsed-none : (t : ℕ) → elapsed t t ≡ 0
@@ -170,35 +170,35 @@ still-fits N t vc e =
     rw (peak-fits N slots (vc .bucket) (and-left peak more e)) (second-fits slots (vc .second) (vc .tag) (and-right peak more e))
 
 -- a VC as step 3 sees it, before and after step 2
-abbrev judgedAt : ℕ → ℕ → ℕ → ℕ → Connection → Judged
-judgedAt N t vci clp vc =
+abbrev judgedAt : ℕ → ℕ → ℕ → ℕ → ℕ → Connection → Judged
+judgedAt N t vci c clp vc =
     if vc .opened =? 0 then judgedAs true unknown vci 0 0 0 0
     else if vc .opened =? 1
-    then (if bucketsFit N vc then judgedBuckets N vci clp (connectionNow t vc) else outOfRange)
+    then (if bucketsFit N vc then judgedBuckets N c clp (connectionNow t vc) else outOfRange)
     else outOfRange
 
 opened-now : (t : ℕ) (vc : Connection) → connectionNow t vc .opened ≡ vc .opened
 unfolding connectionNow fallenTo
 opened-now t vc = refl
 
-judged-open : (N t vci clp : ℕ) (vc : Connection) → vc .opened ≡ 1 → bucketsFit N vc ≡ true
-    → judgedAt N t vci clp vc ≡ judgedBuckets N vci clp (connectionNow t vc)
-judged-open N t vci clp vc o f = rw (ne-eqb (vc .opened) 0 (λ q. omega arith), eq-eqb (vc .opened) 1 o, f)
+judged-open : (N t vci c clp : ℕ) (vc : Connection) → vc .opened ≡ 1 → bucketsFit N vc ≡ true
+    → judgedAt N t vci c clp vc ≡ judgedBuckets N c clp (connectionNow t vc)
+judged-open N t vci c clp vc o f = rw (ne-eqb (vc .opened) 0 (λ q. omega arith), eq-eqb (vc .opened) 1 o, f)
 
-judged-again : (N t vci clp : ℕ) (vc : Connection) → vc .opened ≡ 1 → bucketsFit N vc ≡ true
-    → judgedAt N t vci clp (connectionNow t vc) ≡ judgedAt N t vci clp vc
-judged-again N t vci clp vc o f =
-    judged-open N t vci clp (connectionNow t vc) (opened-now t vc ∙ o) (still-fits N t vc f)
-    ∙ ap (judgedBuckets N vci clp) (again t vc)
-    ∙ sym (judged-open N t vci clp vc o f)
+judged-again : (N t vci c clp : ℕ) (vc : Connection) → vc .opened ≡ 1 → bucketsFit N vc ≡ true
+    → judgedAt N t vci c clp (connectionNow t vc) ≡ judgedAt N t vci c clp vc
+judged-again N t vci c clp vc o f =
+    judged-open N t vci c clp (connectionNow t vc) (opened-now t vc ∙ o) (still-fits N t vc f)
+    ∙ ap (judgedBuckets N c clp) (again t vc)
+    ∙ sym (judged-open N t vci c clp vc o f)
 
--- what step 3 finds at a VC is what it would have found before step 2
-pub judged-connection-same : (k : Record) (words : List ℕ) (vci clp : ℕ) (b : Fall)
-    → b ≡ broughtOf (k .n) (k .t) words (k .rotation)
+-- what step 3 finds at a connection is what it would have found before step 2
+pub judged-connection-same : (k : Record) (words : List ℕ) (vci c clp : ℕ) (b : Fall)
+    → b ≡ broughtOf (k .n) (k .v) (k .t) words (k .rotation)
     → connectionPlace (k .rotation) + wordsPerConnection ≤ length words
-    → judgedConnection (k .n) (k .t) (rotated k b words) vci clp ≡ judgedConnection (k .n) (k .t) words vci clp
+    → judgedConnection (k .n) (k .t) (rotated k b words) vci c clp ≡ judgedConnection (k .n) (k .t) words vci c clp
 unfolding judgedConnection rotated fallen
-judged-connection-same k words vci clp b e inside = go (b .on) refl (ℕ-discrete vci (k .rotation))
+judged-connection-same k words vci c clp b e inside = go (b .on) refl (ℕ-discrete c (k .rotation))
   where
     at : ℕ
     at = k .rotation
@@ -207,10 +207,10 @@ judged-connection-same k words vci clp b e inside = go (b .on) refl (ℕ-discret
     vc = connectionAt words at
 
     seen : Connection → Judged
-    seen = judgedAt (k .n) (k .t) vci clp
+    seen = judgedAt (k .n) (k .t) vci c clp
 
-    found : b .on ≡ true → Brought (k .n) (k .t) vc (broughtOf (k .n) (k .t) words at)
-    found on = brought-on (k .n) (k .t) words at (sym (ap (λ (f : Fall). f .on) e) ∙ on)
+    found : b .on ≡ true → Brought (k .n) (k .t) vc (broughtOf (k .n) (k .v) (k .t) words at)
+    found on = brought-on (k .n) (k .v) (k .t) words at (sym (ap (λ (f : Fall). f .on) e) ∙ on)
 
     wrote : b .on ≡ true → rotated k b words ≡ writeConnection words at (connectionNow (k .t) vc)
     wrote on =
@@ -220,23 +220,25 @@ judged-connection-same k words vci clp b e inside = go (b .on) refl (ℕ-discret
         (ap (λ (f : Fall). f .second) e ∙ found on .second-to)
         ∙ sym (update-is words at (k .t))
 
-    go : (on : Bool) → b .on ≡ on → Dec (vci ≡ at)
-        → judgedConnection (k .n) (k .t) (rotated k b words) vci clp ≡ judgedConnection (k .n) (k .t) words vci clp
-    go false off d = ap (λ (f : Bool). seen (connectionAt (fallen f at (b .s) (b .second) (k .t) words) vci)) off
+    go : (on : Bool) → b .on ≡ on → Dec (c ≡ at)
+        → judgedConnection (k .n) (k .t) (rotated k b words) vci c clp ≡ judgedConnection (k .n) (k .t) words vci c clp
+    go false off d = ap (λ (f : Bool). seen (connectionAt (fallen f at (b .s) (b .second) (k .t) words) c)) off
     go true on (yes q) =
-        ap (λ (l : List ℕ). seen (connectionAt l vci)) (wrote on)
+        ap (λ (l : List ℕ). seen (connectionAt l c)) (wrote on)
         ∙ ap (λ (v : ℕ). seen (connectionAt (writeConnection words at (connectionNow (k .t) vc)) v)) q
         ∙ ap seen (write-read words at (connectionNow (k .t) vc) inside)
-        ∙ judged-again (k .n) (k .t) vci clp vc (found on .opened-one) (found on .fits)
+        ∙ judged-again (k .n) (k .t) vci c clp vc (found on .opened-one) (found on .fits)
         ∙ ap (λ (v : ℕ). seen (connectionAt words v)) (sym q)
     go true on (no q) =
-        ap (λ (l : List ℕ). seen (connectionAt l vci)) (wrote on)
-        ∙ ap seen (write-read-other words at (connectionNow (k .t) vc) vci q)
+        ap (λ (l : List ℕ). seen (connectionAt l c)) (wrote on)
+        ∙ ap seen (write-read-other words at (connectionNow (k .t) vc) c q)
 
 -- and so of every cell
 pub judged-same : (k : Record) (words cell : List ℕ) (b : Fall)
-    → b ≡ broughtOf (k .n) (k .t) words (k .rotation)
+    → b ≡ broughtOf (k .n) (k .v) (k .t) words (k .rotation)
     → connectionPlace (k .rotation) + wordsPerConnection ≤ length words
-    → judgedOf (k .n) (k .v) (k .t) (rotated k b words) cell ≡ judgedOf (k .n) (k .v) (k .t) words cell
+    → judgedOf (k .n) (k .v) (k .kind) (k .t) (rotated k b words) cell ≡ judgedOf (k .n) (k .v) (k .kind) (k .t) words cell
 unfolding judgedOf
-judged-same k words cell b e inside = rw (judged-connection-same k words (headerAt cell 0 .vci) (headerAt cell 0 .clp) b e inside)
+judged-same k words cell b e inside =
+    let h = headerAt (k .kind) cell 0 in
+    rw (judged-connection-same k words (h .vci) (connection (k .v) h) (clpIn cell) b e inside)

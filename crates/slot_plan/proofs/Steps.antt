@@ -50,14 +50,14 @@ module _ (k : Record) (j : Judged) (cell cells links calendar words : List ℕ) 
   seating-unfit e f = seating-goes e ∙ unfit-output (acceptWork k j a cell cells links calendar words) _ refl f
 
 -- ---- steps 2 and 3
-module _ (k : Record) (cell cells links calendar words : List ℕ) (b : Fall) (is : b ≡ broughtOf (k .n) (k .t) words (k .rotation)) where
+module _ (k : Record) (cell cells links calendar words : List ℕ) (b : Fall) (is : b ≡ broughtOf (k .n) (k .v) (k .t) words (k .rotation)) where
   abbrev from2 : Out Work
   from2 = step2 (workOf (stateOf k cells links calendar words) (bareAnswer 0)) andThen step3 cell andThen step4 andThen step5
 
   pub rotating-none : b .ok ≡ false → from2 ≡ refused
   rotating-none e = rw (rotate-is k cells links calendar words b is, e)
 
-  module _ (j : Judged) (found : j ≡ judgedOf (k .n) (k .v) (k .t) words cell) (inside : connectionPlace (k .rotation) + wordsPerConnection ≤ length words) (ok : b .ok ≡ true) where
+  module _ (j : Judged) (found : j ≡ judgedOf (k .n) (k .v) (k .kind) (k .t) words cell) (inside : connectionPlace (k .rotation) + wordsPerConnection ≤ length words) (ok : b .ok ≡ true) where
     rotates : step2 (workOf (stateOf k cells links calendar words) (bareAnswer 0)) ≡ next (rotatedWork k cells links calendar (rotated k b words))
     rotates = rw (rotate-is k cells links calendar words b is, ok)
 

@@ -1,7 +1,7 @@
 -- What is known where the slot's cases write: each is shown by the tests that came before, and asked of the caller.
 --
 --   Sized s          == refusals 1 and 2 are not given, and the clock has moved
---   Accepted k j ..  == of an accepted cell: its VC, its D and its waiting
+--   Accepted k j ..  == of an accepted cell: its connection, its D and its waiting
 --   Seated k a       == of an accepted cell: its space and entry, and the Free List without the space
 --   OffStored k ..   == what departs once the cell is stored and counted, from memory as it came
 use Prim.Native.Nat.{ℕ, _*_, _≤_, _<_}
@@ -11,11 +11,12 @@ use mathlib.Core.List.{List}
 use lib.ListN.{length}
 use Rattle.meaning.specs.declared.Record.{Record}
 use Rattle.meaning.specs.Plain.{_=?_}
-use Rattle.meaning.specs.Numbers.{mostN, leastV, mostV, octets, perEntry, wordsPerConnection, empty, letsIn}
+use Rattle.meaning.specs.Numbers.{mostN, leastV, mostV, octets, perEntry, connectionsIn, wordsIn, empty, letsIn}
 use Rattle.meaning.specs.State.{State, Ends}
 use Rattle.meaning.specs.Header.{headerAt}
 use Rattle.meaning.specs.Words.{connectionAt}
 use Rattle.meaning.specs.Lists.{endsFit}
+use Rattle.leaf_header.specs.Name.{numbered}
 use Rattle.slot_arrive.specs.declared.Judged.{Judged}
 use Rattle.mem_lists.specs.declared.Seat.{Seat}
 use Rattle.mem_lists.specs.declared.Off.{Off}
@@ -31,21 +32,20 @@ pub record Sized (s : State) : Type 0 where
   pub cells-long : length (s .cells) ≡ octets * s .ctl .n
   pub links-long : length (s .links) ≡ s .ctl .n
   pub calendar-long : length (s .calendar) ≡ perEntry * s .ctl .n
-  pub words-long : length (s .words) ≡ wordsPerConnection * s .ctl .v
+  pub words-long : length (s .words) ≡ wordsIn (s .ctl .v)
   pub turn-low : s .ctl .turn < s .ctl .n
-  pub rotation-low : s .ctl .rotation < s .ctl .v
+  pub rotation-low : s .ctl .rotation < connectionsIn (s .ctl .v)
 
 pub record Accepted (k : Record) (j : Judged) (cell words : List ℕ) : Type 0 where
   pub let-in : letsIn (j .verdict) ≡ true
   pub vci-low : 1 ≤ j .vci
-  pub vci-high : j .vci < k .v
+  pub vci-high : j .vci < connectionsIn (k .v)
   pub near : j .d < k .n
   pub waiting-low : 1 ≤ j .waiting
   pub waiting-high : j .waiting ≤ k .n
   pub is-open : connectionAt words (j .vci) .opened ≡ 1
   pub cell-long : length cell ≡ octets
-  pub vpi-is : headerAt cell 0 .vpi ≡ 0
-  pub vci-is : headerAt cell 0 .vci ≡ j .vci
+  pub names : numbered (k .kind) (k .v) (headerAt (k .kind) cell 0) ≡ j .vci
 
 pub record Seated (k : Record) (a : Seat) : Type 0 where
   pub x-low : a .x < k .n
@@ -53,9 +53,9 @@ pub record Seated (k : Record) (a : Seat) : Type 0 where
   pub entry-fits : endsFit (k .n) (endsOf (a .head) (a .tail)) ≡ true
   pub free-fits : endsFit (k .n) (endsOf (a .freehead) (a .freetail)) ≡ true
 
--- entry is what has joined the Output List, where joins: the cell's header and its VC's words need no second reading
+-- entry is what has joined the Output List, where joins: the cell's header and its connection's words need no second reading
 abbrev pub OffStored : Record → Judged → Seat → List ℕ → List ℕ → List ℕ → Bool → Ends → Off → Type 0
 OffStored k j a cells links words joins entry o =
     o
-    ≡ offAfter (k .n) (k .v) cells (linked joins (k .outtail) (entry .head) (linked (not (a .head =? empty)) (a .x) (a .head) links)) words
+    ≡ offAfter (k .n) (k .v) (k .kind) cells (linked joins (k .outtail) (entry .head) (linked (not (a .head =? empty)) (a .x) (a .head) links)) words
     (j .vci) (a .x) (joinedHead k entry) (entry .tail)

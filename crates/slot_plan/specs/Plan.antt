@@ -15,7 +15,7 @@ use mathlib.Core.List.{List}
 use Rattle.meaning.specs.declared.Record.{Record}
 use Rattle.meaning.specs.declared.Served.{Served}
 use Rattle.meaning.specs.Plain.{if_then_else_, _=?_, Out, refused, next, needs, _andThen_}
-use Rattle.meaning.specs.Numbers.{slotNumbers, empty, excess}
+use Rattle.meaning.specs.Numbers.{slotNumbers, connectionsIn, empty, excess}
 use Rattle.meaning.specs.State.{stateOf, Ends, freeList, recordWith, writeCell}
 use Rattle.meaning.specs.Lists.{emptyList, isEmpty, endsFit, writeEntry, takeHead}
 use Rattle.meaning.specs.Work.{Work, workOf, answerOf, bareAnswer}
@@ -39,7 +39,7 @@ outputEnds r = endsOf (r .outhead) (r .outtail)
 
 unfoldable pub clocked : Record → Record
 clocked r =
-    recordWith r ((r .t + 1) % slotNumbers) ((r .turn + 1) % r .n) ((r .rotation + 1) % r .v) (freeEnds r) (outputEnds r)
+    recordWith r ((r .t + 1) % slotNumbers) ((r .turn + 1) % r .n) ((r .rotation + 1) % connectionsIn (r .v)) (freeEnds r) (outputEnds r)
 
 unfoldable pub rotated : Record → Fall → List ℕ → List ℕ
 rotated k b words = fallen (b .on) (k .rotation) (b .s) (b .second) (k .t) words
@@ -111,12 +111,12 @@ joinedHead r entry = if r .outhead =? empty then entry .head else r .outhead
 unfoldable pub offMarked : Work → Ends → Off
 offMarked w entry =
     let s = w .state in
-    offOf (s .ctl .n) (s .ctl .v) (s .cells) (joinedLinks (s .ctl) entry (s .links)) (s .words) (joinedHead (s .ctl) entry) (entry .tail)
+    offOf (s .ctl .n) (s .ctl .v) (s .ctl .kind) (s .cells) (joinedLinks (s .ctl) entry (s .links)) (s .words) (joinedHead (s .ctl) entry) (entry .tail)
 
 unfoldable pub offUnmarked : Work → Off
 offUnmarked w =
     let s = w .state in
-    offOf (s .ctl .n) (s .ctl .v) (s .cells) (s .links) (s .words) (s .ctl .outhead) (s .ctl .outtail)
+    offOf (s .ctl .n) (s .ctl .v) (s .ctl .kind) (s .cells) (s .links) (s .words) (s .ctl .outhead) (s .ctl .outtail)
 
 -- steps 4 and 5 of a work after step 3: entry T is marked, with these ends; or it is not, and the Output List has a head
 unfoldable pub leavingMarked : Work → Ends → Out Work

@@ -5,7 +5,7 @@ ghost use mathlib.Core.List.{List};
 ghost use Prim.Native.Nat.{ℕ, _+_, _*_, _≤_, _<_};
 ghost use lib.ListN.{length, getD};
 ghost use Rattle.meaning.specs.Plain.{_=?_};
-ghost use Rattle.meaning.specs.Numbers.{excess, waitingPlace, mostN, mostV, octets, wordsIn};
+ghost use Rattle.meaning.specs.Numbers.{excess, waitingPlace, mostN, mostV, octets, connectionsIn, wordsIn};
 ghost use Rattle.meaning.specs.State.{HasConnection};
 ghost use Rattle.meaning.specs.Lists.{endsFit};
 ghost use Rattle.meaning.specs.Lent.{here, before, Gives};
@@ -43,8 +43,8 @@ fn quiet_end(
     links: &mut [u16],
     words: &mut [u32],
 ) -> Served
-    requires { ⌜ (length (now links) ≡ k .n) × (length (now words) ≡ wordsIn (k .v)) × (k .rotation < k .v) × (o .vci < k .v) × (1 ≤ getD (now words) (waitingPlace (o .vci)) 0) ⌝ }
-    requires { ⌜ (j .verdict =? excess ≡ true → j .vci < k .v) ⌝ }
+    requires { ⌜ (length (now links) ≡ k .n) × (length (now words) ≡ wordsIn (k .v)) × (k .rotation < connectionsIn (k .v)) × (o .vci < connectionsIn (k .v)) × (1 ≤ getD (now words) (waitingPlace (o .vci)) 0) ⌝ }
+    requires { ⌜ (j .verdict =? excess ≡ true → j .vci < connectionsIn (k .v)) ⌝ }
     requires { ⌜ (joins ≡ true → k .outtail < k .n) ⌝ }
     requires { ⌜ endsFit (k .n) (endsOf (k .freehead) (k .freetail)) ≡ true ⌝ }
     ensures { λ s. ⌜ ((cells calendar calendar′ : List ℕ) → EndsWith cells calendar calendar′ k b j o joins head s links words) ⌝ }
@@ -59,10 +59,10 @@ fn quiet_end(
 fn off_marked(k: Record, head: u16, tail: u16, cells: &[u8], links: &[u16], words: &[u32]) -> Off
     requires { ⌜ (k .n ≤ mostN) × (k .v ≤ mostV) × (head < k .n) × (length (now cells) ≡ octets * k .n) × (length (now links) ≡ k .n) × (length (now words) ≡ wordsIn (k .v)) ⌝ }
     requires { ⌜ endsFit (k .n) (endsOf (k .outhead) (k .outtail)) ≡ true ⌝ }
-    ensures { λ r. ⌜ r ≡ offOf (k .n) (k .v) (now (cells .entry)) (joinedLinks k (endsOf head tail) (now (links .entry))) (now (words .entry)) (joinedHead k (endsOf head tail)) tail ⌝ }
+    ensures { λ r. ⌜ r ≡ offOf (k .n) (k .v) (k .kind) (now (cells .entry)) (joinedLinks k (endsOf head tail) (now (links .entry))) (now (words .entry)) (joinedHead k (endsOf head tail)) tail ⌝ }
 {
     if k.outhead == 65535 {
-        let o = mem_lists::off_head(k.n, k.v, cells, links, words, head, tail);
+        let o = mem_lists::off_head(k.n, k.v, k.kind, cells, links, words, head, tail);
         return Off {
             ok: o.ok,
             space: o.space,
@@ -74,6 +74,7 @@ fn off_marked(k: Record, head: u16, tail: u16, cells: &[u8], links: &[u16], word
     let o = mem_lists::off_joined(
         k.n,
         k.v,
+        k.kind,
         cells,
         links,
         words,
@@ -105,7 +106,7 @@ fn quiet_marked(
     words: &mut [u32],
 ) -> Served
     requires { ⌜ Sized (here k cells links calendar words) ⌝ }
-    requires { ⌜ (j .verdict =? excess ≡ true → j .vci < k .v) ⌝ }
+    requires { ⌜ (j .verdict =? excess ≡ true → j .vci < connectionsIn (k .v)) ⌝ }
     requires { ⌜ (head < k .n) × (endsFit (k .n) (endsOf (k .outhead) (k .outtail)) ≡ true) ⌝ }
     ensures { λ s. ⌜ Gives r (leavingMarked (quietOf (before k cells links calendar words) b j) (endsOf head tail)) s cells links calendar words ⌝ }
 {
@@ -130,12 +131,12 @@ fn quiet_output(
     links: &mut [u16],
     words: &mut [u32],
 ) -> Served
-    requires { ⌜ (k .n ≤ mostN) × (k .v ≤ mostV) × (length (now cells) ≡ octets * k .n) × (length (now links) ≡ k .n) × (length (now words) ≡ wordsIn (k .v)) × (k .rotation < k .v) ⌝ }
+    requires { ⌜ (k .n ≤ mostN) × (k .v ≤ mostV) × (length (now cells) ≡ octets * k .n) × (length (now links) ≡ k .n) × (length (now words) ≡ wordsIn (k .v)) × (k .rotation < connectionsIn (k .v)) ⌝ }
     requires { ⌜ k .outhead < k .n ⌝ }
-    requires { ⌜ (j .verdict =? excess ≡ true → j .vci < k .v) ⌝ }
+    requires { ⌜ (j .verdict =? excess ≡ true → j .vci < connectionsIn (k .v)) ⌝ }
     ensures { λ s. ⌜ ((calendar : List ℕ) → GivesWith calendar r k b j leavingOutput s cells links words) ⌝ }
 {
-    let o = mem_lists::off_head(k.n, k.v, cells, links, words, k.outhead, k.outtail);
+    let o = mem_lists::off_head(k.n, k.v, k.kind, cells, links, words, k.outhead, k.outtail);
     if !o.ok {
         return slot_depart::refuse(r, 3);
     }
@@ -147,8 +148,8 @@ fn quiet_output(
 
 // No cell was accepted, and nothing departs.
 fn quiet_none(k: Record, b: Fall, j: Judged, words: &mut [u32]) -> Served
-    requires { ⌜ (length (now words) ≡ wordsIn (k .v)) × (k .rotation < k .v) ⌝ }
-    requires { ⌜ (j .verdict =? excess ≡ true → j .vci < k .v) ⌝ }
+    requires { ⌜ (length (now words) ≡ wordsIn (k .v)) × (k .rotation < connectionsIn (k .v)) ⌝ }
+    requires { ⌜ (j .verdict =? excess ≡ true → j .vci < connectionsIn (k .v)) ⌝ }
     ensures { λ s. ⌜ ((cells links calendar : List ℕ) → KeepsWith cells links calendar k b j s words) ⌝ }
 {
     words_fall(k, b, j, words);
@@ -176,8 +177,8 @@ fn quiet_unmarked(
     links: &mut [u16],
     words: &mut [u32],
 ) -> Served
-    requires { ⌜ (k .n ≤ mostN) × (k .v ≤ mostV) × (length (now cells) ≡ octets * k .n) × (length (now links) ≡ k .n) × (length (now words) ≡ wordsIn (k .v)) × (k .rotation < k .v) ⌝ }
-    requires { ⌜ (j .verdict =? excess ≡ true → j .vci < k .v) ⌝ }
+    requires { ⌜ (k .n ≤ mostN) × (k .v ≤ mostV) × (length (now cells) ≡ octets * k .n) × (length (now links) ≡ k .n) × (length (now words) ≡ wordsIn (k .v)) × (k .rotation < connectionsIn (k .v)) ⌝ }
+    requires { ⌜ (j .verdict =? excess ≡ true → j .vci < connectionsIn (k .v)) ⌝ }
     ensures { λ s. ⌜ ((calendar : List ℕ) → GivesWith calendar r k b j leavingUnmarked s cells links words) ⌝ }
 {
     if k.outhead == 65535 {
@@ -207,7 +208,7 @@ pub fn quiet(
     words: &mut [u32],
 ) -> Served
     requires { ⌜ Sized (here k cells links calendar words) ⌝ }
-    requires { ⌜ (j .verdict =? excess ≡ true → j .vci < k .v) ⌝ }
+    requires { ⌜ (j .verdict =? excess ≡ true → j .vci < connectionsIn (k .v)) ⌝ }
     ensures { λ s. ⌜ Gives r (lastSteps (quietOf (before k cells links calendar words) b j)) s cells links calendar words ⌝ }
 {
     let at = 2 * (k.turn as usize);

@@ -1,5 +1,5 @@
 -- What a slot without the header check answers and keeps, for every state: a number of 0 or, with everything as it came,
--- another; N, V and raw; and a departing space that is below N or 65,535. Each step is followed.
+-- another; N, V, raw and the line kind; and a departing space that is below N or 65,535. Each step is followed.
 use Prim.Native.Nat.{ℕ, _+_, _-_, _%_, _≤_, _<_}
 use mathlib.Core.Path.{_≡_, refl, sym, _∙_, ap}
 use mathlib.Core.Logic.{_≢_}
@@ -11,10 +11,10 @@ use borrow.Author.Tests.{eqb-true, eqb-false, not-false, lt-ltb, ltb-true}
 use lib.ListN.{length, getD, set}
 use Rattle.meaning.specs.declared.Record.{Record}
 use Rattle.meaning.specs.Plain.{if_then_else_, _<?_, _≤?_, _=?_, Out, refused, next, needs, _andThen_}
-use Rattle.meaning.specs.Numbers.{rangesHold, octets, cellStart, empty, unknown, excess}
+use Rattle.meaning.specs.Numbers.{rangesHold, octets, cellStart, connectionsIn, unused, kindFits, empty, unknown, excess}
 use Rattle.meaning.specs.State.{State, Ends, freeList, outputList, lengthsHold, withRecord, withCells, withLinks, withCalendar, withWords}
 use Rattle.meaning.specs.State.{recordWith, withClock, withFreeList, withOutputList}
-use Rattle.meaning.specs.Header.{headerAt, noUserCell, namesConnection, namesOpen}
+use Rattle.meaning.specs.Header.{headerAt, clpIn, noUserCell, connection, namesConnection, namesOpen}
 use Rattle.meaning.specs.Bucket.{delay}
 use Rattle.meaning.specs.Words.{Connection, connectionAt, withWaiting, openWordFits, upToDate}
 use Rattle.meaning.specs.Lists.{emptyList, isEmpty, endsFit, entryAt, Taken, takeHead, Grown, joinTail}
@@ -55,9 +55,10 @@ module _ (r : Record) where
     pub n-is : k .n ≡ N
     pub v-is : k .v ≡ r .v
     pub raw-is : k .raw ≡ r .raw
-    pub began : r .turn <? N && r .rotation <? r .v ≡ true
+    pub kind-is : k .kind ≡ r .kind
+    pub began : r .turn <? N && r .rotation <? connectionsIn (r .v) ≡ true
     pub turn-low : k .turn < N
-    pub rotation-low : k .rotation < r .v
+    pub rotation-low : k .rotation < connectionsIn (r .v)
 
   -- before step 4
   pub record Going (w : Work) : Type 0 where
@@ -87,29 +88,30 @@ module _ (r : Record) where
   less : (a b c : ℕ) → b ≡ c → a < b → a < c
   less a b c e h = omega arith
 
-  tick : (k : Record) → k ≡ r → k .turn <? k .n && k .rotation <? k .v ≡ true → (t : ℕ) (free : Ends)
-      → Ticked (recordWith k t ((k .turn + 1) % k .n) ((k .rotation + 1) % k .v) free (record { head = k .outhead; tail = k .outtail }))
+  tick : (k : Record) → k ≡ r → k .turn <? k .n && k .rotation <? connectionsIn (k .v) ≡ true → (t : ℕ) (free : Ends)
+      → Ticked (recordWith k t ((k .turn + 1) % k .n) ((k .rotation + 1) % connectionsIn (k .v)) free (record { head = k .outhead; tail = k .outtail }))
   unfolding recordWith
   tick k is b t free =
-      let f = both-true (k .turn <? k .n) (k .rotation <? k .v) b in
+      let f = both-true (k .turn <? k .n) (k .rotation <? connectionsIn (k .v)) b in
       let p = ltb-true (k .turn) (k .n) (f .0) in
-      let q = ltb-true (k .rotation) (k .v) (f .1) in
+      let q = ltb-true (k .rotation) (connectionsIn (k .v)) (f .1) in
       let turn-low : (k .turn + 1) % k .n < k .n = mod-lt (k .turn + 1) (omega arith) in
-      let rotation-low : (k .rotation + 1) % k .v < k .v = mod-lt (k .rotation + 1) (omega arith) in
+      let rotation-low : (k .rotation + 1) % connectionsIn (k .v) < connectionsIn (k .v) = mod-lt (k .rotation + 1) (omega arith) in
       record {
         n-is = ap (λ (x : Record). x .n) is;
         v-is = ap (λ (x : Record). x .v) is;
         raw-is = ap (λ (x : Record). x .raw) is;
+        kind-is = ap (λ (x : Record). x .kind) is;
         began = rw is at b;
         turn-low = less ((k .turn + 1) % k .n) (k .n) N (ap (λ (x : Record). x .n) is) turn-low;
-        rotation-low = less ((k .rotation + 1) % k .v) (k .v) (r .v) (ap (λ (x : Record). x .v) is) rotation-low;
+        rotation-low = less ((k .rotation + 1) % connectionsIn (k .v)) (connectionsIn (k .v)) (connectionsIn (r .v)) (ap (λ (x : Record). connectionsIn (x .v)) is) rotation-low;
       }
 
   step1-going : (w : Work) → Begun w → AllOut Going (step1 w)
   unfolding step1 withClock withRecord recordWith
   step1-going w h =
       let c = w .state .ctl in
-      needs-all Going (c .turn <? c .n && c .rotation <? c .v) _
+      needs-all Going (c .turn <? c .n && c .rotation <? connectionsIn (c .v)) _
       (λ b. record {
         ticked = tick c (h .ctl-is) b _ _;
         out-is = ap (λ (x : Record). record { head = x .outhead; tail = x .outtail }) (h .ctl-is);
@@ -122,7 +124,7 @@ module _ (r : Record) where
   step2-going w h =
       let s = w .state in
       let vc = connectionAt (s .words) (s .ctl .rotation) in
-      if-all Going (s .ctl .rotation =? 0) _ _ (λ _. h)
+      if-all Going (unused (s .ctl .v) (s .ctl .rotation)) _ _ (λ _. h)
       (λ _. needs-all Going (openWordFits vc) _
       (λ _. if-all Going (vc .opened =? 0) _ _ (λ _. h)
       (λ _. any-all Going (upToDate (s .ctl .n) (s .ctl .t) vc) _
@@ -132,13 +134,13 @@ module _ (r : Record) where
   again : (k : Record) (free output : Ends) → Ticked k → Ticked (recordWith k (k .t) (k .turn) (k .rotation) free output)
   unfolding recordWith
   again k free output h =
-      record { n-is = h .n-is; v-is = h .v-is; raw-is = h .raw-is; began = h .began; turn-low = h .turn-low; rotation-low = h .rotation-low }
+      record { n-is = h .n-is; v-is = h .v-is; raw-is = h .raw-is; kind-is = h .kind-is; began = h .began; turn-low = h .turn-low; rotation-low = h .rotation-low }
 
   judge-going : (cell : List ℕ) (v : ℕ) (w : Work) → Going w → (vc : Connection) → AllOut Going (judge cell v w vc)
   unfolding judge accept place withWords withCells withLinks withCalendar withFreeList withRecord recordWith
   judge-going cell v w h vc =
       let s = w .state in
-      if-all Going (verdictOn (headerAt cell 0 .clp) vc =? excess) _ _
+      if-all Going (verdictOn (clpIn cell) vc =? excess) _ _
       (λ _. record { ticked = h .ticked; out-is = h .out-is; number = h .number; unsent = h .unsent })
       (λ _. needs-all Going (vc .waiting <? s .ctl .n) _
       (λ _. needs-all Going (endsFit (s .ctl .n) (freeList s) && not (isEmpty (freeList s))) _
@@ -155,15 +157,18 @@ module _ (r : Record) where
   unfolding step3
   step3-going cell w h =
       let s = w .state in
-      let a = headerAt cell 0 in
-      let vc = connectionAt (s .words) (a .vci) in
-      if-all Going (length cell =? 0 || noUserCell a) _ _ (λ _. h)
+      let a = headerAt (s .ctl .kind) cell 0 in
+      let c = connection (s .ctl .v) a in
+      let vc = connectionAt (s .words) c in
+      if-all Going (length cell =? 0) _ _ (λ _. h)
+      (λ _. needs-all Going (kindFits (s .ctl .kind)) _
+      (λ _. if-all Going (noUserCell a) _ _ (λ _. h)
       (λ _. if-all Going (not (namesConnection (s .ctl .v) a)) _ _ (λ _. same)
       (λ _. needs-all Going (openWordFits vc) _
       (λ _. if-all Going (vc .opened =? 0) _ _ (λ _. same)
-      (λ _. any-all Going (upToDate (s .ctl .n) (s .ctl .t) vc) _ (judge-going cell (a .vci) w h)))))
+      (λ _. any-all Going (upToDate (s .ctl .n) (s .ctl .t) vc) _ (judge-going cell c w h)))))))
     where
-      same : Going (withArrival w unknown (headerAt cell 0 .vci) 0)
+      same : Going (withArrival w unknown (headerAt (w .state .ctl .kind) cell 0 .vci) 0)
       same = record { ticked = h .ticked; out-is = h .out-is; number = h .number; unsent = h .unsent }
 
   -- two lists that fit, joined, where the second is not empty
@@ -237,9 +242,9 @@ module _ (r : Record) where
       })
       (λ some. then-all (Took (outputList s)) Ended (takeHead (s .ctl .n) (s .links) (outputList s)) _
       (rw (j .ticked .n-is) (took (s .links) (outputList s) (j .fits) some))
-      (λ taken is. let a = headerAt (s .cells) (cellStart (taken .space)) in
-      let vc = connectionAt (s .words) (a .vci) in
-      needs-all Ended (namesOpen (s .ctl .v) (s .words) a) _
+      (λ taken is. let a = headerAt (s .ctl .kind) (s .cells) (cellStart (taken .space)) in
+      let vc = connectionAt (s .words) (connection (s .ctl .v) a) in
+      needs-all Ended (kindFits (s .ctl .kind) && namesOpen (s .ctl .v) (s .words) a) _
       (λ _. needs-all Ended (1 ≤? vc .waiting && vc .waiting ≤? s .ctl .n) _
       (λ _. needs-all Ended (endsFit (s .ctl .n) (freeList s)) _
       (λ _. record {
@@ -269,6 +274,7 @@ pub record Answered (s : State) (w : Work) : Type 0 where
   pub n-is : w .state .ctl .n ≡ s .ctl .n
   pub v-is : w .state .ctl .v ≡ s .ctl .v
   pub raw-is : w .state .ctl .raw ≡ s .ctl .raw
+  pub kind-is : w .state .ctl .kind ≡ s .ctl .kind
   pub low : w .answer .space ≢ empty → w .answer .space < s .ctl .n
 
 pub refused-with : (s : State) (k : ℕ) → k ≢ 0 → Answered s (workOf s (bareAnswer k))
@@ -280,6 +286,7 @@ refused-with s k ne =
       n-is = refl;
       v-is = refl;
       raw-is = refl;
+      kind-is = refl;
       low = λ e. absurd (e refl);
     }
 
@@ -296,6 +303,7 @@ finished s (next w) h r l =
       n-is = h .ticked .n-is;
       v-is = h .ticked .v-is;
       raw-is = h .ticked .raw-is;
+      kind-is = h .ticked .kind-is;
       low = h .low;
     }
 

@@ -11,7 +11,7 @@ use lib.ListN.{length}
 use Rattle.meaning.specs.declared.Record.{Record}
 use Rattle.meaning.specs.declared.Served.{Served}
 use Rattle.meaning.specs.Plain.{if_then_else_, _≤?_, _=?_, Out, refused, _andThen_}
-use Rattle.meaning.specs.Numbers.{rangesHold, wordsPerConnection}
+use Rattle.meaning.specs.Numbers.{rangesHold, connectionsIn, wordsIn}
 use Rattle.meaning.specs.State.{State, stateOf, recordWith, withRecord, withClock, wordsLong, lengthsHold}
 use Rattle.meaning.specs.Work.{Work, workOf, bareAnswer}
 use Rattle.meaning.specs.Slot.{step1, step2, step3, step4, step5, fiveSteps, finish, uncheckedSlot}
@@ -54,14 +54,14 @@ module _ (r : Record) (cell cells links calendar words : List ℕ) where
   unfolding fiveSteps step1
   clock-turn h = rw (le-ltb (r .turn) (r .n) h)
 
-  pub clock-rotation : r .turn < r .n → r .v ≤ r .rotation → five ≡ refused
+  pub clock-rotation : r .turn < r .n → connectionsIn (r .v) ≤ r .rotation → five ≡ refused
   unfolding fiveSteps step1
-  clock-rotation h g = rw (lt-ltb (r .turn) (r .n) h, le-ltb (r .rotation) (r .v) g)
+  clock-rotation h g = rw (lt-ltb (r .turn) (r .n) h, le-ltb (r .rotation) (connectionsIn (r .v)) g)
 
-  pub clock-goes : (k : Record) → k ≡ clocked r → r .turn < r .n → r .rotation < r .v
+  pub clock-goes : (k : Record) → k ≡ clocked r → r .turn < r .n → r .rotation < connectionsIn (r .v)
       → five ≡ (step2 (workOf (stateOf k cells links calendar words) (bareAnswer 0)) andThen step3 cell andThen step4 andThen step5)
   unfolding fiveSteps step1 clocked withClock withRecord
-  clock-goes k e h g = rw (lt-ltb (r .turn) (r .n) h, lt-ltb (r .rotation) (r .v) g, e)
+  clock-goes k e h g = rw (lt-ltb (r .turn) (r .n) h, lt-ltb (r .rotation) (connectionsIn (r .v)) g, e)
 
   -- what no refusal of 1, 2 or 9 leaves
   pub record Shaped : Type 0 where
@@ -72,7 +72,7 @@ module _ (r : Record) (cell cells links calendar words : List ℕ) where
     pub cells-long : length cells ≡ 53 * r .n
     pub links-long : length links ≡ r .n
     pub calendar-long : length calendar ≡ 2 * r .n
-    pub words-long : length words ≡ wordsPerConnection * r .v
+    pub words-long : length words ≡ wordsIn (r .v)
     pub cell-long : (length cell ≡ 0 → ⊥) → length cell ≡ 53
 
   either : (a b : Bool) → a || b ≡ true → a ≡ false → b ≡ true
@@ -85,7 +85,7 @@ module _ (r : Record) (cell cells links calendar words : List ℕ) where
       let v2 = and (1 ≤? r .n && r .n ≤? 1024 && 2 ≤? r .v) (r .v ≤? 1024) a in
       let v1 = and (1 ≤? r .n && r .n ≤? 1024) (2 ≤? r .v) (v2 .0) in
       let n2 = and (1 ≤? r .n) (r .n ≤? 1024) (v1 .0) in
-      let w = and (length cells =? 53 * r .n && length links =? r .n && length calendar =? 2 * r .n) (length words =? wordsPerConnection * r .v) b in
+      let w = and (length cells =? 53 * r .n && length links =? r .n && length calendar =? 2 * r .n) (length words =? wordsIn (r .v)) b in
       let c = and (length cells =? 53 * r .n && length links =? r .n) (length calendar =? 2 * r .n) (w .0) in
       let l = and (length cells =? 53 * r .n) (length links =? r .n) (c .0) in
       record {

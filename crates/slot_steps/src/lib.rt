@@ -1,15 +1,17 @@
 // One slot without the header check: all that it reads is read and judged first, as numbers; then each case writes, so that a refusal leaves
 // everything as it came.
 ghost use mathlib.Core.Path.{_≡_};
-ghost use Prim.Native.Nat.{_+_, _%_, _<_};
+ghost use Prim.Native.Nat.{_+_, _%_, _≤_, _<_};
 ghost use lib.ListN.{length};
 ghost use Rattle.meaning.specs.Plain.{_andThen_};
+ghost use Rattle.meaning.specs.Numbers.{mostV, connectionsIn};
 ghost use Rattle.meaning.specs.Work.{workOf, bareAnswer};
 ghost use Rattle.meaning.specs.Slot.{step2, step3, step4, step5};
 ghost use Rattle.meaning.specs.Lent.{here, before, servedAfter, Gives};
 ghost use Rattle.slot_plan.specs.Plan.{clocked};
 ghost use Rattle.slot_plan.specs.Facts.{Sized};
 ghost use Rattle.slot_steps.specs.Slot.{shapeIn, uncheckedPromise};
+use meaning::PATHS;
 use meaning::Record;
 use meaning::Served;
 
@@ -24,12 +26,12 @@ fn after(x: u16, n: u16) -> u16
 
 // Step 1.
 fn clock(r: Record) -> Record
-    requires { ⌜ (r .turn < r .n) × (r .rotation < r .v) ⌝ }
+    requires { ⌜ (r .turn < r .n) × (r .rotation < connectionsIn (r .v)) × (r .v ≤ mostV) ⌝ }
     ensures { λ k. ⌜ k ≡ clocked r ⌝ }
 {
     let t = std::num::wrapping_add_u32(r.t, 1);
     let turn = after(r.turn, r.n);
-    let rotation = after(r.rotation, r.v);
+    let rotation = after(r.rotation, r.v + PATHS);
     meaning::record_with(
         r,
         t,
@@ -56,11 +58,11 @@ fn steps(
     requires { ⌜ ((length (now cell) ≡ 0 → ⊥) → length (now cell) ≡ 53) ⌝ }
     ensures { λ s. ⌜ Gives r (step2 (workOf (before k cells links calendar words) (bareAnswer 0)) andThen step3 (now (cell .entry)) andThen step4 andThen step5) s cells links calendar words ⌝ }
 {
-    let b = slot_arrive::bring(k.n, words, k.rotation, k.t);
+    let b = slot_arrive::bring(k.n, k.v, words, k.rotation, k.t);
     if !b.ok {
         return slot_depart::refuse(r, 3);
     }
-    let name = slot_arrive::name_of(cell);
+    let name = slot_arrive::name_of(cell, k.kind);
     let j = slot_arrive::judge(k.n, k.v, words, name, k.t, cell);
     if !j.ok {
         return slot_depart::refuse(r, 3);
@@ -122,7 +124,7 @@ pub fn slot(
     if r.turn >= r.n {
         return slot_depart::refuse(r, 3);
     }
-    if r.rotation >= r.v {
+    if r.rotation >= r.v + PATHS {
         return slot_depart::refuse(r, 3);
     }
     let k = clock(r);

@@ -1,4 +1,4 @@
--- `mem_words::connection_fits` meets its contract: a closed VC fits, and an open one by its open word, its buckets and waiting, in turn.
+-- `mem_words::connection_fits` meets its contract: a closed connection fits, and an open one by its open word, its buckets and waiting, in turn.
 use mathlib.Core.Path.{sym, _∙_}
 use native.Mathlib.Omega.{arith}
 use borrow.Author.Tests.{not-true, not-false}
@@ -14,7 +14,7 @@ returns c = connection-closed _ _ (opened-at _ _ ∙ c .if1 .taken)
 returns-2 : tie.Need-returns-2
 returns-2 c =
     let a = c .before .before .before .before .args in
-    connection-open-breaks _ _ (omega (arith, opened-at (a .words .now) (a .vci)))
+    connection-open-breaks _ _ (omega (arith, opened-at (a .words .now) (a .conn)))
 
 returns-3 : tie.Need-returns-3
 returns-3 c =
@@ -22,7 +22,7 @@ returns-3 c =
     connection-bucket-breaks
     _
     _
-    (omega (arith, opened-at (a .words .now) (a .vci)))
+    (omega (arith, opened-at (a .words .now) (a .conn)))
     (sym (c .before .bucket-fits .ensures) ∙ not-true _ (c .if3 .taken))
 
 returns-4 : tie.Need-returns-4
@@ -32,7 +32,7 @@ returns-4 c =
     connection-second-breaks
     _
     _
-    (omega (arith, opened-at (a .words .now) (a .vci)))
+    (omega (arith, opened-at (a .words .now) (a .conn)))
     (sym (bucket .before .bucket-fits .ensures) ∙ not-false _ (bucket .if3 .left))
     (sym (c .before .second-fits .ensures) ∙ not-true _ (c .if4 .taken))
 
@@ -44,7 +44,7 @@ returns-5 c =
     connection-open-fits
     _
     _
-    (omega (arith, opened-at (a .words .now) (a .vci)))
+    (omega (arith, opened-at (a .words .now) (a .conn)))
     (sym (bucket .before .bucket-fits .ensures) ∙ not-false _ (bucket .if3 .left))
     (sym (c .before .before .second-fits .ensures) ∙ not-false _ (c .before .if4 .left))
 

@@ -12,7 +12,7 @@ unfolding joinedHead
 off-after-requires c κs =
     let pre = c .before .before .before .before .before .pre in
     let p = pre .0 in
-    (p .0, p .1, rw (c .before .first-of .ensures) (pre .1), p .2, p .3, p .4, p .5, p .6)
+    (p .0, p .1, rw (c .before .first-of .ensures) (pre .1), p .2, p .3, p .4)
 
 returns : tie.Need-returns
 unfolding joinedHead

@@ -1,12 +1,12 @@
 -- `slot_arrive::clp_of` meets its contract: the low bit of octet 4.
 use mathlib.Core.Path.{refl}
-use Rattle.meaning.specs.Header.{headerOf, headerAt}
+use Rattle.meaning.specs.Header.{clpIn}
 use borrow.Author.Needs.{needs}
 use Rattle.slot_arrive.proofs.clp_of.Statement.{statement}
 use Rattle.slot_arrive.proofs.clp_of.Tie as tie
 
 returns : tie.Need-returns
-unfolding headerAt headerOf
+unfolding clpIn
 returns c = refl
 
 pub clp-of-spec : {M : Type 1} → statement M

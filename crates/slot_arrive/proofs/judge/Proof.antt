@@ -1,7 +1,7 @@
--- `slot_arrive::judge` meets its contract: case by case, by the cell's name.
+-- `slot_arrive::judge` meets its contract: case by case, by the cell's name and the connection that it stands for.
 use mathlib.Core.Path.{sym, _∙_}
 use native.Mathlib.Omega.{arith}
-use Rattle.slot_arrive.proofs.JudgedLaws.{by-none, by-connection, by-unknown}
+use Rattle.slot_arrive.proofs.JudgedLaws.{by-none, by-connection, by-no-kind, by-unknown}
 use borrow.Author.Needs.{needs}
 use Rattle.slot_arrive.proofs.judge.Statement.{statement}
 use Rattle.slot_arrive.proofs.judge.Tie as tie
@@ -13,20 +13,31 @@ returns c =
 
 judge-connection-requires : tie.Need-judge-connection-requires
 judge-connection-requires c κs =
-    let from = c .before .before .before .before in
-    (omega (arith, from .pre .0), omega (arith, from .pre .2 (c .before .if1 .left)))
+    let from = c .before .before .before .before .before in
+    (omega (arith, from .pre .0, c .before .number-for .ensures .1), omega (arith, from .pre .2 (c .before .before .if1 .left)))
 
 returns-2 : tie.Need-returns-2
 returns-2 c =
-    let a = c .before .before .before .before .before .args in
+    let a = c .before .before .before .before .before .before .args in
     c .judge-connection .ensures
-    ∙ by-connection (a .n) (a .v) (a .t) (a .words .now) (a .name) _ (c .before .before .if1 .left) (c .before .if2 .taken)
+    ∙ by-connection (a .n) (a .v) (a .t) (a .words .now) (a .name) _ _ (c .before .before .number-for .ensures .0)
+    (c .before .before .before .if1 .left) (c .before .if2 .taken)
 
 returns-3 : tie.Need-returns-3
 returns-3 c =
-    let a = c .before .before .before .before .before .args in
+    let a = c .before .before .before .before .before .before .before .args in
+    c .out-of-range .ensures
+    ∙ by-no-kind (a .n) (a .v) (a .t) (a .words .now) (a .name) _
+    (sym (c .before .before .before .number-for .ensures .0) ∙ c .before .before .if2 .left)
+    (c .before .before .before .before .if1 .left) (c .before .if3 .taken)
+
+returns-4 : tie.Need-returns-4
+returns-4 c =
+    let a = c .before .before .before .before .before .before .before .args in
     c .no-connection .ensures
-    ∙ by-unknown (a .n) (a .v) (a .t) (a .words .now) (a .name) _ (c .before .before .if1 .left) (omega (arith, c .before .if2 .left))
+    ∙ by-unknown (a .n) (a .v) (a .t) (a .words .now) (a .name) _
+    (sym (c .before .before .before .number-for .ensures .0) ∙ c .before .before .if2 .left)
+    (c .before .before .before .before .if1 .left) (c .before .if3 .left)
 
 pub judge-spec : {M : Type 1} → statement M
 judge-spec =
@@ -34,9 +45,11 @@ judge-spec =
     (tie.spec
     (λ c κs. search needs)
     returns
-    (λ c. search needs)
+    (λ c κs. search needs)
     judge-connection-requires
     returns-2
+    (λ c κs. search needs)
+    returns-3
     (λ c. search needs)
     (λ c κs. search needs)
-    returns-3)
+    returns-4)

@@ -12,7 +12,7 @@ use Rattle.slot_arrive.proofs.judge_connection.Statement.{statement}
 use Rattle.slot_arrive.proofs.judge_connection.Tie as tie
 
 returns : tie.Need-returns
-returns c = let a = c .before .before .before .before .before .args in c .no-connection .ensures ∙ judged-closed (a .n) (a .t) (a .words .now) (a .vci) _ (c .before .if1 .taken)
+returns c = let a = c .before .before .before .before .before .args in c .no-connection .ensures ∙ judged-closed (a .n) (a .t) (a .words .now) _ (a .vci) _ (c .before .if1 .taken)
 
 peak-now-requires : tie.Need-peak-now-requires
 peak-now-requires c κs = (c .before .before .before .before .before .before .before .pre .0, bucket-facts _ _ (sym (c .before .bucket-fits .ensures) ∙ c .if3 .taken) .rules .m-low)
@@ -26,7 +26,7 @@ returns-2 c =
     let a = fits .before .before .before .before .before .before .before .args in
     c .judge-peak .ensures
     ∙ none-is (a .n) (a .t) (a .vci) _ _ (connectionAt (a .words .now) (a .vci)) (sym (c .before .before .none-second .ensures) ∙ c .before .if4 .taken)
-    ∙ judged-both (a .n) (a .t) (a .words .now) (a .vci) _ _ (fits .before .before .if2 .taken) (sym (fits .before .bucket-fits .ensures) ∙ fits .if3 .taken)
+    ∙ judged-both (a .n) (a .t) (a .words .now) _ (a .vci) _ _ (fits .before .before .if2 .taken) (sym (fits .before .bucket-fits .ensures) ∙ fits .if3 .taken)
     (c .before .before .before .peak-now .ensures)
 
 judge-both-requires : tie.Need-judge-both-requires
@@ -38,7 +38,7 @@ returns-3 c =
     let a = fits .before .before .before .before .before .before .before .args in
     c .judge-both .ensures
     ∙ ap (λ (k : ℕ). judgedBoth (a .n) (a .t) (a .vci) k (c .before .before .before .before .peak-now .result) (connectionAt (a .words .now) (a .vci))) (c .before .clp-of .ensures)
-    ∙ judged-both (a .n) (a .t) (a .words .now) (a .vci) _ _ (fits .before .before .if2 .taken) (sym (fits .before .bucket-fits .ensures) ∙ fits .if3 .taken)
+    ∙ judged-both (a .n) (a .t) (a .words .now) _ (a .vci) _ _ (fits .before .before .if2 .taken) (sym (fits .before .bucket-fits .ensures) ∙ fits .if3 .taken)
     (c .before .before .before .before .peak-now .ensures)
 
 returns-4 : tie.Need-returns-4
@@ -46,14 +46,15 @@ returns-4 c =
     let a = c .before .before .before .before .before .before .args in
     c .out-of-range .ensures
     ∙ ⊎-elim
-    (λ w. judged-unfit (a .n) (a .t) (a .words .now) (a .vci) _ (w .0 .taken) (sym (w .1 .ensures) ∙ w .2 .left))
-    (λ w. judged-other (a .n) (a .t) (a .words .now) (a .vci) _ (c .before .before .if1 .left) (w .left))
+    (λ w. judged-unfit (a .n) (a .t) (a .words .now) _ (a .vci) _ (w .0 .taken) (sym (w .1 .ensures) ∙ w .2 .left))
+    (λ w. judged-other (a .n) (a .t) (a .words .now) _ (a .vci) _ (c .before .before .if1 .left) (w .left))
     (c .before .if2 .came)
 
 pub judge-connection-spec : {M : Type 1} → statement M
 judge-connection-spec =
     tie.close
     (tie.spec
+    (λ c. search needs)
     (λ c. search needs)
     (λ c. search needs)
     (λ c. search needs)

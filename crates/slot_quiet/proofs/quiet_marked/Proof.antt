@@ -43,7 +43,7 @@ quiet-end-requires c κs =
     let a = start .args in
     let pre = start .pre in
     let z = pre .0 in
-    let shows = off-shows _ _ _ _ _ _ _ (ap (λ (o : Off). o .ok) (sym (at-off-marked .off-marked .ensures)) ∙ not-false _ (at-if1 .if1 .left)) in
+    let shows = off-shows _ _ _ _ _ _ _ _ (ap (λ (o : Off). o .ok) (sym (at-off-marked .off-marked .ensures)) ∙ not-false _ (at-if1 .if1 .left)) in
     let vci = ap (λ (o : Off). o .vci) (at-off-marked .off-marked .ensures) in (
       (omega (arith, z .links-long), omega (arith, z .words-long), z .rotation-low, rw vci (shows .0), rw vci (shows .1)),
       (

@@ -44,7 +44,7 @@ quiet-end-requires c κs =
     let start = at-off-head .before .before .before .before .before .before in
     let a = start .args in
     let pre = start .pre in
-    let shows = off-shows _ _ _ _ _ _ _ (ap (λ (o : Off). o .ok) (sym (at-off-head .off-head .ensures)) ∙ not-false _ (at-if1 .if1 .left)) in
+    let shows = off-shows _ _ _ _ _ _ _ _ (ap (λ (o : Off). o .ok) (sym (at-off-head .off-head .ensures)) ∙ not-false _ (at-if1 .if1 .left)) in
     let vci = ap (λ (o : Off). o .vci) (at-off-head .off-head .ensures) in (
       (omega (arith, pre .0 .3), omega (arith, pre .0 .4), pre .0 .5, rw vci (shows .0), rw vci (shows .1)),
       (pre .1 .1, (λ e. no e, shown _ _ (at-pair .pair .ensures) (at-if2 .if2 .left))),

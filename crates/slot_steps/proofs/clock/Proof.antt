@@ -10,7 +10,7 @@ returns : tie.Need-returns
 unfolding clocked slotNumbers
 returns c =
     let at-after2 = c .before in
-    let at-after = at-after2 .before in
+    let at-after = at-after2 .before .before in
     c .record-with .ensures
     ∙ rw (at-after2 .after2 .ensures, at-after .after .ensures, at-after .before .wrapping-add-u32 .ensures)
 
@@ -20,6 +20,7 @@ clock-spec =
     (tie.spec
     (λ c κs. search needs)
     (λ c κs. search needs)
+    (λ c. search needs)
     (λ c κs. search needs)
     (λ c κs. search needs)
     returns)

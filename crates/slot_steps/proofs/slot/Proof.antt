@@ -1,5 +1,6 @@
 -- `slot_steps::slot` meets its promise: refusals 1, 2 and 9, then the clock, then steps 2 to 5.
 use mathlib.Core.Path.{sym, _∙_, ap}
+use native.Mathlib.Omega.{arith}
 use denote.Ref.{now}
 use Rattle.meaning.specs.State.{stateOf}
 use Rattle.meaning.specs.Slot.{finish}
@@ -30,10 +31,30 @@ returns-2 c =
     (at-if2 .if2 .taken)) ∙ sym (slot-goes (a .r) (now (a .cell)) (now (a .cells)) (now (a .links)) (now (a .calendar))
     (now (a .words)) _ (at-shape .shape .ensures) (at-if1 .if1 .left))
 
+-- V is at most 1,024, once refusal 1 is not given
+add-if3 : tie.Need-add-if3
+add-if3 c =
+    let at-if1 = c .before .before .before in
+    let at-shape = at-if1 .before in
+    let start = at-shape .before .before .before .before .before .before .before .before .before .before in
+    let a = start .args in
+    let h = shaped (a .r) (now (a .cell)) (now (a .cells)) (now (a .links)) (now (a .calendar)) (now (a .words)) _ (at-shape .shape .ensures) (at-if1 .if1 .left) in
+    omega (arith, h .v-high)
+
+clock-requires : tie.Need-clock-requires
+clock-requires c κs =
+    let at-if2 = c .before .before .before in
+    let at-if1 = at-if2 .before .before in
+    let at-shape = at-if1 .before in
+    let start = at-shape .before .before .before .before .before .before .before .before .before .before in
+    let a = start .args in
+    let h = shaped (a .r) (now (a .cell)) (now (a .cells)) (now (a .links)) (now (a .calendar)) (now (a .words)) _ (at-shape .shape .ensures) (at-if1 .if1 .left) in
+    (at-if2 .if2 .left, c .if3 .left, h .v-high)
+
 returns-3 : tie.Need-returns-3
 returns-3 c =
     let at-if3 = c .before in
-    let at-if2 = at-if3 .before .before in
+    let at-if2 = at-if3 .before .before .before in
     let at-if1 = at-if2 .before .before in
     let at-shape = at-if1 .before in
     let start = at-shape .before .before .before .before .before .before .before .before .before .before in
@@ -46,7 +67,7 @@ returns-3 c =
 steps-requires : tie.Need-steps-requires
 steps-requires c κs =
     let at-clock = c .before .before .before .before in
-    let at-if1 = at-clock .before .before .before .before .before in
+    let at-if1 = at-clock .before .before .before .before .before .before in
     let at-shape = at-if1 .before in
     let start = at-shape .before .before .before .before .before .before .before .before .before .before in
     let a = start .args in
@@ -61,7 +82,7 @@ returns-4 c =
     let at-steps = c .before .before .before .before .before .before .before .before in
     let at-clock = at-steps .before .before .before .before .before in
     let at-if3 = at-clock .before in
-    let at-if2 = at-if3 .before .before in
+    let at-if2 = at-if3 .before .before .before in
     let at-if1 = at-if2 .before .before in
     let at-shape = at-if1 .before in
     let start = at-shape .before .before .before .before .before .before .before .before .before .before in
@@ -90,13 +111,14 @@ slot-spec =
     (λ c. search needs)
     (λ c. search needs)
     returns-2
+    add-if3
     (λ c κs. search needs)
     (λ c. search needs)
     (λ c. search needs)
     (λ c. search needs)
     (λ c. search needs)
     returns-3
-    (λ c κs. search needs)
+    clock-requires
     steps-requires
     (λ c. search needs)
     (λ c. search needs)

@@ -1,4 +1,4 @@
--- `call_slot::steps` meets its contract: steps 2 and 3 are judged on the words as they came, then the case writes.
+-- `slot_steps::steps` meets its contract: steps 2 and 3 are judged on the words as they came, then the case writes.
 use mathlib.Core.Path.{sym, _∙_, ap}
 use native.Mathlib.Omega.{arith}
 use denote.Ref.{now}
@@ -40,7 +40,7 @@ returns-2 c =
     as-came (a .r) (now (a .cells)) (now (a .links)) (now (a .calendar)) (now (a .words)) _ _ (c .refuse2 .ensures)
     (arriving-none (a .k) (now (a .cell)) (now (a .cells)) (now (a .links)) (now (a .calendar)) (now (a .words)) _
     (at-bring .bring .ensures) _ (at-judge .judge .ensures
-    ∙ judged-cell (a .k .n) (a .k .v) (a .k .t) (now (a .words)) (now (a .cell)) _ (omega (arith, pre .0 .v-high))
+    ∙ judged-cell (a .k .n) (a .k .v) (a .k .kind) (a .k .t) (now (a .words)) (now (a .cell)) _ (omega (arith, pre .0 .v-high))
     (at-name .name-of .ensures .0) (at-name .name-of .ensures .1)) (omega (arith, pre .0 .rotation-low, pre .0 .words-long))
     (not-false _ (at-if1 .if1 .left)) (not-true _ (at-if2 .if2 .taken)))
 
@@ -62,7 +62,7 @@ accept-requires c κs =
     let a = start .args in
     let pre = start .pre in
     let e = at-judge .judge .ensures
-    ∙ judged-cell (a .k .n) (a .k .v) (a .k .t) (now (a .words)) (now (a .cell)) _ (omega (arith, pre .0 .v-high))
+    ∙ judged-cell (a .k .n) (a .k .v) (a .k .kind) (a .k .t) (now (a .words)) (now (a .cell)) _ (omega (arith, pre .0 .v-high))
     (at-name .name-of .ensures .0) (at-name .name-of .ensures .1) in (
       pre .0,
       rw e (judged-shows (a .k) (now (a .cell)) (now (a .words)) .accepted-is (pre .1)
@@ -85,7 +85,7 @@ returns-3 c =
     at-accept .accept .ensures ∙ ap (finish (stateOf (a .r) (now (a .cells)) (now (a .links)) (now (a .calendar))
     (now (a .words)))) (sym (arriving-accepted (a .k) (now (a .cell)) (now (a .cells)) (now (a .links)) (now (a .calendar))
     (now (a .words)) _ (at-bring .bring .ensures) _ (at-judge .judge .ensures
-    ∙ judged-cell (a .k .n) (a .k .v) (a .k .t) (now (a .words)) (now (a .cell)) _ (omega (arith, pre .0 .v-high))
+    ∙ judged-cell (a .k .n) (a .k .v) (a .k .kind) (a .k .t) (now (a .words)) (now (a .cell)) _ (omega (arith, pre .0 .v-high))
     (at-name .name-of .ensures .0) (at-name .name-of .ensures .1))
     (omega (arith, pre .0 .rotation-low, pre .0 .words-long)) (not-false _ (at-if1 .if1 .left))
     (not-false _ (at-if2 .if2 .left)) (sym (at-if3 .before .lets-in .ensures) ∙ at-if3 .if3 .taken)))
@@ -99,7 +99,7 @@ quiet-requires c κs =
     let a = start .args in
     let pre = start .pre in
     let e = at-judge .judge .ensures
-    ∙ judged-cell (a .k .n) (a .k .v) (a .k .t) (now (a .words)) (now (a .cell)) _ (omega (arith, pre .0 .v-high))
+    ∙ judged-cell (a .k .n) (a .k .v) (a .k .kind) (a .k .t) (now (a .words)) (now (a .cell)) _ (omega (arith, pre .0 .v-high))
     (at-name .name-of .ensures .0) (at-name .name-of .ensures .1) in (
       pre .0,
       λ x. rw (ap (λ (j : Judged). j .vci) e) (judged-shows (a .k) (now (a .cell)) (now (a .words)) .excess-is
@@ -122,7 +122,7 @@ returns-4 c =
     at-quiet .quiet .ensures ∙ ap (finish (stateOf (a .r) (now (a .cells)) (now (a .links)) (now (a .calendar))
     (now (a .words)))) (sym (arriving-quiet (a .k) (now (a .cell)) (now (a .cells)) (now (a .links)) (now (a .calendar))
     (now (a .words)) _ (at-bring .bring .ensures) _ (at-judge .judge .ensures
-    ∙ judged-cell (a .k .n) (a .k .v) (a .k .t) (now (a .words)) (now (a .cell)) _ (omega (arith, pre .0 .v-high))
+    ∙ judged-cell (a .k .n) (a .k .v) (a .k .kind) (a .k .t) (now (a .words)) (now (a .cell)) _ (omega (arith, pre .0 .v-high))
     (at-name .name-of .ensures .0) (at-name .name-of .ensures .1))
     (omega (arith, pre .0 .rotation-low, pre .0 .words-long)) (not-false _ (at-if1 .if1 .left))
     (not-false _ (at-if2 .if2 .left)) (sym (at-if3 .before .lets-in .ensures) ∙ at-if3 .if3 .left)))
