@@ -1,5 +1,5 @@
 -- From what the walks establish to the clauses of document 01, and back (to-clauses, clauses-kept): the budgets are 1 for
--- each space and waiting for each open VC, so what uses them up is what the clauses count.
+-- each space and waiting for each open connection, so what uses them up is what the clauses count.
 use Prim.Native.Nat.{ℕ, zero, suc, _+_, _*_, _≤_, _<_}
 use mathlib.Core.Path.{_≡_, refl, sym, ap, _∙_}
 use mathlib.Core.Bool.{true}
@@ -8,12 +8,11 @@ use native.Mathlib.Omega.{arith}
 use native.Mathlib.Decide.{decLt}
 use lib.ListN.{length, getD}
 use Rattle.meaning.specs.declared.Record.{Record}
-use Rattle.meaning.specs.Numbers.{empty}
+use Rattle.meaning.specs.Numbers.{connectionsIn, empty}
 use Rattle.meaning.specs.State.{Ends, stateOf}
-use Rattle.meaning.specs.Words.{connectionAt, connectionFits}
 use Rattle.meaning.specs.Lists.{entryAt}
 use Rattle.meaning.specs.Audit.{Chain, count, joined, AuditHolds}
-use Rattle.call_audit.specs.Budgets.{inside, waitsAt}
+use Rattle.call_audit.specs.Budgets.{inside, waitsAt, AllFit}
 use Rattle.mem_walks.specs.Walk.{nameOf, endsOf}
 use Rattle.mem_walks.specs.Stored.{Queues, Stored}
 use Rattle.mem_walks.proofs.BudgetLaws.{is, is-same, count-append, count-joined}
@@ -60,16 +59,16 @@ module _ (r : Record) (cells links calendar words b w : List ℕ)
     (ones : (x : ℕ) → getD b x 0 ≡ inside x (r .n)) (waits : (k : ℕ) → getD w k 0 ≡ waitsAt words (r .v) k) where
   abbrev pub Kept : Type 0
   Kept =
-      Stored links calendar (nameOf cells) (r .n) (endsOf (r .freehead) (r .freetail)) (endsOf (r .outhead) (r .outtail)) b w
+      Stored links calendar (nameOf (r .kind) (r .v) cells) (r .n) (endsOf (r .freehead) (r .freetail)) (endsOf (r .outhead) (r .outtail)) b w
 
   pub to-clauses : Shaped r cells links calendar words
-      → ((vci : ℕ) → 1 ≤ vci → vci < r .v → connectionFits (r .n) (connectionAt words vci) ≡ true)
+      → AllFit (r .n) (r .v) words
       → getD calendar (2 * r .turn) 0 ≡ empty → Kept → AuditHolds (stateOf r cells links calendar words)
   to-clauses h f e s =
       let queued = s .output ++ joined (s .queues) in
       let past : count empty (s .free ++ queued) ≡ 0 =
       s .spaces empty ∙ ones empty ∙ inside-no empty (r .n) (omega (arith, h .n-most)) in
-      let small : r .v ≤ empty = omega (arith, h .v-most) in
+      let small : connectionsIn (r .v) ≤ empty = omega (arith, h .v-most) in
       let at : (j : ℕ) → j < r .n → Chain links (entryAt calendar j) (getD (s .queues) j []) =
       λ j g. queues-at links calendar 0 j j (s .queues) (s .queues-are) (omega (arith, s .queues-many)) (omega arith) in
       let none : count empty (getD (s .queues) (r .turn) []) ≡ 0 =
@@ -89,6 +88,7 @@ module _ (r : Record) (cells links calendar words b w : List ℕ)
         rotation-low = h .rotation-low;
         raw-low = h .raw-low;
         mode-low = h .mode-low;
+        kind-low = h .kind-low;
         connections-fit = f;
         free = s .free;
         output = s .output;
@@ -100,8 +100,8 @@ module _ (r : Record) (cells links calendar words b w : List ℕ)
         once = λ x g. s .spaces x ∙ ones x ∙ inside-yes x (r .n) g;
         no-other = λ x g. s .spaces x ∙ ones x ∙ inside-no x (r .n) g;
         turn-empty = empty-of links calendar turn turn-queue (at (r .turn) (h .turn-low)) (head-at calendar (r .turn) ∙ e) none;
-        named = named-of (r .v) cells words queued small (λ k. s .cells k ∙ waits k);
-        waits = waits-of (r .v) cells words queued small (λ k. s .cells k ∙ waits k);
+        named = named-of (r .kind) (r .v) cells words queued small (λ k. s .cells k ∙ waits k);
+        waits = waits-of (r .kind) (r .v) cells words queued small (λ k. s .cells k ∙ waits k);
       }
 
   module _ (s : AuditHolds (stateOf r cells links calendar words)) where
@@ -121,6 +121,6 @@ module _ (r : Record) (cells links calendar words b w : List ℕ)
           queues-are = queues-of links calendar 0 (s .queues)
               (λ k j h z. let y : j ≡ k = omega arith in rw y (s .queues-are k (omega (arith, s .queues-many))));
           spaces = λ x. each x (decLt x (r .n));
-          cells = λ k. used-up (r .v) cells words (s .output ++ joined (s .queues)) (s .named) (s .waits) k
+          cells = λ k. used-up (r .kind) (r .v) cells words (s .output ++ joined (s .queues)) (s .named) (s .waits) k
               ∙ sym (waits k);
         }

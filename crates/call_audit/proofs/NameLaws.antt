@@ -1,43 +1,38 @@
 -- Queued headers and waiting, clause and budget: the cells of xs use the cells' budget up exactly when each header names
--- an open VC and each open VC's waiting is the number of its cells.
+-- an open connection and each open connection's waiting is the number of its cells.
 use Prim.Native.Nat.{ℕ, _≤_, _<_}
 use mathlib.Core.Path.{_≡_, refl, sym, ap, _∙_}
-use mathlib.Core.Bool.{true, _&&_}
+use mathlib.Core.Bool.{Bool, true, false, _&&_}
 use mathlib.Core.List.{List, [], _∷_, map}
 use native.Mathlib.Omega.{arith}
 use native.Mathlib.Decide.{ℕ-discrete, decLt}
 use lib.ListN.{getD}
-use borrow.Author.Tests.{lt-ltb, le-leb, eq-eqb, ne-eqb, eqb-true, ltb-true, leb-true}
-use Rattle.meaning.specs.Plain.{_<?_, _≤?_, _=?_}
-use Rattle.meaning.specs.Numbers.{empty, cellStart, openPlace}
-use Rattle.meaning.specs.Header.{Header, headerAt, namesConnection, namesOpen}
+use borrow.Author.Tests.{eq-eqb, eqb-true}
+use Rattle.meaning.specs.Plain.{_=?_}
+use Rattle.meaning.specs.Numbers.{connectionsIn, unused, empty, cellStart, openPlace}
+use Rattle.meaning.specs.Header.{Header, headerAt, connection, namesConnection, namesOpen}
 use Rattle.meaning.specs.Words.{connectionAt}
 use Rattle.meaning.specs.Audit.{count, connectionIn}
+use Rattle.meaning.proofs.NamesLaws.{names-low, names-used}
 use Rattle.call_audit.specs.Budgets.{waitsAt}
 use Rattle.mem_walks.specs.Walk.{nameOf}
-use Rattle.mem_walks.proofs.Choice.{both}
+use Rattle.mem_walks.proofs.Choice.{both, false-true}
 use Rattle.mem_walks.proofs.BudgetLaws.{is, is-same, is-no}
 use Rattle.call_audit.proofs.WaitsLaws.{MayWait, waits-some, waits-open, waits-shut}
 
--- "A header names an open VC when its VPI is 0 and its VCI is 1 to V-1 and open."
-names-open : (z : ℕ) (words : List ℕ) (h : Header) → h .vpi ≡ 0 → MayWait words z (h .vci) → namesOpen z words h ≡ true
-unfolding namesOpen namesConnection connectionAt
-names-open z words h e m =
-    rw (
-      eq-eqb (h .vpi) 0 e,
-      le-leb 1 (h .vci) (m .0),
-      lt-ltb (h .vci) z (m .1),
-      eq-eqb (getD words (openPlace (h .vci)) 0) 1 (m .2),
-    )
+-- a header that names a connection, and that connection is open
+names-open : (z : ℕ) (words : List ℕ) (h : Header) → namesConnection z h ≡ true → MayWait words z (connection z h)
+    → namesOpen z words h ≡ true
+unfolding namesOpen connectionAt
+names-open z words h e m = rw (e, eq-eqb (getD words (openPlace (connection z h)) 0) 1 (m .2))
 
-open-named : (z : ℕ) (words : List ℕ) (h : Header) → namesOpen z words h ≡ true → (h .vpi ≡ 0) × MayWait words z (h .vci)
-unfolding namesOpen namesConnection connectionAt
+open-named : (z : ℕ) (words : List ℕ) (h : Header) → namesOpen z words h ≡ true
+    → (namesConnection z h ≡ true) × MayWait words z (connection z h)
+unfolding namesOpen connectionAt
 open-named z words h t =
-    let a = both (h .vpi =? 0 && 1 ≤? h .vci && h .vci <? z) (getD words (openPlace (h .vci)) 0 =? 1) t in
-    let b = both (h .vpi =? 0 && 1 ≤? h .vci) (h .vci <? z) (a .0) in
-    let d = both (h .vpi =? 0) (1 ≤? h .vci) (b .0) in
-    let opened = eqb-true (getD words (openPlace (h .vci)) 0) 1 (a .1) in
-    (eqb-true (h .vpi) 0 (d .0), (leb-true 1 (h .vci) (d .1), ltb-true (h .vci) z (b .1), opened))
+    let a = both (namesConnection z h) (getD words (openPlace (connection z h)) 0 =? 1) t in
+    let opened = eqb-true (getD words (openPlace (connection z h)) 0) 1 (a .1) in
+    (a .0, (names-low z h (a .0), names-used z h (a .0), opened))
 
 -- A list and the names of its numbers
 
@@ -61,65 +56,76 @@ same-names f g (y ∷ ys) h =
     let t : map f ys ≡ map g ys = same-names f g ys (λ x n. h x (omega arith)) in
     rw (e, t)
 
-name-vci : (cells : List ℕ) (x : ℕ) → headerAt cells (cellStart x) .vpi ≡ 0 → nameOf cells x ≡ connectionIn cells x
-unfolding nameOf connectionIn
-name-vci cells x h = rw (eq-eqb (headerAt cells (cellStart x) .vpi) 0 h)
+-- The number that the walk takes off: the connection's, or 65,535 where none is named
 
-name-bad : (cells : List ℕ) (x : ℕ) → (headerAt cells (cellStart x) .vpi ≡ 0 → ⊥) → nameOf cells x ≡ empty
-unfolding nameOf
-name-bad cells x h = rw (ne-eqb (headerAt cells (cellStart x) .vpi) 0 h)
+module _ (kind z : ℕ) (cells : List ℕ) (x : ℕ) where
+  abbrev h : Header
+  h = headerAt kind cells (cellStart x)
 
-vci-is : (cells : List ℕ) (x : ℕ) → connectionIn cells x ≡ headerAt cells (cellStart x) .vci
-unfolding connectionIn
-vci-is cells x = refl
+  name-is : namesConnection z h ≡ true → nameOf kind z cells x ≡ connectionIn kind z cells x
+  unfolding nameOf connectionIn
+  name-is e = rw e
 
-module _ (z : ℕ) (cells words xs : List ℕ) where
+  name-bad : namesConnection z h ≡ false → nameOf kind z cells x ≡ empty
+  unfolding nameOf
+  name-bad e = rw e
+
+  in-is : connectionIn kind z cells x ≡ connection z h
+  unfolding connectionIn
+  in-is = refl
+
+module _ (kind z : ℕ) (cells words xs : List ℕ) where
+  abbrev header : ℕ → Header
+  header x = headerAt kind cells (cellStart x)
+
   abbrev pub Named : Type 0
-  Named = (x : ℕ) → 0 < count x xs → namesOpen z words (headerAt cells (cellStart x)) ≡ true
+  Named = (x : ℕ) → 0 < count x xs → namesOpen z words (header x) ≡ true
 
   abbrev pub Waits : Type 0
-  Waits = (vci : ℕ) → 1 ≤ vci → vci < z → connectionAt words vci .opened ≡ 1
-      → connectionAt words vci .waiting ≡ count vci (map (connectionIn cells) xs)
+  Waits = (c : ℕ) → c < connectionsIn z → unused z c ≡ false → connectionAt words c .opened ≡ 1
+      → connectionAt words c .waiting ≡ count c (map (connectionIn kind z cells) xs)
 
   abbrev pub UsedUp : Type 0
-  UsedUp = (k : ℕ) → count k (map (nameOf cells) xs) ≡ waitsAt words z k
+  UsedUp = (k : ℕ) → count k (map (nameOf kind z cells) xs) ≡ waitsAt words z k
 
-  pub named-of : z ≤ empty → UsedUp → Named
-  named-of small f x h = go (ℕ-discrete (headerAt cells (cellStart x) .vpi) 0)
+  pub named-of : connectionsIn z ≤ empty → UsedUp → Named
+  named-of small f x g = go (namesConnection z (header x)) refl
     where
-      some : 0 < waitsAt words z (nameOf cells x)
-      some = omega (arith, named-in (nameOf cells) x xs h, f (nameOf cells x))
+      some : 0 < waitsAt words z (nameOf kind z cells x)
+      some = omega (arith, named-in (nameOf kind z cells) x xs g, f (nameOf kind z cells x))
 
-      go : Dec (headerAt cells (cellStart x) .vpi ≡ 0) → namesOpen z words (headerAt cells (cellStart x)) ≡ true
-      go (yes e) =
-          names-open z words (headerAt cells (cellStart x)) e
-          (waits-some words z (headerAt cells (cellStart x) .vci) (rw (← vci-is cells x, ← name-vci cells x e) some))
-      go (no n) = absurd (omega (arith, small, waits-some words z (nameOf cells x) some, name-bad cells x n))
+      go : (b : Bool) → namesConnection z (header x) ≡ b → namesOpen z words (header x) ≡ true
+      go true e =
+          names-open z words (header x) e
+          (waits-some words z (connection z (header x)) (rw (← in-is kind z cells x, ← name-is kind z cells x e) some))
+      go false e =
+          absurd (omega (arith, small, waits-some words z (nameOf kind z cells x) some .0, name-bad kind z cells x e))
 
-  names-same : Named → map (nameOf cells) xs ≡ map (connectionIn cells) xs
+  names-same : Named → map (nameOf kind z cells) xs ≡ map (connectionIn kind z cells) xs
   names-same f =
-      same-names (nameOf cells) (connectionIn cells) xs
-      (λ x h. name-vci cells x (open-named z words (headerAt cells (cellStart x)) (f x h) .0))
+      same-names (nameOf kind z cells) (connectionIn kind z cells) xs
+      (λ x g. name-is kind z cells x (open-named z words (header x) (f x g) .0))
 
-  pub waits-of : z ≤ empty → UsedUp → Waits
-  waits-of small f vci a d e =
-      sym (waits-open words z vci (a, d, e)) ∙ sym (f vci) ∙ ap (count vci) (names-same (named-of small f))
+  pub waits-of : connectionsIn z ≤ empty → UsedUp → Waits
+  waits-of small f c a d e =
+      sym (waits-open words z c (a, d, e)) ∙ sym (f c) ∙ ap (count c) (names-same (named-of small f))
 
   pub used-up : Named → Waits → UsedUp
-  used-up f g u = go (decLt 0 u) (decLt u z) (ℕ-discrete (connectionAt words u .opened) 1)
+  used-up f g u = go (decLt u (connectionsIn z)) (unused z u) refl (ℕ-discrete (connectionAt words u .opened) 1)
     where
-      shut : (MayWait words z u → ⊥) → count u (map (nameOf cells) xs) ≡ waitsAt words z u
+      shut : (MayWait words z u → ⊥) → count u (map (nameOf kind z cells) xs) ≡ waitsAt words z u
       shut n =
-          none-named (nameOf cells) u xs
+          none-named (nameOf kind z cells) u xs
           (λ x h e.
-          let o = open-named z words (headerAt cells (cellStart x)) (f x h) in
-          let y : headerAt cells (cellStart x) .vci ≡ u = sym (vci-is cells x) ∙ sym (name-vci cells x (o .0)) ∙ e in
+          let o = open-named z words (header x) (f x h) in
+          let y : connection z (header x) ≡ u = sym (in-is kind z cells x) ∙ sym (name-is kind z cells x (o .0)) ∙ e in
           n (rw y at (o .1)))
           ∙ sym (waits-shut words z u n)
 
-      go : Dec (0 < u) → Dec (u < z) → Dec (connectionAt words u .opened ≡ 1) → count u (map (nameOf cells) xs) ≡ waitsAt words z u
-      go (yes a) (yes b) (yes d) =
+      go : Dec (u < connectionsIn z) → (b : Bool) → unused z u ≡ b → Dec (connectionAt words u .opened ≡ 1)
+          → count u (map (nameOf kind z cells) xs) ≡ waitsAt words z u
+      go (yes a) false b (yes d) =
           ap (count u) (names-same f) ∙ sym (waits-open words z u (a, b, d) ∙ g u a b d)
-      go (no a) b d = shut (λ h. a (h .0))
-      go (yes a) (no b) d = shut (λ h. b (h .1))
-      go (yes a) (yes b) (no d) = shut (λ h. d (h .2))
+      go (no a) b e d = shut (λ h. a (h .0))
+      go (yes a) true b d = shut (λ h. false-true (sym (h .1) ∙ b))
+      go (yes a) false b (no d) = shut (λ h. d (h .2))

@@ -8,7 +8,7 @@ use lib.ListN.{length}
 use borrow.Author.Tests.{lt-ltb, le-ltb, le-leb, lt-leb, eqb-true, ltb-true, leb-true, not-true, not-false}
 use Rattle.meaning.specs.declared.Record.{Record}
 use Rattle.meaning.specs.Plain.{_<?_, _≤?_, _=?_}
-use Rattle.meaning.specs.Numbers.{mostN, leastV, mostV, rangesHold, octets, perEntry, wordsPerConnection}
+use Rattle.meaning.specs.Numbers.{mostN, leastV, mostV, rangesHold, octets, perEntry, connectionsIn, kindFits, wordsIn}
 use Rattle.meaning.specs.State.{stateOf, wordsLong, lengthsHold}
 use Rattle.meaning.specs.Audit.{AuditHolds}
 use Rattle.call_audit.specs.Shape.{recordFits, shapeHolds}
@@ -29,13 +29,13 @@ module _ (N z : ℕ) where
 
 module _ (N z : ℕ) (cells links calendar words : List ℕ) where
   lengths-facts : lengthsHold N z cells links calendar words ≡ true
-      → (length calendar ≡ perEntry * N) × (length words ≡ wordsPerConnection * z)
+      → (length calendar ≡ perEntry * N) × (length words ≡ wordsIn z)
   unfolding lengthsHold wordsLong
   lengths-facts h =
       let first = length cells =? octets * N && length links =? N in
-      let a = both (first && length calendar =? perEntry * N) (length words =? wordsPerConnection * z) h in
+      let a = both (first && length calendar =? perEntry * N) (length words =? wordsIn z) h in
       let b = both first (length calendar =? perEntry * N) (a .0) in
-      (eqb-true (length calendar) (perEntry * N) (b .1), eqb-true (length words) (wordsPerConnection * z) (a .1))
+      (eqb-true (length calendar) (perEntry * N) (b .1), eqb-true (length words) (wordsIn z) (a .1))
 
 -- The record's other numbers, as the code meets them
 
@@ -45,34 +45,61 @@ module _ (r : Record) where
   fits-no-turn h = rw (le-ltb (r .turn) (r .n) h)
 
   module _ (turn : r .turn < r .n) where
-    pub fits-no-rotation : r .v ≤ r .rotation → false ≡ recordFits r
+    pub fits-no-rotation : connectionsIn (r .v) ≤ r .rotation → false ≡ recordFits r
     unfolding recordFits
-    fits-no-rotation h = rw (lt-ltb (r .turn) (r .n) turn, le-ltb (r .rotation) (r .v) h)
+    fits-no-rotation h = rw (lt-ltb (r .turn) (r .n) turn, le-ltb (r .rotation) (connectionsIn (r .v)) h)
 
-    module _ (rotation : r .rotation < r .v) where
+    module _ (rotation : r .rotation < connectionsIn (r .v)) where
       pub fits-no-raw : 1 < r .raw → false ≡ recordFits r
       unfolding recordFits
-      fits-no-raw h = rw (lt-ltb (r .turn) (r .n) turn, lt-ltb (r .rotation) (r .v) rotation, lt-leb (r .raw) 1 h)
+      fits-no-raw h =
+          rw (lt-ltb (r .turn) (r .n) turn, lt-ltb (r .rotation) (connectionsIn (r .v)) rotation, lt-leb (r .raw) 1 h)
 
-      pub fits-rest : r .raw ≤ 1 → r .mode ≤? 1 ≡ recordFits r
-      unfolding recordFits
-      fits-rest h = rw (lt-ltb (r .turn) (r .n) turn, lt-ltb (r .rotation) (r .v) rotation, le-leb (r .raw) 1 h)
+      module _ (raw : r .raw ≤ 1) where
+        pub fits-no-mode : 1 < r .mode → false ≡ recordFits r
+        unfolding recordFits
+        fits-no-mode h =
+            rw (
+              lt-ltb (r .turn) (r .n) turn,
+              lt-ltb (r .rotation) (connectionsIn (r .v)) rotation,
+              le-leb (r .raw) 1 raw,
+              lt-leb (r .mode) 1 h,
+            )
 
-  fits-facts : recordFits r ≡ true → (r .turn < r .n) × (r .rotation < r .v) × (r .raw ≤ 1) × (r .mode ≤ 1)
+        pub fits-rest : r .mode ≤ 1 → kindFits (r .kind) ≡ recordFits r
+        unfolding recordFits
+        fits-rest h =
+            rw (
+              lt-ltb (r .turn) (r .n) turn,
+              lt-ltb (r .rotation) (connectionsIn (r .v)) rotation,
+              le-leb (r .raw) 1 raw,
+              le-leb (r .mode) 1 h,
+            )
+
+  kind-facts : kindFits (r .kind) ≡ true → r .kind ≤ 1
+  unfolding kindFits
+  kind-facts h = leb-true (r .kind) 1 h
+
+  fits-facts : recordFits r ≡ true
+      → (r .turn < r .n) × (r .rotation < connectionsIn (r .v)) × (r .raw ≤ 1) × (r .mode ≤ 1) × (r .kind ≤ 1)
   unfolding recordFits
   fits-facts h =
-      let a = both (r .turn <? r .n && r .rotation <? r .v && r .raw ≤? 1) (r .mode ≤? 1) h in
-      let b = both (r .turn <? r .n && r .rotation <? r .v) (r .raw ≤? 1) (a .0) in
-      let d = both (r .turn <? r .n) (r .rotation <? r .v) (b .0) in (
-        ltb-true (r .turn) (r .n) (d .0),
-        ltb-true (r .rotation) (r .v) (d .1),
-        leb-true (r .raw) 1 (b .1),
-        leb-true (r .mode) 1 (a .1),
+      let turn = r .turn <? r .n in
+      let rotation = r .rotation <? connectionsIn (r .v) in
+      let a = both (turn && rotation && r .raw ≤? 1 && r .mode ≤? 1) (kindFits (r .kind)) h in
+      let b = both (turn && rotation && r .raw ≤? 1) (r .mode ≤? 1) (a .0) in
+      let d = both (turn && rotation) (r .raw ≤? 1) (b .0) in
+      let e = both turn rotation (d .0) in (
+        ltb-true (r .turn) (r .n) (e .0),
+        ltb-true (r .rotation) (connectionsIn (r .v)) (e .1),
+        leb-true (r .raw) 1 (d .1),
+        leb-true (r .mode) 1 (b .1),
+        kind-facts (a .1),
       )
 
 abbrev lengthsTest : ℕ → ℕ → List ℕ → List ℕ → List ℕ → List ℕ → Bool
 lengthsTest N z cells links calendar words =
-    length cells =? octets * N && length links =? N && length calendar =? perEntry * N && length words =? wordsPerConnection * z
+    length cells =? octets * N && length links =? N && length calendar =? perEntry * N && length words =? wordsIn z
 
 -- All of it, as the code meets it: p and q are what the two tests answer
 
@@ -95,20 +122,21 @@ module _ (r : Record) (cells links calendar words : List ℕ) (p : Bool) (ranges
 
 -- What a yes means, and that it is given
 
--- "lengths and ranges hold", but for the VC words
+-- "lengths and ranges hold", but for the connections' words
 pub record Shaped (r : Record) (cells links calendar words : List ℕ) : Type 0 where
   pub ranges : rangesHold (r .n) (r .v) ≡ true
   pub lengths : lengthsHold (r .n) (r .v) cells links calendar words ≡ true
   pub turn-low : r .turn < r .n
-  pub rotation-low : r .rotation < r .v
+  pub rotation-low : r .rotation < connectionsIn (r .v)
   pub raw-low : r .raw ≤ 1
   pub mode-low : r .mode ≤ 1
+  pub kind-low : r .kind ≤ 1
   -- what the two tests say in plain numbers, as far as the code needs it
   pub n-most : r .n ≤ mostN
   pub v-least : leastV ≤ r .v
   pub v-most : r .v ≤ mostV
   pub calendar-long : length calendar ≡ perEntry * r .n
-  pub words-long : length words ≡ wordsPerConnection * r .v
+  pub words-long : length words ≡ wordsIn (r .v)
 
 module _ (r : Record) (cells links calendar words : List ℕ) where
   pub shape-of : (a : Bool) → a ≡ shapeHolds (stateOf r cells links calendar words) → a ≡ true
@@ -129,6 +157,7 @@ module _ (r : Record) (cells links calendar words : List ℕ) where
         rotation-low = k .1;
         raw-low = k .2;
         mode-low = k .3;
+        kind-low = k .4;
         n-most = f .1;
         v-least = f .2;
         v-most = f .3;
@@ -138,13 +167,14 @@ module _ (r : Record) (cells links calendar words : List ℕ) where
 
   pub clauses-shape : AuditHolds (stateOf r cells links calendar words)
       → shapeHolds (stateOf r cells links calendar words) ≡ true
-  unfolding shapeHolds recordFits
+  unfolding shapeHolds recordFits kindFits
   clauses-shape s =
       rw (
         s .ranges,
         s .lengths,
         lt-ltb (r .turn) (r .n) (s .turn-low),
-        lt-ltb (r .rotation) (r .v) (s .rotation-low),
+        lt-ltb (r .rotation) (connectionsIn (r .v)) (s .rotation-low),
         le-leb (r .raw) 1 (s .raw-low),
         le-leb (r .mode) 1 (s .mode-low),
+        le-leb (r .kind) 1 (s .kind-low),
       )

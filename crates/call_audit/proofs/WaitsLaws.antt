@@ -1,19 +1,21 @@
--- The two budgets that a state gives, filled one number at a time: 1 for each space, its waiting for each open VC, by the
+-- The two budgets that a state gives, filled one number at a time: 1 for each space, its waiting for each open connection, by the
 -- cases of their definitions.
 use Prim.Native.Nat.{ℕ, _+_, _*_, _≤_, _<_}
 use mathlib.Core.Path.{_≡_, refl, sym, ap, _∙_}
-use mathlib.Core.Bool.{Bool, true, false, _&&_}
+use mathlib.Core.Bool.{Bool, true, false, not, _&&_}
 use mathlib.Core.List.{List}
 use native.Mathlib.Omega.{arith}
 use native.Mathlib.Decide.{ℕ-discrete, decLt}
 use lib.ListN.{length, getD, set}
 use lib.Seq.{getD-set-same, getD-set-other}
-use borrow.Author.Tests.{lt-ltb, le-ltb, le-leb, eq-eqb, ne-eqb, eqb-true, ltb-true, leb-true}
+use borrow.Author.Tests.{lt-ltb, le-ltb, le-leb, lt-leb, eq-eqb, ne-eqb, eqb-true, ltb-true, not-true}
 use Rattle.meaning.specs.Plain.{if_then_else_, _<?_, _≤?_, _=?_}
-use Rattle.meaning.specs.Numbers.{wordsPerConnection}
-use Rattle.meaning.specs.Words.{connectionAt}
-use Rattle.call_audit.specs.Budgets.{inside, waitsOf, waitsAt}
+use Rattle.meaning.specs.Numbers.{paths, connectionsIn, unused, wordsPerConnection}
+use Rattle.meaning.specs.Words.{connectionAt, connectionFits}
+use Rattle.call_audit.specs.Budgets.{inside, waitsOf, filledAt, waitsAt, FitFrom, AllFit}
 use Rattle.meaning.proofs.WordsLaws.{opened-at, waiting-at}
+use Rattle.meaning.proofs.NamesLaws.{used-is, used-not-0, used-not-z}
+use Rattle.mem_walks.specs.Budget.{Gone}
 use Rattle.mem_walks.proofs.Choice.{if-elim, both}
 
 -- Spaces
@@ -51,74 +53,81 @@ inside-turn b i h f k = go (ℕ-discrete k i)
 -- Waiting
 
 module _ (words : List ℕ) where
-  pub waits-in : (z k : ℕ) → 1 ≤ k → k < z → waitsAt words z k ≡ waitsOf (connectionAt words k)
-  unfolding waitsAt
-  waits-in z k h g = rw (le-leb 1 k h, lt-ltb k z g)
+  abbrev waitsOn : ℕ → ℕ
+  waitsOn k = waitsOf (connectionAt words k)
 
-  waits-past : (z k : ℕ) → z ≤ k → waitsAt words z k ≡ 0
-  unfolding waitsAt
-  waits-past z k h = rw (le-ltb k z h) (none (1 ≤? k))
-    where
-      none : (a : Bool) → (if a && false then waitsOf (connectionAt words k) else 0) ≡ 0
-      none true = refl
-      none false = refl
+  -- a part of the records filled: what it holds inside, and before and past it
+  module _ (w : List ℕ) (from : ℕ) where
+    pub filled-in : (to k : ℕ) → from ≤ k → k < to → filledAt words w from to k ≡ waitsOn k
+    unfolding filledAt
+    filled-in to k h g = rw (le-leb from k h, lt-ltb k to g)
 
-  waits-zero : (z : ℕ) → waitsAt words z 0 ≡ 0
-  unfolding waitsAt
-  waits-zero z = refl
+    pub filled-before : (to k : ℕ) → k < from → filledAt words w from to k ≡ getD w k 0
+    unfolding filledAt
+    filled-before to k h = rw (lt-leb from k h)
 
-  -- a turn of the loop that fills the cells' budget
-  pub waits-turn : (w : List ℕ) (u d : ℕ) → 0 < u → u < length w → d ≡ waitsOf (connectionAt words u)
-      → ((k : ℕ) → getD w k 0 ≡ waitsAt words u k) → (k : ℕ) → getD (set w u d) k 0 ≡ waitsAt words (u + 1) k
-  waits-turn w u d p h e f k = go (ℕ-discrete k u) (ℕ-discrete k 0)
-    where
-      near : Dec (k < u) → (k ≡ u → ⊥) → (k ≡ 0 → ⊥) → waitsAt words u k ≡ waitsAt words (u + 1) k
-      near (yes g) n z = waits-in u k (omega arith) g ∙ sym (waits-in (u + 1) k (omega arith) (omega arith))
-      near (no g) n z = waits-past u k (omega arith) ∙ sym (waits-past (u + 1) k (omega arith))
+    pub filled-past : (to k : ℕ) → to ≤ k → filledAt words w from to k ≡ getD w k 0
+    unfolding filledAt
+    filled-past to k h = rw (le-ltb k to h) (none (from ≤? k))
+      where
+        none : (a : Bool) → (if a && false then waitsOn k else getD w k 0) ≡ getD w k 0
+        none true = refl
+        none false = refl
 
-      go : Dec (k ≡ u) → Dec (k ≡ 0) → getD (set w u d) k 0 ≡ waitsAt words (u + 1) k
-      go (yes a) z =
-          ap (λ (j : ℕ). getD (set w u d) j 0) a
-          ∙ getD-set-same w u d 0 h
-          ∙ e
-          ∙ sym (waits-in (u + 1) u p (omega arith))
-          ∙ ap (λ (j : ℕ). waitsAt words (u + 1) j) (sym a)
-      go (no a) (yes z) =
-          getD-set-other w u k d 0 a
-          ∙ f k
-          ∙ ap (λ (j : ℕ). waitsAt words u j) z
-          ∙ waits-zero u
-          ∙ sym (waits-zero (u + 1))
-          ∙ ap (λ (j : ℕ). waitsAt words (u + 1) j) (sym z)
-      go (no a) (no z) = getD-set-other w u k d 0 a ∙ f k ∙ near (decLt k u) a z
+    pub filled-none : (k : ℕ) → getD w k 0 ≡ filledAt words w from from k
+    filled-none k = go (decLt k from)
+      where
+        go : Dec (k < from) → getD w k 0 ≡ filledAt words w from from k
+        go (yes h) = sym (filled-before from k h)
+        go (no h) = sym (filled-past from k (omega arith))
 
-  pub waits-one : (k : ℕ) → waitsAt words 1 k ≡ 0
-  waits-one k = go (ℕ-discrete k 0)
-    where
-      go : Dec (k ≡ 0) → waitsAt words 1 k ≡ 0
-      go (yes z) = ap (λ (j : ℕ). waitsAt words 1 j) z ∙ waits-zero 1
-      go (no z) = waits-past 1 k (omega arith)
+    -- a turn of the loop that fills the cells' budget
+    pub filled-turn : (w′ : List ℕ) (u d : ℕ) → from ≤ u → u < length w′ → d ≡ waitsOn u
+        → ((k : ℕ) → getD w′ k 0 ≡ filledAt words w from u k) → (k : ℕ)
+        → getD (set w′ u d) k 0 ≡ filledAt words w from (u + 1) k
+    filled-turn w′ u d p h e f k = go (ℕ-discrete k u)
+      where
+        near : Dec (k < from) → Dec (k < u) → (k ≡ u → ⊥) → filledAt words w from u k ≡ filledAt words w from (u + 1) k
+        near (yes b) g n = filled-before u k b ∙ sym (filled-before (u + 1) k b)
+        near (no b) (yes g) n = filled-in u k (omega arith) g ∙ sym (filled-in (u + 1) k (omega arith) (omega arith))
+        near (no b) (no g) n = filled-past u k (omega arith) ∙ sym (filled-past (u + 1) k (past k u g n))
+          where
+            past : (k u : ℕ) → (k < u → ⊥) → (k ≡ u → ⊥) → u + 1 ≤ k
+            past k u g n = omega arith
 
-  pub waits-read : (k : ℕ) → getD words (wordsPerConnection * k) 0 ≡ 1 → getD words (wordsPerConnection * k + 6) 0 ≡ waitsOf (connectionAt words k)
+        go : Dec (k ≡ u) → getD (set w′ u d) k 0 ≡ filledAt words w from (u + 1) k
+        go (yes a) =
+            ap (λ (j : ℕ). getD (set w′ u d) j 0) a
+            ∙ getD-set-same w′ u d 0 h
+            ∙ e
+            ∙ sym (filled-in (u + 1) u p (omega arith))
+            ∙ ap (λ (j : ℕ). filledAt words w from (u + 1) j) (sym a)
+        go (no a) = getD-set-other w′ u k d 0 a ∙ f k ∙ near (decLt k from) (decLt k u) a
+
+  pub waits-read : (k : ℕ) → getD words (wordsPerConnection * k) 0 ≡ 1 → getD words (wordsPerConnection * k + 6) 0 ≡ waitsOn k
   unfolding waitsOf
   waits-read k h = rw (eq-eqb (connectionAt words k .opened) 1 (opened-at words k ∙ h)) (sym (waiting-at words k))
 
-  pub waits-read-shut : (k : ℕ) → (getD words (wordsPerConnection * k) 0 ≡ 1 → ⊥) → 0 ≡ waitsOf (connectionAt words k)
+  pub waits-read-shut : (k : ℕ) → (getD words (wordsPerConnection * k) 0 ≡ 1 → ⊥) → 0 ≡ waitsOn k
   unfolding waitsOf
   waits-read-shut k h = rw (ne-eqb (connectionAt words k .opened) 1 (λ e. h (sym (opened-at words k) ∙ e)))
 
-  -- a VC that may have cells: open, and 1 to V-1
+  -- a connection that may have cells: it is open
   abbrev pub MayWait : ℕ → ℕ → Type 0
-  MayWait z k = (1 ≤ k) × (k < z) × (connectionAt words k .opened ≡ 1)
+  MayWait z k = (k < connectionsIn z) × (unused z k ≡ false) × (connectionAt words k .opened ≡ 1)
+
+  waits-in : (z k : ℕ) → k < connectionsIn z → unused z k ≡ false → waitsAt words z k ≡ waitsOn k
+  unfolding waitsAt
+  waits-in z k h g = rw (lt-ltb k (connectionsIn z) h, g)
 
   pub waits-some : (z k : ℕ) → 0 < waitsAt words z k → MayWait z k
   unfolding waitsAt waitsOf
   waits-some z k =
-      if-elim (λ (y : ℕ). 0 < y → MayWait z k) (1 ≤? k && k <? z) _ 0
+      if-elim (λ (y : ℕ). 0 < y → MayWait z k) (k <? connectionsIn z && not (unused z k)) _ 0
       (λ a. if-elim (λ (y : ℕ). 0 < y → MayWait z k) (connectionAt words k .opened =? 1) (connectionAt words k .waiting) 0
       (λ d _.
-      let i = both (1 ≤? k) (k <? z) a in
-      (leb-true 1 k (i .0), ltb-true k z (i .1), eqb-true (connectionAt words k .opened) 1 d))
+      let i = both (k <? connectionsIn z) (not (unused z k)) a in
+      (ltb-true k (connectionsIn z) (i .0), not-true (unused z k) (i .1), eqb-true (connectionAt words k .opened) 1 d))
       (λ d h. absurd (omega arith)))
       (λ a h. absurd (omega arith))
 
@@ -132,3 +141,56 @@ module _ (words : List ℕ) where
       go : Dec (0 < waitsAt words z k) → waitsAt words z k ≡ 0
       go (yes h) = absurd (n (waits-some z k h))
       go (no h) = omega arith
+
+  -- both parts filled, one after the other, from a budget of nothing
+  pub both-filled : (z : ℕ) (w w′ : List ℕ) → 1 < z → Gone w
+      → ((k : ℕ) → getD w′ k 0 ≡ filledAt words w 1 z k) → (k : ℕ)
+      → filledAt words w′ (z + 1) (z + paths) k ≡ waitsAt words z k
+  both-filled z w w′ some gone f k = go (ℕ-discrete k 0) (ℕ-discrete k z) (decLt k z) (decLt k (z + paths))
+    where
+      shut : (MayWait z k → ⊥) → getD w′ k 0 ≡ getD w k 0 → getD w′ k 0 ≡ waitsAt words z k
+      shut n e = e ∙ gone k ∙ sym (waits-shut z k n)
+
+      go : Dec (k ≡ 0) → Dec (k ≡ z) → Dec (k < z) → Dec (k < z + paths)
+          → filledAt words w′ (z + 1) (z + paths) k ≡ waitsAt words z k
+      go (yes a) b d e =
+          filled-before w′ (z + 1) (z + paths) k (omega arith)
+          ∙ shut (λ m. used-not-0 z k (m .1) a) (f k ∙ filled-before w 1 z k (omega arith))
+      go (no a) (yes b) d e =
+          filled-before w′ (z + 1) (z + paths) k (omega arith)
+          ∙ shut (λ m. used-not-z z k (m .1) b) (f k ∙ filled-past w 1 z k (omega arith))
+      go (no a) (no b) (yes d) e =
+          filled-before w′ (z + 1) (z + paths) k (omega arith)
+          ∙ f k
+          ∙ filled-in w 1 z k (omega arith) d
+          ∙ sym (waits-in z k (omega arith) (used-is z k a b))
+      go (no a) (no b) (no d) (yes e) =
+          filled-in w′ (z + 1) (z + paths) k (above k z b d) e ∙ sym (waits-in z k e (used-is z k a b))
+        where
+          above : (k z : ℕ) → (k ≡ z → ⊥) → (k < z → ⊥) → z + 1 ≤ k
+          above k z b d = omega arith
+      go (no a) (no b) (no d) (no e) =
+          filled-past w′ (z + 1) (z + paths) k (omega arith)
+          ∙ shut (λ m. e (m .0)) (f k ∙ filled-past w 1 z k (omega arith))
+
+-- The ranges of all connections are those of both parts
+
+module _ (N z : ℕ) (words : List ℕ) where
+  pub all-fit : FitFrom N 1 z words → FitFrom N (z + 1) (z + paths) words → AllFit N z words
+  all-fit f g c low used = go (decLt c z)
+    where
+      a : c ≡ 0 → ⊥
+      a = used-not-0 z c used
+
+      b : c ≡ z → ⊥
+      b = used-not-z z c used
+
+      go : Dec (c < z) → connectionFits N (connectionAt words c) ≡ true
+      go (yes d) = f c (omega (arith, a)) d
+      go (no d) = g c (omega (arith, b, d)) low
+
+  pub first-fit : AllFit N z words → FitFrom N 1 z words
+  first-fit f c h g = f c (omega arith) (used-is z c (λ e. omega (arith, h, e)) (λ e. omega (arith, g, e)))
+
+  pub second-fit : AllFit N z words → FitFrom N (z + 1) (z + paths) words
+  second-fit f c h g = f c g (used-is z c (λ e. omega (arith, h, e)) (λ e. omega (arith, h, e)))

@@ -1,26 +1,37 @@
--- The two budgets that a state gives the audit: each space may be met once, and each open VC as often as it says.
+-- The two budgets that a state gives the audit: each space may be met once, and each open connection as often as it says.
 --
---   inside x N      == 1 for a space, 0 for any other number
---   waitsAt w z k   == the waiting of VC k where it is open and 1 to V-1, else 0
---   AllFit N z w    == the words of VC 1 to V-1 are in their ranges
+--   inside x N            == 1 for a space, 0 for any other number
+--   waitsAt w z k         == the waiting of connection k where there is one and it is open, else 0
+--   AllFit N z w          == the words of all connections are in their ranges
+--   FitFrom N a b w       == those from a on below b are
+--   filledAt w l a b k    == what stands at k of the numbers l once those from a on below b are the waiting cells there
 use Prim.Native.Nat.{ℕ, _≤_, _<_}
 use mathlib.Core.Path.{_≡_}
-use mathlib.Core.Bool.{true, _&&_}
+use mathlib.Core.Bool.{true, false, not, _&&_}
 use mathlib.Core.List.{List}
+use lib.ListN.{getD}
 use Rattle.meaning.specs.Plain.{if_then_else_, _<?_, _≤?_, _=?_}
+use Rattle.meaning.specs.Numbers.{connectionsIn, unused}
 use Rattle.meaning.specs.Words.{Connection, connectionAt, connectionFits}
 
 -- "each space is in exactly one"
 unfoldable pub inside : ℕ → ℕ → ℕ
 inside x N = if x <? N then 1 else 0
 
--- "each open VC's waiting is the number of its queued cells": a closed VC may have none
+-- "each open VC's waiting is the number of its queued cells", and each open path's: a closed connection may have none
 unfoldable pub waitsOf : Connection → ℕ
-waitsOf vc = if vc .opened =? 1 then vc .waiting else 0
+waitsOf conn = if conn .opened =? 1 then conn .waiting else 0
 
 unfoldable pub waitsAt : List ℕ → ℕ → ℕ → ℕ
-waitsAt words z k = if 1 ≤? k && k <? z then waitsOf (connectionAt words k) else 0
+waitsAt words z k = if k <? connectionsIn z && not (unused z k) then waitsOf (connectionAt words k) else 0
 
--- "lengths and ranges hold throughout"; "VC 0's words don't matter"
+-- "lengths and ranges hold throughout"; "VC 0's words don't matter", nor do path 0's
 abbrev pub AllFit : ℕ → ℕ → List ℕ → Type 0
-AllFit N z words = (vci : ℕ) → 1 ≤ vci → vci < z → connectionFits N (connectionAt words vci) ≡ true
+AllFit N z words = (c : ℕ) → c < connectionsIn z → unused z c ≡ false → connectionFits N (connectionAt words c) ≡ true
+
+-- a part of the records
+abbrev pub FitFrom : ℕ → ℕ → ℕ → List ℕ → Type 0
+FitFrom N from to words = (c : ℕ) → from ≤ c → c < to → connectionFits N (connectionAt words c) ≡ true
+
+unfoldable pub filledAt : List ℕ → List ℕ → ℕ → ℕ → ℕ → ℕ
+filledAt words w from to k = if from ≤? k && k <? to then waitsOf (connectionAt words k) else getD w k 0

@@ -1,16 +1,16 @@
--- The clauses that need no walk: "lengths and ranges hold" but for the VC words, as one test of the state.
+-- The clauses that need no walk: "lengths and ranges hold" but for the connections' words, as one test of the state.
 --
---   recordFits r    == T, rotation, raw and mode are in their ranges
+--   recordFits r    == T, rotation, raw, mode and the line kind are in their ranges
 --   shapeHolds s    == they are, and so are N, V and the four lengths
 use mathlib.Core.Bool.{Bool, _&&_}
 use Rattle.meaning.specs.declared.Record.{Record}
 use Rattle.meaning.specs.Plain.{_<?_, _≤?_}
-use Rattle.meaning.specs.Numbers.{rangesHold}
+use Rattle.meaning.specs.Numbers.{rangesHold, connectionsIn, kindFits}
 use Rattle.meaning.specs.State.{State, lengthsHold}
 
--- document 02 (i): raw and mode are each 0 or 1
+-- document 02 (i): raw and mode are each 0 or 1; (vi): so is the line kind, and rotation goes over all connections
 unfoldable pub recordFits : Record → Bool
-recordFits r = r .turn <? r .n && r .rotation <? r .v && r .raw ≤? 1 && r .mode ≤? 1
+recordFits r = r .turn <? r .n && r .rotation <? connectionsIn (r .v) && r .raw ≤? 1 && r .mode ≤? 1 && kindFits (r .kind)
 
 unfoldable pub shapeHolds : State → Bool
 shapeHolds s =

@@ -1,20 +1,22 @@
 // The audit of a policer's state: the clauses that need no walk, then a budget of 1 for each space and of waiting for
-// each open VC, which the lists must use up.
+// each open connection, which the lists must use up.
 ghost use mathlib.Core.Path.{_≡_};
 ghost use mathlib.Core.Bool.{true};
 ghost use Prim.Native.Nat.{ℕ, _+_, _*_, _≤_, _<_};
 ghost use lib.ListN.{length, getD};
-ghost use Rattle.meaning.specs.Numbers.{wordsIn};
+ghost use Rattle.meaning.specs.Numbers.{mostV, connectionsIn, connectionPlace, wordsIn};
 ghost use Rattle.meaning.specs.State.{HasConnection};
 ghost use Rattle.meaning.specs.Words.{connectionAt};
 ghost use Rattle.meaning.specs.Promises.{AuditPromise};
 ghost use Rattle.meaning.specs.Lent.{before};
 ghost use Rattle.mem_walks.specs.Budget.{Gone};
-ghost use Rattle.call_audit.specs.Budgets.{inside, waitsOf, waitsAt, AllFit};
+ghost use Rattle.call_audit.specs.Budgets.{inside, waitsOf, FitFrom, filledAt, waitsAt, AllFit};
 ghost use Rattle.call_audit.specs.Shape.{recordFits, shapeHolds};
+use leaf_refusal::kind_fits;
 use leaf_refusal::lengths_hold;
 use leaf_refusal::ranges_hold;
 use meaning::AT_WAITING;
+use meaning::PATHS;
 use meaning::Record;
 use meaning::WORDS_PER_CONNECTION;
 use mem_walks::stored;
@@ -32,29 +34,29 @@ fn fill_spaces(b: &mut [u32], n: u16)
     }
 }
 
-// The cells that may wait at a VC: none at a closed one, whatever its word says.
-fn waits_of(words: &[u32], vci: u16) -> u32
-    requires { ⌜ HasConnection vci (now words) ⌝ }
-    ensures { λ a. ⌜ a ≡ waitsOf (connectionAt (now (words .entry)) vci) ⌝ }
+// The cells that may wait at a connection: none at a closed one, whatever its word says.
+fn waits_of(words: &[u32], conn: u16) -> u32
+    requires { ⌜ HasConnection conn (now words) ⌝ }
+    ensures { λ a. ⌜ a ≡ waitsOf (connectionAt (now (words .entry)) conn) ⌝ }
 {
-    let base = WORDS_PER_CONNECTION * (vci as usize);
+    let base = WORDS_PER_CONNECTION * (conn as usize);
     if words[base] == 1 {
         return words[base + AT_WAITING];
     }
     0
 }
 
-// The words of VC 1 to V-1 are in their ranges; their waiting cells go into the cells' budget.
-fn fill_waits(n: u16, v: u16, words: &[u32], waits: &mut [u32]) -> bool
-    requires { ⌜ (1 < v) × (v ≤ length (now waits)) × (wordsIn v ≤ length (now words)) × Gone (now waits) ⌝ }
-    ensures yes { λ a. ⌜ (a ≡ true → (AllFit n v (now (words .entry)) × ((k : ℕ) → getD (now (waits .exit)) k 0 ≡ waitsAt (now (words .entry)) v k))) ⌝ }
-    ensures no { λ a. ⌜ (AllFit n v (now (words .entry)) → a ≡ true) ⌝ }
+// The words of the connections from..to are in their ranges; their waiting cells go into the cells' budget.
+fn fill_from(n: u16, from: u16, to: u16, words: &[u32], waits: &mut [u32]) -> bool
+    requires { ⌜ (from ≤ to) × (to ≤ length (now waits)) × (connectionPlace to ≤ length (now words)) ⌝ }
+    ensures yes { λ a. ⌜ (a ≡ true → (FitFrom n from to (now (words .entry)) × ((k : ℕ) → getD (now (waits .exit)) k 0 ≡ filledAt (now (words .entry)) (now (waits .entry)) from to k))) ⌝ }
+    ensures no { λ a. ⌜ (FitFrom n from to (now (words .entry)) → a ≡ true) ⌝ }
 {
-    let mut vci = 1u16;
-    while vci < v {
-        if connection_fits(n, words, vci) {
-            waits[vci as usize] = waits_of(words, vci);
-            vci += 1;
+    let mut conn = from;
+    while conn < to {
+        if connection_fits(n, words, conn) {
+            waits[conn as usize] = waits_of(words, conn);
+            conn += 1;
         } else {
             return false;
         }
@@ -62,20 +64,35 @@ fn fill_waits(n: u16, v: u16, words: &[u32], waits: &mut [u32]) -> bool
     true
 }
 
-// T is below N and rotation below V; raw and mode are each 0 or 1.
+// The V records, then the path records; of each the first is no connection's, and is not read.
+fn fill_waits(n: u16, v: u16, words: &[u32], waits: &mut [u32]) -> bool
+    requires { ⌜ (1 < v) × (v ≤ mostV) × (connectionsIn v ≤ length (now waits)) × (wordsIn v ≤ length (now words)) × Gone (now waits) ⌝ }
+    ensures yes { λ a. ⌜ (a ≡ true → (AllFit n v (now (words .entry)) × ((k : ℕ) → getD (now (waits .exit)) k 0 ≡ waitsAt (now (words .entry)) v k))) ⌝ }
+    ensures no { λ a. ⌜ (AllFit n v (now (words .entry)) → a ≡ true) ⌝ }
+{
+    if fill_from(n, 1, v, words, waits) {
+        return fill_from(n, v + 1, v + PATHS, words, waits);
+    }
+    false
+}
+
+// T is below N and rotation below V + 256; raw and mode are each 0 or 1, and so is the line kind.
 fn record_fits(r: Record) -> bool
     ensures { λ a. ⌜ a ≡ recordFits r ⌝ }
 {
     if r.turn >= r.n {
         return false;
     }
-    if r.rotation >= r.v {
+    if r.rotation as u32 >= r.v as u32 + PATHS as u32 {
         return false;
     }
     if r.raw > 1 {
         return false;
     }
-    r.mode <= 1
+    if r.mode > 1 {
+        return false;
+    }
+    kind_fits(r.kind)
 }
 
 // N, V, the four lengths, and the record's numbers that name no space.
@@ -104,7 +121,7 @@ pub fn audit(r: Record, cells: &[u8], links: &[u16], calendar: &[u16], words: &[
 {
     if shaped(r, cells, links, calendar, words) {
         if calendar[2 * (r.turn as usize)] == 65535 {
-            let mut waits = [0u32; 1024];
+            let mut waits = [0u32; 1280];
             if fill_waits(r.n, r.v, words, &mut waits) {
                 let mut spaces = [0u32; 1024];
                 fill_spaces(&mut spaces, r.n);

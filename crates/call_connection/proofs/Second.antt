@@ -13,6 +13,7 @@ use Rattle.meaning.specs.Words.{Connection, Second, connectionAt, writeConnecti
 use Rattle.meaning.specs.Calls.{Called, calledOf, sharedRefusal, openCall, closeCall}
 use Rattle.leaf_refusal.specs.Order.{refuseOf, firstOf}
 use Rattle.call_connection.specs.NotYet.{notYet}
+use Rattle.call_connection.specs.Own.{ownRefusal}
 
 -- ---- the shared ones
 module _ (r : Record) (words : List ℕ) (name : Name) (given : sharedRefusal r words name ≡ 0 → ⊥) where
@@ -39,8 +40,8 @@ module _ (r : Record) (words : List ℕ) (name : Name) (c : ℕ) (is : c ≡ num
   abbrev beyond : Bool
   beyond = not (secondObeys (bucketOf (x .m) (x .F) (x .C) 0) (x .tag))
 
-  abbrev pub openRefusal : ℕ
-  openRefusal = firstOf (firstOf (refuseOf 5 already) (refuseOf 6 against)) (refuseOf 11 beyond)
+  abbrev given : ℕ
+  given = ownRefusal (r .n) (connectionAt words c .opened) m F C x
 
   -- "Each leaves everything as it came."
   abbrev told : Bool → Bool → Bool → Called
@@ -68,12 +69,12 @@ module _ (r : Record) (words : List ℕ) (name : Name) (c : ℕ) (is : c ≡ num
   three-none false false false h = refl
 
   pub open-refused : sharedRefusal r words name ≡ 0
-      → (openRefusal ≡ 0 → ⊥)
-      → calledOf openRefusal words ≡ openCall r words name m F C x
+      → (given ≡ 0 → ⊥)
+      → calledOf given words ≡ openCall r words name m F C x
   unfolding openCall
   open-refused e h = rw (eq-eqb (sharedRefusal r words name) 0 e, ← is) (three-given already against beyond h)
 
-  pub open-done : sharedRefusal r words name ≡ 0 → openRefusal ≡ 0
+  pub open-done : sharedRefusal r words name ≡ 0 → given ≡ 0
       → calledOf 0 (writeConnection words c (openedConnection (r .t) (bucketOf m F C 0) x)) ≡ openCall r words name m F C x
   unfolding openCall
   open-done e h = rw (eq-eqb (sharedRefusal r words name) 0 e, ← is) (three-none already against beyond h)

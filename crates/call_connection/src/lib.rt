@@ -10,6 +10,7 @@ ghost use Rattle.meaning.specs.Calls.{sharedRefusal};
 ghost use Rattle.meaning.specs.Promises.{openPromise, closePromise};
 ghost use Rattle.call_connection.specs.Names.{nameOf};
 ghost use Rattle.call_connection.specs.NotYet.{notYet};
+ghost use Rattle.call_connection.specs.Own.{ownRefusal};
 use leaf_bucket::fallen_to;
 use leaf_bucket::obeys_rules;
 use leaf_bucket::obeys_second;
@@ -67,6 +68,17 @@ fn shared_refusal(ctl: Record, words: &[u32], path: bool, number: u16) -> u16
     refuse(3, !connection_fits(ctl.n, words, conn))
 }
 
+// Open's own refusals, 5, 6 and 11, in this order, or 0.
+fn own_refusal(n: u16, opened: u32, m: u8, f: u32, c: u32, m2: u8, f2: u32, c2: u32, tag: u8) -> u16
+    ensures { λ r. ⌜ r ≡ ownRefusal n opened m f c (secondOf m2 f2 c2 tag) ⌝ }
+{
+    let already = refuse(5, opened == 1);
+    let against = refuse(6, !obeys_rules(n, m as u32, f, c));
+    let beyond = refuse(11, !obeys_second(m2 as u32, f2, c2, tag as u32));
+    let early = first(already, against);
+    first(early, beyond)
+}
+
 // "Opening sets open 1, the given m, F and C, S 0, last t, waiting 0.", and so for a second bucket; none is m, F, C and flag 0.
 fn open_named(
     ctl: Record,
@@ -89,11 +101,7 @@ fn open_named(
     }
     let conn = number_of(ctl.v, path, number);
     let opened = words[WORDS_PER_CONNECTION * (conn as usize)];
-    let already = refuse(5, opened == 1);
-    let against = refuse(6, !obeys_rules(ctl.n, m as u32, f, c));
-    let beyond = refuse(11, !obeys_second(m2 as u32, f2, c2, tag as u32));
-    let early = first(already, against);
-    let k = first(early, beyond);
+    let k = own_refusal(ctl.n, opened, m, f, c, m2, f2, c2, tag);
     if k != 0 {
         return k;
     }

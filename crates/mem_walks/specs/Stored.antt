@@ -7,7 +7,7 @@ use lib.ListN.{length, getD}
 use Rattle.meaning.specs.declared.Record.{Record}
 use Rattle.meaning.specs.Lent.{Lent}
 use Rattle.meaning.specs.State.{Ends, endsOf}
-use Rattle.mem_walks.specs.Walk.{nameOf}
+use Rattle.mem_walks.specs.Walk.{nameIn}
 use Rattle.meaning.specs.Numbers.{empty}
 use Rattle.meaning.specs.Lists.{entryAt}
 use Rattle.meaning.specs.Audit.{Chain, count, joined}
@@ -35,5 +35,5 @@ pub record Stored (l calendar : List ℕ) (nm : ℕ → ℕ) (N : ℕ) (free-end
 -- the same of a record r and of what is lent, for contracts
 abbrev pub StoredIn : Record → Lent → Lent → Lent → Lent → Lent → Type 0
 StoredIn r cells links calendar spaces waits =
-    Stored (links .entry .now) (calendar .entry .now) (nameOf (cells .entry .now)) (r .n) (endsOf (r .freehead) (r .freetail))
+    Stored (links .entry .now) (calendar .entry .now) (nameIn (r .kind) (r .v) cells) (r .n) (endsOf (r .freehead) (r .freetail))
     (endsOf (r .outhead) (r .outtail)) (spaces .entry .now) (waits .entry .now)

@@ -1,8 +1,10 @@
 -- The audit's walk over the lists of spaces, as it runs: each space that is met is taken off the spaces' budget and, in a
--- queue, the VC that its cell names off the cells' budget. The promise itself names no walk.
+-- queue, the connection that its cell names off the cells' budget. The promise itself names no walk.
 --
---   nameOf cells x        == the VCI in the header of space x; 65,535, which is no VC, where its VPI isn't 0
---   names q nm xs         == the VCs that the cells of xs name, where xs are queued
+--   nameOf kind z cells x == the number of the connection that the header of space x names; 65,535, which is none's, where it
+--                            names none
+--   headerIn, nameIn      == the header of space x, and that number, of cells that are lent, for contracts
+--   names q nm xs         == the connections that the cells of xs name, where xs are queued
 --   walk l nm q t x b w   == from space x along the links to the tail t, with budgets b and w
 --   listOf l nm q e b w   == the list that begins and ends at e
 --   entriesOf k e         == k calendar entries from e on
@@ -18,14 +20,21 @@ use Rattle.meaning.specs.State.{Ends}
 pub use Rattle.meaning.specs.State.{endsOf}
 use Rattle.meaning.specs.declared.Record.{Record}
 use Rattle.meaning.specs.Lent.{Lent}
-use Rattle.meaning.specs.Header.{headerAt}
+use Rattle.meaning.specs.Header.{Header, headerAt, connection, namesConnection}
 use Rattle.meaning.specs.Lists.{isEmpty, entryAt}
 use Rattle.mem_walks.specs.Budget.{spent, sum}
 
--- "A header names an open VC when its VPI is 0 .."
-unfoldable pub nameOf : List ℕ → ℕ → ℕ
-nameOf cells x =
-    if headerAt cells (cellStart x) .vpi =? 0 then headerAt cells (cellStart x) .vci else empty
+-- of a header alone; whether the connection is open is said by its budget
+unfoldable pub nameOf : ℕ → ℕ → List ℕ → ℕ → ℕ
+nameOf kind z cells x =
+    let h = headerAt kind cells (cellStart x) in
+    if namesConnection z h then connection z h else empty
+
+abbrev pub headerIn : ℕ → Lent → ℕ → Header
+headerIn kind cells x = headerAt kind (cells .entry .now) (cellStart x)
+
+abbrev pub nameIn : ℕ → ℕ → Lent → ℕ → ℕ
+nameIn kind z cells = nameOf kind z (cells .entry .now)
 
 abbrev pub names : Bool → (ℕ → ℕ) → List ℕ → List ℕ
 names true nm xs = map nm xs
@@ -40,7 +49,7 @@ pub record Walked : Type 0 where
 abbrev pub walked : Bool → List ℕ → List ℕ → Walked
 walked ok spaces waits = record { ok = ok; spaces = spaces; waits = waits }
 
--- in a queue one VC is taken off the cells' budget; in the Free List none is
+-- in a queue one connection is taken off the cells' budget; in the Free List none is
 unfoldable pub mayWait : Bool → List ℕ → ℕ → Bool
 mayWait q w k = if q then 0 <? getD w k 0 else true
 
@@ -81,7 +90,7 @@ listsOf l calendar nm N free output b w =
 
 abbrev pub listsIn : Record → Lent → Lent → Lent → Lent → Lent → Walked
 listsIn r cells links calendar spaces waits =
-    listsOf (links .entry .now) (calendar .entry .now) (nameOf (cells .entry .now)) (r .n) (endsOf (r .freehead) (r .freetail))
+    listsOf (links .entry .now) (calendar .entry .now) (nameIn (r .kind) (r .v) cells) (r .n) (endsOf (r .freehead) (r .freetail))
     (endsOf (r .outhead) (r .outtail)) (spaces .entry .now) (waits .entry .now)
 
 abbrev pub walkedAfter : Bool → Lent → Lent → Walked

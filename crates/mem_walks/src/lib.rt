@@ -1,14 +1,15 @@
-// Lists of spaces walked under two budgets, which say how often each space, and each VC, may still be met. The walk takes
+// Lists of spaces walked under two budgets, which say how often each space, and each connection, may still be met. The walk takes
 // one off for each space and each queued cell and fails at 0; at the end nothing may be left. So no count can overflow,
 // and a head, link or header out of range fails by itself.
 ghost use mathlib.Core.Path.{_≡_};
 ghost use mathlib.Core.Bool.{true};
-ghost use Prim.Native.Nat.{_<_};
+ghost use Prim.Native.Nat.{ℕ, _<_};
 ghost use lib.ListN.{getD};
 ghost use Rattle.meaning.specs.Plain.{_<?_};
 ghost use Rattle.mem_walks.specs.Budget.{spent, Gone};
-ghost use Rattle.mem_walks.specs.Walk.{nameOf, walkedAfter, endsOf, mayWait, lessWait, walk, listOf, entriesOf, listsIn};
+ghost use Rattle.mem_walks.specs.Walk.{headerIn, nameIn, walkedAfter, endsOf, mayWait, lessWait, walk, listOf, entriesOf, listsIn};
 ghost use Rattle.mem_walks.specs.Stored.{NoMark, StoredIn};
+use meaning::PATHS;
 use meaning::Record;
 
 // One x is taken off a budget, if any is left.
@@ -52,34 +53,61 @@ fn octet_at(l: &[u8], i: usize) -> u8
     if i < l.len() { l[i] } else { 0 }
 }
 
-fn wide(x: u8) -> u16
+fn wide(x: u8) -> u32
     ensures { λ a. ⌜ (a ≡ x) × (a < 256) ⌝ }
 {
-    x as u16
+    x as u32
 }
 
-// The VC that the cell of space x names; 65,535, which is no VC, where its VPI isn't 0.
-fn name_at(cells: &[u8], x: u16) -> u16
-    ensures { λ a. ⌜ a ≡ nameOf (now (cells .entry)) x ⌝ }
+// The VPI of the cell of space x: without the GFC at the UNI, of twelve bits at the NNI.
+fn vpi_at(cells: &[u8], kind: u16, x: u16) -> u32
+    ensures { λ a. ⌜ (a ≡ headerIn kind cells x .vpi) × (a < 4096) ⌝ }
 {
     let i = 53 * (x as usize);
     let o1 = wide(octet_at(cells, i));
     let o2 = wide(octet_at(cells, i + 1));
-    let o3 = wide(octet_at(cells, i + 2));
-    let o4 = wide(octet_at(cells, i + 3));
-    if o1 % 16 * 16 + o2 / 16 == 0 {
-        return o2 % 16 * 4096 + o3 * 16 + o4 / 16;
+    if kind == 0 {
+        return o1 % 16 * 16 + o2 / 16;
     }
-    65535
+    o1 * 16 + o2 / 16
 }
 
-// In a queue, the VC that the cell of space x names is taken off the cells' budget.
-fn visit(cells: &[u8], waits: &mut [u32], queued: bool, x: u16) -> bool
-    ensures { λ a. ⌜ (a ≡ mayWait queued (now (waits .entry)) (nameOf (now (cells .entry)) x)) × (now (waits .exit) ≡ lessWait queued (now (waits .entry)) (nameOf (now (cells .entry)) x)) ⌝ }
+// Its VCI, which stands where it stands on either kind of line.
+fn vci_at(cells: &[u8], x: u16) -> u32
+    ensures { λ a. ⌜ ((kind : ℕ) → a ≡ headerIn kind cells x .vci) ⌝ }
+{
+    let i = 53 * (x as usize);
+    let o2 = wide(octet_at(cells, i + 1));
+    let o3 = wide(octet_at(cells, i + 2));
+    let o4 = wide(octet_at(cells, i + 3));
+    o2 % 16 * 4096 + o3 * 16 + o4 / 16
+}
+
+// The number of the connection that the cell of space x names: its VCI, or V + VPI; 65,535, which is none's, where it names none.
+fn name_at(cells: &[u8], kind: u16, v: u16, x: u16) -> u32
+    ensures { λ a. ⌜ a ≡ nameIn kind v cells x ⌝ }
+{
+    let vpi = vpi_at(cells, kind, x);
+    if vpi >= PATHS as u32 {
+        return 65535;
+    }
+    if vpi > 0 {
+        return v as u32 + vpi;
+    }
+    let vci = vci_at(cells, x);
+    if vci < 1 {
+        return 65535;
+    }
+    if vci < v as u32 { vci } else { 65535 }
+}
+
+// In a queue, the connection that the cell of space x names is taken off the cells' budget.
+fn visit(cells: &[u8], kind: u16, v: u16, waits: &mut [u32], queued: bool, x: u16) -> bool
+    ensures { λ a. ⌜ (a ≡ mayWait queued (now (waits .entry)) (nameIn kind v cells x)) × (now (waits .exit) ≡ lessWait queued (now (waits .entry)) (nameIn kind v cells x)) ⌝ }
 {
     if queued {
-        let vci = name_at(cells, x);
-        return take(waits, vci as usize);
+        let name = name_at(cells, kind, v, x);
+        return take(waits, name as usize);
     }
     true
 }
@@ -88,18 +116,20 @@ fn visit(cells: &[u8], waits: &mut [u32], queued: bool, x: u16) -> bool
 fn walk(
     links: &[u16],
     cells: &[u8],
+    kind: u16,
+    v: u16,
     spaces: &mut [u32],
     waits: &mut [u32],
     queued: bool,
     tail: u16,
     head: u16,
 ) -> bool
-    ensures { λ a. ⌜ walkedAfter a spaces waits ≡ walk (now (links .entry)) (nameOf (now (cells .entry))) queued tail head (now (spaces .entry)) (now (waits .entry)) ⌝ }
+    ensures { λ a. ⌜ walkedAfter a spaces waits ≡ walk (now (links .entry)) (nameIn kind v cells) queued tail head (now (spaces .entry)) (now (waits .entry)) ⌝ }
 {
     let mut x = head;
     loop {
         if take(spaces, x as usize) {
-            if visit(cells, waits, queued, x) {
+            if visit(cells, kind, v, waits, queued, x) {
                 if x == tail {
                     return true;
                 }
@@ -117,18 +147,20 @@ fn walk(
 fn list(
     links: &[u16],
     cells: &[u8],
+    kind: u16,
+    v: u16,
     spaces: &mut [u32],
     waits: &mut [u32],
     queued: bool,
     head: u16,
     tail: u16,
 ) -> bool
-    ensures { λ a. ⌜ walkedAfter a spaces waits ≡ listOf (now (links .entry)) (nameOf (now (cells .entry))) queued (endsOf head tail) (now (spaces .entry)) (now (waits .entry)) ⌝ }
+    ensures { λ a. ⌜ walkedAfter a spaces waits ≡ listOf (now (links .entry)) (nameIn kind v cells) queued (endsOf head tail) (now (spaces .entry)) (now (waits .entry)) ⌝ }
 {
     if head == 65535 {
         return tail == 65535;
     }
-    walk(links, cells, spaces, waits, queued, tail, head)
+    walk(links, cells, kind, v, spaces, waits, queued, tail, head)
 }
 
 // The time slot queues of all n calendar entries.
@@ -136,18 +168,20 @@ fn entries(
     links: &[u16],
     cells: &[u8],
     calendar: &[u16],
+    kind: u16,
+    v: u16,
     spaces: &mut [u32],
     waits: &mut [u32],
     n: u16,
 ) -> bool
-    ensures { λ a. ⌜ walkedAfter a spaces waits ≡ entriesOf (now (links .entry)) (now (calendar .entry)) (nameOf (now (cells .entry))) n 0 (now (spaces .entry)) (now (waits .entry)) ⌝ }
+    ensures { λ a. ⌜ walkedAfter a spaces waits ≡ entriesOf (now (links .entry)) (now (calendar .entry)) (nameIn kind v cells) n 0 (now (spaces .entry)) (now (waits .entry)) ⌝ }
 {
     let mut e = 0u16;
     while e < n {
         let i = 2 * (e as usize);
         let head = number_at(calendar, i);
         let tail = number_at(calendar, i + 1);
-        if list(links, cells, spaces, waits, true, head, tail) {
+        if list(links, cells, kind, v, spaces, waits, true, head, tail) {
             e += 1;
         } else {
             return false;
@@ -167,9 +201,29 @@ fn lists(
 ) -> bool
     ensures { λ a. ⌜ walkedAfter a spaces waits ≡ listsIn r cells links calendar spaces waits ⌝ }
 {
-    if list(links, cells, spaces, waits, false, r.freehead, r.freetail) {
-        if list(links, cells, spaces, waits, true, r.outhead, r.outtail) {
-            return entries(links, cells, calendar, spaces, waits, r.n);
+    if list(
+        links,
+        cells,
+        r.kind,
+        r.v,
+        spaces,
+        waits,
+        false,
+        r.freehead,
+        r.freetail,
+    ) {
+        if list(
+            links,
+            cells,
+            r.kind,
+            r.v,
+            spaces,
+            waits,
+            true,
+            r.outhead,
+            r.outtail,
+        ) {
+            return entries(links, cells, calendar, r.kind, r.v, spaces, waits, r.n);
         }
     }
     false

@@ -21,7 +21,7 @@ fill-waits-requires : tie.Need-fill-waits-requires
 fill-waits-requires c κs =
     let k = c .before .before .before .before in
     let h = shape-of _ _ _ _ _ _ (k .before .shaped .ensures) (k .if1 .taken) in
-    (omega (arith, h .v-least), omega (arith, h .v-most), omega (arith, h .words-long), gone-zeros 1024)
+    (omega (arith, h .v-least), h .v-most, omega (arith, h .v-most), omega (arith, h .words-long), gone-zeros 1280)
 
 fill-spaces-requires : tie.Need-fill-spaces-requires
 fill-spaces-requires c κs =

@@ -4,13 +4,14 @@ use mathlib.Core.Path.{_≡_, sym, _∙_, ap}
 use mathlib.Core.List.{List}
 use native.Mathlib.Omega.{arith}
 use borrow.Author.Needs.{needs}
-use Rattle.meaning.specs.Words.{secondOf, openedConnection}
+use Rattle.meaning.specs.Words.{secondOf, connectionAt, openedConnection}
 use Rattle.meaning.specs.Calls.{calledOf, sharedRefusal}
 use Rattle.meaning.specs.State.{HasConnection}
 use Rattle.mem_words.proofs.Fits.{opened-at}
 use Rattle.call_connection.specs.Names.{nameOf}
+use Rattle.call_connection.specs.Own.{ownRefusal}
 use Rattle.call_connection.proofs.Order.{shared-named, shared-lent}
-use Rattle.call_connection.proofs.Second.{openRefusal, open-shared, open-refused, open-done}
+use Rattle.call_connection.proofs.Second.{open-shared, open-refused, open-done}
 use Rattle.call_connection.proofs.open_named.Statement.{statement}
 use Rattle.call_connection.proofs.open_named.Tie as tie
 
@@ -27,24 +28,17 @@ none-lent c =
     let a = c .before .before .before .before .before .args in
     omega (arith, c .number-of .ensures, shared-lent (a .ctl) (a .words .now) (nameOf (a .path) (a .number)) (none-shared (c .before)))
 
--- the first of the three that are its own
-own-first : (c : tie.After-first2)
-    → let a = c .before .before .before .before .before .before .before .before .before .before .before .before .before .args in
-    c .first2 .result
-    ≡ openRefusal (a .ctl) (a .words .now) (nameOf (a .path) (a .number)) (c .before .before .before .before .before .before .before .before .number-of .result) (c .before .before .before .before .before .before .before .before .number-of .ensures)
+-- its own refusals, by the open word
+own-is : (c : tie.After-own-refusal)
+    → let a = c .before .before .before .before .before .before .before .args in
+    c .own-refusal .result
+    ≡ ownRefusal (a .ctl .n) (connectionAt (a .words .now) (c .before .before .number-of .result) .opened)
     (a .m) (a .f) (a .c) (secondOf (a .m2) (a .f2) (a .c2) (a .tag))
-own-first c =
-    let a = c .before .before .before .before .before .before .before .before .before .before .before .before .before .args in
-    simp (
-      opened-at (a .words .now) (c .before .before .before .before .before .before .before .before .number-of .result),
-      c .first2 .ensures,
-      c .before .first .ensures,
-      c .before .before .refuse3 .ensures,
-      c .before .before .before .obeys-second .ensures,
-      c .before .before .before .before .refuse2 .ensures,
-      c .before .before .before .before .before .obeys-rules .ensures,
-      c .before .before .before .before .before .before .refuse .ensures,
-    )
+own-is c =
+    let a = c .before .before .before .before .before .before .before .args in
+    c .own-refusal .ensures
+    ∙ ap (λ (o : ℕ). ownRefusal (a .ctl .n) o (a .m) (a .f) (a .c) (secondOf (a .m2) (a .f2) (a .c2) (a .tag)))
+    (sym (opened-at (a .words .now) (c .before .before .number-of .result)))
 
 returns : tie.Need-returns
 returns c =
@@ -62,23 +56,23 @@ slice-read-opened c = omega (arith, none-lent (c .before))
 
 returns-2 : tie.Need-returns-2
 returns-2 c =
-    let a = c .before .before .before .before .before .before .before .before .before .before .before .before .before .before .args in
-    let conn = c .before .before .before .before .before .before .before .before .before in
-    let e = own-first (c .before) in
+    let a = c .before .before .before .before .before .before .before .before .args in
+    let conn = c .before .before .before in
+    let e = own-is (c .before) in
     ap (λ (k : ℕ). calledOf k (a .words .now)) e
     ∙ open-refused (a .ctl) (a .words .now) (nameOf (a .path) (a .number)) (conn .number-of .result) (conn .number-of .ensures) (a .m) (a .f) (a .c) (secondOf (a .m2) (a .f2) (a .c2) (a .tag))
     (none-shared (conn .before))
     (λ z. c .if2 .taken (e ∙ z))
 
 write-connection-requires : tie.Need-write-connection-requires
-write-connection-requires c κs = none-lent (c .before .before .before .before .before .before .before .before .before .before)
+write-connection-requires c κs = none-lent (c .before .before .before .before)
 
 returns-3 : tie.Need-returns-3
 unfolding openedConnection
 returns-3 c =
-    let a = c .before .before .before .before .before .before .before .before .before .before .before .before .before .before .before .before .before .before .args in
-    let conn = c .before .before .before .before .before .before .before .before .before .before .before .before .before in
-    let e = own-first (c .before .before .before .before .before) in
+    let a = c .before .before .before .before .before .before .before .before .before .before .before .before .args in
+    let conn = c .before .before .before .before .before .before .before in
+    let e = own-is (c .before .before .before .before .before) in
     ap (λ (w : List ℕ). calledOf 0 w) (c .before .before .write-connection .ensures)
     ∙ open-done (a .ctl) (a .words .now) (nameOf (a .path) (a .number)) (conn .number-of .result) (conn .number-of .ensures) (a .m) (a .f) (a .c) (secondOf (a .m2) (a .f2) (a .c2) (a .tag))
     (none-shared (conn .before))
@@ -96,12 +90,6 @@ open-named-spec =
     (λ c. search needs)
     (λ c. search needs)
     slice-read-opened
-    (λ c κs. search needs)
-    (λ c κs. search needs)
-    (λ c κs. search needs)
-    (λ c κs. search needs)
-    (λ c κs. search needs)
-    (λ c κs. search needs)
     (λ c κs. search needs)
     (λ c. search needs)
     returns-2

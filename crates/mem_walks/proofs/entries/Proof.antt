@@ -9,13 +9,13 @@ use Rattle.mem_walks.proofs.entries.Statement.{statement}
 use Rattle.mem_walks.proofs.entries.Tie as tie
 
 abbrev Inv-loop : tie.InvT-loop
-Inv-loop links cells calendar spaces₀ waits₀ n e₀ spaces waits e =
+Inv-loop links cells calendar kind v spaces₀ waits₀ n e₀ spaces waits e =
     (e ≤ n) × (n < 65536) × (length spaces ≡ length spaces₀) × (length waits ≡ length waits₀)
-    × (entriesOf links calendar (nameOf cells) (n - e) e spaces waits
-    ≡ entriesOf links calendar (nameOf cells) n 0 spaces₀ waits₀)
+    × (entriesOf links calendar (nameOf kind v cells) (n - e) e spaces waits
+    ≡ entriesOf links calendar (nameOf kind v cells) n 0 spaces₀ waits₀)
 
 abbrev μ-loop : tie.MeasureT-loop
-μ-loop links cells calendar spaces₀ waits₀ n e₀ spaces waits e = n - e
+μ-loop links cells calendar kind v spaces₀ waits₀ n e₀ spaces waits e = n - e
 
 loop-holds : tie.Need-loop-holds Inv-loop μ-loop
 loop-holds c =
@@ -26,7 +26,7 @@ loop-again c =
     let k = c .before .before .before .before .before in
     let i = k .before .before .before in
     let t = i .before .before in
-    let r = walked (k .list .result) (k .list .last .1 .1 .0) (k .list .last .1 .1 .1 .0) in (
+    let r = walked (k .list .result) (k .list .last .1 .1 .1 .1 .0) (k .list .last .1 .1 .1 .1 .1 .0) in (
       search needs,
       search needs,
       search needs,
@@ -41,7 +41,7 @@ returns c =
     let k = c .before .before .before .before .before in
     let i = k .before .before .before in
     let t = i .before .before in
-    let r = walked (k .list .result) (k .list .last .1 .1 .0) (k .list .last .1 .1 .1 .0) in
+    let r = walked (k .list .result) (k .list .last .1 .1 .1 .1 .0) (k .list .last .1 .1 .1 .1 .1 .0) in
     entry-stop _ _ _ _ _ _ _ _ _ r (t .loop-test .taken)
     (i .before .number-at .ensures) (i .number-at2 .ensures) (k .list .ensures) (c .if1 .left)
     ∙ t .before .loop .inv .4

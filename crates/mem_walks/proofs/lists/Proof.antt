@@ -11,8 +11,8 @@ returns c =
     let e = c .before .before .before .before in
     let d = e .before .before .before .before .before .before .before .before in
     let a = d .before .before .before .before .before .before .before .before in
-    let r₀ = walked (a .list .result) (a .list .last .1 .1 .0) (a .list .last .1 .1 .1 .0) in
-    let r₁ = walked (d .list2 .result) (d .list2 .last .1 .1 .0) (d .list2 .last .1 .1 .1 .0) in
+    let r₀ = walked (a .list .result) (a .list .last .1 .1 .1 .1 .0) (a .list .last .1 .1 .1 .1 .1 .0) in
+    let r₁ = walked (d .list2 .result) (d .list2 .last .1 .1 .1 .1 .0) (d .list2 .last .1 .1 .1 .1 .1 .0) in
     e .entries .ensures
     ∙ lists-on _ _ _ _ _ _ _ _ r₀ (a .list .ensures) r₁ (d .list2 .ensures)
     (d .before .before .before .if1 .taken) (e .before .before .before .if2 .taken)
@@ -21,15 +21,15 @@ returns-2 : tie.Need-returns-2
 returns-2 c =
     let d = c .before .before .before .before .before in
     let a = d .before .before .before .before .before .before .before .before in
-    let r₀ = walked (a .list .result) (a .list .last .1 .1 .0) (a .list .last .1 .1 .1 .0) in
-    let r₁ = walked (d .list2 .result) (d .list2 .last .1 .1 .0) (d .list2 .last .1 .1 .1 .0) in
+    let r₀ = walked (a .list .result) (a .list .last .1 .1 .1 .1 .0) (a .list .last .1 .1 .1 .1 .1 .0) in
+    let r₁ = walked (d .list2 .result) (d .list2 .last .1 .1 .1 .1 .0) (d .list2 .last .1 .1 .1 .1 .1 .0) in
     lists-output _ _ _ _ _ _ _ _ r₀ (a .list .ensures) r₁ (d .list2 .ensures)
     (d .before .before .before .if1 .taken) (c .if2 .left)
 
 returns-3 : tie.Need-returns-3
 returns-3 c =
     let a = c .before .before .before .before .before in
-    let r₀ = walked (a .list .result) (a .list .last .1 .1 .0) (a .list .last .1 .1 .1 .0) in
+    let r₀ = walked (a .list .result) (a .list .last .1 .1 .1 .1 .0) (a .list .last .1 .1 .1 .1 .1 .0) in
     lists-free _ _ _ _ _ _ _ _ r₀ (a .list .ensures) (c .if1 .left)
 
 pub lists-spec : {M : Type 1} → statement M

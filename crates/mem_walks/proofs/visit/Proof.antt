@@ -1,4 +1,4 @@
--- `mem_walks::visit` takes the named VC off the cells' budget in a queue, and nothing otherwise.
+-- `mem_walks::visit` takes the named connection off the cells' budget in a queue, and nothing otherwise.
 use mathlib.Core.Path.{refl}
 use Rattle.mem_walks.specs.Walk.{mayWait, lessWait}
 use borrow.Author.Needs.{needs}

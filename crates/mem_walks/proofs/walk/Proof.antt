@@ -10,12 +10,12 @@ use Rattle.mem_walks.proofs.walk.Statement.{statement}
 use Rattle.mem_walks.proofs.walk.Tie as tie
 
 abbrev Inv-loop : tie.InvT-loop
-Inv-loop links cells spaces₀ waits₀ queued tail head x₀ spaces waits x =
+Inv-loop links cells kind v spaces₀ waits₀ queued tail head x₀ spaces waits x =
     (x < 65536) × (length spaces ≡ length spaces₀) × (length waits ≡ length waits₀)
-    × (walk links (nameOf cells) queued tail x spaces waits ≡ walk links (nameOf cells) queued tail head spaces₀ waits₀)
+    × (walk links (nameOf kind v cells) queued tail x spaces waits ≡ walk links (nameOf kind v cells) queued tail head spaces₀ waits₀)
 
 abbrev μ-loop : tie.MeasureT-loop
-μ-loop links cells spaces₀ waits₀ queued tail head x₀ spaces waits x = sum spaces
+μ-loop links cells kind v spaces₀ waits₀ queued tail head x₀ spaces waits x = sum spaces
 
 loop-holds : tie.Need-loop-holds Inv-loop μ-loop
 loop-holds c = (search needs, refl, refl, refl)
