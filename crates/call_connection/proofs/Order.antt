@@ -1,6 +1,6 @@
 -- The first of the refusals worked out is the one that document 01's order gives; and once none of those that open and
 -- close share is given, the connection's words are lent.
-use Prim.Native.Nat.{ℕ, _+_, _*_, _≤_, _<_}
+use Prim.Native.Nat.{ℕ, _≤_}
 use mathlib.Core.Path.{_≡_, refl}
 use mathlib.Core.Bool.{Bool, true, false, not, _&&_}
 use mathlib.Core.List.{List}

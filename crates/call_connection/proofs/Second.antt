@@ -40,8 +40,8 @@ module _ (r : Record) (words : List ℕ) (name : Name) (c : ℕ) (is : c ≡ num
   abbrev beyond : Bool
   beyond = not (secondObeys (bucketOf (x .m) (x .F) (x .C) 0) (x .tag))
 
-  abbrev given : ℕ
-  given = ownRefusal (r .n) (connectionAt words c .opened) m F C x
+  abbrev own : ℕ
+  own = ownRefusal (r .n) (connectionAt words c .opened) m F C x
 
   -- "Each leaves everything as it came."
   abbrev told : Bool → Bool → Bool → Called
@@ -69,12 +69,12 @@ module _ (r : Record) (words : List ℕ) (name : Name) (c : ℕ) (is : c ≡ num
   three-none false false false h = refl
 
   pub open-refused : sharedRefusal r words name ≡ 0
-      → (given ≡ 0 → ⊥)
-      → calledOf given words ≡ openCall r words name m F C x
+      → (own ≡ 0 → ⊥)
+      → calledOf own words ≡ openCall r words name m F C x
   unfolding openCall
   open-refused e h = rw (eq-eqb (sharedRefusal r words name) 0 e, ← is) (three-given already against beyond h)
 
-  pub open-done : sharedRefusal r words name ≡ 0 → given ≡ 0
+  pub open-done : sharedRefusal r words name ≡ 0 → own ≡ 0
       → calledOf 0 (writeConnection words c (openedConnection (r .t) (bucketOf m F C 0) x)) ≡ openCall r words name m F C x
   unfolding openCall
   open-done e h = rw (eq-eqb (sharedRefusal r words name) 0 e, ← is) (three-none already against beyond h)

@@ -30,6 +30,7 @@ module _ (s : State) (mode : ℕ) (b : Bool) (w : Work) (h : Answered (withMode 
         n-is = h .n-is;
         v-is = h .v-is;
         raw-is = h .raw-is;
+        kind-is = h .kind-is;
         low = h .low;
       }
   told-served false e =
@@ -40,6 +41,7 @@ module _ (s : State) (mode : ℕ) (b : Bool) (w : Work) (h : Answered (withMode 
         n-is = h .n-is;
         v-is = h .v-is;
         raw-is = h .raw-is;
+        kind-is = h .kind-is;
         low = h .low;
       }
 
@@ -53,6 +55,7 @@ module _ (s : State) (mode : ℕ) (b : Bool) (w : Work) (h : Answered (withMode 
         n-is = refl;
         v-is = refl;
         raw-is = refl;
+        kind-is = refl;
         low = h .low;
       }
 

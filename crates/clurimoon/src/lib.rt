@@ -2,6 +2,7 @@
 // passes as a pointer and a length, a struct by value. include/clurimoon.h declares them.
 ghost use mathlib.Core.Path.{_≡_};
 ghost use lib.ListN.{length};
+ghost use Rattle.meaning.specs.Header.{byVci, byVpi};
 ghost use Rattle.meaning.specs.Words.{secondOf, noSecond};
 ghost use Rattle.meaning.specs.Calls.{zeros};
 ghost use Rattle.meaning.specs.Promises.{setupPromise, openPromise, closePromise, slotPromise, AuditPromise};
@@ -22,14 +23,15 @@ pub extern "C" fn clurimoon_setup(
     n: u16,
     v: u16,
     raw: bool,
+    kind: u16,
     cells: &mut [u8],
     links: &mut [u16],
     calendar: &mut [u16],
     words: &mut [u32],
 ) -> Fresh
-    ensures { λ r. ⌜ setupPromise n v raw (before zeros cells links calendar words) (setUpAfter r cells links calendar words) ⌝ }
+    ensures { λ r. ⌜ setupPromise n v raw kind (before zeros cells links calendar words) (setUpAfter r cells links calendar words) ⌝ }
 {
-    call_setup::setup(n, v, raw, cells, links, calendar, words)
+    call_setup::setup(n, v, raw, kind, cells, links, calendar, words)
 }
 
 #[no_mangle]
@@ -41,7 +43,7 @@ pub extern "C" fn clurimoon_open(
     f: u32,
     c: u32,
 ) -> u16
-    ensures { λ r. ⌜ openPromise ctl (now (words .entry)) vci m f c noSecond r (now (words .exit)) ⌝ }
+    ensures { λ r. ⌜ openPromise ctl (now (words .entry)) (byVci vci) m f c noSecond r (now (words .exit)) ⌝ }
 {
     call_connection::open(ctl, words, vci, m, f, c)
 }
@@ -59,16 +61,42 @@ pub extern "C" fn clurimoon_open_sustained(
     c2: u32,
     tag: u8,
 ) -> u16
-    ensures { λ r. ⌜ openPromise ctl (now (words .entry)) vci m f c (secondOf m2 f2 c2 tag) r (now (words .exit)) ⌝ }
+    ensures { λ r. ⌜ openPromise ctl (now (words .entry)) (byVci vci) m f c (secondOf m2 f2 c2 tag) r (now (words .exit)) ⌝ }
 {
     call_connection::open_sustained(ctl, words, vci, m, f, c, m2, f2, c2, tag)
 }
 
 #[no_mangle]
 pub extern "C" fn clurimoon_close(ctl: Record, words: &mut [u32], vci: u16) -> u16
-    ensures { λ r. ⌜ closePromise ctl (now (words .entry)) vci r (now (words .exit)) ⌝ }
+    ensures { λ r. ⌜ closePromise ctl (now (words .entry)) (byVci vci) r (now (words .exit)) ⌝ }
 {
     call_connection::close(ctl, words, vci)
+}
+
+// A whole path, by its VPI, with a second bucket or none.
+#[no_mangle]
+pub extern "C" fn clurimoon_open_path(
+    ctl: Record,
+    words: &mut [u32],
+    vpi: u16,
+    m: u8,
+    f: u32,
+    c: u32,
+    m2: u8,
+    f2: u32,
+    c2: u32,
+    tag: u8,
+) -> u16
+    ensures { λ r. ⌜ openPromise ctl (now (words .entry)) (byVpi vpi) m f c (secondOf m2 f2 c2 tag) r (now (words .exit)) ⌝ }
+{
+    call_connection::open_path(ctl, words, vpi, m, f, c, m2, f2, c2, tag)
+}
+
+#[no_mangle]
+pub extern "C" fn clurimoon_close_path(ctl: Record, words: &mut [u32], vpi: u16) -> u16
+    ensures { λ r. ⌜ closePromise ctl (now (words .entry)) (byVpi vpi) r (now (words .exit)) ⌝ }
+{
+    call_connection::close_path(ctl, words, vpi)
 }
 
 #[no_mangle]
