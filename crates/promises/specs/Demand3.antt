@@ -75,7 +75,8 @@ pub record Demand3 (N z kind : ℕ) (h : List Event) (s : State) : Type 0 where
       → namesConnection z (headerLetIn kind s cell) ≡ true
       → openingOf (connection z (headerLetIn kind s cell)) h ≡ some o
       → (letsIn (slot s cell .answer .verdict) ≡ true) ↔ (admits o (clpIn (letIn s cell .cell)) (served h) ≡ true)
-  -- and whatever arrives, verdict, VCI and D are those of the header let through and the leak rules, or 4, 0 and 0
+  -- and whatever arrives, verdict, VCI and D follow from the header let through, read by the line kind, and from exact fractions
+  -- alone: no S, no wrapped clock. Of a dropped cell they are 4, 0 and 0
   pub judges : (cell : List ℕ) → length cell =? 0 || length cell =? octets ≡ true
       → judgedOf (slot s cell .answer .verdict) (slot s cell .answer .vci) (slot s cell .answer .d)
       ≡ judgedAs kind z h (letIn s cell)
