@@ -1,14 +1,14 @@
 -- Steps 1 to 3 of a slot: a cell that is let in, accepted or tagged, is one more that waits, and no other waiting word changes.
 use Prim.Native.Nat.{ℕ, _+_, _-_, _%_, _≤_, _<_}
 use mathlib.Core.Path.{_≡_, refl, sym, ap, subst, _∙_}
-use mathlib.Core.Bool.{Bool, true, false, not, _&&_, _||_}
+use mathlib.Core.Bool.{Bool, true, false, not, _&&_}
 use mathlib.Core.Logic.{_≢_}
 use mathlib.Core.List.{List}
 use native.Mathlib.Omega.{arith}
-use borrow.Author.Tests.{eqb-false, ltb-true}
+use borrow.Author.Tests.{eqb-false}
 use lib.ListN.{length}
 use Rattle.meaning.specs.declared.Answer.{Answer}
-use Rattle.meaning.specs.Plain.{if_then_else_, _<?_, _≤?_, _=?_, Out, refused, next, needs, _andThen_}
+use Rattle.meaning.specs.Plain.{if_then_else_, _<?_, _=?_, Out, refused, next, needs, _andThen_}
 use Rattle.meaning.specs.Numbers.{connectionsIn, unused, kindFits, excess, letsIn}
 use Rattle.meaning.specs.State.{State, freeList, withRecord, withCells, withLinks, withCalendar, withWords, recordWith, withClock, withFreeList, writeCell}
 use Rattle.meaning.specs.Bucket.{isExcess, delay, fill, elapsed}
@@ -20,7 +20,7 @@ use Rattle.meaning.specs.Work.{Work, withState, withConnection, withArrival}
 use Rattle.meaning.specs.Arrival.{place, verdictOn, secondAfter, sentAs, accept, judge}
 use Rattle.meaning.specs.Slot.{step1, step2, step3}
 use Rattle.list_meaning.specs.Listing.{isAccepted}
-use Rattle.list_counts.proofs.Balance.{Holds, holds-then, holds-if, holds-needs, both, not-not, one, Words, Quiet, Fresh, write-words, write-same}
+use Rattle.list_counts.proofs.Balance.{Holds, holds-then, holds-if, holds-needs, not-not, one, Words, Quiet, Fresh, write-words, write-same}
 
 module _ (all base : ℕ) where
   -- ---- steps 1 and 2

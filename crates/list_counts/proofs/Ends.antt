@@ -1,16 +1,16 @@
 -- THE END LINE: in every listing its waiting is the sum of the waiting words, modulo 2^32, and accepted less sent.
 use Prim.Native.Nat.{ℕ, zero, suc, _+_, _-_, _*_, _%_, _≤_, _<_}
 use mathlib.Core.Path.{_≡_, refl, sym, ap, subst, _∙_}
-use mathlib.Core.Bool.{Bool, true, false, not, _&&_, _||_}
+use mathlib.Core.Bool.{Bool, true, false, not, _&&_}
 use mathlib.Core.Logic.{⊎-elim, _≢_}
-use mathlib.Core.List.{List, [], _∷_, _++_, append-assoc}
+use mathlib.Core.List.{List, [], _++_, append-assoc}
 use native.Mathlib.Omega.{arith}
-use borrow.Author.Tests.{eqb-true, eqb-false, leb-true, ltb-true}
+use borrow.Author.Tests.{eqb-true, eqb-false, leb-true}
 use lib.Dec.{eqb}
 use lib.ListN.{length, replicate, getD}
 use Rattle.meaning.specs.declared.Answer.{Answer}
 use Rattle.meaning.specs.declared.Record.{Record}
-use Rattle.meaning.specs.Plain.{if_then_else_, _<?_, _≤?_, _=?_}
+use Rattle.meaning.specs.Plain.{if_then_else_, _≤?_, _=?_}
 use Rattle.meaning.specs.Numbers.{rangesHold, slotNumbers, wordsPerConnection, wordsIn, connectionsIn, kindFits, waitingPlace}
 use Rattle.meaning.specs.State.{State, stateOf, withWords, wordsLong, lengthsHold}
 use Rattle.meaning.specs.Bucket.{bucketOf, obeysRules}
@@ -18,11 +18,11 @@ use Rattle.meaning.specs.Words.{Connection, connectionAt, writeConnection, open
 use Rattle.meaning.specs.Header.{Name, named, numberIn}
 use Rattle.meaning.proofs.WordsLaws.{write-read, write-read-other}
 use Rattle.meaning.proofs.NamesLaws.{number-low}
-use Rattle.meaning.specs.Calls.{Options, optionsOf, kindNumber, kindOf, SetUp, setUpOf, zeros, freshRecord, freshState, setup, Called, calledOf, sharedRefusal, openCall, closeCall}
+use Rattle.meaning.specs.Calls.{Options, optionsOf, kindNumber, kindOf, SetUp, zeros, freshRecord, freshState, setup, Called, sharedRefusal, openCall, closeCall}
 use Rattle.list_lines.specs.Lines.{stopLine}
 use Rattle.list_meaning.specs.Trace.{Call, setUp, openConnection, closeConnection, serve, Calls, finished, stopped, call, callsOf}
 use Rattle.list_meaning.specs.Listing.{manyOf, isAccepted, hasSent, recount, lessModulo, endOf, lineOf, stateAfter, answersAfter, endsRun, linesOf, lentFor, listingOf}
-use Rattle.list_counts.specs.Waiting.{recordsOf, sumWaiting, Balanced, Point, endAt, endOfInput}
+use Rattle.list_counts.specs.Waiting.{recordsOf, sumWaiting, Balanced, endAt, endOfInput}
 use Rattle.list_counts.proofs.Sums.{same-or-not, sum-after}
 use Rattle.list_counts.proofs.Balance.{both, not-not}
 use Rattle.list_counts.proofs.Served.{records-all, ranges-some, slot-balanced}

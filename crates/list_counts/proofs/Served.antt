@@ -10,7 +10,7 @@ use lib.ListN.{length, getD}
 use Rattle.base_hec.specs.Modes.{Arriving, arriving, arrivingFits}
 use Rattle.meaning.specs.declared.Answer.{Answer}
 use Rattle.meaning.specs.Plain.{if_then_else_, _<?_, _≤?_, _=?_, Out, refused, next, needs, _andThen_}
-use Rattle.meaning.specs.Numbers.{octets, perEntry, wordsIn, connectionsIn, kindFits, empty, nothing, letsIn, rangesHold, cellStart, leastV, mostN, mostV}
+use Rattle.meaning.specs.Numbers.{octets, perEntry, wordsIn, connectionsIn, kindFits, empty, letsIn, rangesHold, cellStart, leastV, mostN, mostV}
 use Rattle.meaning.specs.State.{State, Ends, freeList, outputList, lengthsHold, wordsLong, withRecord, withLinks, withCalendar, withWords, recordWith, withFreeList, withOutputList, recordInMode, withMode}
 use Rattle.meaning.specs.Header.{headerAt, namesConnection, namesOpen, connection}
 use Rattle.meaning.proofs.NamesLaws.{names-low}

@@ -7,12 +7,11 @@
 --   endAt s h cs        == the state and the answers where the calls cs end
 use Prim.Native.Nat.{ℕ, zero, suc, _+_, _<_}
 use mathlib.Core.Path.{_≡_}
-use mathlib.Core.List.{List, [], _∷_}
-use lib.ListN.{getD}
+use mathlib.Core.List.{List, []}
 use Rattle.meaning.specs.declared.Answer.{Answer}
 use Rattle.meaning.specs.Numbers.{connectionsIn}
 use Rattle.meaning.specs.State.{State}
-use Rattle.meaning.specs.Words.{Connection, connectionAt}
+use Rattle.meaning.specs.Words.{connectionAt}
 use Rattle.meaning.specs.Plain.{if_then_else_}
 use Rattle.list_meaning.specs.Trace.{Calls, finished, stopped, call, callsOf}
 use Rattle.list_meaning.specs.Listing.{manyOf, isAccepted, hasSent, endsRun, stateAfter, answersAfter, lentFor}

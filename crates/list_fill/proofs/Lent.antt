@@ -1,6 +1,6 @@
 -- The sizes of the memory: what the first record asks for, never above the most.
 use Prim.Native.Nat.{ℕ, _≤_}
-use mathlib.Core.Path.{_≡_, refl, sym, ap, subst, _∙_}
+use mathlib.Core.Path.{_≡_, refl}
 use mathlib.Core.Bool.{Bool, true, false, _&&_}
 use mathlib.Core.Logic.{_⊎_, inl, inr}
 use native.Mathlib.Omega.{arith}
@@ -15,7 +15,7 @@ use Rattle.trace_record.specs.declared.Found.{Found}
 use Rattle.trace_record.specs.declared.Found.the-variants.{Read, End, Unreadable}
 use Rattle.trace_record.proofs.Event as Event·laws
 use Rattle.trace_record.proofs.Found as Found·laws
-use Rattle.trace_record.specs.Trace.{TraceRecord, GM, VO, VX, CA, SL, VS, PO, PX, Stands, event, finish, refusal, recordOf, saidOf}
+use Rattle.trace_record.specs.Trace.{GM, VO, VX, CA, SL, VS, PO, PX, Stands, event, finish, refusal, recordOf, saidOf}
 use Rattle.list_whole.specs.declared.Sizes.{Sizes}
 use Rattle.list_whole.specs.Fill.{sizesAt}
 

@@ -1,11 +1,10 @@
 -- Lines of document 01's example and the edges of its rules, by computation.
 use mathlib.Core.Path.{_≡_, refl}
-use mathlib.Core.List.{List, [], _∷_}
-use Prim.Native.Nat.{ℕ}
+use mathlib.Core.List.{[], _∷_}
 use Rattle.meaning.specs.Numbers.{letsIn}
 use Rattle.meaning.specs.Work.{answerOf}
 use Rattle.list_lines.specs.Text.{decimal, decimalOf, line, shown}
-use Rattle.list_lines.specs.Lines.{letter, showsVci, servedLine, slotLine, openLine, endLine}
+use Rattle.list_lines.specs.Lines.{letter, showsVci, servedLine, slotLine, openLine}
 
 -- `3 X 40 - -`
 pub excess-line : slotLine 3 (answerOf 0 2 40 0 65535 0) ≡ 51 ∷ 32 ∷ 88 ∷ 32 ∷ 52 ∷ 48 ∷ 32 ∷ 45 ∷ 32 ∷ 45 ∷ 10 ∷ []

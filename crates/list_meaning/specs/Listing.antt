@@ -12,8 +12,7 @@ use Rattle.meaning.specs.Plain.{if_then_else_, _=?_}
 use Rattle.meaning.specs.Numbers.{octets, perEntry, wordsIn, empty, slotNumbers, excess, unknown, letsIn}
 use Rattle.meaning.specs.State.{State, stateOf, withWords}
 use Rattle.meaning.specs.Header.{numberIn}
-use Rattle.meaning.specs.Calls.{Options, kindNumber, SetUp, Called, zeros, setup, openCall, closeCall}
-use Rattle.meaning.specs.Work.{Work}
+use Rattle.meaning.specs.Calls.{Options, kindNumber, SetUp, zeros, setup, openCall, closeCall}
 use Rattle.meaning.specs.Slot.{slot}
 use Rattle.list_lines.specs.Lines.{setupLine, openLine, closeLine, slotLine, stopLine, endLine}
 use Rattle.list_meaning.specs.declared.Tally.{Tally}

@@ -1,20 +1,18 @@
 -- What one call promises is what its step does: the calls' own promises, turned into steps.
 use Prim.Native.Nat.{ℕ, _+_, _≤_}
-use mathlib.Core.Path.{_≡_, refl, sym, ap, _∙_}
+use mathlib.Core.Path.{_≡_, sym, ap, _∙_}
 use mathlib.Core.Bool.{Bool, true, false, not}
 use mathlib.Core.List.{List, [], _++_, append-nil}
 use native.Mathlib.Omega.{arith}
 use borrow.Author.Tests.{eq-eqb, ne-eqb}
-use Rattle.meaning.specs.declared.Record.{Record}
 use Rattle.meaning.specs.declared.Fresh.{Fresh}
 use Rattle.meaning.specs.declared.Served.{Served}
 use Rattle.meaning.specs.Plain.{if_then_else_, _=?_}
-use Rattle.meaning.specs.State.{State, stateOf, withWords}
+use Rattle.meaning.specs.State.{stateOf, withWords}
 use Rattle.meaning.specs.Header.{Name, numberIn}
 use Rattle.meaning.specs.Words.{Second}
 use Rattle.meaning.specs.Calls.{Options, kindNumber, SetUp, setUpOf, zeros, Called, calledOf}
 use Rattle.meaning.specs.Work.{Work, workOf}
-use Rattle.meaning.specs.Slot.{slot}
 use Rattle.meaning.specs.Promises.{setupPromise, openPromise, closePromise, slotPromise}
 use Rattle.list_lines.specs.Lines.{setupLine, openLine, closeLine, slotLine}
 use Rattle.list_lines.specs.Put.{Put}

@@ -1,5 +1,5 @@
 -- The cases of a step: by what stands at the run's place.
-use Prim.Native.Nat.{ℕ, _+_, _-_, _≤_, _<_}
+use Prim.Native.Nat.{ℕ, _+_, _-_, _≤_}
 use mathlib.Core.Path.{_≡_, refl, sym, ap, subst, _∙_}
 use mathlib.Core.Bool.{Bool, true, false}
 use mathlib.Core.Logic.{_⊎_, inl, inr}
@@ -7,19 +7,17 @@ use mathlib.Core.List.{List, []}
 use native.Mathlib.Omega.{arith}
 use lib.ListN.{length, take, drop}
 use denote.Enum.Declared.{tagOf}
-use Rattle.meaning.specs.Plain.{if_then_else_}
 use Rattle.meaning.specs.Numbers.{octets}
 use Rattle.list_lines.specs.Lines.{stopLine}
 use Rattle.trace_record.specs.declared.Event.{Event}
-use Rattle.trace_record.specs.declared.Event.the-variants.{Setup, Open, Close, Cell, Pause, Sustain, OpenPath, ClosePath}
+use Rattle.trace_record.specs.declared.Event.the-variants.{Cell}
 use Rattle.trace_record.specs.declared.Found.{Found}
 use Rattle.trace_record.proofs.Found.{the-type}
 use Rattle.trace_record.specs.declared.Found.the-variants.{Read, End, Unreadable}
-use Rattle.trace_record.specs.Trace.{TraceRecord, GM, VO, VX, CA, SL, VS, PO, PX, Stands, event, finish, refusal, recordOf, saidOf, standsAt}
-use Rattle.trace_record.specs.Fits.{Fits, stands-fits}
+use Rattle.trace_record.specs.Trace.{CA, SL, finish, refusal, recordOf, saidOf}
 use Rattle.list_lines.proofs.Puts.{put-is, put-none, put-once}
 use Rattle.list_whole.specs.declared.Run.{Run}
-use Rattle.list_meaning.specs.Trace.{Call, serve, cellOf}
+use Rattle.list_meaning.specs.Trace.{serve, cellOf}
 use Rattle.list_whole.specs.Run.{World, Step, onward, worldOf, called, paused, ended, recordStep, standsStep}
 use Rattle.list_whole.specs.Fill.{room, Did, CellWithin}
 

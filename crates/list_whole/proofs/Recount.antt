@@ -1,7 +1,7 @@
 -- The counts that a run keeps are the recount over its answers, modulo 2^32, after every call.
-use Prim.Native.Nat.{ℕ, _+_, _%_}
-use mathlib.Core.Path.{_≡_, refl, sym, ap, _∙_}
-use mathlib.Core.Bool.{Bool, true, false}
+use Prim.Native.Nat.{_%_}
+use mathlib.Core.Path.{_≡_, refl, ap, _∙_}
+use mathlib.Core.Bool.{Bool}
 use mathlib.Core.List.{List, [], _∷_}
 use native.Mathlib.Nat.{mod-add-mod}
 use Rattle.meaning.specs.declared.Answer.{Answer}

@@ -1,15 +1,14 @@
 -- What is left of the listing: every step writes its beginning, and leaves the rest.
 use Prim.Native.Nat.{ℕ, zero, suc, _+_, _-_, _≤_, _<_}
-use mathlib.Core.Path.{_≡_, refl, sym, ap, subst, _∙_}
+use mathlib.Core.Path.{_≡_, refl, sym, ap, _∙_}
 use mathlib.Core.Bool.{Bool, true, false}
-use mathlib.Core.Logic.{_⊎_, inl, inr, ⊎-elim}
-use mathlib.Core.List.{List, [], _∷_, _++_, append-assoc, append-nil}
+use mathlib.Core.Logic.{_⊎_, ⊎-elim}
+use mathlib.Core.List.{List, [], _++_, append-assoc, append-nil}
 use native.Mathlib.Omega.{arith}
 use lib.Dec.{ltb}
 use lib.ListN.{length}
 use Rattle.meaning.specs.declared.Answer.{Answer}
 use Rattle.meaning.specs.Plain.{if_then_else_}
-use Rattle.meaning.specs.State.{State}
 use Rattle.meaning.specs.Header.{byVci, byVpi}
 use Rattle.meaning.specs.Words.{noSecond}
 use Rattle.list_lines.specs.Lines.{stopLine}
@@ -18,7 +17,7 @@ use Rattle.trace_record.specs.Fits.{Fits, stands-fits}
 use Rattle.list_meaning.specs.declared.Tally.{Tally}
 use Rattle.list_meaning.specs.Trace.{Call, setUp, openConnection, closeConnection, serve, Calls, finished, stopped, call, pauses, cellOf, recordCalls, callsAt, callsFrom}
 use Rattle.list_meaning.specs.Listing.{recount, endOf, lineOf, stateAfter, answersAfter, endsRun, linesOf}
-use Rattle.list_whole.specs.Run.{World, Step, noTally, tallyAfter, called, paused, ended, recordStep, standsStep, step, after, textOf}
+use Rattle.list_whole.specs.Run.{World, Step, noTally, called, paused, ended, recordStep, standsStep, step, after, textOf}
 use Rattle.list_whole.proofs.Within.{within}
 use Rattle.list_whole.proofs.Ran.{sided, step-idle, step-read}
 use Rattle.list_whole.proofs.Recount.{recount-none, tally-recount}

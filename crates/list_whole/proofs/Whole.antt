@@ -1,14 +1,13 @@
 -- However the fills cut it, what they hand over is the listing of the input; and a fill's promise allows one result.
 use Prim.Native.Nat.{ℕ, zero, suc, _+_, _-_, _*_, _≤_, _<_}
 use mathlib.Core.Path.{_≡_, refl, sym, ap, subst, _∙_}
-use mathlib.Core.Bool.{Bool, true, false, not, _&&_}
+use mathlib.Core.Bool.{Bool, true, false, not}
 use mathlib.Core.Logic.{_⊎_, inl, inr, ⊎-elim}
 use mathlib.Core.List.{List, [], _++_, append-assoc, append-nil}
 use native.Mathlib.Omega.{arith}
 use borrow.Author.Tests.{eq-eqb}
 use lib.Dec.{ltb}
 use lib.ListN.{length, take, replicate, length-take, length-replicate}
-use Rattle.meaning.specs.declared.Answer.{Answer}
 use Rattle.meaning.specs.Plain.{if_then_else_, _=?_}
 use Rattle.meaning.specs.Numbers.{rangesHold, kindFits, octets, perEntry, wordsIn}
 use Rattle.meaning.specs.State.{State, stateOf, lengthsHold, wordsLong}
@@ -16,14 +15,12 @@ use Rattle.meaning.specs.Calls.{Kind, UNI, NNI, kindNumber, kindOf, Options, Se
 use Rattle.list_lines.specs.Lines.{setupLine}
 use Rattle.list_lines.specs.Put.{Put}
 use Rattle.list_lines.proofs.Puts.{put-front, put-once}
-use Rattle.trace_record.specs.Trace.{TraceRecord, GM, VO, VX, CA, SL, VS, PO, PX, headOptions, Stands, event, finish, refusal, standsAt}
+use Rattle.trace_record.specs.Trace.{GM, VO, VX, CA, SL, VS, PO, PX, headOptions, Stands, event, finish, refusal, standsAt}
 use Rattle.trace_record.specs.Fits.{Fits, stands-fits}
-use Rattle.list_whole.specs.declared.Run.{Run}
-use Rattle.list_whole.specs.declared.Sizes.{Sizes}
-use Rattle.list_meaning.specs.Trace.{Call, setUp, openConnection, closeConnection, serve, Calls, finished, stopped, call, pauses, recordCalls, callsAt, callsFrom, callsOf, limit, goesOn}
+use Rattle.list_meaning.specs.Trace.{setUp, Calls, stopped, call, pauses, recordCalls, callsAt, callsFrom, callsOf, limit, goesOn}
 use Rattle.list_meaning.specs.Listing.{endOf, recount, lineOf, stateAfter, answersAfter, endsRun, linesOf, lentFor, listingOf}
 use Rattle.list_whole.specs.Run.{World, worldOf, after, textOf}
-use Rattle.list_whole.specs.Fill.{room, Ran, FillOf, FillPromise, Fills, noFill, fillMore, LentFor, startRun, sizesAt, sizesOf}
+use Rattle.list_whole.specs.Fill.{room, FillOf, FillPromise, Fills, noFill, fillMore, LentFor, startRun, sizesAt, sizesOf}
 use Rattle.list_whole.proofs.Ran.{sided}
 use Rattle.list_whole.proofs.Cut.{take-take, goes-on}
 use Rattle.list_whole.proofs.Recount.{recount-none}

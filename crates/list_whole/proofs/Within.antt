@@ -1,6 +1,6 @@
 -- A record that was read leads on and lies within the trace, and so do the octets of its cell; a refusal's place is where the
 -- reader stood.
-use Prim.Native.Nat.{ℕ, _+_, _≤_, _<_}
+use Prim.Native.Nat.{ℕ, _≤_, _<_}
 use mathlib.Core.Path.{_≡_, sym, subst}
 use mathlib.Core.List.{List}
 use native.Mathlib.Omega.{arith}

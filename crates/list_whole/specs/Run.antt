@@ -4,10 +4,9 @@
 --   World           == where a run stands: the policer's state, the next record, the slots left of a pause, the counts
 --   step w          == the next step from w: what it writes, and where the run stands then
 --   after k w       == where the run stands after k steps from w;  textOf k w == what they write
-use Prim.Native.Nat.{ℕ, zero, suc, _+_, _-_, _*_, _%_}
-use mathlib.Core.Bool.{Bool, true, false}
+use Prim.Native.Nat.{ℕ, zero, suc, _+_, _-_, _%_}
+use mathlib.Core.Bool.{Bool, true}
 use mathlib.Core.List.{List, [], _++_}
-use lib.ListN.{length, take}
 use Rattle.meaning.specs.declared.Record.{Record}
 use Rattle.meaning.specs.declared.Answer.{Answer}
 use Rattle.meaning.specs.Plain.{if_then_else_, _<?_}

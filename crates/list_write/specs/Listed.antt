@@ -14,7 +14,7 @@ use Rattle.meaning.specs.State.{State, stateOf}
 use Rattle.list_meaning.specs.Listing.{listingOf}
 use Rattle.list_whole.specs.declared.Run.{Run}
 use Rattle.list_whole.specs.declared.Sizes.{Sizes}
-use Rattle.list_whole.specs.Run.{World, worldOf}
+use Rattle.list_whole.specs.Run.{World}
 use Rattle.list_whole.specs.Fill.{Fills, startRun, sizesOf}
 
 -- what a call leaves: the memories after it hold, with the run that is named, this world

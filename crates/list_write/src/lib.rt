@@ -1,6 +1,5 @@
 // The listing of an input, handed to a file descriptor one buffer after the other. What is handed over, in which order and
 // what is left in the lent memories is promised; whether the operating system takes it is outside every contract.
-ghost use mathlib.Core.Path.{_≡_};
 ghost use Prim.Native.Nat.{_≤_};
 ghost use lib.ListN.{length};
 ghost use Rattle.list_write.specs.Listed.{Handed, Ample, Listed};

@@ -1,6 +1,5 @@
 -- `list_lines::close_line` puts the line of a closing, by `connection_line`.
 use borrow.Author.Needs.{needs}
-use native.Mathlib.Omega.{arith}
 use Rattle.list_lines.proofs.Words.{close-words}
 use Rattle.list_lines.proofs.Puts.{put-is}
 use Rattle.list_lines.proofs.close_line.Statement.{statement}

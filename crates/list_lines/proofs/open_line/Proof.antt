@@ -1,6 +1,5 @@
 -- `list_lines::open_line` puts the line of an opening, by `connection_line`.
 use borrow.Author.Needs.{needs}
-use native.Mathlib.Omega.{arith}
 use Rattle.list_lines.proofs.Words.{open-words}
 use Rattle.list_lines.proofs.Puts.{put-is}
 use Rattle.list_lines.proofs.open_line.Statement.{statement}

@@ -1,7 +1,6 @@
 -- `list_write::lend` lends the front parts of its memory: `sizes_of` answers N and V within their ranges, so the parts are there
 -- and of the right lengths, and they come back in front of what stood behind them.
 use mathlib.Core.Path.{sym, subst, _∙_}
-use native.Mathlib.Omega.{arith}
 use Rattle.list_whole.specs.declared.Sizes.{Sizes}
 use Rattle.list_whole.specs.Run.{World, worldOf}
 use Rattle.list_whole.specs.Fill.{LentFor, startRun}
