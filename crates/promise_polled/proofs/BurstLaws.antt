@@ -9,7 +9,7 @@ use native.Mathlib.Nat.{zero-add}
 use borrow.Author.Tests.{eq-eqb, eqb-true}
 use lib.ListN.{length, take, drop, length-drop}
 use Rattle.meaning.specs.Plain.{if_then_else_, _=?_}
-use Rattle.meaning.specs.Numbers.{octets, wordsPerConnection}
+use Rattle.meaning.specs.Numbers.{octets, wordsIn}
 use Rattle.meaning.specs.State.{State}
 use Rattle.meaning_runs.specs.Run.{onSlot, Run, runOf, calls}
 use Rattle.theory_queues.specs.Queue.{All}
@@ -113,7 +113,7 @@ module _ (arrivals sizes departures answers : List ℕ) where
           eq-eqb (length (r .state .cells)) (53 * N) (g .has .cells-long),
           eq-eqb (length (r .state .links)) N (g .has .links-long),
           eq-eqb (length (r .state .calendar)) (2 * N) (g .has .calendar-long),
-          eq-eqb (length (r .state .words)) (wordsPerConnection * z) (g .words-long),
+          eq-eqb (length (r .state .words)) (wordsIn z) (g .words-long),
         )
 
     whole : burst (r .state) arrivals sizes departures answers
