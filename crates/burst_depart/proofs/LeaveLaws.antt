@@ -1,16 +1,15 @@
 -- What departs on a likely way: what is left of its list and the connection that was found give what the slot's definition says, in
 -- memory as it is and once a cell has been accepted.
-use Prim.Native.Nat.{ℕ, _≤_, _<_}
+use Prim.Native.Nat.{ℕ, _<_}
 use mathlib.Core.Path.{_≡_, refl, sym, _∙_, ap, subst}
 use mathlib.Core.Logic.{_≢_}
 use mathlib.Core.Bool.{Bool, true, false, not}
 use mathlib.Core.List.{List}
-use native.Mathlib.Omega.{arith}
 use native.Mathlib.Decide.{ℕ-discrete}
 use borrow.Author.Tests.{lt-ltb, eqb-true, eqb-false, eq-eqb, ne-eqb, not-true}
 use lib.ListN.{length, getD}
 use Rattle.meaning.specs.declared.Record.{Record}
-use Rattle.meaning.specs.Plain.{if_then_else_, _<?_, _=?_}
+use Rattle.meaning.specs.Plain.{if_then_else_, _=?_}
 use Rattle.meaning.specs.Numbers.{empty, cellStart}
 use Rattle.meaning.specs.State.{Ends}
 use Rattle.meaning.specs.Header.{headerAt}

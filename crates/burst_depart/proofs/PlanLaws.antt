@@ -1,6 +1,6 @@
 -- The tests that find what departs: the connection that a header names, a link once another is written, and the Output List once entry
 -- T has joined it.
-use Prim.Native.Nat.{ℕ, _≤_, _<_}
+use Prim.Native.Nat.{ℕ, _<_}
 use mathlib.Core.Path.{_≡_, refl, sym, subst}
 use mathlib.Core.Logic.{_≢_}
 use mathlib.Core.Bool.{true, false}

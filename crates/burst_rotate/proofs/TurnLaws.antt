@@ -1,6 +1,6 @@
 -- Step 2 as the likely way has it: S and last are written whether rotation's connection is open or not, a closed one's as they were; and
 -- S of a second bucket that is none stays 0 unwritten.
-use Prim.Native.Nat.{ℕ, _*_}
+use Prim.Native.Nat.{ℕ}
 use mathlib.Core.Path.{_≡_, refl, sym, _∙_, ap}
 use mathlib.Core.Bool.{Bool, true, false}
 use mathlib.Core.List.{List}
