@@ -5,7 +5,7 @@ use Prim.Native.Nat.{ℕ}
 use Rattle.meaning.specs.Numbers.{letsIn}
 use Rattle.meaning.specs.Work.{answerOf}
 use Rattle.list_lines.specs.Text.{decimal, decimalOf, line, shown}
-use Rattle.list_lines.specs.Lines.{letter, showsVci, servedLine, slotLine, endLine}
+use Rattle.list_lines.specs.Lines.{letter, showsVci, servedLine, slotLine, openLine, endLine}
 
 -- `3 X 40 - -`
 pub excess-line : slotLine 3 (answerOf 0 2 40 0 65535 0) ≡ 51 ∷ 32 ∷ 88 ∷ 32 ∷ 52 ∷ 48 ∷ 32 ∷ 45 ∷ 32 ∷ 45 ∷ 10 ∷ []
@@ -36,6 +36,11 @@ dropped-line = refl
 pub tagged-line : slotLine 8 (answerOf 0 5 40 3 65535 0) ≡ 56 ∷ 32 ∷ 84 ∷ 32 ∷ 52 ∷ 48 ∷ 32 ∷ 51 ∷ 32 ∷ 45 ∷ 10 ∷ []
 unfolding slotLine servedLine line shown letter showsVci letsIn decimalOf decimal
 tagged-line = refl
+
+-- `open 66559 4`: V 1,024 and VPI 65,535, which names no path, in full
+pub no-path-line : openLine 66559 4 ≡ 111 ∷ 112 ∷ 101 ∷ 110 ∷ 32 ∷ 54 ∷ 54 ∷ 53 ∷ 53 ∷ 57 ∷ 32 ∷ 52 ∷ 10 ∷ []
+unfolding openLine line decimalOf decimal
+no-path-line = refl
 
 pub zero-decimal : decimalOf 0 ≡ 48 ∷ []
 unfolding decimalOf decimal

@@ -11,13 +11,13 @@ use Rattle.list_lines.specs.Text.{decimalOf, line, shown}
 unfoldable pub setupLine : ℕ → ℕ → ℕ → List ℕ
 setupLine N z number = line ((115 ∷ 101 ∷ 116 ∷ 117 ∷ 112 ∷ []) ∷ decimalOf N ∷ decimalOf z ∷ decimalOf number ∷ [])
 
--- `open VCI number`
+-- `open VCI number`; document 02 (vi): "PO and PX are .. listed with V + VPI". So c is a connection's number
 unfoldable pub openLine : ℕ → ℕ → List ℕ
-openLine vci number = line ((111 ∷ 112 ∷ 101 ∷ 110 ∷ []) ∷ decimalOf vci ∷ decimalOf number ∷ [])
+openLine c number = line ((111 ∷ 112 ∷ 101 ∷ 110 ∷ []) ∷ decimalOf c ∷ decimalOf number ∷ [])
 
--- `close VCI number`
+-- `close VCI number`, likewise
 unfoldable pub closeLine : ℕ → ℕ → List ℕ
-closeLine vci number = line ((99 ∷ 108 ∷ 111 ∷ 115 ∷ 101 ∷ []) ∷ decimalOf vci ∷ decimalOf number ∷ [])
+closeLine c number = line ((99 ∷ 108 ∷ 111 ∷ 115 ∷ 101 ∷ []) ∷ decimalOf c ∷ decimalOf number ∷ [])
 
 -- "with A, X, U or `.`": accepted, excess, unknown, nothing; document 02 (i): "A dropped cell (verdict 4, H)"; (iv): "tagged ..
 -- (.. verdict 5, T ..)"

@@ -214,33 +214,34 @@ pub fn setup_line(out: &mut [u8], at: usize, n: u16, v: u16, answer: u16) -> usi
     number(out, c, answer as u32, 10)
 }
 
-// A word, a VCI and a number: the line of an opening or of a closing.
-fn vci_line(out: &mut [u8], at: usize, word: &[u8], vci: u16, answer: u16) -> usize
+// A word, a connection's number and the answer: the line of an opening or of a closing. A path that was refused with 4 is shown too, by
+// a number that may be above 65,535.
+fn connection_line(out: &mut [u8], at: usize, word: &[u8], connection: u32, answer: u16) -> usize
     requires { ⌜ (length (now word) ≤ 6) × (at + 64 ≤ length (now out)) ⌝ }
-    ensures { λ r. ⌜ Put (now (out .entry)) at ((now (word .entry) ++ (decimalOf vci ++ (32 ∷ []))) ++ (decimalOf answer ++ (10 ∷ []))) (now (out .exit)) r ⌝ }
+    ensures { λ r. ⌜ Put (now (out .entry)) at ((now (word .entry) ++ (decimalOf connection ++ (32 ∷ []))) ++ (decimalOf answer ++ (10 ∷ []))) (now (out .exit)) r ⌝ }
     ensures { λ r. ⌜ r ≤ at + 64 ⌝ }
 {
     let a = text(out, at, word);
-    let b = number(out, a, vci as u32, 32);
+    let b = number(out, a, connection, 32);
     number(out, b, answer as u32, 10)
 }
 
-// `open VCI number`
-pub fn open_line(out: &mut [u8], at: usize, vci: u16, answer: u16) -> usize
+// `open VCI number`, of a path with V + VPI
+pub fn open_line(out: &mut [u8], at: usize, connection: u32, answer: u16) -> usize
     requires { ⌜ at + 64 ≤ length (now out) ⌝ }
-    ensures { λ r. ⌜ Put (now (out .entry)) at (openLine vci answer) (now (out .exit)) r ⌝ }
+    ensures { λ r. ⌜ Put (now (out .entry)) at (openLine connection answer) (now (out .exit)) r ⌝ }
     ensures { λ r. ⌜ r ≤ at + 64 ⌝ }
 {
-    vci_line(out, at, b"open ", vci, answer)
+    connection_line(out, at, b"open ", connection, answer)
 }
 
-// `close VCI number`
-pub fn close_line(out: &mut [u8], at: usize, vci: u16, answer: u16) -> usize
+// `close VCI number`, of a path with V + VPI
+pub fn close_line(out: &mut [u8], at: usize, connection: u32, answer: u16) -> usize
     requires { ⌜ at + 64 ≤ length (now out) ⌝ }
-    ensures { λ r. ⌜ Put (now (out .entry)) at (closeLine vci answer) (now (out .exit)) r ⌝ }
+    ensures { λ r. ⌜ Put (now (out .entry)) at (closeLine connection answer) (now (out .exit)) r ⌝ }
     ensures { λ r. ⌜ r ≤ at + 64 ⌝ }
 {
-    vci_line(out, at, b"close ", vci, answer)
+    connection_line(out, at, b"close ", connection, answer)
 }
 
 // `stop 10 place`

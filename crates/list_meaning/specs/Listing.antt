@@ -9,9 +9,10 @@ use mathlib.Core.List.{List, [], _∷_, _++_}
 use lib.ListN.{replicate}
 use Rattle.meaning.specs.declared.Answer.{Answer}
 use Rattle.meaning.specs.Plain.{if_then_else_, _=?_}
-use Rattle.meaning.specs.Numbers.{octets, perEntry, wordsPerConnection, empty, slotNumbers, excess, unknown, letsIn}
+use Rattle.meaning.specs.Numbers.{octets, perEntry, wordsIn, empty, slotNumbers, excess, unknown, letsIn}
 use Rattle.meaning.specs.State.{State, stateOf, withWords}
-use Rattle.meaning.specs.Calls.{SetUp, Called, zeros, setup, openCall, closeCall}
+use Rattle.meaning.specs.Header.{numberIn}
+use Rattle.meaning.specs.Calls.{Options, kindNumber, SetUp, Called, zeros, setup, openCall, closeCall}
 use Rattle.meaning.specs.Work.{Work}
 use Rattle.meaning.specs.Slot.{slot}
 use Rattle.list_lines.specs.Lines.{setupLine, openLine, closeLine, slotLine, stopLine, endLine}
@@ -54,34 +55,35 @@ lessModulo a b = (a + slotNumbers - b) % slotNumbers
 unfoldable pub endOf : Tally → List ℕ
 endOf t = endLine (t .accepted) (t .excess) (t .unknown) (t .sent) (lessModulo (t .accepted) (t .sent))
 
-abbrev pub setupOn : State → ℕ → ℕ → Bool → SetUp
-setupOn s N z raw = setup N z raw (s .cells) (s .links) (s .calendar) (s .words)
+abbrev pub setupOn : State → ℕ → ℕ → Options → SetUp
+setupOn s N z o = setup N z (o .raw) (kindNumber (o .kind)) (s .cells) (s .links) (s .calendar) (s .words)
 
--- the line of a call in state s; whether a policer is raw doesn't show
+-- the line of a call in state s; whether a policer is raw, and its line kind, don't show. Document 02 (vi): "listed with V + VPI"
 unfoldable pub lineOf : State → Call → List ℕ
-lineOf s (setUp N z raw) = setupLine N z (setupOn s N z raw .number)
-lineOf s (openConnection vci m F C x) = openLine vci (openCall (s .ctl) (s .words) vci m F C x .number)
-lineOf s (closeConnection vci) = closeLine vci (closeCall (s .ctl) (s .words) vci .number)
+lineOf s (setUp N z o) = setupLine N z (setupOn s N z o .number)
+lineOf s (openConnection name m F C x) =
+    openLine (numberIn (s .ctl .v) name) (openCall (s .ctl) (s .words) name m F C x .number)
+lineOf s (closeConnection name) = closeLine (numberIn (s .ctl .v) name) (closeCall (s .ctl) (s .words) name .number)
 lineOf s (serve cell) = slotLine (slot s cell .state .ctl .t) (slot s cell .answer)
 
 unfoldable pub stateAfter : State → Call → State
-stateAfter s (setUp N z raw) = setupOn s N z raw .state
-stateAfter s (openConnection vci m F C x) = withWords s (openCall (s .ctl) (s .words) vci m F C x .words)
-stateAfter s (closeConnection vci) = withWords s (closeCall (s .ctl) (s .words) vci .words)
+stateAfter s (setUp N z o) = setupOn s N z o .state
+stateAfter s (openConnection name m F C x) = withWords s (openCall (s .ctl) (s .words) name m F C x .words)
+stateAfter s (closeConnection name) = withWords s (closeCall (s .ctl) (s .words) name .words)
 stateAfter s (serve cell) = slot s cell .state
 
 -- the answers of the slots since setup, newest first
 unfoldable pub answersAfter : State → List Answer → Call → List Answer
-answersAfter s h (setUp N z raw) = []
-answersAfter s h (openConnection vci m F C x) = h
-answersAfter s h (closeConnection vci) = h
+answersAfter s h (setUp N z o) = []
+answersAfter s h (openConnection name m F C x) = h
+answersAfter s h (closeConnection name) = h
 answersAfter s h (serve cell) = slot s cell .answer ∷ h
 
 -- "After a refused setup .. only the end line follows"; "a refused open or close does not" end the run
 unfoldable pub endsRun : State → Call → Bool
-endsRun s (setUp N z raw) = not (setupOn s N z raw .number =? 0)
-endsRun s (openConnection vci m F C x) = false
-endsRun s (closeConnection vci) = false
+endsRun s (setUp N z o) = not (setupOn s N z o .number =? 0)
+endsRun s (openConnection name m F C x) = false
+endsRun s (closeConnection name) = false
 endsRun s (serve cell) = false
 
 unfoldable pub linesOf : State → List Answer → Calls → List ℕ
@@ -92,14 +94,14 @@ linesOf s h (call c rest) =
 
 -- memory as document 01 sizes it for the setup that comes first
 unfoldable pub lentFor : Calls → State
-lentFor (call (setUp N z raw) rest) =
+lentFor (call (setUp N z o) rest) =
     stateOf zeros
     (replicate (octets * N) 0)
     (replicate N 0)
     (replicate (perEntry * N) 0)
-    (replicate (wordsPerConnection * z) 0)
-lentFor (call (openConnection vci m F C x) rest) = stateOf zeros [] [] [] []
-lentFor (call (closeConnection vci) rest) = stateOf zeros [] [] [] []
+    (replicate (wordsIn z) 0)
+lentFor (call (openConnection name m F C x) rest) = stateOf zeros [] [] [] []
+lentFor (call (closeConnection name) rest) = stateOf zeros [] [] [] []
 lentFor (call (serve cell) rest) = stateOf zeros [] [] [] []
 lentFor finished = stateOf zeros [] [] [] []
 lentFor (stopped place) = stateOf zeros [] [] [] []

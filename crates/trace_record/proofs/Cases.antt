@@ -10,8 +10,9 @@ use native.Mathlib.Omega.{arith}
 use Rattle.meaning.specs.Plain.{if_then_else_, _≤?_, _=?_}
 use Rattle.meaning.specs.Words.{secondOf}
 use Rattle.trace_record.specs.Trace.{TraceRecord, SL, VS, Stands, event, finish, unreadable}
-use Rattle.trace_record.specs.Trace.{be16, whole, setupAt, openAt, sustainAt, closeAt, cellAt, pauseAt, firstAt, laterAt, standsAt}
-use Rattle.trace_record.specs.Trace.{markGM, markGR, markVO, markVX, markCA, markSL, markVS, longSL}
+use Rattle.trace_record.specs.Trace.{be16, whole, setupAt, openAt, sustainAt, closeAt, openPathAt, closePathAt, cellAt, pauseAt, firstAt, laterAt, standsAt}
+use Rattle.trace_record.specs.Trace.{markGM, markGR, markGN, markVO, markVX, markCA, markSL, markVS, markPO, markPX, longSL}
+use Rattle.trace_record.specs.declared.Head.the-variants.{Gm, Gr, Gn}
 
 -- a record q as it was read, whose numbers are those of r
 module _ (s : List ℕ) (at long : ℕ) (r : TraceRecord) where
@@ -54,13 +55,17 @@ module _ (s : List ℕ) (at : ℕ) where
 
 -- by the mark
 module _ (s : List ℕ) (at m : ℕ) {x : Stands} where
-  pub first-gm : m ≡ markGM → x ≡ setupAt s at false → x ≡ firstAt s at m
+  pub first-gm : m ≡ markGM → x ≡ setupAt s at Gm → x ≡ firstAt s at m
   unfolding firstAt
   first-gm h e = simp (eq-eqb m markGM h) e
 
-  pub first-gr : (m ≡ markGM → ⊥) → m ≡ markGR → x ≡ setupAt s at true → x ≡ firstAt s at m
+  pub first-gr : (m ≡ markGM → ⊥) → m ≡ markGR → x ≡ setupAt s at Gr → x ≡ firstAt s at m
   unfolding firstAt
   first-gr gm h e = simp (ne-eqb m markGM gm, eq-eqb m markGR h) e
+
+  pub first-gn : (m ≡ markGM → ⊥) → (m ≡ markGR → ⊥) → m ≡ markGN → x ≡ setupAt s at Gn → x ≡ firstAt s at m
+  unfolding firstAt
+  first-gn gm gr h e = simp (ne-eqb m markGM gm, ne-eqb m markGR gr, eq-eqb m markGN h) e
 
   pub later-cell : m ≡ markCA → x ≡ cellAt s at → x ≡ laterAt s at m
   unfolding laterAt
@@ -87,16 +92,30 @@ module _ (s : List ℕ) (at m : ℕ) {x : Stands} where
           later-sustain h e =
               simp (ne-eqb m markCA ca, ne-eqb m markSL sl, ne-eqb m markVO vo, ne-eqb m markVX vx, eq-eqb m markVS h) e
 
+          module _ (vs : m ≡ markVS → ⊥) where
+            pub later-open-path : m ≡ markPO → x ≡ openPathAt s at → x ≡ laterAt s at m
+            unfolding laterAt
+            later-open-path h e =
+                simp (ne-eqb m markCA ca, ne-eqb m markSL sl, ne-eqb m markVO vo, ne-eqb m markVX vx, ne-eqb m markVS vs, eq-eqb m markPO h) e
+
+            pub later-close-path : (m ≡ markPO → ⊥) → m ≡ markPX → x ≡ closePathAt s at → x ≡ laterAt s at m
+            unfolding laterAt
+            later-close-path po h e =
+                simp
+                (ne-eqb m markCA ca, ne-eqb m markSL sl, ne-eqb m markVO vo, ne-eqb m markVX vx, ne-eqb m markVS vs, ne-eqb m markPO po, eq-eqb m markPX h)
+                e
+
 module _ (s : List ℕ) (at m : ℕ) where
-  pub first-other : (m ≡ markGM → ⊥) → (m ≡ markGR → ⊥) → unreadable at ≡ firstAt s at m
+  pub first-other : (m ≡ markGM → ⊥) → (m ≡ markGR → ⊥) → (m ≡ markGN → ⊥) → unreadable at ≡ firstAt s at m
   unfolding firstAt
-  first-other gm gr = simp (ne-eqb m markGM gm, ne-eqb m markGR gr)
+  first-other gm gr gn = simp (ne-eqb m markGM gm, ne-eqb m markGR gr, ne-eqb m markGN gn)
 
   pub later-unknown : (m ≡ markCA → ⊥) → (m ≡ markSL → ⊥) → (m ≡ markVO → ⊥) → (m ≡ markVX → ⊥) → (m ≡ markVS → ⊥)
-      → unreadable at ≡ laterAt s at m
+      → (m ≡ markPO → ⊥) → (m ≡ markPX → ⊥) → unreadable at ≡ laterAt s at m
   unfolding laterAt
-  later-unknown ca sl vo vx vs =
-      simp (ne-eqb m markCA ca, ne-eqb m markSL sl, ne-eqb m markVO vo, ne-eqb m markVX vx, ne-eqb m markVS vs)
+  later-unknown ca sl vo vx vs po px =
+      simp
+      (ne-eqb m markCA ca, ne-eqb m markSL sl, ne-eqb m markVO vo, ne-eqb m markVX vx, ne-eqb m markVS vs, ne-eqb m markPO po, ne-eqb m markPX px)
 
 -- by the place
 module _ (s : List ℕ) (at : ℕ) where

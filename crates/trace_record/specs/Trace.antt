@@ -1,32 +1,50 @@
 -- Document 01, "Trace and listing": the records of a trace, and what stands at a place of it.
 --
 --   TraceRecord          == a record, by its mark, with its numbers in document 01's order
+--   headOptions head     == what a trace that begins so chooses at setup; headMark head == its mark
 --   Stands               == what stands at a place: a record and the next place, the end, or a refusal with its place
 --   standsAt trace at    == what stands at place at of a trace
 --   saidOf r             == document 01's number and values of the reader's answer r, by case
 use Prim.Native.Nat.{ℕ, _+_, _*_}
-use mathlib.Core.Bool.{Bool, true, false, _&&_}
+use mathlib.Core.Bool.{true, false, _&&_}
 use mathlib.Core.List.{List}
 use lib.ListN.{length, getD}
 use Rattle.meaning.specs.Plain.{if_then_else_, _<?_, _≤?_, _=?_}
 use Rattle.meaning.specs.Words.{Second, secondOf}
-pub use Rattle.trace_record.specs.Marks.{markOctets, markGM, markGR, markVO, markVX, markCA, markSL, markVS}
-pub use Rattle.trace_record.specs.Marks.{longGM, longVO, longVX, longCA, longSL, longVS}
+use Rattle.meaning.specs.Calls.{UNI, NNI, Options, optionsOf, plain}
+pub use Rattle.trace_record.specs.Marks.{markOctets, markGM, markGR, markGN, markVO, markVX, markCA, markSL, markVS, markPO, markPX}
+pub use Rattle.trace_record.specs.Marks.{longGM, longVO, longVX, longCA, longSL, longVS, longPO, longPX}
+use Rattle.trace_record.specs.declared.Head.{Head}
+use Rattle.trace_record.specs.declared.Head.the-variants.{Gm, Gr, Gn}
 use Rattle.trace_record.specs.declared.Event.{Event}
-use Rattle.trace_record.specs.declared.Event.the-variants.{Setup, Open, Close, Cell, Pause, Sustain}
+use Rattle.trace_record.specs.declared.Event.the-variants.{Setup, Open, Close, Cell, Pause, Sustain, OpenPath, ClosePath}
 use Rattle.trace_record.specs.declared.Found.{Found}
 use Rattle.trace_record.specs.declared.Found.the-variants.{Read, End, Unreadable}
 
+-- The first record is a GM, or in its place a GR or GN. Document 02 (i): "a trace beginning GR instead of GM is raw"; (vi): "GN in
+-- place of GM begins an NNI trace". There is no mark for a raw NNI trace.
+abbrev pub headOptions : Head → Options
+headOptions Gm = plain
+headOptions Gr = optionsOf true UNI
+headOptions Gn = optionsOf false NNI
+
+abbrev pub headMark : Head → ℕ
+headMark Gm = markGM
+headMark Gr = markGR
+headMark Gn = markGN
+
 -- "GM: N, V .. VO: VCI, m, F, C. VX: VCI. CA: 53 octets, one slot. SL: a count of empty slots": a CA names the place
--- where its 53 octets start. Document 02 (i): "a trace beginning GR instead of GM is raw": a GR is a GM that is raw.
--- Document 02 (iv): "VS: as VO, then m (8), F (32), C (32), flag (8)": the second bucket that the VC is opened with
+-- where its 53 octets start. A GM is one by its head: GR and GN are GM otherwise. Document 02 (iv): "VS: as VO, then m (8), F (32),
+-- C (32), flag (8)": the second bucket that the VC is opened with; (vi): "PO and PX are VO and VX with the VPI"
 pub data TraceRecord : Type 0 where
-  GM : (N z : ℕ) (raw : Bool) → TraceRecord
+  GM : (N z : ℕ) (head : Head) → TraceRecord
   VO : (vci m F C : ℕ) → TraceRecord
   VX : (vci : ℕ) → TraceRecord
   CA : (start : ℕ) → TraceRecord
   SL : (count : ℕ) → TraceRecord
   VS : (vci m F C : ℕ) (x : Second) → TraceRecord
+  PO : (vpi m F C : ℕ) → TraceRecord
+  PX : (vpi : ℕ) → TraceRecord
 
 pub data Stands : Type 0 where
   event : TraceRecord → (next : ℕ) → Stands
@@ -48,8 +66,8 @@ be32 trace i = be16 trace i * 65_536 + be16 trace (i + 2)
 unfoldable pub whole : List ℕ → ℕ → ℕ → TraceRecord → Stands
 whole trace at long r = if at + long ≤? length trace then event r (at + long) else unreadable at
 
-unfoldable pub setupAt : List ℕ → ℕ → Bool → Stands
-setupAt trace at raw = whole trace at longGM (GM (be16 trace (at + 2)) (be16 trace (at + 4)) raw)
+unfoldable pub setupAt : List ℕ → ℕ → Head → Stands
+setupAt trace at head = whole trace at longGM (GM (be16 trace (at + 2)) (be16 trace (at + 4)) head)
 
 unfoldable pub openAt : List ℕ → ℕ → Stands
 openAt trace at =
@@ -65,6 +83,14 @@ sustainAt trace at =
 unfoldable pub closeAt : List ℕ → ℕ → Stands
 closeAt trace at = whole trace at longVX (VX (be16 trace (at + 2)))
 
+unfoldable pub openPathAt : List ℕ → ℕ → Stands
+openPathAt trace at =
+    whole trace at longPO
+    (PO (be16 trace (at + 2)) (getD trace (at + 4) 0) (be32 trace (at + 5)) (be32 trace (at + 9)))
+
+unfoldable pub closePathAt : List ℕ → ℕ → Stands
+closePathAt trace at = whole trace at longPX (PX (be16 trace (at + 2)))
+
 unfoldable pub cellAt : List ℕ → ℕ → Stands
 cellAt trace at = whole trace at longCA (CA (at + markOctets))
 
@@ -75,11 +101,12 @@ pauseAt trace at =
     else whole trace at longSL (SL (be16 trace (at + 2)))
 
 -- "GM .. first and only first .. An unknown mark .. a first record that isn't GM or a later GM is refused with 10"; so is
--- a later GR
+-- a later GR or GN
 unfoldable pub firstAt : List ℕ → ℕ → ℕ → Stands
 firstAt trace at mark =
-    if mark =? markGM then setupAt trace at false
-    else if mark =? markGR then setupAt trace at true
+    if mark =? markGM then setupAt trace at Gm
+    else if mark =? markGR then setupAt trace at Gr
+    else if mark =? markGN then setupAt trace at Gn
     else unreadable at
 
 unfoldable pub laterAt : List ℕ → ℕ → ℕ → Stands
@@ -89,6 +116,8 @@ laterAt trace at mark =
     else if mark =? markVO then openAt trace at
     else if mark =? markVX then closeAt trace at
     else if mark =? markVS then sustainAt trace at
+    else if mark =? markPO then openPathAt trace at
+    else if mark =? markPX then closePathAt trace at
     else unreadable at
 
 -- What stands at a place. First is place 0. The place after the last octet of a trace that isn't empty is its end.
@@ -102,12 +131,14 @@ standsAt trace at =
 
 -- "For any answer that is an enum, a definition gives this paper's number and values for each case."
 abbrev pub recordOf : Event → TraceRecord
-recordOf (Setup n v raw) = GM n v raw
+recordOf (Setup n v head) = GM n v head
 recordOf (Open vci m f c) = VO vci m f c
 recordOf (Close vci) = VX vci
 recordOf (Cell start) = CA start
 recordOf (Pause slots) = SL slots
 recordOf (Sustain vci m f c m2 f2 c2 tag) = VS vci m f c (secondOf m2 f2 c2 tag)
+recordOf (OpenPath vpi m f c) = PO vpi m f c
+recordOf (ClosePath vpi) = PX vpi
 
 abbrev pub saidOf : Found → Stands
 saidOf (Read e next) = event (recordOf e) next

@@ -2,16 +2,23 @@
 ghost use mathlib.Core.Path.{_≡_};
 ghost use Prim.Native.Nat.{_+_, _≤_, _<_};
 ghost use lib.ListN.{length};
-ghost use Rattle.trace_record.specs.Trace.{be16, be32, setupAt, openAt, sustainAt, closeAt, cellAt, pauseAt, firstAt, laterAt, saidOf};
+ghost use Rattle.trace_record.specs.Trace.{be16, be32, setupAt, openAt, sustainAt, closeAt, openPathAt, closePathAt, cellAt, pauseAt, firstAt, laterAt, saidOf};
 ghost use Rattle.trace_record.specs.Promises.{eventPromise, placePromise};
 
-// A record of a trace. A setup is raw where its mark is GR. Open is a VO; Sustain is a VS, with the second bucket's m, F and
-// C and the tagging flag. A cell's 53 octets start at octet `start` of the trace.
+// The mark of the first record: GM; GR, whose trace is raw; GN, whose trace is of the NNI.
+pub enum Head {
+    Gm,
+    Gr,
+    Gn,
+}
+
+// A record of a trace. Open is a VO; Sustain is a VS, with the second bucket's m, F and C and the tagging flag; OpenPath and
+// ClosePath are PO and PX. A cell's 53 octets start at octet `start` of the trace.
 pub enum Event {
     Setup {
         n: u16,
         v: u16,
-        raw: bool,
+        head: Head,
     },
     Open {
         vci: u16,
@@ -38,6 +45,15 @@ pub enum Event {
         c2: u32,
         tag: u8,
     },
+    OpenPath {
+        vpi: u16,
+        m: u8,
+        f: u32,
+        c: u32,
+    },
+    ClosePath {
+        vpi: u16,
+    },
 }
 
 // What stands at a place: a record, and where the next one starts; the end; or nothing that can be read (10).
@@ -52,11 +68,17 @@ const GM: u16 = 0x474d;
 
 const GR: u16 = 0x4752;
 
+const GN: u16 = 0x474e;
+
 const VO: u16 = 0x564f;
 
 const VS: u16 = 0x5653;
 
 const VX: u16 = 0x5658;
+
+const PO: u16 = 0x504f;
+
+const PX: u16 = 0x5058;
 
 const CA: u16 = 0x4341;
 
@@ -72,6 +94,10 @@ const VO_LONG: usize = 13;
 const VS_LONG: usize = 23;
 
 const VX_LONG: usize = 4;
+
+const PO_LONG: usize = 13;
+
+const PX_LONG: usize = 4;
 
 const CA_LONG: usize = 55;
 
@@ -104,9 +130,9 @@ fn u32_at(s: &[u8], i: usize) -> u32
 }
 
 // Each record is measured before it is read: a short one is refused where it starts.
-fn setup_at(s: &[u8], at: usize, raw: bool) -> Found
+fn setup_at(s: &[u8], at: usize, head: Head) -> Found
     requires { ⌜ at ≤ length (now s) ⌝ }
-    ensures { λ r. ⌜ saidOf r ≡ setupAt (now (s .entry)) at raw ⌝ }
+    ensures { λ r. ⌜ saidOf r ≡ setupAt (now (s .entry)) at head ⌝ }
 {
     if s.len() - at < GM_LONG {
         return Found::Unreadable { place: at };
@@ -114,7 +140,7 @@ fn setup_at(s: &[u8], at: usize, raw: bool) -> Found
     let n = u16_at(s, at + 2);
     let v = u16_at(s, at + 4);
     Found::Read {
-        event: Event::Setup { n, v, raw },
+        event: Event::Setup { n, v, head },
         next: at + GM_LONG,
     }
 }
@@ -181,6 +207,38 @@ fn close_at(s: &[u8], at: usize) -> Found
     }
 }
 
+// A PO is a VO with the VPI.
+fn open_path_at(s: &[u8], at: usize) -> Found
+    requires { ⌜ at ≤ length (now s) ⌝ }
+    ensures { λ r. ⌜ saidOf r ≡ openPathAt (now (s .entry)) at ⌝ }
+{
+    if s.len() - at < PO_LONG {
+        return Found::Unreadable { place: at };
+    }
+    let vpi = u16_at(s, at + 2);
+    let m = s[at + 4];
+    let f = u32_at(s, at + 5);
+    let c = u32_at(s, at + 9);
+    Found::Read {
+        event: Event::OpenPath { vpi, m, f, c },
+        next: at + PO_LONG,
+    }
+}
+
+fn close_path_at(s: &[u8], at: usize) -> Found
+    requires { ⌜ at ≤ length (now s) ⌝ }
+    ensures { λ r. ⌜ saidOf r ≡ closePathAt (now (s .entry)) at ⌝ }
+{
+    if s.len() - at < PX_LONG {
+        return Found::Unreadable { place: at };
+    }
+    let vpi = u16_at(s, at + 2);
+    Found::Read {
+        event: Event::ClosePath { vpi },
+        next: at + PX_LONG,
+    }
+}
+
 // A cell is not copied: the answer names where its octets start.
 fn cell_at(s: &[u8], at: usize) -> Found
     requires { ⌜ at ≤ length (now s) ⌝ }
@@ -215,16 +273,19 @@ fn pause_at(s: &[u8], at: usize) -> Found
     }
 }
 
-// GM or GR is first and only first.
+// GM, GR or GN is first and only first.
 fn first_at(s: &[u8], at: usize, mark: u16) -> Found
     requires { ⌜ at ≤ length (now s) ⌝ }
     ensures { λ r. ⌜ saidOf r ≡ firstAt (now (s .entry)) at mark ⌝ }
 {
     if mark == GM {
-        return setup_at(s, at, false);
+        return setup_at(s, at, Head::Gm);
     }
     if mark == GR {
-        return setup_at(s, at, true);
+        return setup_at(s, at, Head::Gr);
+    }
+    if mark == GN {
+        return setup_at(s, at, Head::Gn);
     }
     Found::Unreadable { place: at }
 }
@@ -248,6 +309,12 @@ fn later_at(s: &[u8], at: usize, mark: u16) -> Found
     }
     if mark == VS {
         return sustain_at(s, at);
+    }
+    if mark == PO {
+        return open_path_at(s, at);
+    }
+    if mark == PX {
+        return close_path_at(s, at);
     }
     Found::Unreadable { place: at }
 }

@@ -1,4 +1,4 @@
--- `setup_at`: a GM or GR is read where its octets all stand, else it is refused where it starts.
+-- `setup_at`: a GM, GR or GN is read where its octets all stand, else it is refused where it starts.
 use Rattle.trace_record.specs.Trace.{setupAt}
 use Rattle.trace_record.proofs.Cases.{whole-read, whole-short}
 use borrow.Author.Needs.{needs}

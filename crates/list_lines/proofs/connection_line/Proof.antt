@@ -1,9 +1,9 @@
--- `list_lines::vci_line` puts a word, then two numbers, each behind the one before.
+-- `list_lines::connection_line` puts a word, then two numbers, each behind the one before.
 use borrow.Author.Needs.{needs}
 use native.Mathlib.Omega.{arith}
 use Rattle.list_lines.proofs.Puts.{put-then}
-use Rattle.list_lines.proofs.vci_line.Statement.{statement}
-use Rattle.list_lines.proofs.vci_line.Tie as tie
+use Rattle.list_lines.proofs.connection_line.Statement.{statement}
+use Rattle.list_lines.proofs.connection_line.Tie as tie
 
 returns : tie.Need-returns
 returns c =
@@ -14,5 +14,5 @@ returns c =
       omega (arith, t .text .ensures .next, n1 .number .ensures .1, n2 .number2 .ensures .1),
     )
 
-pub vci-line-spec : {M : Type 1} → statement M
-vci-line-spec = tie.close (tie.spec (λ c κs. search needs) (λ c κs. search needs) (λ c κs. search needs) (λ c. search needs) returns)
+pub connection-line-spec : {M : Type 1} → statement M
+connection-line-spec = tie.close (tie.spec (λ c κs. search needs) (λ c κs. search needs) (λ c κs. search needs) (λ c. search needs) returns)
