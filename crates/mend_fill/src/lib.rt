@@ -148,7 +148,7 @@ fn pieces(trace: &[u8], total: usize, at: usize, out: &mut [u8], text: &mut [u8]
     }
 }
 
-// Whether a trace begins with a record, which only a GM or a GR can be.
+// Whether a trace begins with a record, which only a GM, a GR or a GN can be.
 pub fn begins(trace: &[u8]) -> bool
     ensures { λ r. ⌜ r ≡ begun (readsTo (now (trace .entry)) 0) ⌝ }
 {

@@ -10,7 +10,7 @@ use borrow.Author.Tests.{eq-eqb, ne-eqb, le-leb, lt-leb}
 use native.Mathlib.Omega.{arith}
 use denote.Enum.Declared.{tagOf}
 use Rattle.meaning.specs.Plain.{if_then_else_, _≤?_, _=?_}
-use Rattle.trace_record.specs.Trace.{be16, standsAt, saidOf, markGM, markGR, markVO, markVX, markCA, markSL, markVS}
+use Rattle.trace_record.specs.Trace.{be16, standsAt, saidOf, markGM, markGR, markGN, markVO, markVX, markCA, markSL, markVS, markPO, markPX}
 use Rattle.trace_record.specs.declared.Event.{Event}
 use Rattle.trace_record.specs.declared.Found.{Found}
 use Rattle.trace_record.specs.declared.Found.the-variants.{Read, End, Unreadable}
@@ -23,12 +23,13 @@ or-off : {b c : Bool} → b ≡ false → b || c ≡ c
 or-off {b} {c} h = ap (λ (x : Bool). x || c) h
 
 pub mark-none : (m : ℕ) → (m ≡ markCA → ⊥) → (m ≡ markSL → ⊥) → (m ≡ markVO → ⊥) → (m ≡ markVX → ⊥) → (m ≡ markGM → ⊥)
-    → (m ≡ markGR → ⊥) → (m ≡ markVS → ⊥) → false ≡ isMark m
+    → (m ≡ markGR → ⊥) → (m ≡ markGN → ⊥) → (m ≡ markVS → ⊥) → (m ≡ markPO → ⊥) → (m ≡ markPX → ⊥) → false ≡ isMark m
 unfolding isMark
-mark-none m ca sl vo vx gm gr vs =
+mark-none m ca sl vo vx gm gr gn vs po px =
     sym
     (or-off (ne-eqb m markCA ca) ∙ or-off (ne-eqb m markSL sl) ∙ or-off (ne-eqb m markVO vo) ∙ or-off (ne-eqb m markVX vx)
-    ∙ or-off (ne-eqb m markGM gm) ∙ or-off (ne-eqb m markGR gr) ∙ or-off (ne-eqb m markVS vs))
+    ∙ or-off (ne-eqb m markGM gm) ∙ or-off (ne-eqb m markGR gr) ∙ or-off (ne-eqb m markGN gn) ∙ or-off (ne-eqb m markVS vs)
+    ∙ or-off (ne-eqb m markPO po) ∙ or-off (ne-eqb m markPX px))
 
 module _ (s : List ℕ) (e : ℕ) where
   pub known-short : length s < e + 2 → false ≡ knownMark s e

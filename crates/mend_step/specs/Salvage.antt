@@ -19,7 +19,7 @@ use mathlib.Core.List.{List, [], _∷_, _++_}
 use lib.ListN.{length, take, drop}
 use Rattle.meaning.specs.Plain.{if_then_else_, _<?_, _≤?_, _=?_}
 use Rattle.trace_record.specs.Trace.{Stands, event, finish, refusal, standsAt, be16, markOctets}
-use Rattle.trace_record.specs.Trace.{markGM, markGR, markVO, markVX, markCA, markSL, markVS}
+use Rattle.trace_record.specs.Trace.{markGM, markGR, markGN, markVO, markVX, markCA, markSL, markVS, markPO, markPX}
 use Rattle.mend_step.specs.declared.Stride.{Stride}
 use Rattle.mend_step.specs.declared.Taken.{Taken}
 
@@ -35,7 +35,7 @@ readingOf (refusal number place) = none
 unfoldable pub readsTo : List ℕ → ℕ → Reading
 readsTo trace p = readingOf (standsAt trace p)
 
--- "a known mark": any mark that the reader knows, GM and GR too
+-- "a known mark": any mark that the reader knows, GM, GR and GN too
 abbrev pub marks : List ℕ
 marks =
     markCA
@@ -44,7 +44,10 @@ marks =
     ∷ markVX
     ∷ markGM
     ∷ markGR
+    ∷ markGN
     ∷ markVS
+    ∷ markPO
+    ∷ markPX
     ∷ []
 
 abbrev pub among : ℕ → List ℕ → Bool

@@ -25,11 +25,17 @@ const GM: u16 = 0x474d;
 
 const GR: u16 = 0x4752;
 
+const GN: u16 = 0x474e;
+
 const VO: u16 = 0x564f;
 
 const VS: u16 = 0x5653;
 
 const VX: u16 = 0x5658;
+
+const PO: u16 = 0x504f;
+
+const PX: u16 = 0x5058;
 
 const CA: u16 = 0x4341;
 
@@ -75,7 +81,16 @@ fn is_mark(m: u16) -> bool
     if m == GR {
         return true;
     }
+    if m == GN {
+        return true;
+    }
     if m == VS {
+        return true;
+    }
+    if m == PO {
+        return true;
+    }
+    if m == PX {
         return true;
     }
     false

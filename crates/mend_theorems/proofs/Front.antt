@@ -1,21 +1,21 @@
--- What begins with GM or GR is not refused, and nothing else is; every piece ends within the front, or is a stretch to the
+-- What begins with GM, GR or GN is not refused, and nothing else is; every piece ends within the front, or is a stretch to the
 -- end of the input.
 use Prim.Native.Nat.{ℕ, zero, suc, _+_, _-_, _≤_, _<_}
 use mathlib.Core.Path.{_≡_, refl, sym, ap, subst, _∙_}
 use mathlib.Core.Bool.{Bool, true, false, _&&_, _||_}
-use mathlib.Core.Logic.{_⊎_, inl, inr}
+use mathlib.Core.Logic.{_⊎_, inl, inr, ⊎-elim}
 use mathlib.Core.List.{List, [], _∷_, _++_}
 use lib.ListN.{length}
 use borrow.Author.Tests.{leb-true, eqb-true, le-leb, ltb-true, ltb-false}
 use native.Mathlib.Omega.{arith}
 use Rattle.meaning.specs.Plain.{if_then_else_, _<?_, _≤?_, _=?_}
-use Rattle.trace_record.specs.Trace.{be16, longGM, markGM, markGR}
+use Rattle.trace_record.specs.Trace.{be16, longGM, markGR, markGN}
 use Rattle.mend_step.specs.declared.Stride.{Stride}
-use Rattle.mend_step.specs.Salvage.{Reading, none, upTo, readsTo, meetsRule, firstOf, resume, stepOf, stepAt, Piece, keeps, skips, pieceOf, walkFrom, walk}
+use Rattle.mend_step.specs.Salvage.{Reading, none, upTo, readsTo, among, meetsRule, firstOf, resume, stepOf, stepAt, Piece, keeps, skips, pieceOf, walkFrom, walk}
 use Rattle.mend_step.specs.Salvage.{Salvage, refused, mended, salvageOf, salvageFront}
-use Rattle.mend_step.proofs.Shape.{Shape, Kind, gm, gr, ca, sl, vo, vx, vs, reads-shape, shape-reads, kind-long}
+use Rattle.mend_step.proofs.Shape.{Shape, First, gm, gr, gn, Kind, first, later, reads-shape, shape-reads, kind-long}
 use Rattle.mend_step.proofs.Walk.{step-on}
-use Rattle.mend_theorems.specs.Promises.{begins, Ends}
+use Rattle.mend_theorems.specs.Promises.{heads, begins, Ends}
 
 -- ---- 17
 
@@ -27,29 +27,33 @@ either : (a b : Bool) → a || b ≡ true → (a ≡ true) ⊎ (b ≡ true)
 either true b h = inl refl
 either false b h = inr h
 
+among-one : (m : ℕ) {x : ℕ} (xs : List ℕ) → among m (x ∷ xs) ≡ true → (m ≡ x) ⊎ (among m xs ≡ true)
+among-one m {x} xs h = ⊎-elim (λ e. inl (eqb-true m x e)) (λ e. inr e) (either (m =? x) (among m xs) h)
+
+among-first : (m : ℕ) → among m heads ≡ true → First m
+among-first m h =
+    ⊎-elim gm (λ i. ⊎-elim gr (λ j. ⊎-elim gn (λ k. absurd (let z : _≡_ {A = ℕ} 0 1 = cc in omega arith)) (among-one m [] j)) (among-one m (markGN ∷ []) i))
+    (among-one m (markGR ∷ markGN ∷ []) h)
+
+first-among : {m : ℕ} → First m → among m heads ≡ true
+first-among (gm h) = ap (λ (m : ℕ). among m heads) h
+first-among (gr h) = ap (λ (m : ℕ). among m heads) h
+first-among (gn h) = ap (λ (m : ℕ). among m heads) h
+
 module _ (s : List ℕ) where
   begins-reads : begins s ≡ true → readsTo s 0 ≡ upTo 6
   unfolding begins
   begins-reads h =
-      let t = both (longGM ≤? length s) (be16 s 0 =? markGM || be16 s 0 =? markGR) h in
-      go (leb-true _ _ (t .0)) (either (be16 s 0 =? markGM) (be16 s 0 =? markGR) (t .1))
-    where
-      go : 6 ≤ length s → (be16 s 0 =? markGM ≡ true) ⊎ (be16 s 0 =? markGR ≡ true) → readsTo s 0 ≡ upTo 6
-      go l (inl e) = shape-reads s 0 6 (record { within = l; kind = gm refl (eqb-true _ _ e) refl })
-      go l (inr e) = shape-reads s 0 6 (record { within = l; kind = gr refl (eqb-true _ _ e) refl })
+      let t = both (longGM ≤? length s) (among (be16 s 0) heads) h in
+      shape-reads s 0 6 (record { within = leb-true _ _ (t .0); kind = first refl (among-first _ (t .1)) refl })
 
   reads-begins : (e : ℕ) → readsTo s 0 ≡ upTo e → begins s ≡ true
   unfolding begins
   reads-begins e h = let t = reads-shape s 0 e h in go (t .within) (t .kind)
     where
-      go : e ≤ length s → Kind (be16 s 0) (be16 s 2) 0 e → (longGM ≤? length s) && (be16 s 0 =? markGM || be16 s 0 =? markGR) ≡ true
-      go l (gm z m q) = simp (le-leb longGM (length s) (omega arith), m)
-      go l (gr z m q) = simp (le-leb longGM (length s) (omega arith), m)
-      go l (ca z m q) = absurd (omega arith)
-      go l (sl z m n q) = absurd (omega arith)
-      go l (vo z m q) = absurd (omega arith)
-      go l (vx z m q) = absurd (omega arith)
-      go l (vs z m q) = absurd (omega arith)
+      go : e ≤ length s → Kind (be16 s 0) (be16 s 2) 0 e → (longGM ≤? length s) && among (be16 s 0) heads ≡ true
+      go l (first z m q) = simp (le-leb longGM (length s) (omega arith), first-among m)
+      go l (later i z m q) = absurd (omega arith)
 
   pub begins-tells : (n : ℕ) → salvageFront s n ≡ (if begins s then mended (walk s n) else refused 17)
   unfolding salvageFront

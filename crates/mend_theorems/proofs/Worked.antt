@@ -4,7 +4,7 @@ use mathlib.Core.Bool.{false}
 use native.Mathlib.Omega.{arith}
 use mathlib.Core.Path.{_≡_, refl, sym, subst}
 use mathlib.Core.List.{List, [], _∷_, _++_, map}
-use Rattle.trace_record.specs.Trace.{be16, be32, whole, setupAt, openAt, sustainAt, closeAt, cellAt, pauseAt, firstAt, laterAt, standsAt}
+use Rattle.trace_record.specs.Trace.{be16, be32, whole, setupAt, openAt, sustainAt, closeAt, openPathAt, closePathAt, cellAt, pauseAt, firstAt, laterAt, standsAt}
 use Rattle.mend_step.specs.Salvage.{readsTo, isMark, knownMark, meetsRule, firstOf, resume, stepAt, Piece, keeps, skips, walkFrom, walk}
 use Rattle.mend_step.specs.Salvage.{Salvage, refused, mended, salvageFront, salvage, writtenOf, stretchesOf}
 use Rattle.mend_theorems.specs.Promises.{Records, Hole, Damaged, DamagedIn}
@@ -85,10 +85,15 @@ table =
     ∷ row (71 ∷ 77 ∷ 0 ∷ 5 ∷ 0 ∷ 64 ∷ 0 ∷ 83 ∷ 76 ∷ 0 ∷ 1 ∷ 86 ∷ 83 ∷ 0 ∷ 1 ∷ 2 ∷ 0 ∷ 0 ∷ 0 ∷ 10 ∷ 0 ∷ 0 ∷ 0 ∷ 26 ∷ 0 ∷ 0 ∷ 0 ∷ 0 ∷ 2 ∷ 0 ∷ 0 ∷ 0 ∷ 2 ∷ 1 ∷ []) (done (71 ∷ 77 ∷ 0 ∷ 5 ∷ 0 ∷ 64 ∷ 83 ∷ 76 ∷ 0 ∷ 1 ∷ 86 ∷ 83 ∷ 0 ∷ 1 ∷ 2 ∷ 0 ∷ 0 ∷ 0 ∷ 10 ∷ 0 ∷ 0 ∷ 0 ∷ 26 ∷ 0 ∷ 0 ∷ 0 ∷ 0 ∷ 2 ∷ 0 ∷ 0 ∷ 0 ∷ 2 ∷ 1 ∷ []) (skips 6 1 ∷ []))  -- resumed before a VS
     ∷ row (71 ∷ 77 ∷ 0 ∷ 5 ∷ 0 ∷ 64 ∷ 86 ∷ 83 ∷ 0 ∷ 1 ∷ 2 ∷ 0 ∷ 0 ∷ 0 ∷ 10 ∷ 0 ∷ 0 ∷ 0 ∷ 26 ∷ 0 ∷ 0 ∷ 0 ∷ 0 ∷ 2 ∷ 0 ∷ 0 ∷ 0 ∷ 2 ∷ []) (done (71 ∷ 77 ∷ 0 ∷ 5 ∷ 0 ∷ 64 ∷ []) (skips 6 22 ∷ []))  -- short VS at the end
     ∷ row (71 ∷ 77 ∷ 0 ∷ 5 ∷ 0 ∷ 64 ∷ 86 ∷ 83 ∷ 76 ∷ 0 ∷ 1 ∷ 0 ∷ 0 ∷ 0 ∷ 0 ∷ 0 ∷ 0 ∷ 0 ∷ 0 ∷ 0 ∷ 0 ∷ 0 ∷ 0 ∷ 0 ∷ 0 ∷ 0 ∷ 0 ∷ 0 ∷ 0 ∷ 83 ∷ 76 ∷ 0 ∷ 1 ∷ []) (done (71 ∷ 77 ∷ 0 ∷ 5 ∷ 0 ∷ 64 ∷ 86 ∷ 83 ∷ 76 ∷ 0 ∷ 1 ∷ 0 ∷ 0 ∷ 0 ∷ 0 ∷ 0 ∷ 0 ∷ 0 ∷ 0 ∷ 0 ∷ 0 ∷ 0 ∷ 0 ∷ 0 ∷ 0 ∷ 0 ∷ 0 ∷ 0 ∷ 0 ∷ 83 ∷ 76 ∷ 0 ∷ 1 ∷ []) ([]))  -- VS whole, SL within not looked at
+    ∷ row (71 ∷ 78 ∷ 0 ∷ 5 ∷ 0 ∷ 64 ∷ []) (done (71 ∷ 78 ∷ 0 ∷ 5 ∷ 0 ∷ 64 ∷ []) ([]))  -- GN alone
+    ∷ row (71 ∷ 77 ∷ 0 ∷ 5 ∷ 0 ∷ 64 ∷ 0 ∷ 83 ∷ 76 ∷ 0 ∷ 1 ∷ 71 ∷ 78 ∷ 83 ∷ 76 ∷ 0 ∷ 2 ∷ []) (done (71 ∷ 77 ∷ 0 ∷ 5 ∷ 0 ∷ 64 ∷ 83 ∷ 76 ∷ 0 ∷ 1 ∷ 83 ∷ 76 ∷ 0 ∷ 2 ∷ []) (skips 6 1 ∷ skips 11 2 ∷ []))  -- GN mark after it, then more
+    ∷ row (71 ∷ 77 ∷ 0 ∷ 5 ∷ 0 ∷ 64 ∷ 83 ∷ 76 ∷ 0 ∷ 1 ∷ 86 ∷ 88 ∷ 0 ∷ 1 ∷ 71 ∷ 77 ∷ 0 ∷ 5 ∷ 0 ∷ 64 ∷ 83 ∷ 76 ∷ 0 ∷ 2 ∷ 80 ∷ 88 ∷ 0 ∷ 2 ∷ []) (done (71 ∷ 77 ∷ 0 ∷ 5 ∷ 0 ∷ 64 ∷ 83 ∷ 76 ∷ 0 ∷ 1 ∷ 86 ∷ 88 ∷ 0 ∷ 1 ∷ 83 ∷ 76 ∷ 0 ∷ 2 ∷ 80 ∷ 88 ∷ 0 ∷ 2 ∷ []) (skips 14 6 ∷ []))  -- two traces joined
+    ∷ row (71 ∷ 77 ∷ 0 ∷ 5 ∷ 0 ∷ 64 ∷ 79 ∷ 0 ∷ 3 ∷ 0 ∷ 0 ∷ 0 ∷ 0 ∷ 1 ∷ 0 ∷ 0 ∷ 0 ∷ 1 ∷ 80 ∷ 88 ∷ 0 ∷ 2 ∷ []) (done (71 ∷ 77 ∷ 0 ∷ 5 ∷ 0 ∷ 64 ∷ 80 ∷ 88 ∷ 0 ∷ 2 ∷ []) (skips 6 12 ∷ []))  -- PO spoilt
+    ∷ row (71 ∷ 78 ∷ 0 ∷ 5 ∷ 0 ∷ 64 ∷ 0 ∷ 80 ∷ 88 ∷ 0 ∷ 2 ∷ 80 ∷ 88 ∷ 0 ∷ 2 ∷ []) (done (71 ∷ 78 ∷ 0 ∷ 5 ∷ 0 ∷ 64 ∷ 80 ∷ 88 ∷ 0 ∷ 2 ∷ 80 ∷ 88 ∷ 0 ∷ 2 ∷ []) (skips 6 1 ∷ []))  -- GN trace with a hole
     ∷ []
 
 pub worked : map (λ c. outputOf (c .trace) (salvage (c .trace))) table ≡ map (λ c. c .output) table
-unfolding salvageFront walk walkFrom stepAt resume firstOf meetsRule knownMark isMark readsTo standsAt firstAt laterAt setupAt openAt sustainAt closeAt cellAt pauseAt whole be16 be32
+unfolding salvageFront walk walkFrom stepAt resume firstOf meetsRule knownMark isMark readsTo standsAt firstAt laterAt setupAt openAt sustainAt closeAt openPathAt closePathAt cellAt pauseAt whole be16 be32
 worked = refl
 
 -- what the damage theorem asks can be met: of GM, SL 1, SL 2 the first pause is left as two octets
@@ -99,7 +104,7 @@ abbrev sl : ℕ → List ℕ
 sl n = 83 ∷ 76 ∷ 0 ∷ n ∷ []
 
 pub met : DamagedIn gm (sl 1) (0 ∷ 83 ∷ []) (sl 2) (keeps 0 6 ∷ []) (keeps 10 4 ∷ [])
-unfolding salvageFront walk walkFrom stepAt resume firstOf meetsRule knownMark isMark readsTo standsAt firstAt laterAt setupAt openAt sustainAt closeAt cellAt pauseAt whole be16 be32
+unfolding salvageFront walk walkFrom stepAt resume firstOf meetsRule knownMark isMark readsTo standsAt firstAt laterAt setupAt openAt sustainAt closeAt openPathAt closePathAt cellAt pauseAt whole be16 be32
 met =
     record {
       some = omega arith;

@@ -2,20 +2,20 @@
 --
 --   Cut at ps end          == the pieces ps cut the octets from at to end: each begins where the one before ended, none empty
 --   Ends long n ps         == every piece ends within the first `long` octets, or is a stretch to the end n
---   begins trace           == whether a readable GM or GR stands at the start
+--   begins trace           == whether a readable GM, GR or GN stands at the start
 --   Records trace p ps e   == from p to e the reader reads one record after the other, and ps names them
 --   Readable trace ps      == a trace readable throughout, and its records
 --   Damaged a d b ps qs    == octets d between the records ps of a and qs of b
 --   DamagedIn a r d b ps qs == octets d in the place of one record r, as document 02 has damage
 use Prim.Native.Nat.{ℕ, zero, suc, _+_, _≤_, _<_}
 use mathlib.Core.Path.{_≡_}
-use mathlib.Core.Bool.{Bool, true, false, _&&_, _||_}
+use mathlib.Core.Bool.{Bool, false, _&&_}
 use mathlib.Core.Logic.{_⊎_}
 use mathlib.Core.List.{List, [], _∷_, _++_}
 use lib.ListN.{length, take, drop}
-use Rattle.meaning.specs.Plain.{_≤?_, _=?_}
-use Rattle.trace_record.specs.Trace.{be16, longGM, markGM, markGR}
-use Rattle.mend_step.specs.Salvage.{Reading, none, upTo, readsTo, meetsRule, Piece, keeps, skips}
+use Rattle.meaning.specs.Plain.{_≤?_}
+use Rattle.trace_record.specs.Trace.{be16, longGM, markGM, markGR, markGN}
+use Rattle.mend_step.specs.Salvage.{Reading, none, upTo, readsTo, among, meetsRule, Piece, keeps, skips}
 
 abbrev pub firstOctet : Piece → ℕ
 firstOctet (keeps p l) = p
@@ -41,9 +41,12 @@ Ends long n [] = Unit {0}
 Ends long n (keeps p l ∷ xs) = (p + l ≤ long) × Ends long n xs
 Ends long n (skips p l ∷ xs) = ((p + l ≤ long) ⊎ (p + l ≡ n)) × Ends long n xs
 
--- "no readable GM at the start": GM or GR, and the six octets of such a record
+-- "no readable GM at the start": GM, GR or GN, and the six octets of such a record
+abbrev pub heads : List ℕ
+heads = markGM ∷ markGR ∷ markGN ∷ []
+
 unfoldable pub begins : List ℕ → Bool
-begins trace = longGM ≤? length trace && (be16 trace 0 =? markGM || be16 trace 0 =? markGR)
+begins trace = longGM ≤? length trace && among (be16 trace 0) heads
 
 abbrev pub Records : List ℕ → ℕ → List Piece → ℕ → Type 0
 Records trace p [] e = p ≡ e

@@ -1,61 +1,50 @@
--- What the policer's judgement is of a cell whose header names the VC, and that no other cell is let in with its VCI.
-use Prim.Native.Nat.{ℕ, _≤_}
+-- What the policer's judgement is of a cell whose header names the connection, and that no other cell is let in with its number.
+use Prim.Native.Nat.{ℕ}
 use mathlib.Core.Path.{_≡_, refl}
-use mathlib.Core.Logic.{_≢_}
 use mathlib.Core.Bool.{Bool, true, false, not, _&&_, _||_}
-use mathlib.Core.List.{List, [], _∷_}
+use mathlib.Core.List.{List}
 use mathlib.Core.Option.{Option, none, some}
-use native.Mathlib.Omega.{arith}
-use borrow.Author.Tests.{ne-eqb}
 use lib.ListN.{length}
 use Rattle.meaning.specs.Plain.{if_then_else_, _=?_}
 use Rattle.meaning.specs.Numbers.{letsIn}
-use Rattle.meaning.specs.Header.{Header, headerOf, headerAt, noUserCell, namesConnection}
+use Rattle.meaning.specs.Header.{Header, headerAt, clpIn, noUserCell, connection, namesConnection}
 use Rattle.meaning_runs.specs.Leak.{Opening, verdictBy}
 use Rattle.meaning_runs.specs.Judged.{judgedOf, judgedUnder, judgedBy}
-use Rattle.theory_invariant.proofs.ArriveLaws.{names-facts}
 
 pub and-no : (b : Bool) → b && false ≡ false
 and-no true = refl
 and-no false = refl
 
--- a header that names a VC is a user cell's, and no list without octets has it
-some-octets : (z : ℕ) (cell : List ℕ) → namesConnection z (headerAt cell 0) ≡ true → length cell ≢ 0
-unfolding headerAt headerOf
-some-octets z [] n e = omega (arith, names-facts z (headerAt [] 0) n .0)
-some-octets z (x ∷ cell) n e = omega arith
-
-pub user : (z : ℕ) (cell : List ℕ) → namesConnection z (headerAt cell 0) ≡ true → length cell =? 0 || noUserCell (headerAt cell 0) ≡ false
-unfolding noUserCell
-user z cell n =
-    rw (ne-eqb (length cell) 0 (some-octets z cell n)) (go (headerAt cell 0) (names-facts z (headerAt cell 0) n .0))
-  where
-    go : (h : Header) → 1 ≤ h .vci → h .vpi =? 0 && h .vci =? 0 ≡ false
-    go h low = rw (ne-eqb (h .vci) 0 (λ y. omega arith)) (and-no (h .vpi =? 0))
-
-pub named : (z t : ℕ) (op : ℕ → Option Opening) (cell : List ℕ) (o : Opening) → namesConnection z (headerAt cell 0) ≡ true
-    → op (headerAt cell 0 .vci) ≡ some o
-    → judgedBy z t op cell ≡ judgedUnder t (headerAt cell 0 .vci) (headerAt cell 0 .clp) (some o)
+pub named : (kind z t : ℕ) (op : ℕ → Option Opening) (cell : List ℕ) (o : Opening)
+    → length cell =? 0 || noUserCell (headerAt kind cell 0) ≡ false → namesConnection z (headerAt kind cell 0) ≡ true
+    → op (connection z (headerAt kind cell 0)) ≡ some o
+    → judgedBy kind z t op cell
+    ≡ judgedUnder t (headerAt kind cell 0 .vci) (connection z (headerAt kind cell 0)) (clpIn cell) (some o)
 unfolding judgedBy
-named z t op cell o n q = rw (user z cell n, n, q) refl
+named kind z t op cell o user n q = rw (user, n, q) refl
 
--- no other cell is let in with the VCI v
-pub others : (z t v : ℕ) (op : ℕ → Option Opening) (cell : List ℕ)
-    → (namesConnection z (headerAt cell 0) && headerAt cell 0 .vci =? v) ≡ false
-    → (letsIn (judgedBy z t op cell .verdict) && judgedBy z t op cell .vci =? v) ≡ false
+-- no other cell is let in with the number v
+pub others : (kind z t v : ℕ) (op : ℕ → Option Opening) (cell : List ℕ)
+    → (namesConnection z (headerAt kind cell 0) && connection z (headerAt kind cell 0) =? v) ≡ false
+    → (letsIn (judgedBy kind z t op cell .verdict) && judgedBy kind z t op cell .vci =? v) ≡ false
 unfolding judgedBy letsIn
-others z t v op cell =
-    go (length cell =? 0 || noUserCell (headerAt cell 0)) (namesConnection z (headerAt cell 0)) (op (headerAt cell 0 .vci))
+others kind z t v op cell = go (length cell =? 0 || noUserCell hd) (namesConnection z hd) (op u)
   where
-    under : (o : Option Opening) → (headerAt cell 0 .vci =? v) ≡ false
-        → let j = judgedUnder t (headerAt cell 0 .vci) (headerAt cell 0 .clp) o in
+    hd : Header
+    hd = headerAt kind cell 0
+
+    u : ℕ
+    u = connection z hd
+
+    under : (o : Option Opening) → (u =? v) ≡ false
+        → let j = judgedUnder t (hd .vci) u (clpIn cell) o in
         (letsIn (j .verdict) && j .vci =? v) ≡ false
     under none e = refl
-    under (some o) e = rw e (and-no (letsIn (verdictBy o (headerAt cell 0 .clp) t)))
+    under (some o) e = rw e (and-no (letsIn (verdictBy o (clpIn cell) t)))
 
-    go : (x y : Bool) (o : Option Opening) → (y && headerAt cell 0 .vci =? v) ≡ false
+    go : (x y : Bool) (o : Option Opening) → (y && u =? v) ≡ false
         → let j = (if x then judgedOf 0 0 0
-        else if not y then judgedOf 3 (headerAt cell 0 .vci) 0 else judgedUnder t (headerAt cell 0 .vci) (headerAt cell 0 .clp) o) in
+        else if not y then judgedOf 3 (hd .vci) 0 else judgedUnder t (hd .vci) u (clpIn cell) o) in
         (letsIn (j .verdict) && j .vci =? v) ≡ false
     go true y o e = refl
     go false false o e = refl

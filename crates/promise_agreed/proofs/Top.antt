@@ -11,14 +11,14 @@ use borrow.Author.Tests.{eq-eqb, ne-eqb}
 use Rattle.meaning.specs.declared.Answer.{Answer}
 use Rattle.meaning.specs.Plain.{if_then_else_, _=?_}
 use Rattle.meaning.specs.Numbers.{slotNumbers}
-use Rattle.meaning.specs.State.{State}
+use Rattle.meaning.specs.Header.{Name, numberIn}
 use Rattle.meaning.specs.Words.{Second, noSecond}
 use Rattle.meaning.specs.Calls.{setup}
-use Rattle.meaning_runs.specs.Run.{Call, onOpenWith, onOpen, onClose, onSlot, Event, opened, closed, ran, Run, runOf, call, calls, freshRun, served}
+use Rattle.meaning_runs.specs.Run.{Call, onOpenWith, onClose, onSlot, Event, opened, closed, ran, Run, runOf, call, calls, served}
 use Rattle.meaning_runs.specs.Leak.{newOpening, openingOf}
 use Rattle.theory_queues.specs.Queue.{All}
-use Rattle.theory_invariant.proofs.FreshLaws.{setup-fresh}
-use Rattle.theory_invariant.proofs.RunLaws.{Kept, call-kept, run-kept}
+use Rattle.theory_invariant.proofs.RunLaws.{Kept, call-kept}
+use Rattle.promises.proofs.Top.{from-setup}
 use Rattle.call_time.specs.declared.Tat.{Tat}
 use Rattle.call_time.specs.Asked.{notStarted}
 use Rattle.promise_agreed.specs.Agreed.{Watched, watch, engineAfter, Agrees, Apart, AgreedAlways, AgreedOneConnection}
@@ -35,8 +35,8 @@ one-more h (ran cell a out) = omega arith
 
 call-more : (r : Run) (c : Call) → served (r .events) ≤ served (call r c .events)
 unfolding call
-call-more r (onOpenWith vci m F C x) = one-more (r .events) _
-call-more r (onClose vci) = one-more (r .events) _
+call-more r (onOpenWith name m F C x) = one-more (r .events) _
+call-more r (onClose name) = one-more (r .events) _
 call-more r (onSlot cell) = one-more (r .events) _
 
 calls-more : (r : Run) (cs : List Call) → served (r .events) ≤ served (calls r cs .events)
@@ -44,51 +44,55 @@ unfolding calls
 calls-more r [] = le-refl (served (r .events))
 calls-more r (c ∷ cs) = le-trans (call-more r c) (calls-more (call r c) cs)
 
--- a call that neither opens nor closes the VC leaves its opening
+-- a call that neither opens nor closes the connection leaves its opening
 other-connection : (v vci number : ℕ) → vci ≢ v → (number =? 0 && vci =? v) ≡ false
 other-connection v vci number n = rw (ne-eqb vci v n) (and-no (number =? 0))
 
 -- ── one call ──
 module _ (w : Watched) where
   pub record Together (r : Run) : Type 0 where
-    pub kept : Kept (w .N) (w .z) r
+    pub kept : Kept (w .N) (w .z) (w .kind) r
     pub tied : Tied w (r .events)
     pub agrees : Agrees w (r .events)
 
-  tied-open : (h : List Event) (vci m F C : ℕ) (x : Second) (number : ℕ) → vci ≢ w .vci → Tied w h
+  tied-open : (h : List Event) (vci m F C : ℕ) (x : Second) (number : ℕ) → vci ≢ w .conn → Tied w h
       → Tied w (opened vci m F C x number ∷ h)
   unfolding openingOf served engineAfter
   tied-open h vci m F C x number n k =
-      record { previous = k .previous; sustained = k .sustained; is = rw (other-connection (w .vci) vci number n) (k .is); state = k .state }
+      record { previous = k .previous; sustained = k .sustained; is = rw (other-connection (w .conn) vci number n) (k .is); state = k .state }
 
-  tied-close : (h : List Event) (vci number : ℕ) → vci ≢ w .vci → Tied w h → Tied w (closed vci number ∷ h)
+  tied-close : (h : List Event) (vci number : ℕ) → vci ≢ w .conn → Tied w h → Tied w (closed vci number ∷ h)
   unfolding openingOf served engineAfter
   tied-close h vci number n k =
-      record { previous = k .previous; sustained = k .sustained; is = rw (other-connection (w .vci) vci number n) (k .is); state = k .state }
+      record { previous = k .previous; sustained = k .sustained; is = rw (other-connection (w .conn) vci number n) (k .is); state = k .state }
 
-  one-call : (r : Run) (c : Call) → Together r → Apart (w .vci) c → served (call r c .events) ≤ slotNumbers → Together (call r c)
+  -- the number of the connection that a call names
+  at-z : (r : Run) → Together r → (name : Name) → numberIn (w .z) name ≡ numberIn (r .state .ctl .v) name
+  at-z r g name = ap (λ (v : ℕ). numberIn v name) (sym (g .kept .inv .stage .v-is))
+
+  one-call : (r : Run) (c : Call) → Together r → Apart (w .z) (w .conn) c → served (call r c .events) ≤ slotNumbers → Together (call r c)
   unfolding call Agrees
-  one-call r (onOpenWith vci m F C x) g n low =
+  one-call r (onOpenWith name m F C x) g n low =
       record {
-        kept = call-kept (w .N) (w .z) r (onOpenWith vci m F C x) (g .kept);
-        tied = tied-open (r .events) vci m F C x _ n (g .tied);
+        kept = call-kept (w .N) (w .z) (w .kind) r (onOpenWith name m F C x) (g .kept);
+        tied = tied-open (r .events) (numberIn (r .state .ctl .v) name) m F C x _ (λ e. n (at-z r g name ∙ e)) (g .tied);
         agrees = g .agrees;
       }
-  one-call r (onClose vci) g n low =
+  one-call r (onClose name) g n low =
       record {
-        kept = call-kept (w .N) (w .z) r (onClose vci) (g .kept);
-        tied = tied-close (r .events) vci _ n (g .tied);
+        kept = call-kept (w .N) (w .z) (w .kind) r (onClose name) (g .kept);
+        tied = tied-close (r .events) (numberIn (r .state .ctl .v) name) _ (λ e. n (at-z r g name ∙ e)) (g .tied);
         agrees = g .agrees;
       }
   one-call r (onSlot cell) g n low =
       let x = went w (r .events) (r .state) (g .kept .inv) (g .tied) cell low in
       record {
-        kept = call-kept (w .N) (w .z) r (onSlot cell) (g .kept);
+        kept = call-kept (w .N) (w .z) (w .kind) r (onSlot cell) (g .kept);
         tied = x .tied;
         agrees = (g .agrees, x .says);
       }
 
-  pub all-calls : (r : Run) (cs : List Call) → Together r → All (Apart (w .vci)) cs
+  pub all-calls : (r : Run) (cs : List Call) → Together r → All (Apart (w .z) (w .conn)) cs
       → served (calls r cs .events) ≤ slotNumbers → Together (calls r cs)
   unfolding calls
   all-calls r [] g n low = g
@@ -118,8 +122,8 @@ asleep w (ran cell a out ∷ h) e =
       (k .1, λ on. absurd (let y : _≡_ {A = Bool} true false = sym on ∙ x in let z : _≡_ {A = ℕ} 0 1 = cc in omega arith)),
     )
 
-at-first : (w : Watched) (r : Run) → Kept (w .N) (w .z) r → served (r .events) ≡ 0
-    → openingOf (w .vci) (r .events) ≡ some (newOpening (w .m) (w .F) (w .C) noSecond) → Together w r
+at-first : (w : Watched) (r : Run) → Kept (w .N) (w .z) (w .kind) r → served (r .events) ≡ 0
+    → openingOf (w .conn) (r .events) ≡ some (newOpening (w .m) (w .F) (w .C) noSecond) → Together w r
 at-first w r k e o =
     record {
       kept = k;
@@ -132,28 +136,39 @@ at-first w r k e o =
       agrees = asleep w (r .events) e .1;
     }
 
-kept-after : (N z : ℕ) (raw : Bool) (cells links calendar words : List ℕ) → setup N z raw cells links calendar words .number ≡ 0
-    → (cs : List Call) → Kept N z (calls (runOf (setup N z raw cells links calendar words .state) []) cs)
-unfolding freshRun
-kept-after N z raw cells links calendar words e cs =
-    let fresh = setup-fresh N z raw cells links calendar words e in
-    subst (λ (s : State). Kept N z (calls (runOf s []) cs)) (sym (fresh .1)) (run-kept N z (fresh .0) raw cs)
+kept-after : (N z : ℕ) (raw : Bool) (kind : ℕ) (cells links calendar words : List ℕ)
+    → setup N z raw kind cells links calendar words .number ≡ 0
+    → (cs : List Call) → Kept N z kind (calls (runOf (setup N z raw kind cells links calendar words .state) []) cs)
+kept-after = from-setup (λ N z kind r. Kept N z kind r) (λ N z kind r k. k)
 
 -- REQUEST (v)
 pub agreed : AgreedAlways
-agreed N z raw cells links calendar words e before v m F C none-served is-open after apart low =
-    let r = calls (runOf (setup N z raw cells links calendar words .state) []) before in
-    let w = watch N z v m F C in
+agreed N z raw kind cells links calendar words e before v m F C none-served is-open after apart low =
+    let r = calls (runOf (setup N z raw kind cells links calendar words .state) []) before in
+    let w = watch N z kind v m F C in
     all-calls w r after
-    (at-first w r (kept-after N z raw cells links calendar words e before) none-served is-open) apart low .agrees
+    (at-first w r (kept-after N z raw kind cells links calendar words e before) none-served is-open) apart low .agrees
 
--- and of one VC alone
-only-slots : (v : ℕ) (lent : List (List ℕ)) → All (Apart v) (map onSlot lent)
-only-slots v [] = tt
-only-slots v (cell ∷ lent) = (tt, only-slots v lent)
+-- and of one connection alone
+only-slots : (z v : ℕ) (lent : List (List ℕ)) → All (Apart z v) (map onSlot lent)
+only-slots z v [] = tt
+only-slots z v (cell ∷ lent) = (tt, only-slots z v lent)
+
+-- the number under which the first open is noted
+open-noted : (N z : ℕ) (raw : Bool) (kind : ℕ) (cells links calendar words : List ℕ)
+    → setup N z raw kind cells links calendar words .number ≡ 0
+    → (name : Name) → numberIn (setup N z raw kind cells links calendar words .state .ctl .v) name ≡ numberIn z name
+unfolding calls
+open-noted N z raw kind cells links calendar words e name =
+    ap (λ (v : ℕ). numberIn v name) (kept-after N z raw kind cells links calendar words e [] .inv .stage .v-is)
 
 pub agreed-one-connection : AgreedOneConnection
 unfolding call calls served openingOf
-agreed-one-connection N z raw cells links calendar words e v m F C zero lent low =
-    agreed N z raw cells links calendar words e (onOpen v m F C ∷ []) v m F C refl
-    (rw (eq-eqb _ 0 (zero .0), eq-eqb v v refl) refl) (map onSlot lent) (only-slots v lent) low
+agreed-one-connection N z raw kind cells links calendar words e name m F C zero lent low =
+    agreed N z raw kind cells links calendar words e (onOpenWith name m F C noSecond ∷ []) (numberIn z name) m F C refl
+    (rw (
+      eq-eqb _ 0 (zero .0),
+      eq-eqb (numberIn (setup N z raw kind cells links calendar words .state .ctl .v) name) (numberIn z name)
+          (open-noted N z raw kind cells links calendar words e name),
+    ) refl)
+    (map onSlot lent) (only-slots z (numberIn z name) lent) low

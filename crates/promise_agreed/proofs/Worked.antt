@@ -6,6 +6,6 @@ use Rattle.meaning_runs.specs.Eight.{eightEvents}
 use Rattle.call_time.specs.Schedule.{tatOf, tooLate, storedFits, inOrder, refusalOf, scheduled, expectedAt, timed}
 use Rattle.promise_agreed.specs.Agreed.{watch, isFor, engineAfter}
 
-eight : engineAfter (watch 5 64 40 2 10 26) eightEvents ≡ tatOf 40 4 true
+eight : engineAfter (watch 5 64 0 40 2 10 26) eightEvents ≡ tatOf 40 4 true
 unfolding byComputation engineAfter isFor timed refusalOf storedFits inOrder scheduled expectedAt tooLate
 eight = refl

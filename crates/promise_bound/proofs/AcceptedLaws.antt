@@ -1,4 +1,4 @@
--- A cell is accepted or tagged only where its VC is open, of every run: the verdict is the leak rules' over openings, and a slot
+-- A cell is accepted or tagged only where its connection is open, of every run: the verdict is the leak rules' over openings, and a slot
 -- that is refused accepts none.
 use Prim.Native.Nat.{ℕ}
 use mathlib.Core.Path.{_≡_, refl, sym, ap, _∙_, subst}
@@ -11,7 +11,7 @@ use Rattle.base_hec.specs.Modes.{Arriving}
 use Rattle.meaning.specs.declared.Answer.{Answer}
 use Rattle.meaning.specs.Plain.{if_then_else_, _=?_}
 use Rattle.meaning.specs.Numbers.{nothing, unknown, dropped, letsIn}
-use Rattle.meaning.specs.Header.{headerAt, noUserCell, namesConnection}
+use Rattle.meaning.specs.Header.{Header, headerAt, clpIn, noUserCell, connection, namesConnection}
 use Rattle.meaning.specs.Work.{Work}
 use Rattle.meaning.specs.Slot.{slot}
 use Rattle.meaning_runs.specs.Run.{Call, onOpenWith, onClose, onSlot, Event, opened, closed, ran, Run, letIn, call, calls, served}
@@ -25,7 +25,7 @@ abbrev pub IsOpen : Option Opening → Type 0
 IsOpen none = ⊥
 IsOpen (some o) = Unit {0}
 
--- ── a cell is let in only where its VC is open ──
+-- ── a cell is let in only where its connection is open ──
 not-let : {A : Type 0} → false ≡ true → A
 not-let e = absurd (let z : _≡_ {A = ℕ} 0 1 = cc in omega arith)
 
@@ -33,36 +33,37 @@ module _ (t : ℕ) (openings : ℕ → Option Opening) where
   abbrev OpenWhere : Judged → Type 0
   OpenWhere j = letsIn (j .verdict) ≡ true → IsOpen (openings (j .vci))
 
-  under-open : (u clp : ℕ) (x : Option Opening) → openings u ≡ x → OpenWhere (judgedUnder t u clp x)
+  under-open : (vci u clp : ℕ) (x : Option Opening) → openings u ≡ x → OpenWhere (judgedUnder t vci u clp x)
   unfolding letsIn
-  under-open u clp none e n = not-let n
-  under-open u clp (some o) e n = subst IsOpen (sym e) tt
+  under-open vci u clp none e n = not-let n
+  under-open vci u clp (some o) e n = subst IsOpen (sym e) tt
 
-  by-open : (z : ℕ) (cell : List ℕ) → OpenWhere (judgedBy z t openings cell)
+  by-open : (kind z : ℕ) (cell : List ℕ) → OpenWhere (judgedBy kind z t openings cell)
   unfolding judgedBy letsIn
-  by-open z cell =
-      go (length cell =? 0 || noUserCell (headerAt cell 0)) (namesConnection z (headerAt cell 0)) (under-open u clp (openings u) refl)
+  by-open kind z cell =
+      go (length cell =? 0 || noUserCell hd) (namesConnection z hd) (under-open (hd .vci) u (clpIn cell) (openings u) refl)
     where
+      hd : Header
+      hd = headerAt kind cell 0
+
       u : ℕ
-      u = headerAt cell 0 .vci
+      u = connection z hd
 
-      clp : ℕ
-      clp = headerAt cell 0 .clp
-
-      go : (b c : Bool) → OpenWhere (judgedUnder t u clp (openings u))
-          → OpenWhere (if b then judgedOf nothing 0 0 else if not c then judgedOf unknown u 0 else judgedUnder t u clp (openings u))
+      go : (b c : Bool) → OpenWhere (judgedUnder t (hd .vci) u (clpIn cell) (openings u))
+          → OpenWhere (if b then judgedOf nothing 0 0 else if not c then judgedOf unknown (hd .vci) 0
+          else judgedUnder t (hd .vci) u (clpIn cell) (openings u))
       go true c k n = not-let n
       go false false k n = not-let n
       go false true k n = k n
 
-judged-open : (z : ℕ) (h : List Event) (a : Arriving) → OpenWhere (served h) (λ v. openingOf v h) (judgedAs z h a)
+judged-open : (kind z : ℕ) (h : List Event) (a : Arriving) → OpenWhere (served h) (λ v. openingOf v h) (judgedAs kind z h a)
 unfolding letsIn
-judged-open z h a = go (a .dropped)
+judged-open kind z h a = go (a .dropped)
   where
     go : (b : Bool) → OpenWhere (served h) (λ v. openingOf v h)
-        (if b then judgedOf dropped 0 0 else judgedBy z (served h) (λ v. openingOf v h) (a .cell))
+        (if b then judgedOf dropped 0 0 else judgedBy kind z (served h) (λ v. openingOf v h) (a .cell))
     go true n = not-let n
-    go false n = by-open (served h) (λ v. openingOf v h) z (a .cell) n
+    go false n = by-open (served h) (λ v. openingOf v h) kind z (a .cell) n
 
 -- ── of a run ──
 abbrev pub AcceptedOpen : List Event → Type 0
@@ -71,8 +72,8 @@ AcceptedOpen (opened vci m F C x number ∷ h) = AcceptedOpen h
 AcceptedOpen (closed vci number ∷ h) = AcceptedOpen h
 AcceptedOpen (ran cell a out ∷ h) = (letsIn (a .verdict) ≡ true → IsOpen (openingOf (a .vci) h)) × AcceptedOpen h
 
-module _ (N z : ℕ) where
-  slot-open : (r : Run) (cell : List ℕ) → Kept N z r → letsIn (slot (r .state) cell .answer .verdict) ≡ true
+module _ (N z kind : ℕ) where
+  slot-open : (r : Run) (cell : List ℕ) → Kept N z kind r → letsIn (slot (r .state) cell .answer .verdict) ≡ true
       → IsOpen (openingOf (slot (r .state) cell .answer .vci) (r .events))
   unfolding letsIn
   slot-open r cell k n = go (length cell =? 0 || length cell =? 53) refl
@@ -86,19 +87,19 @@ module _ (N z : ℕ) where
       go : (b : Bool) → length cell =? 0 || length cell =? 53 ≡ b
           → IsOpen (openingOf (slot (r .state) cell .answer .vci) (r .events))
       go true e =
-          subst (OpenWhere (served h) (λ v. openingOf v h)) (sym (says N z (r .events) (r .state) (k .inv) cell e))
-          (judged-open z h (letIn (r .state) cell)) n
+          subst (OpenWhere (served h) (λ v. openingOf v h)) (sym (says N z kind (r .events) (r .state) (k .inv) cell e))
+          (judged-open kind z h (letIn (r .state) cell)) n
       go false e =
-          not-let (sym (ap (λ (w : Work). letsIn (w .answer .verdict)) (slot-refused N z (r .events) (r .state) (k .inv) cell e))
+          not-let (sym (ap (λ (w : Work). letsIn (w .answer .verdict)) (slot-refused N z kind (r .events) (r .state) (k .inv) cell e))
           ∙ n)
 
-  call-open : (r : Run) (c : Call) → Kept N z r → AcceptedOpen (r .events) → AcceptedOpen (call r c .events)
+  call-open : (r : Run) (c : Call) → Kept N z kind r → AcceptedOpen (r .events) → AcceptedOpen (call r c .events)
   unfolding call
   call-open r (onOpenWith v m F C x) k p = p
   call-open r (onClose v) k p = p
   call-open r (onSlot cell) k p = (slot-open r cell k, p)
 
-  pub calls-open : (r : Run) (cs : List Call) → Kept N z r → AcceptedOpen (r .events) → AcceptedOpen (calls r cs .events)
+  pub calls-open : (r : Run) (cs : List Call) → Kept N z kind r → AcceptedOpen (r .events) → AcceptedOpen (calls r cs .events)
   unfolding calls
   calls-open r [] k p = p
-  calls-open r (c ∷ cs) k p = calls-open (call r c) cs (call-kept N z r c k) (call-open r c k p)
+  calls-open r (c ∷ cs) k p = calls-open (call r c) cs (call-kept N z kind r c k) (call-open r c k p)

@@ -74,7 +74,7 @@ pub leaving-is : (x w : ℕ) (ds : List Departure) → leaving x w ds ≡ count 
 leaving-is x w [] = refl
 leaving-is x w (d ∷ ds) = ap (λ (n : ℕ). (if inWindow x w d then 1 else 0) + n) (leaving-is x w ds)
 
-module _ (N z : ℕ) (h : List Event) (s : State) (d : Demand3 N z h s) (v m F C : ℕ) (o : OneOpening v m F C h) where
+module _ (N z kind : ℕ) (h : List Event) (s : State) (d : Demand3 N z kind h s) (v m F C : ℕ) (o : OneOpening v m F C h) where
   abbrev lasted : List Event
   lasted = o .during ++ (opened v m F C (o .second) 0 ∷ o .before)
 
@@ -182,14 +182,14 @@ module _ (N z : ℕ) (h : List Event) (s : State) (d : Demand3 N z h s) (v m F C
       omega (arith, leaving-is x w (gone o), close-few (inWindow x w) noDeparture (gone o) w (λ i n low e f. one-a-slot x w i n low e f))
 
 -- ── of a run that demand 3 holds of ──
-pub bounded : (N z : ℕ) (h : List Event) (s : State) → 1 ≤ N → OpensObey h
+pub bounded : (N z kind : ℕ) (h : List Event) (s : State) → 1 ≤ N → OpensObey h
     → ((x w : ℕ) → leaving x w (departuresIn h) ≤ w) → ((v k : ℕ) → k < length (cellsOf v h) → OfOpening v k h)
-    → Demand3 N z h s → Bound N h
-bounded N z h s lowN obey line every d =
+    → Demand3 N z kind h s → Bound N h
+bounded N z kind h s lowN obey line every d =
     record {
-      due-apart = λ v m F C o k n low high. omega (arith, due-apart N z h s d v m F C o k n low high);
-      window = λ v m F C o x w some. window N z h s d v m F C o lowN (rules v m F C o) x w;
-      never-more = λ v m F C o x w. omega (arith, never-more N z h s d v m F C o x w);
+      due-apart = λ v m F C o k n low high. omega (arith, due-apart N z kind h s d v m F C o k n low high);
+      window = λ v m F C o x w some. window N z kind h s d v m F C o lowN (rules v m F C o) x w;
+      never-more = λ v m F C o x w. omega (arith, never-more N z kind h s d v m F C o x w);
       whole-line = line;
       every-cell = every;
     }

@@ -1,4 +1,4 @@
--- What an event adds to the accepted cells of a VC: a slot that let one of it in that cell, any other event none. So
+-- What an event adds to the accepted cells of a connection: a slot that let one of it in that cell, any other event none. So
 -- later events leave the cells that were there as they are.
 use Prim.Native.Nat.{ℕ}
 use mathlib.Core.Path.{_≡_, refl, sym, ap, _∙_}
@@ -18,7 +18,7 @@ use Rattle.meaning_runs.specs.Seen.{Cell, cellUnder, ofConnection, cellsIn, cel
 use Rattle.theory_queues.proofs.OrderLaws.{ofConnection-yes, ofConnection-no, ofConnection-append}
 use Rattle.theory_table.proofs.LeakLaws.{and-left, and-right}
 
--- ── what an event adds to the cells of a VC ──
+-- ── what an event adds to the cells of a connection ──
 module _ (v : ℕ) where
   pub cells-new : (h : List Event) (octets : List ℕ) (a : Answer) (out : List ℕ) → accepts v a ≡ true
       → cellsOf v (ran octets a out ∷ h) ≡ cellsOf v h ++ (cellUnder (served h) a (sentAs (a .verdict) octets) (openingOf v h) ∷ [])

@@ -1,4 +1,4 @@
--- Each accepted cell is one of an opening: when it came its VC was open, and an open VC was opened, and not closed since.
+-- Each accepted cell is one of an opening: when it came its connection was open, and an open connection was opened, and not closed since.
 use Prim.Native.Nat.{ℕ, _<_}
 use mathlib.Core.Path.{_≡_, refl, sym, ap, _∙_, subst}
 use mathlib.Core.Bool.{Bool, true, false, _&&_}
@@ -11,7 +11,7 @@ use lib.ListN.{length, length-append}
 use Rattle.meaning.specs.declared.Answer.{Answer}
 use Rattle.meaning.specs.Plain.{if_then_else_, _=?_}
 use Rattle.meaning.specs.Numbers.{letsIn}
-use Rattle.meaning.specs.Header.{headerAt}
+use Rattle.meaning.specs.Header.{clpIn}
 use Rattle.meaning.specs.Words.{Second}
 use Rattle.meaning.specs.Arrival.{sentAs}
 use Rattle.meaning_runs.specs.Run.{Event, opened, closed, ran, served}
@@ -22,7 +22,7 @@ use Rattle.promise_bound.specs.Bound.{Stays, Lasts, OfOpening}
 use Rattle.promise_bound.proofs.CellLaws.{Grown, grown, cells-new, cells-not, cells-open, cells-close}
 use Rattle.promise_bound.proofs.AcceptedLaws.{IsOpen, AcceptedOpen}
 
--- ── an open VC was opened ──
+-- ── an open connection was opened ──
 record Found (v : ℕ) (h : List Event) : Type 0 where
   m : ℕ
   F : ℕ
@@ -87,7 +87,7 @@ module _ (v : ℕ) where
       go true e f y = absurd y
       go false e f y = found-more (closed u number) h (f y) (λ during l. (unless number u e, l))
   found (ran cell a out ∷ h) o =
-      found-more (ran cell a out) h (found h (was-open (served h) (headerAt cell 0 .clp) (a .verdict) (accepts v a) (openingOf v h) o)) (λ during l. l)
+      found-more (ran cell a out) h (found h (was-open (served h) (clpIn cell) (a .verdict) (accepts v a) (openingOf v h) o)) (λ during l. l)
 
   -- ── so each cell is of one ──
   of-later : (k : ℕ) (e : Event) (h : List Event) → OfOpening v k h → OfOpening v k (e ∷ h)

@@ -1,7 +1,7 @@
 -- On the whole line at most one cell leaves in a slot: departures are noted in the order of their slots, no two in the same
 -- one, by the invariant. So w slots hold at most w.
 use Prim.Native.Nat.{ℕ, zero, suc, _+_, _≤_, _<_}
-use mathlib.Core.Path.{_≡_, sym, ap, subst}
+use mathlib.Core.Path.{sym, ap, subst}
 use mathlib.Core.List.{List, [], _∷_, map}
 use native.Mathlib.Nat.{add-zero}
 use native.Mathlib.Omega.{arith}
@@ -41,8 +41,8 @@ few-in lo hi l r x w =
       in-window x w (getD l (i + n) noDeparture) f .1,
     ))
 
-pub whole-line : (N z : ℕ) (h : List Event) (s : State) → Inv N z h s → (x w : ℕ) → leaving x w (departuresIn h) ≤ w
-whole-line N z h s i x w =
+pub whole-line : (N z kind : ℕ) (h : List Event) (s : State) → Inv N z kind h s → (x w : ℕ) → leaving x w (departuresIn h) ≤ w
+whole-line N z kind h s i x w =
     omega (
       arith,
       leaving-is x w (departuresIn h),

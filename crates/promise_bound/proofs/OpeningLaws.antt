@@ -1,4 +1,4 @@
--- Along one opening of a VC its m, F and C stay, and each accepted cell is due at least F after the one before: document
+-- Along one opening of a connection its m, F and C stay, and each accepted cell is due at least F after the one before: document
 -- 01's due time, event by event.
 use Prim.Native.Nat.{ℕ, _+_, _/_, _^_}
 use mathlib.Core.Path.{_≡_, refl, sym, ap, _∙_, subst}
@@ -11,7 +11,7 @@ use borrow.Author.Tests.{eq-eqb, ne-eqb}
 use lib.ListN.{length}
 use Rattle.meaning.specs.declared.Answer.{Answer}
 use Rattle.meaning.specs.Plain.{_=?_}
-use Rattle.meaning.specs.Header.{headerAt}
+use Rattle.meaning.specs.Header.{clpIn}
 use Rattle.meaning.specs.Words.{Second}
 use Rattle.meaning.specs.Arrival.{sentAs}
 use Rattle.meaning_runs.specs.Run.{Event, opened, closed, ran, served}
@@ -83,7 +83,7 @@ module _ (v : ℕ) where
       under-new h octets b out e u =
           record {
             previous = some (dueTime o (served h));
-            sustained = sustainedAfter (served h) (headerAt octets 0 .clp) (b .verdict) o;
+            sustained = sustainedAfter (served h) (clpIn octets) (b .verdict) o;
             is = rw (e, u .is);
             spaced = subst (λ l. Spaced F (2 ^ m) a (dueTime o (served h) + F) l)
                 (sym (cells-new v h octets b out e ∙ ap (λ (q : Option Opening). cellsOf v h ++ (cellUnder (served h) b sent q ∷ [])) (u .is)))

@@ -1,20 +1,20 @@
 -- REQUEST (xiii) of document 02: a number for the downstream buffer. A setup of a policer with N spaces has answered 0,
 -- whatever the memory held before, then any calls followed, refused ones among them; h is what was called and said, the
--- newest first. Slots don't wrap. For one opening of a VC, with L = 2^m:
+-- newest first. Slots don't wrap. For one opening of a connection, a VC or a path, with L = 2^m:
 --
 --   due-apart   the due slots of any two of its accepted cells, n accepted cells apart, differ by at least n × F / L
 --   window      in any w consecutive slots, w at least 1, at most 1 + ((w + N - 1) × L - 1) / F of its cells leave
 --   never-more  and never more than w
---   whole-line  of all VCs together never more than w, so of several openings the sum of their bursts or w, if that is less
---   every-cell  each accepted cell of a VC is one of such an opening, the present one or one long closed
+--   whole-line  of all connections together never more than w, so of several openings the sum of their bursts or w, if that is less
+--   every-cell  each accepted cell of a connection is one of such an opening, the present one or one long closed
 -- Each / is rounded down.
 --
---   OneOpening v m F C h  == an opening of the VC v in h: the open that answered 0, with a second bucket or none, all that
+--   OneOpening v m F C h  == an opening of the connection v in h: the open that answered 0, with a second bucket or none, all that
 --                            came before it, what came while it lasted, or any first part of that, and all that came later
---   first o, past o       == its accepted cells are those of the VC from the number `first` on, below `past`
+--   first o, past o       == its accepted cells are those of the connection from the number `first` on, below `past`
 --   gone o                == their departures, as far as they have left by the end of h
 --   leaving x w ds        == how many of the departures ds are in the slots x to x + w - 1
--- By demand 3 the k-th departure of a VC is its k-th accepted cell. `later` is part of h: a window that reaches beyond the
+-- By demand 3 the k-th departure of a connection is its k-th accepted cell. `later` is part of h: a window that reaches beyond the
 -- close, or into a later opening, still has all cells of this opening. Which cells are accepted, when they are due and what
 -- leaves is `meaning_runs/Seen`'s to say: a kind of cell or of connection that it counts, such as a tagged cell, is counted here.
 use Prim.Native.Nat.{ℕ, _+_, _-_, _*_, _/_, _^_, _≤_, _<_}
@@ -29,7 +29,7 @@ use Rattle.meaning.specs.Calls.{setup}
 use Rattle.meaning_runs.specs.Run.{Call, Event, opened, closed, ran, runOf, calls}
 use Rattle.meaning_runs.specs.Seen.{Departure, departuresIn, cellsOf, departuresOf, cellAt}
 
--- no open and no close of the VC v answered 0
+-- no open and no close of the connection v answered 0
 abbrev pub Stays : ℕ → ℕ → ℕ → Type 0
 Stays v vci number = vci ≡ v → number ≢ 0
 
@@ -71,7 +71,7 @@ spread N m w = (w + N - 1) * 2 ^ m - 1
 abbrev pub burst : ℕ → ℕ → ℕ → ℕ → ℕ
 burst N m F w = 1 + spread N m w / F
 
--- the k-th accepted cell of the VC v is of this opening
+-- the k-th accepted cell of the connection v is of this opening
 pub record OfOpening (v k : ℕ) (h : List Event) : Type 0 where
   pub m : ℕ
   pub F : ℕ
@@ -93,6 +93,6 @@ pub record Bound (N : ℕ) (h : List Event) : Type 0 where
 
 -- of every run from a fresh state
 abbrev pub BoundHolds : Type 0
-BoundHolds = (N z : ℕ) (raw : Bool) (cells links calendar words : List ℕ)
-    → setup N z raw cells links calendar words .number ≡ 0
-    → (cs : List Call) → Bound N (calls (runOf (setup N z raw cells links calendar words .state) []) cs .events)
+BoundHolds = (N z : ℕ) (raw : Bool) (kind : ℕ) (cells links calendar words : List ℕ)
+    → setup N z raw kind cells links calendar words .number ≡ 0
+    → (cs : List Call) → Bound N (calls (runOf (setup N z raw kind cells links calendar words .state) []) cs .events)

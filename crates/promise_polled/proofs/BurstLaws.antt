@@ -99,7 +99,7 @@ module _ (arrivals sizes departures answers : List ℕ) where
       go true e = omega (arith, lengths e .1, lent-to-long arrivals (upTo sizes), up-to-short sizes)
       go false e = omega arith
 
-  module _ (N z : ℕ) (r : Run) (k : Kept N z r) where
+  module _ (N z kind : ℕ) (r : Run) (k : Kept N z kind r) where
     begins : burst (r .state) arrivals sizes departures answers
         ≡ (if not (lentWell arrivals sizes departures answers) then stopped (stretchOf (r .state) departures answers 0 0) 2
         else slots arrivals sizes (stretchOf (r .state) departures answers 0 0))
@@ -129,7 +129,7 @@ module _ (arrivals sizes departures answers : List ℕ) where
             (if not b then 2 else if allFit sizes then 0 else 9) (length cs))
         go false e = refl
         go true e =
-            slots-are N z arrivals sizes r k [] departures [] answers arrivals 0 refl (lengths e .0) refl (lengths e .1) refl (lengths e .2)
+            slots-are N z kind arrivals sizes r k [] departures [] answers arrivals 0 refl (lengths e .0) refl (lengths e .1) refl (lengths e .2)
             ∙ rw (zero-add (length (lentTo arrivals (upTo sizes))))
 
     pub burst-is : BurstIs r arrivals sizes departures answers
@@ -151,4 +151,4 @@ module _ (arrivals sizes departures answers : List ℕ) where
         (readBack (r .events) (throughs (s .ctl .raw) (s .ctl .mode) (take (b .done) (lentTo arrivals sizes))) (b .departures) (b .answers))) whole
         ∙ ap (λ (cs : List (List ℕ)). runOf (calls r (map onSlot cells) .state)
         (readBack (r .events) (throughs (s .ctl .raw) (s .ctl .mode) cs) (handedOut s cells departures) (answered s cells answers))) taken
-        ∙ ap (runOf (calls r (map onSlot cells) .state)) (read-back N z cells all-lent r k departures answers room)
+        ∙ ap (runOf (calls r (map onSlot cells) .state)) (read-back N z kind cells all-lent r k departures answers room)

@@ -29,20 +29,20 @@ unfolding sizeFits
 take-lent size arr room fits =
     rw (length-take-le size arr (omega (arith, size-most size fits, room))) fits
 
-module _ (N z : ℕ) where
+module _ (N z kind : ℕ) where
   -- what a slot leaves to be shown
-  pub slot-leaves : (r : Run) → Kept N z r → (cell : List ℕ) → Lent cell
+  pub slot-leaves : (r : Run) → Kept N z kind r → (cell : List ℕ) → Lent cell
       → (slot (r .state) cell .answer .number ≡ 0) × Shows (slot (r .state) cell .state .cells) (slot (r .state) cell .answer .space)
   unfolding call
   slot-leaves r k cell lent =
-      let done = slot-served N z (r .events) (r .state) (k .inv) cell lent .number in (
+      let done = slot-served N z kind (r .events) (r .state) (k .inv) cell lent .number in (
         done,
         slot-shows (r .state) (slot (r .state) cell) (slot (r .state) cell .state .cells) (slot-answered (r .state) cell) done
-            (call-kept N z r (onSlot cell) k .inv .stage .has .cells-long ∙ sym (k .inv .stage .has .cells-long)),
+            (call-kept N z kind r (onSlot cell) k .inv .stage .has .cells-long ∙ sym (k .inv .stage .has .cells-long)),
       )
 
   -- one slot
-  module _ (arrivals : List ℕ) (r : Run) (k : Kept N z r) (fd d fa a : List ℕ) (i size : ℕ) (fits : sizeFits size ≡ true)
+  module _ (arrivals : List ℕ) (r : Run) (k : Kept N z kind r) (fd d fa a : List ℕ) (i size : ℕ) (fits : sizeFits size ≡ true)
       (arr : List ℕ) (arr-is : arr ≡ drop (53 * i) arrivals) (long : 53 ≤ length arr) (fd-long : length fd ≡ 53 * i)
       (d-long : 53 ≤ length d) (fa-long : length fa ≡ 6 * i) (a-long : 6 ≤ length a) where
     abbrev w : Work
@@ -87,7 +87,7 @@ module _ (N z : ℕ) where
       more x y = omega arith
 
   -- slot after slot
-  pub slots-are : (arrivals sizes : List ℕ) (r : Run) → Kept N z r → (fd d fa a arr : List ℕ) (i : ℕ)
+  pub slots-are : (arrivals sizes : List ℕ) (r : Run) → Kept N z kind r → (fd d fa a arr : List ℕ) (i : ℕ)
       → arr ≡ drop (53 * i) arrivals → length arr ≡ 53 * length sizes → length fd ≡ 53 * i → length d ≡ 53 * length sizes
       → length fa ≡ 6 * i → length a ≡ 6 * length sizes
       → slots arrivals sizes (stretchOf (r .state) (fd ++ d) (fa ++ a) 0 i)
@@ -102,7 +102,7 @@ module _ (N z : ℕ) where
       b = stretchOf (r .state) (fd ++ d) (fa ++ a) 0 i
 
       go : (x : Bool) → sizeFits size ≡ x
-          → ((r′ : Run) → Kept N z r′ → (fd′ d′ fa′ a′ arr′ : List ℕ)
+          → ((r′ : Run) → Kept N z kind r′ → (fd′ d′ fa′ a′ arr′ : List ℕ)
           → arr′ ≡ drop (53 * (i + 1)) arrivals → length arr′ ≡ 53 * length sizes → length fd′ ≡ 53 * (i + 1)
           → length d′ ≡ 53 * length sizes → length fa′ ≡ 6 * (i + 1) → length a′ ≡ 6 * length sizes
           → slots arrivals sizes (stretchOf (r′ .state) (fd′ ++ d′) (fa′ ++ a′) 0 (i + 1))
@@ -117,7 +117,7 @@ module _ (N z : ℕ) where
           let gives = slot-leaves r k (take size arr) (take-lent size arr (omega (arith, e2)) e) in
           slots-next arrivals sizes size b _
           (served-is arrivals r k fd d fa a i size e arr e1 (omega (arith, e2)) e3 (omega (arith, e4)) e5 (omega (arith, e6))) refl
-          ∙ rest (call r (onSlot (take size arr))) (call-kept N z r (onSlot (take size arr)) k)
+          ∙ rest (call r (onSlot (take size arr))) (call-kept N z kind r (onSlot (take size arr)) k)
           (fd ++ outOf w d) (drop 53 d) (fa ++ sixOf (w .answer)) (drop 6 a) (drop 53 arr)
           (rw e1 (drop-drop 53 (53 * i) arrivals ∙ ap (λ (n : ℕ). drop n arrivals) (further i)))
           (rw (length-drop 53 arr) (omega (arith, e2)))

@@ -45,8 +45,8 @@ one-read h cell cells a o rest more out long e =
     ap (λ (l : List ℕ). readBack (ran cell a l ∷ h) cells (drop 53 (o ++ rest)) more) e
     ∙ ap (λ (l : List ℕ). readBack (ran cell a out ∷ h) cells l more) (drop-at o rest 53 long)
 
-module _ (N z : ℕ) where
-  pub read-back : (cells : List (List ℕ)) → All Lent cells → (r : Run) → Kept N z r → (d a : List ℕ) → 53 * length cells ≤ length d
+module _ (N z kind : ℕ) where
+  pub read-back : (cells : List (List ℕ)) → All Lent cells → (r : Run) → Kept N z kind r → (d a : List ℕ) → 53 * length cells ≤ length d
       → readBack (r .events) (throughs (r .state .ctl .raw) (r .state .ctl .mode) cells) (handedOut (r .state) cells d) (answered (r .state) cells a)
       ≡ calls r (map onSlot cells) .events
   unfolding readBack throughs handedOut answered calls call
@@ -54,7 +54,7 @@ module _ (N z : ℕ) where
   read-back (cell ∷ cells) lent r k d a room =
       let s : State = r .state in
       let w : Work = slot s cell in
-      let gives = slot-leaves N z r k cell (lent .0) in
+      let gives = slot-leaves N z kind r k cell (lent .0) in
       let rest : List ℕ = handedOut (w .state) cells (drop 53 d) in
       let more : List ℕ = answered (w .state) cells (drop 6 a) in
       let seen : List Event = ran (letIn s cell .cell) (w .answer) (shown w) ∷ r .events in
@@ -62,5 +62,5 @@ module _ (N z : ℕ) where
       (out-long w (gives .1) d (omega (arith, room))) (out-read w d rest (gives .1) (omega (arith, room)))
       ∙ ap (λ (x : ℕ). readBack seen (throughs x (letIn s cell .mode) cells) rest more) (sym (raw-kept s cell))
       ∙ ap (λ (x : ℕ). readBack seen (throughs (w .state .ctl .raw) x cells) rest more) (sym (mode-moved s cell (gives .0)))
-      ∙ read-back cells (lent .1) (call r (onSlot cell)) (call-kept N z r (onSlot cell) k) (drop 53 d) (drop 6 a)
+      ∙ read-back cells (lent .1) (call r (onSlot cell)) (call-kept N z kind r (onSlot cell) k) (drop 53 d) (drop 6 a)
       (rw (length-drop 53 d) (omega (arith, room)))

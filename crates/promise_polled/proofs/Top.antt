@@ -5,7 +5,7 @@ use mathlib.Core.Path.{_≡_, refl, sym, ap, _∙_, subst}
 use mathlib.Core.Bool.{Bool}
 use mathlib.Core.List.{List, [], _∷_, _++_}
 use Rattle.meaning.specs.State.{State}
-use Rattle.meaning.specs.Calls.{setup}
+use Rattle.meaning.specs.Calls.{kindOf, optionsOf, freshState, setup}
 use Rattle.meaning_runs.specs.Run.{Call, Run, runOf, call, calls, freshRun}
 use Rattle.theory_invariant.proofs.FreshLaws.{setup-fresh}
 use Rattle.theory_invariant.proofs.RunLaws.{Kept, calls-kept, run-kept}
@@ -13,7 +13,8 @@ use Rattle.promises.specs.Demand3.{Demand3}
 use Rattle.promises.specs.Debt.{Debt, Refused}
 use Rattle.promises.specs.Runs.{InOrder}
 use Rattle.promises.specs.Checked.{HeaderCheck}
-use Rattle.promises.proofs.Top.{demand3, in-order, debt-kept, header-check}
+use Rattle.promises.specs.Paths.{Apart, PathOrder}
+use Rattle.promises.proofs.Top.{demand3, in-order, debt-kept, header-check, paths-hold}
 use Rattle.promise_polled.specs.Polled.{Poll, single, many, asCalls, allCalls, poll, polls}
 use Rattle.promise_polled.specs.Holds.{Polled, PolledHolds, OfPolledRuns, RunsToo}
 use Rattle.promise_polled.proofs.BurstLaws.{burst-is, poll-is}
@@ -23,60 +24,66 @@ unfolding calls
 calls-append r [] ds = refl
 calls-append r (c ∷ cs) ds = calls-append (call r c) cs ds
 
-module _ (N z : ℕ) where
-  poll-any : (r : Run) → Kept N z r → (p : Poll) → poll r p ≡ calls r (asCalls p)
+module _ (N z kind : ℕ) where
+  poll-any : (r : Run) → Kept N z kind r → (p : Poll) → poll r p ≡ calls r (asCalls p)
   unfolding poll asCalls calls
   poll-any r k (single c) = refl
-  poll-any r k (many arrivals sizes departures answers) = poll-is arrivals sizes departures answers N z r k
+  poll-any r k (many arrivals sizes departures answers) = poll-is arrivals sizes departures answers N z kind r k
 
-  polls-are : (r : Run) → Kept N z r → (ps : List Poll) → polls r ps ≡ calls r (allCalls ps)
+  polls-are : (r : Run) → Kept N z kind r → (ps : List Poll) → polls r ps ≡ calls r (allCalls ps)
   unfolding polls allCalls calls
   polls-are r k [] = refl
   polls-are r k (p ∷ ps) =
       ap (λ (r′ : Run). polls r′ ps) (poll-any r k p)
-      ∙ polls-are (calls r (asCalls p)) (calls-kept N z r (asCalls p) k) ps
+      ∙ polls-are (calls r (asCalls p)) (calls-kept N z kind r (asCalls p) k) ps
       ∙ sym (calls-append r (asCalls p) (allCalls ps))
 
-  polls-kept : (r : Run) → Kept N z r → (ps : List Poll) → Kept N z (polls r ps)
-  polls-kept r k ps = subst (Kept N z) (sym (polls-are r k ps)) (calls-kept N z r (allCalls ps) k)
+  polls-kept : (r : Run) → Kept N z kind r → (ps : List Poll) → Kept N z kind (polls r ps)
+  polls-kept r k ps = subst (Kept N z kind) (sym (polls-are r k ps)) (calls-kept N z kind r (allCalls ps) k)
 
-  pub polled-run : (r : Run) → Kept N z r → (ps : List Poll) → Polled r ps
+  pub polled-run : (r : Run) → Kept N z kind r → (ps : List Poll) → Polled r ps
   polled-run r k ps =
       record {
         same-run = polls-are r k ps;
         next-burst = λ arrivals sizes departures answers.
-            burst-is arrivals sizes departures answers N z (polls r ps) (polls-kept r k ps);
+            burst-is arrivals sizes departures answers N z kind (polls r ps) (polls-kept r k ps);
       }
 
-setup-kept : (N z : ℕ) (raw : Bool) (cells links calendar words : List ℕ) → setup N z raw cells links calendar words .number ≡ 0
-    → Kept N z (runOf (setup N z raw cells links calendar words .state) [])
+setup-kept : (N z : ℕ) (raw : Bool) (kind : ℕ) (cells links calendar words : List ℕ) → setup N z raw kind cells links calendar words .number ≡ 0
+    → Kept N z kind (runOf (setup N z raw kind cells links calendar words .state) [])
 unfolding freshRun calls
-setup-kept N z raw cells links calendar words e =
-    let fresh = setup-fresh N z raw cells links calendar words e in
-    subst (λ (s : State). Kept N z (runOf s [])) (sym (fresh .1)) (run-kept N z (fresh .0) raw [])
+setup-kept N z raw kind cells links calendar words e =
+    let fresh = setup-fresh N z raw kind cells links calendar words e in
+    subst (λ (s : State). Kept N z kind (runOf s [])) (sym (fresh .1))
+    (subst (λ (k : ℕ). Kept N z k (runOf (freshState N z (optionsOf raw (kindOf kind))) [])) (fresh .2)
+    (run-kept N z (fresh .0) (optionsOf raw (kindOf kind)) []))
 
 -- BURSTS OVER RUNS
 pub polled : PolledHolds
-polled N z raw cells links calendar words e ps =
-    polled-run N z (runOf (setup N z raw cells links calendar words .state) []) (setup-kept N z raw cells links calendar words e) ps
+polled N z raw kind cells links calendar words e ps =
+    polled-run N z kind (runOf (setup N z raw kind cells links calendar words .state) []) (setup-kept N z raw kind cells links calendar words e) ps
 
 -- so all theorems over runs hold of cards that poll
-pub runs-too : (P : ℕ → ℕ → Bool → Run → Type 0) → RunsToo P
-runs-too P of N z raw cells links calendar words e ps =
-    subst (P N z raw) (sym (polled N z raw cells links calendar words e ps .same-run))
-    (of N z raw cells links calendar words e (allCalls ps))
+pub runs-too : (P : ℕ → ℕ → Bool → ℕ → Run → Type 0) → RunsToo P
+runs-too P of N z raw kind cells links calendar words e ps =
+    subst (P N z raw kind) (sym (polled N z raw kind cells links calendar words e ps .same-run))
+    (of N z raw kind cells links calendar words e (allCalls ps))
 
 -- DEMAND 3
-pub demand3-polled : OfPolledRuns (λ N z raw r. Demand3 N z (r .events) (r .state))
-demand3-polled = runs-too (λ N z raw r. Demand3 N z (r .events) (r .state)) demand3
+pub demand3-polled : OfPolledRuns (λ N z raw kind r. Demand3 N z kind (r .events) (r .state))
+demand3-polled = runs-too (λ N z raw kind r. Demand3 N z kind (r .events) (r .state)) demand3
 
 -- 3 is never given, and the audit says yes
-pub in-order-polled : OfPolledRuns (λ N z raw r. InOrder r)
-in-order-polled = runs-too (λ N z raw r. InOrder r) in-order
+pub in-order-polled : OfPolledRuns (λ N z raw kind r. InOrder r)
+in-order-polled = runs-too (λ N z raw kind r. InOrder r) in-order
 
 -- REQUESTS (ii) and (i)
-pub debt-polled : OfPolledRuns (λ N z raw r. Debt N z (r .events) (r .state) × ((more : List Call) → Refused z r more))
-debt-polled = runs-too (λ N z raw r. Debt N z (r .events) (r .state) × ((more : List Call) → Refused z r more)) debt-kept
+pub debt-polled : OfPolledRuns (λ N z raw kind r. Debt N z (r .events) (r .state) × ((more : List Call) → Refused z r more))
+debt-polled = runs-too (λ N z raw kind r. Debt N z (r .events) (r .state) × ((more : List Call) → Refused z r more)) debt-kept
 
-pub header-check-polled : OfPolledRuns (λ N z raw r. HeaderCheck raw r)
-header-check-polled = runs-too (λ N z raw r. HeaderCheck raw r) header-check
+pub header-check-polled : OfPolledRuns (λ N z raw kind r. HeaderCheck raw r)
+header-check-polled = runs-too (λ N z raw kind r. HeaderCheck raw r) header-check
+
+-- of paths too
+pub paths-polled : OfPolledRuns (λ N z raw kind r. Apart z kind r × PathOrder N z kind (r .events))
+paths-polled = runs-too (λ N z raw kind r. Apart z kind r × PathOrder N z kind (r .events)) paths-hold

@@ -33,20 +33,20 @@ pub record Polled (r : Run) (ps : List Poll) : Type 0 where
   pub next-burst : (arrivals sizes departures answers : List ℕ) → BurstIs (polls r ps) arrivals sizes departures answers
 
 abbrev pub PolledHolds : Type 0
-PolledHolds = (N z : ℕ) (raw : Bool) (cells links calendar words : List ℕ)
-    → setup N z raw cells links calendar words .number ≡ 0
-    → (ps : List Poll) → Polled (runOf (setup N z raw cells links calendar words .state) []) ps
+PolledHolds = (N z : ℕ) (raw : Bool) (kind : ℕ) (cells links calendar words : List ℕ)
+    → setup N z raw kind cells links calendar words .number ≡ 0
+    → (ps : List Poll) → Polled (runOf (setup N z raw kind cells links calendar words .state) []) ps
 
 -- of every run from a fresh state, and of every run with bursts in it
-abbrev pub OfRuns : (ℕ → ℕ → Bool → Run → Type 0) → Type 0
-OfRuns P = (N z : ℕ) (raw : Bool) (cells links calendar words : List ℕ)
-    → setup N z raw cells links calendar words .number ≡ 0
-    → (cs : List Call) → P N z raw (calls (runOf (setup N z raw cells links calendar words .state) []) cs)
+abbrev pub OfRuns : (ℕ → ℕ → Bool → ℕ → Run → Type 0) → Type 0
+OfRuns P = (N z : ℕ) (raw : Bool) (kind : ℕ) (cells links calendar words : List ℕ)
+    → setup N z raw kind cells links calendar words .number ≡ 0
+    → (cs : List Call) → P N z raw kind (calls (runOf (setup N z raw kind cells links calendar words .state) []) cs)
 
-abbrev pub OfPolledRuns : (ℕ → ℕ → Bool → Run → Type 0) → Type 0
-OfPolledRuns P = (N z : ℕ) (raw : Bool) (cells links calendar words : List ℕ)
-    → setup N z raw cells links calendar words .number ≡ 0
-    → (ps : List Poll) → P N z raw (polls (runOf (setup N z raw cells links calendar words .state) []) ps)
+abbrev pub OfPolledRuns : (ℕ → ℕ → Bool → ℕ → Run → Type 0) → Type 0
+OfPolledRuns P = (N z : ℕ) (raw : Bool) (kind : ℕ) (cells links calendar words : List ℕ)
+    → setup N z raw kind cells links calendar words .number ≡ 0
+    → (ps : List Poll) → P N z raw kind (polls (runOf (setup N z raw kind cells links calendar words .state) []) ps)
 
-abbrev pub RunsToo : (ℕ → ℕ → Bool → Run → Type 0) → Type 0
+abbrev pub RunsToo : (ℕ → ℕ → Bool → ℕ → Run → Type 0) → Type 0
 RunsToo P = OfRuns P → OfPolledRuns P

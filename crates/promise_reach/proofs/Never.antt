@@ -1,36 +1,35 @@
 -- NO TRACE REACHES A REFUSED SLOT: what the calls of a trace leave is what a run from a fresh state leaves, and there
--- a slot that is lent none or 53 octets is served, raw or not.
-use Prim.Native.Nat.{ℕ, zero, suc, _+_, _≤_, _<_}
+-- a slot that is lent none or 53 octets is served, raw or not, on either kind of line.
+use Prim.Native.Nat.{ℕ, _+_, _<_}
 use mathlib.Core.Path.{_≡_, refl, sym, ap, _∙_}
 use mathlib.Core.Bool.{Bool, true, false, not, _||_}
 use mathlib.Core.List.{List, [], _∷_, _++_}
 use native.Mathlib.Omega.{arith}
 use borrow.Author.Tests.{eqb-true}
 use lib.ListN.{length, take}
-use Rattle.meaning.specs.Plain.{if_then_else_, _=?_}
+use Rattle.meaning.specs.Plain.{_=?_}
 use Rattle.meaning.specs.Numbers.{octets}
 use Rattle.meaning.specs.State.{State}
-use Rattle.meaning.specs.Calls.{setup}
+use Rattle.meaning.specs.Calls.{Options, kindNumber, setup}
 use Rattle.meaning.specs.Slot.{slot}
 use Rattle.meaning_runs.specs.Run as runs
-use Rattle.promises.specs.Checked.{HeaderCheck, HeaderCheckHolds}
 use Rattle.promises.proofs.Top.{header-check}
-use Rattle.trace_record.specs.Trace.{TraceRecord, GM, VO, VX, CA, SL, VS, Stands, event, finish, refusal, standsAt}
+use Rattle.trace_record.specs.Trace.{GM, VO, VX, CA, SL, VS, PO, PX, headOptions, Stands, event, finish, refusal, standsAt}
 use Rattle.trace_record.specs.Fits.{Fits, stands-fits}
 use Rattle.list_meaning.specs.Trace.{Call, setUp, openConnection, closeConnection, serve, Calls, finished, stopped, call, recordCalls, callsAt, callsFrom, callsOf, limit, goesOn}
 use Rattle.list_meaning.specs.Listing.{stateAfter, endsRun, lentFor}
-use Rattle.promise_reach.specs.Served.{Serves, AllServe, EverySlotServed}
-use Rattle.promise_reach.proofs.Later.{LaterCall, Later, calls-later}
+use Rattle.promise_reach.specs.Served.{AllServe, EverySlotServed}
+use Rattle.promise_reach.proofs.Later.{Later, calls-later}
 
 calls-then : (r : runs.Run) (cs : List runs.Call) (c : runs.Call) → runs.calls r (cs ++ (c ∷ [])) ≡ runs.call (runs.calls r cs) c
 unfolding runs.calls
 calls-then r [] c = refl
 calls-then r (d ∷ cs) c = calls-then (runs.call r d) cs c
 
-module _ (N z : ℕ) (raw : Bool) (cells links calendar words : List ℕ)
-    (done : setup N z raw cells links calendar words .number ≡ 0) where
+module _ (N z : ℕ) (raw : Bool) (kind : ℕ) (cells links calendar words : List ℕ)
+    (done : setup N z raw kind cells links calendar words .number ≡ 0) where
   run : List runs.Call → runs.Run
-  run cs = runs.calls (runs.runOf (setup N z raw cells links calendar words .state) []) cs
+  run cs = runs.calls (runs.runOf (setup N z raw kind cells links calendar words .state) []) cs
 
   run-then : (cs : List runs.Call) (c : runs.Call) → run (cs ++ (c ∷ [])) ≡ runs.call (run cs) c
   unfolding run
@@ -40,7 +39,7 @@ module _ (N z : ℕ) (raw : Bool) (cells links calendar words : List ℕ)
   slot-served : (pre : List runs.Call) (cell : List ℕ) → length cell =? 0 || length cell =? octets ≡ true
       → slot (run pre .state) cell .answer .number ≡ 0
   unfolding run
-  slot-served pre cell l = header-check N z raw cells links calendar words done pre .serves cell l
+  slot-served pre cell l = header-check N z raw kind cells links calendar words done pre .serves cell l
 
   -- the same call of a run
   same : (pre : List runs.Call) (s : State) (c : Call) (d : runs.Call) → s ≡ run pre .state
@@ -51,17 +50,17 @@ module _ (N z : ℕ) (raw : Bool) (cells links calendar words : List ℕ)
   unfolding stateAfter runs.call
   all-served finished pre s e l = omega arith
   all-served (stopped place) pre s e l = omega arith
-  all-served (call (setUp N′ z′ raw′) rest) pre s e l = absurd (l .0)
-  all-served (call (openConnection vci m F C x) rest) pre s e l = (
+  all-served (call (setUp N′ z′ o) rest) pre s e l = absurd (l .0)
+  all-served (call (openConnection name m F C x) rest) pre s e l = (
     omega arith,
-    λ _. all-served rest (pre ++ (runs.onOpenWith vci m F C x ∷ [])) _
-        (same pre s (openConnection vci m F C x) (runs.onOpenWith vci m F C x) e (ap (λ (st : State). stateAfter st (openConnection vci m F C x)) e))
+    λ _. all-served rest (pre ++ (runs.onOpenWith name m F C x ∷ [])) _
+        (same pre s (openConnection name m F C x) (runs.onOpenWith name m F C x) e (ap (λ (st : State). stateAfter st (openConnection name m F C x)) e))
         (l .1),
   )
-  all-served (call (closeConnection vci) rest) pre s e l = (
+  all-served (call (closeConnection name) rest) pre s e l = (
     omega arith,
-    λ _. all-served rest (pre ++ (runs.onClose vci ∷ [])) _
-        (same pre s (closeConnection vci) (runs.onClose vci) e (ap (λ (x : State). stateAfter x (closeConnection vci)) e)) (l .1),
+    λ _. all-served rest (pre ++ (runs.onClose name ∷ [])) _
+        (same pre s (closeConnection name) (runs.onClose name) e (ap (λ (x : State). stateAfter x (closeConnection name)) e)) (l .1),
   )
   all-served (call (serve cell) rest) pre s e l = (
     ap (λ (x : State). slot x cell .answer .number) e ∙ slot-served pre cell (l .0),
@@ -74,20 +73,22 @@ not-not true e = refl
 not-not false e = sym e
 
 -- a setup first, then no other
-first-served : (s : State) (N z : ℕ) (raw : Bool) (rest : Calls) → Later rest → AllServe s (call (setUp N z raw) rest)
+first-served : (s : State) (N z : ℕ) (o : Options) (rest : Calls) → Later rest → AllServe s (call (setUp N z o) rest)
 unfolding endsRun stateAfter runs.calls run
-first-served s N z raw rest l = (
+first-served s N z o rest l = (
   omega arith,
-  λ e. all-served N z raw (s .cells) (s .links) (s .calendar) (s .words) (eqb-true _ 0 (not-not _ e)) rest [] _ refl l,
+  λ e. all-served N z (o .raw) (kindNumber (o .kind)) (s .cells) (s .links) (s .calendar) (s .words) (eqb-true _ 0 (not-not _ e)) rest [] _ refl l,
 )
 
 stands-served : (more : Bool) (trace : List ℕ) (go : ℕ → Calls) (s : Stands) → Fits trace 0 s → ((next : ℕ) → 0 < next → Later (go next))
     → AllServe (lentFor (callsAt more trace go 0 s)) (callsAt more trace go 0 s)
 unfolding callsAt recordCalls
-stands-served more trace go (event (GM N z raw) next) f g = first-served _ N z raw (go next) (g next (omega (arith, f .0)))
+stands-served more trace go (event (GM N z head) next) f g = first-served _ N z (headOptions head) (go next) (g next (omega (arith, f .0)))
 stands-served more trace go (event (VO vci m F C) next) f g = absurd (omega (arith, f .2))
 stands-served more trace go (event (VS vci m F C x) next) f g = absurd (omega (arith, f .2))
 stands-served more trace go (event (VX vci) next) f g = absurd (omega (arith, f .2))
+stands-served more trace go (event (PO vpi m F C) next) f g = absurd (omega (arith, f .2))
+stands-served more trace go (event (PX vpi) next) f g = absurd (omega (arith, f .2))
 stands-served more trace go (event (CA start) next) f g = absurd (omega (arith, f .2 .0))
 stands-served more trace go (event (SL count) next) f g = absurd (omega (arith, f .2 .0))
 stands-served more trace go finish f g = absurd (omega (arith, f .0))

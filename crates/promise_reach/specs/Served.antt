@@ -12,9 +12,9 @@ use Rattle.list_meaning.specs.Trace.{Call, setUp, openConnection, closeConnecti
 use Rattle.list_meaning.specs.Listing.{stateAfter, endsRun, lentFor}
 
 abbrev pub Serves : State → Call → Type 0
-Serves s (setUp N z raw) = 0 ≤ 0
-Serves s (openConnection vci m F C x) = 0 ≤ 0
-Serves s (closeConnection vci) = 0 ≤ 0
+Serves s (setUp N z o) = 0 ≤ 0
+Serves s (openConnection name m F C x) = 0 ≤ 0
+Serves s (closeConnection name) = 0 ≤ 0
 Serves s (serve cell) = slot s cell .answer .number ≡ 0
 
 abbrev pub AllServe : State → Calls → Type 0

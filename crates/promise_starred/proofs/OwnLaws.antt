@@ -12,6 +12,7 @@ use lib.ListN.{length, getD, replicate, length-append, List·getD-append}
 use Rattle.meaning.specs.Plain.{if_then_else_}
 use Rattle.meaning.specs.Numbers.{rangesHold, empty, letsIn}
 use Rattle.meaning.specs.State.{State}
+use Rattle.meaning.specs.Calls.{Kind, UNI, NNI, Options, optionsOf}
 use Rattle.meaning.specs.Arrival.{sentAs}
 use Rattle.theory_invariant.proofs.FreshLaws.{ranges-are}
 use Rattle.meaning_runs.specs.Run.{Call, onOpenWith, onOpen, onClose, onSlot, Event, Run, letIn, call, freshRun, served}
@@ -24,8 +25,8 @@ use Rattle.promise_starred.specs.ShutOut.{Policer}
 use Rattle.promise_starred.specs.Own.{callBy, callsBy, OnEvents, Meets3, SendsNothing, AcceptsNothing, ServesOn, Stores, keeper, swallower, discarder}
 
 -- they are demand 3's clauses
-pub on-events : (N z : ℕ) (h : List Event) (s : State) → Demand3 N z h s → OnEvents N h
-on-events N z h s d =
+pub on-events : (N z kind : ℕ) (h : List Event) (s : State) → Demand3 N z kind h s → OnEvents N h
+on-events N z kind h s d =
     record {
       was-accepted = d .was-accepted;
       in-order = d .in-order;
@@ -47,9 +48,9 @@ module _ (f : Policer) where
       → departuresIn (r .events) ≡ [] → (cs : List Call) → departuresIn (callsBy f r cs .events) ≡ []
   unfolding callsBy callBy call departuresIn
   none-departs r never e [] = e
-  none-departs r never e (onOpenWith vci m F C x ∷ cs) =
-      none-departs (callBy f r (onOpenWith vci m F C x)) (λ ds. never (onOpenWith vci m F C x ∷ ds)) e cs
-  none-departs r never e (onClose vci ∷ cs) = none-departs (callBy f r (onClose vci)) (λ ds. never (onClose vci ∷ ds)) e cs
+  none-departs r never e (onOpenWith name m F C x ∷ cs) =
+      none-departs (callBy f r (onOpenWith name m F C x)) (λ ds. never (onOpenWith name m F C x ∷ ds)) e cs
+  none-departs r never e (onClose name ∷ cs) = none-departs (callBy f r (onClose name)) (λ ds. never (onClose name ∷ ds)) e cs
   none-departs r never e (onSlot cell ∷ cs) =
       none-departs (callBy f r (onSlot cell)) (λ ds. never (onSlot cell ∷ ds))
       (rw (eq-eqb (f (r .state) cell .served .answer .space) empty (never [] cell)) e) cs
@@ -59,9 +60,9 @@ module _ (f : Policer) where
       → cellsIn (r .events) ≡ [] → (cs : List Call) → cellsIn (callsBy f r cs .events) ≡ []
   unfolding callsBy callBy call cellsIn
   none-accepted r never e [] = e
-  none-accepted r never e (onOpenWith vci m F C x ∷ cs) =
-      none-accepted (callBy f r (onOpenWith vci m F C x)) (λ ds. never (onOpenWith vci m F C x ∷ ds)) e cs
-  none-accepted r never e (onClose vci ∷ cs) = none-accepted (callBy f r (onClose vci)) (λ ds. never (onClose vci ∷ ds)) e cs
+  none-accepted r never e (onOpenWith name m F C x ∷ cs) =
+      none-accepted (callBy f r (onOpenWith name m F C x)) (λ ds. never (onOpenWith name m F C x ∷ ds)) e cs
+  none-accepted r never e (onClose name ∷ cs) = none-accepted (callBy f r (onClose name)) (λ ds. never (onClose name ∷ ds)) e cs
   none-accepted r never e (onSlot cell ∷ cs) =
       none-accepted (callBy f r (onSlot cell)) (λ ds. never (onSlot cell ∷ ds))
       (rw (never [] cell) e) cs
@@ -105,16 +106,16 @@ no-cell : (v : ℕ) (h : List Event) → cellsIn h ≡ [] → length (cellsOf v 
 unfolding cellsOf
 no-cell v h e = rw e
 
-pub never-sends-breaks : (raw : Bool) (f : Policer) → Stores raw f → ServesOn raw f → SendsNothing raw f → Meets3 raw f → ⊥
+pub never-sends-breaks : (o : Options) (f : Policer) → Stores o f → ServesOn o f → SendsNothing o f → Meets3 o f → ⊥
 unfolding freshRun departuresIn
-never-sends-breaks raw f has on silent meets =
+never-sends-breaks o f has on silent meets =
     omega (arith, leaves′ (omega (arith, g-long, has .stored)) late, no-departure v h′ gone)
   where
     v : ℕ
     v = has .vci
 
     r : Run
-    r = callsBy f (freshRun (has .N) (has .z) raw) (has .before)
+    r = callsBy f (freshRun (has .N) (has .z) o) (has .before)
 
     -- so many empty slots that the first cell should have left
     m : ℕ
@@ -124,10 +125,10 @@ never-sends-breaks raw f has on silent meets =
     cs = has .before ++ replicate m (onSlot [])
 
     h′ : List Event
-    h′ = callsBy f (freshRun (has .N) (has .z) raw) cs .events
+    h′ = callsBy f (freshRun (has .N) (has .z) o) cs .events
 
     is : h′ ≡ callsBy f r (replicate m (onSlot [])) .events
-    is = ap (λ (x : Run). x .events) (by-append f (freshRun (has .N) (has .z) raw) (has .before) (replicate m (onSlot [])))
+    is = ap (λ (x : Run). x .events) (by-append f (freshRun (has .N) (has .z) o) (has .before) (replicate m (onSlot [])))
 
     g : (ys : List Cell) × (cellsOf v (callsBy f r (replicate m (onSlot [])) .events) ≡ cellsOf v (r .events) ++ ys)
     g = cells-of f r m v
@@ -143,7 +144,7 @@ never-sends-breaks raw f has on silent meets =
 
     serves : (ds : List Call) → f (callsBy f r ds .state) [] .served .answer .number ≡ 0
     serves ds =
-        subst (λ (x : Run). f (x .state) [] .served .answer .number ≡ 0) (by-append f (freshRun (has .N) (has .z) raw) (has .before) ds)
+        subst (λ (x : Run). f (x .state) [] .served .answer .number ≡ 0) (by-append f (freshRun (has .N) (has .z) o) (has .before) ds)
         (on (has .N) (has .z) (has .allowed) (has .before ++ ds))
 
     lasts : served h′ ≡ m + served (r .events)
@@ -159,7 +160,7 @@ never-sends-breaks raw f has on silent meets =
     leaves′ = meets (has .N) (has .z) (has .allowed) cs .leaves v 0
 
     gone : departuresIn h′ ≡ []
-    gone = none-departs f (freshRun (has .N) (has .z) raw) (λ ds cell. silent (has .N) (has .z) (has .allowed) ds cell) refl cs
+    gone = none-departs f (freshRun (has .N) (has .z) o) (λ ds cell. silent (has .N) (has .z) (has .allowed) ds cell) refl cs
 
 -- ── such a policer: it takes steps 1 to 4 ──
 abbrev clean : List ℕ
@@ -173,25 +174,35 @@ unfolding rangesHold
 five-allowed = refl
 
 -- N is 5: its first cell is due in slot 0, and after slot 4 it should have left
-pub keeper-breaks : (raw : Bool) → Meets3 raw keeper → ⊥
+pub keeper-breaks : (o : Options) → Meets3 o keeper → ⊥
 unfolding byComputation callsBy callBy
-keeper-breaks true meets = omega (arith, meets 5 2 five-allowed kept .leaves 1 0 (lit< tt) (lit< tt))
-keeper-breaks false meets = omega (arith, meets 5 2 five-allowed kept .leaves 1 0 (lit< tt) (lit< tt))
+keeper-breaks o = go (o .raw) (o .kind)
+  where
+    go : (raw : Bool) (kind : Kind) → Meets3 (optionsOf raw kind) keeper → ⊥
+    go true UNI meets = omega (arith, meets 5 2 five-allowed kept .leaves 1 0 (lit< tt) (lit< tt))
+    go false UNI meets = omega (arith, meets 5 2 five-allowed kept .leaves 1 0 (lit< tt) (lit< tt))
+    go true NNI meets = omega (arith, meets 5 2 five-allowed kept .leaves 1 0 (lit< tt) (lit< tt))
+    go false NNI meets = omega (arith, meets 5 2 five-allowed kept .leaves 1 0 (lit< tt) (lit< tt))
 
 -- ── one that meets all that the law asks for: so it speaks of some ──
-swallows : (raw : Bool) → Stores raw swallower
+swallows : (o : Options) → Stores o swallower
 unfolding byComputation callsBy callBy
-swallows true = record { N = 5; z = 2; allowed = five-allowed; before = onSlot clean ∷ []; vci = 1; stored = lit< tt }
-swallows false = record { N = 5; z = 2; allowed = five-allowed; before = onSlot clean ∷ []; vci = 1; stored = lit< tt }
+swallows o = go (o .raw) (o .kind)
+  where
+    go : (raw : Bool) (kind : Kind) → Stores (optionsOf raw kind) swallower
+    go true UNI = record { N = 5; z = 2; allowed = five-allowed; before = onSlot clean ∷ []; vci = 1; stored = lit< tt }
+    go false UNI = record { N = 5; z = 2; allowed = five-allowed; before = onSlot clean ∷ []; vci = 1; stored = lit< tt }
+    go true NNI = record { N = 5; z = 2; allowed = five-allowed; before = onSlot clean ∷ []; vci = 1; stored = lit< tt }
+    go false NNI = record { N = 5; z = 2; allowed = five-allowed; before = onSlot clean ∷ []; vci = 1; stored = lit< tt }
 
-pub swallower-breaks : (raw : Bool) → Meets3 raw swallower → ⊥
-swallower-breaks raw =
-    never-sends-breaks raw swallower (swallows raw) (λ N z e cs. refl) (λ N z e cs cell. refl)
+pub swallower-breaks : (o : Options) → Meets3 o swallower → ⊥
+swallower-breaks o =
+    never-sends-breaks o swallower (swallows o) (λ N z e cs. refl) (λ N z e cs cell. refl)
 
 -- ── discarding everything ──
-pub discards-meets : (raw : Bool) (f : Policer) → AcceptsNothing raw f → SendsNothing raw f → Meets3 raw f
+pub discards-meets : (o : Options) (f : Policer) → AcceptsNothing o f → SendsNothing o f → Meets3 o f
 unfolding freshRun cellsIn departuresIn
-discards-meets raw f refuses silent N z e cs =
+discards-meets o f refuses silent N z e cs =
     record {
       was-accepted = λ v k b. absurd (omega (arith, b, none v));
       in-order = λ v j k a b. absurd (omega (arith, b, none v));
@@ -203,14 +214,14 @@ discards-meets raw f refuses silent N z e cs =
     }
   where
     h : List Event
-    h = callsBy f (freshRun N z raw) cs .events
+    h = callsBy f (freshRun N z o) cs .events
 
     none : (v : ℕ) → length (departuresOf v h) ≡ 0
-    none v = no-departure v h (none-departs f (freshRun N z raw) (λ ds cell. silent N z e ds cell) refl cs)
+    none v = no-departure v h (none-departs f (freshRun N z o) (λ ds cell. silent N z e ds cell) refl cs)
 
     empty-handed : (v : ℕ) → length (cellsOf v h) ≡ 0
-    empty-handed v = no-cell v h (none-accepted f (freshRun N z raw) (λ ds cell. refuses N z e ds cell) refl cs)
+    empty-handed v = no-cell v h (none-accepted f (freshRun N z o) (λ ds cell. refuses N z e ds cell) refl cs)
 
-pub discarder-meets : (raw : Bool) → Meets3 raw discarder
+pub discarder-meets : (o : Options) → Meets3 o discarder
 unfolding letsIn
-discarder-meets raw = discards-meets raw discarder (λ N z e cs cell. refl) (λ N z e cs cell. refl)
+discarder-meets o = discards-meets o discarder (λ N z e cs cell. refl) (λ N z e cs cell. refl)

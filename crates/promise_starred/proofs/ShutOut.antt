@@ -11,6 +11,7 @@ use Rattle.meaning.specs.declared.Answer.{Answer}
 use Rattle.meaning.specs.Numbers.{rangesHold, slotNumbers, empty, letsIn, sPlace}
 use Rattle.meaning.specs.State.{State}
 use Rattle.meaning.specs.Words.{connectionAt}
+use Rattle.meaning.specs.Calls.{Kind, UNI, NNI, Options, optionsOf}
 use Rattle.meaning.specs.Work.{Work, answerOf}
 use Rattle.meaning.specs.Slot.{slot}
 use Rattle.meaning_runs.specs.Run.{onOpen, onSlot, calls, freshRun}
@@ -19,98 +20,119 @@ use Rattle.promise_starred.specs.ShutOut.{LaterOnlyMovesT, InventsD, Inv
 use Rattle.meaning_runs.specs.Computed.{byComputation}
 
 -- the five steps are themselves such a policer
-pub fiveSteps-meet : (raw : Bool) → Meets raw (λ s cell. record {
+pub fiveSteps-meet : (o : Options) → Meets o (λ s cell. record {
   served = record { ctl = slot s cell .state .ctl; answer = slot s cell .answer };
   cells = slot s cell .state .cells;
   links = slot s cell .state .links;
   calendar = slot s cell .state .calendar;
   words = slot s cell .state .words;
 })
-fiveSteps-meet raw = record { promise = λ s reached cell. refl }
+fiveSteps-meet o = record { promise = λ s reached cell. refl }
 
 -- a cell of VC 1 with the octet 5 that belongs to its header, so that a raw policer lets it through too
 abbrev clean : List ℕ
 clean = 0 ∷ 0 ∷ 0 ∷ 16 ∷ 37 ∷ replicate 48 0
 
 -- VC 1 open with m 2, F 10, C 15: the first cell is accepted, and one in the next slot is excess
-abbrev opened : Bool → State
-opened raw = calls (freshRun 5 2 raw) (onOpen 1 2 10 15 ∷ []) .state
+abbrev opened : Options → State
+opened o = calls (freshRun 5 2 o) (onOpen 1 2 10 15 ∷ []) .state
 
-abbrev later : Bool → State
-later raw = calls (freshRun 5 2 raw) (onOpen 1 2 10 15 ∷ onSlot clean ∷ []) .state
+abbrev later : Options → State
+later o = calls (freshRun 5 2 o) (onOpen 1 2 10 15 ∷ onSlot clean ∷ []) .state
 
 five-allowed : rangesHold 5 2 ≡ true
 unfolding rangesHold
 five-allowed = refl
 
-opened-reached : (raw : Bool) → Reached raw (opened raw)
-opened-reached raw = after 5 2 five-allowed (onOpen 1 2 10 15 ∷ [])
+opened-reached : (o : Options) → Reached o (opened o)
+opened-reached o = after 5 2 five-allowed (onOpen 1 2 10 15 ∷ [])
 
-later-reached : (raw : Bool) → Reached raw (later raw)
-later-reached raw = after 5 2 five-allowed (onOpen 1 2 10 15 ∷ onSlot clean ∷ [])
+later-reached : (o : Options) → Reached o (later o)
+later-reached o = after 5 2 five-allowed (onOpen 1 2 10 15 ∷ onSlot clean ∷ [])
 
-first-answer : (raw : Bool) → slot (opened raw) clean .answer ≡ answerOf 0 1 1 0 0 1
+first-answer : (o : Options) → slot (opened o) clean .answer ≡ answerOf 0 1 1 0 0 1
 unfolding byComputation
-first-answer true = refl
-first-answer false = refl
+first-answer o = go (o .raw) (o .kind)
+  where
+    go : (raw : Bool) (kind : Kind) → slot (opened (optionsOf raw kind)) clean .answer ≡ answerOf 0 1 1 0 0 1
+    go true UNI = refl
+    go false UNI = refl
+    go true NNI = refl
+    go false NNI = refl
 
-second-answer : (raw : Bool) → slot (later raw) clean .answer ≡ answerOf 0 2 1 0 empty 0
+second-answer : (o : Options) → slot (later o) clean .answer ≡ answerOf 0 2 1 0 empty 0
 unfolding byComputation
-second-answer true = refl
-second-answer false = refl
+second-answer o = go (o .raw) (o .kind)
+  where
+    go : (raw : Bool) (kind : Kind) → slot (later (optionsOf raw kind)) clean .answer ≡ answerOf 0 2 1 0 empty 0
+    go true UNI = refl
+    go false UNI = refl
+    go true NNI = refl
+    go false NNI = refl
 
 -- S of VC 1 falls from 10 to 6 in that slot, which is slot 1
-second-S : (raw : Bool)
-    → (getD (later raw .words) (sPlace 1) 0 ≡ 10) × (getD (slot (later raw) clean .state .words) (sPlace 1) 0 ≡ 6)
+second-S : (o : Options)
+    → (getD (later o .words) (sPlace 1) 0 ≡ 10) × (getD (slot (later o) clean .state .words) (sPlace 1) 0 ≡ 6)
 unfolding byComputation
-second-S true = (refl, refl)
-second-S false = (refl, refl)
+second-S o = go (o .raw) (o .kind)
+  where
+    go : (raw : Bool) (kind : Kind) → (getD (later (optionsOf raw kind) .words) (sPlace 1) 0 ≡ 10)
+        × (getD (slot (later (optionsOf raw kind)) clean .state .words) (sPlace 1) 0 ≡ 6)
+    go true UNI = (refl, refl)
+    go false UNI = (refl, refl)
+    go true NNI = (refl, refl)
+    go false NNI = (refl, refl)
 
-later-t : (raw : Bool) → later raw .ctl .t ≢ slotNumbers - 1
+later-t : (o : Options) → later o .ctl .t ≢ slotNumbers - 1
 unfolding byComputation
-later-t true e = omega arith
-later-t false e = omega arith
+later-t o = go (o .raw) (o .kind)
+  where
+    go : (raw : Bool) (kind : Kind) → later (optionsOf raw kind) .ctl .t ≢ slotNumbers - 1
+    go true UNI e = omega arith
+    go false UNI e = omega arith
+    go true NNI e = omega arith
+    go false NNI e = omega arith
 
-module _ (raw : Bool) (f : Policer) (meets : Meets raw f) where
-  same : (s : State) → Reached raw s → (cell : List ℕ) → f s cell .served .answer ≡ slot s cell .answer
+module _ (o : Options) (f : Policer) (meets : Meets o f) where
+  same : (s : State) → Reached o s → (cell : List ℕ) → f s cell .served .answer ≡ slot s cell .answer
   same s reached cell = ap (λ (w : Work). w .answer) (meets .promise s reached cell)
 
-  first : f (opened raw) clean .served .answer ≡ answerOf 0 1 1 0 0 1
-  first = same (opened raw) (opened-reached raw) clean ∙ first-answer raw
+  first : f (opened o) clean .served .answer ≡ answerOf 0 1 1 0 0 1
+  first = same (opened o) (opened-reached o) clean ∙ first-answer o
 
-  second : f (later raw) clean .served .answer ≡ answerOf 0 2 1 0 empty 0
-  second = same (later raw) (later-reached raw) clean ∙ second-answer raw
+  second : f (later o) clean .served .answer ≡ answerOf 0 2 1 0 empty 0
+  second = same (later o) (later-reached o) clean ∙ second-answer o
 
-  pub not-always-refuses : AlwaysRefuses raw f → ⊥
-  not-always-refuses bad = bad (opened raw) (opened-reached raw) clean (ap (λ (a : Answer). a .number) first)
+  pub not-always-refuses : AlwaysRefuses o f → ⊥
+  not-always-refuses bad = bad (opened o) (opened-reached o) clean (ap (λ (a : Answer). a .number) first)
 
-  pub verdict-varies : VerdictNeverVaries raw f → ⊥
+  pub verdict-varies : VerdictNeverVaries o f → ⊥
   verdict-varies bad =
-      let one : 1 ≡ f (opened raw) clean .served .answer .verdict = ap (λ (a : Answer). a .verdict) (sym first) in
-      let two : f (later raw) clean .served .answer .verdict ≡ 2 = ap (λ (a : Answer). a .verdict) second in
-      omega (arith, one, bad (opened raw) (later raw) (opened-reached raw) (later-reached raw) clean, two)
+      let one : 1 ≡ f (opened o) clean .served .answer .verdict = ap (λ (a : Answer). a .verdict) (sym first) in
+      let two : f (later o) clean .served .answer .verdict ≡ 2 = ap (λ (a : Answer). a .verdict) second in
+      omega (arith, one, bad (opened o) (later o) (opened-reached o) (later-reached o) clean, two)
 
-  pub later-moves-more : LaterOnlyMovesT raw f → ⊥
+  pub later-moves-more : LaterOnlyMovesT o f → ⊥
   later-moves-more bad =
-      let kept = bad (later raw) (later-reached raw) (later-t raw) clean .3 in
-      let moved = ap (λ (w : Work). w .state .words) (meets .promise (later raw) (later-reached raw) clean) in
-      omega (arith, second-S raw .0, second-S raw .1, ap (λ (l : List ℕ). getD l (sPlace 1) 0) (sym kept ∙ moved))
+      let kept = bad (later o) (later-reached o) (later-t o) clean .3 in
+      let moved = ap (λ (w : Work). w .state .words) (meets .promise (later o) (later-reached o) clean) in
+      omega (arith, second-S o .0, second-S o .1, ap (λ (l : List ℕ). getD l (sPlace 1) 0) (sym kept ∙ moved))
 
-  pub invents-no-D : InventsD raw f → ⊥
+  pub invents-no-D : InventsD o f → ⊥
   invents-no-D bad = bad .other (ap (λ (a : Answer). a .d) (same (bad .state) (bad .reached) (bad .cell)))
 
-  pub invents-no-tally : InventsTally raw f → ⊥
+  pub invents-no-tally : InventsTally o f → ⊥
   invents-no-tally bad =
       bad .other (ap (λ (w : Work). connectionAt (w .state .words) (bad .vci) .waiting) (meets .promise (bad .state) (bad .reached) (bad .cell)))
 
-  pub sends : NeverSends raw f → ⊥
+  pub sends : NeverSends o f → ⊥
   sends bad =
-      let out : f (opened raw) clean .served .answer .space ≡ 0 = ap (λ (a : Answer). a .space) first in
-      omega (arith, out, bad (opened raw) (opened-reached raw) clean)
+      let out : f (opened o) clean .served .answer .space ≡ 0 = ap (λ (a : Answer). a .space) first in
+      omega (arith, out, bad (opened o) (opened-reached o) clean)
 
-  pub discards-not-all : DiscardsAll raw f → ⊥
+  pub discards-not-all : DiscardsAll o f → ⊥
   unfolding letsIn
   discards-not-all bad =
       absurd (let y : _≡_ {A = Bool} true false =
-      sym (ap (λ (a : Answer). letsIn (a .verdict)) first) ∙ bad (opened raw) (opened-reached raw) clean in
+      sym (ap (λ (a : Answer). letsIn (a .verdict)) first) ∙ bad (opened o) (opened-reached o) clean in
       let x : _≡_ {A = ℕ} 0 1 = cc in omega arith)

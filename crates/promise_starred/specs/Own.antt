@@ -3,18 +3,19 @@
 --
 --   callsBy f r cs   == the run r, and then the calls cs, where f serves the slots; open and close are as they are
 --   OnEvents N h     == the clauses of demand 3 that speak of the events alone, as they stand in promises/specs/Demand3
---   Meets3 raw f     == they hold of each of its own runs from a fresh state
+--   Meets3 o f       == they hold of each of its own runs from a fresh state
 --   keeper           == a policer that stores and never sends: steps 1 to 4, and never 5
 --   swallower        == one that accepts every cell and keeps none
 --   discarder        == a policer that finds every cell excess
 use Prim.Native.Nat.{ℕ, _+_, _-_, _≤_, _<_}
 use mathlib.Core.Path.{_≡_}
-use mathlib.Core.Bool.{Bool, true, false}
+use mathlib.Core.Bool.{true, false}
 use mathlib.Core.List.{List, [], _∷_}
 use lib.ListN.{length}
 use Rattle.meaning.specs.Plain.{if_then_else_, _=?_, _andThen_}
 use Rattle.meaning.specs.Numbers.{rangesHold, nothing, accepted, excess, empty, letsIn}
 use Rattle.meaning.specs.State.{stateOf}
+use Rattle.meaning.specs.Calls.{Options}
 use Rattle.meaning.specs.Work.{Work, workOf, answerOf, bareAnswer}
 use Rattle.meaning.specs.Slot.{step1, step2, step3, step4, finish}
 use Rattle.meaning_runs.specs.Run.{Call, onOpenWith, onClose, onSlot, Event, ran, Run, runOf, shown, letIn, call, freshRun, served}
@@ -26,8 +27,8 @@ abbrev pub workBy : Given → Work
 workBy g = workOf (stateOf (g .served .ctl) (g .cells) (g .links) (g .calendar) (g .words)) (g .served .answer)
 
 unfoldable pub callBy : Policer → Run → Call → Run
-callBy f r (onOpenWith vci m F C x) = call r (onOpenWith vci m F C x)
-callBy f r (onClose vci) = call r (onClose vci)
+callBy f r (onOpenWith name m F C x) = call r (onOpenWith name m F C x)
+callBy f r (onClose name) = call r (onClose name)
 callBy f r (onSlot cell) =
     let w = workBy (f (r .state) cell) in
     runOf (w .state) (ran (letIn (r .state) cell .cell) (w .answer) (shown w) ∷ r .events)
@@ -54,31 +55,31 @@ pub record OnEvents (N : ℕ) (h : List Event) : Type 0 where
       → (cellAt v k h .due ≡ cellAt v k h .arrival + cellAt v k h .D)
       × (cellAt v k h .D ≤ N - 1)
 
-abbrev pub OfOwnRuns : Bool → Policer → (ℕ → Run → Type 0) → Type 0
-OfOwnRuns raw f P = (N z : ℕ) → rangesHold N z ≡ true → (cs : List Call) → P N (callsBy f (freshRun N z raw) cs)
+abbrev pub OfOwnRuns : Options → Policer → (ℕ → Run → Type 0) → Type 0
+OfOwnRuns o f P = (N z : ℕ) → rangesHold N z ≡ true → (cs : List Call) → P N (callsBy f (freshRun N z o) cs)
 
-abbrev pub Meets3 : Bool → Policer → Type 0
-Meets3 raw f = OfOwnRuns raw f (λ N r. OnEvents N (r .events))
+abbrev pub Meets3 : Options → Policer → Type 0
+Meets3 o f = OfOwnRuns o f (λ N r. OnEvents N (r .events))
 
 -- ── of its own runs: what is lent next ──
-abbrev pub SendsNothing : Bool → Policer → Type 0
-SendsNothing raw f = OfOwnRuns raw f (λ N r. (cell : List ℕ) → f (r .state) cell .served .answer .space ≡ empty)
+abbrev pub SendsNothing : Options → Policer → Type 0
+SendsNothing o f = OfOwnRuns o f (λ N r. (cell : List ℕ) → f (r .state) cell .served .answer .space ≡ empty)
 
-abbrev pub AcceptsNothing : Bool → Policer → Type 0
-AcceptsNothing raw f = OfOwnRuns raw f (λ N r. (cell : List ℕ) → letsIn (f (r .state) cell .served .answer .verdict) ≡ false)
+abbrev pub AcceptsNothing : Options → Policer → Type 0
+AcceptsNothing o f = OfOwnRuns o f (λ N r. (cell : List ℕ) → letsIn (f (r .state) cell .served .answer .verdict) ≡ false)
 
 -- it goes on: a slot that is lent no cell is served
-abbrev pub ServesOn : Bool → Policer → Type 0
-ServesOn raw f = OfOwnRuns raw f (λ N r. f (r .state) [] .served .answer .number ≡ 0)
+abbrev pub ServesOn : Options → Policer → Type 0
+ServesOn o f = OfOwnRuns o f (λ N r. f (r .state) [] .served .answer .number ≡ 0)
 
--- it accepts a cell of some VC in some run
-pub record Stores (raw : Bool) (f : Policer) : Type 0 where
+-- it accepts a cell of some connection in some run
+pub record Stores (o : Options) (f : Policer) : Type 0 where
   pub N : ℕ
   pub z : ℕ
   pub allowed : rangesHold N z ≡ true
   pub before : List Call
   pub vci : ℕ
-  pub stored : 0 < length (cellsOf vci (callsBy f (freshRun N z raw) before .events))
+  pub stored : 0 < length (cellsOf vci (callsBy f (freshRun N z o) before .events))
 
 -- ── three such policers ──
 abbrev given : Work → Given

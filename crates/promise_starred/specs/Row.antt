@@ -7,8 +7,9 @@ use mathlib.Core.Option.{Option, some}
 use lib.ListN.{replicate}
 use Rattle.meaning.specs.declared.Answer.{Answer}
 use Rattle.meaning.specs.Plain.{if_then_else_}
-use Rattle.meaning.specs.Numbers.{octets, perEntry, wordsPerConnection, letsIn}
+use Rattle.meaning.specs.Numbers.{octets, perEntry, wordsIn, uni, letsIn}
 use Rattle.meaning.specs.State.{State, withWords}
+use Rattle.meaning.specs.Header.{byVci}
 use Rattle.meaning.specs.Words.{noSecond}
 use Rattle.meaning.specs.Calls.{SetUp, setup, openCall, closeCall}
 use Rattle.meaning.specs.Work.{bareAnswer}
@@ -50,10 +51,10 @@ waited (suc k) s rest =
 abbrev pub saysFrom : State → List Step → List Said
 saysFrom s [] = []
 saysFrom s (opens vci m F C k ∷ steps) =
-    let c = openCall (s .ctl) (s .words) vci m F C noSecond in
+    let c = openCall (s .ctl) (s .words) (byVci vci) m F C noSecond in
     number (c .number) ∷ saysFrom (withWords s (c .words)) steps
 saysFrom s (closes vci k ∷ steps) =
-    let c = closeCall (s .ctl) (s .words) vci in
+    let c = closeCall (s .ctl) (s .words) (byVci vci) in
     number (c .number) ∷ saysFrom (withWords s (c .words)) steps
 saysFrom s (cell vci a ∷ steps) =
     let w = slot s (cellOf vci) in
@@ -79,7 +80,7 @@ pub data Arrival : Type 0 where
 abbrev pub leakSays : Option Opening → List Arrival → List Said
 leakSays o [] = []
 leakSays o (arrives t verdict D ∷ more) =
-    let j = judgedUnder t 1 0 o in
+    let j = judgedUnder t 1 1 0 o in
     judged (j .verdict) (j .D) ∷ leakSays (if letsIn (j .verdict) then afterCell t 0 (j .verdict) o else o) more
 
 abbrev pub leakExpects : List Arrival → List Said
@@ -92,15 +93,16 @@ pub data Row : Type 0 where
   -- N; m, F, C of VC 1: its opening must answer 0, and the cells are judged by the leak rule alone, however far apart
   leak : ℕ → ℕ → ℕ → ℕ → List Arrival → Row
 
--- setup of a policer that is not raw, over memories that held other numbers
+-- setup of a policer that is not raw, at the UNI, over memories that held other numbers
 abbrev pub ready : ℕ → ℕ → SetUp
-ready N z = setup N z false (replicate (octets * N) 7) (replicate N 7) (replicate (perEntry * N) 7) (replicate (wordsPerConnection * z) 7)
+ready N z =
+    setup N z false uni (replicate (octets * N) 7) (replicate N 7) (replicate (perEntry * N) 7) (replicate (wordsIn z) 7)
 
 abbrev pub says : Row → List Said
 says (run N z steps) = number (ready N z .number) ∷ saysFrom (ready N z .state) steps
 says (leak N m F C cells) =
     let s = ready N 2 .state in
-    number (openCall (s .ctl) (s .words) 1 m F C noSecond .number) ∷ leakSays (some (newOpening m F C noSecond)) cells
+    number (openCall (s .ctl) (s .words) (byVci 1) m F C noSecond .number) ∷ leakSays (some (newOpening m F C noSecond)) cells
 
 abbrev pub expects : Row → List Said
 expects (run N z steps) = number 0 ∷ expectsOf steps

@@ -9,7 +9,7 @@ use borrow.Author.Tests.{eqb-true}
 use Rattle.meaning.specs.declared.Answer.{Answer}
 use Rattle.meaning.specs.Plain.{_=?_}
 use Rattle.meaning.specs.Numbers.{accepted, letsIn}
-use Rattle.meaning.specs.Header.{headerAt}
+use Rattle.meaning.specs.Header.{clpIn}
 use Rattle.meaning.specs.Words.{Second}
 use Rattle.meaning_runs.specs.Run.{Event, opened, closed, ran, served}
 use Rattle.meaning_runs.specs.Leak.{Opening, openingWith, dueTime, leakAfter, sustains, verdictBy, accepts, sustainedAfter, openingOf}
@@ -27,7 +27,7 @@ unfolding passes accepts letsIn
 passes-in v cell a e = rw (verdict, and-left (a .vci =? v) (clp && untagged) e)
   where
     clp : Bool
-    clp = headerAt cell 0 .clp =? 0
+    clp = clpIn cell =? 0
 
     untagged : Bool
     untagged = a .verdict =? accepted
@@ -35,11 +35,11 @@ passes-in v cell a e = rw (verdict, and-left (a .vci =? v) (clp && untagged) e)
     verdict : a .verdict ≡ accepted
     verdict = eqb-true (a .verdict) accepted (and-right clp untagged (and-right (a .vci =? v) (clp && untagged) e))
 
-module _ (z v m F C : ℕ) (x : Second) (before : List Event) where
+module _ (kind z v m F C : ℕ) (x : Second) (before : List Event) where
   abbrev passed : List Event → List ℕ
   passed during = slotsOf (passes v) before during
 
-  -- the VC is open as it was opened, with the last due times p and q; q is that of the cells which passed
+  -- the connection is open as it was opened, with the last due times p and q; q is that of the cells which passed
   pub record Kept (during : List Event) : Type 0 where
     pub p : Option ℕ
     pub q : Option ℕ
@@ -49,7 +49,7 @@ module _ (z v m F C : ℕ) (x : Second) (before : List Event) where
 
   -- one slot more
   module _ (during : List Event) (k : Kept during) (cell : List ℕ) (a : Answer) (out : List ℕ)
-      (s : Said z (during ++ before) cell a) where
+      (s : Said kind z (during ++ before) cell a) where
     abbrev h : List Event
     h = during ++ before
 
@@ -57,14 +57,14 @@ module _ (z v m F C : ℕ) (x : Second) (before : List Event) where
     o = openingWith m F C (k .p) x (k .q)
 
     abbrev clp : ℕ
-    clp = headerAt cell 0 .clp
+    clp = clpIn cell
 
-    -- a cell that was let in with the VC's number is its own, and its verdict the leak rules'
+    -- a cell that was let in with the connection's number is its own, and its verdict the leak rules'
     verdict-is : accepts v a ≡ true → a .verdict ≡ verdictBy o clp (served h)
     unfolding accepts
-    verdict-is y = go (comes z v cell a) refl
+    verdict-is y = go (comes kind z v cell a) refl
       where
-        go : (b : Bool) → comes z v cell a ≡ b → a .verdict ≡ verdictBy o (headerAt cell 0 .clp) (served (during ++ before))
+        go : (b : Bool) → comes kind z v cell a ≡ b → a .verdict ≡ verdictBy o (clpIn cell) (served (during ++ before))
         go true c = s .own v o c (k .is) .1
         go false c =
             not-so (sym (and-left (letsIn (a .verdict)) (a .vci =? v) y)
@@ -75,9 +75,9 @@ module _ (z v m F C : ℕ) (x : Second) (before : List Event) where
     unfolding sustains
     within y e =
         verdict-says o clp (served h) .1
-        (subst (λ (n : ℕ). headerAt cell 0 .clp =? 0 && n =? accepted ≡ true) (verdict-is y) e)
+        (subst (λ (n : ℕ). clpIn cell =? 0 && n =? accepted ≡ true) (verdict-is y) e)
 
-    -- a cell of the VC let in, that fills the second bucket or not
+    -- a cell of the connection let in, that fills the second bucket or not
     let-in : accepts v a ≡ true → (b : Bool) → clp =? 0 && a .verdict =? accepted ≡ b → Kept (ran cell a out ∷ during)
     unfolding openingOf accepts passes
     let-in y true e =
@@ -131,7 +131,7 @@ module _ (z v m F C : ℕ) (x : Second) (before : List Event) where
         go false y = let-none y
 
   pub all-kept : openingOf v before ≡ some (openingWith m F C none x none) → (during : List Event) → Lasts v during
-      → SaidAll z (during ++ before) → Kept during
+      → SaidAll kind z (during ++ before) → Kept during
   all-kept e [] l s =
       record {
         p = none;

@@ -14,7 +14,7 @@ use lib.ListN.{length, getD}
 use Rattle.meaning.specs.declared.Answer.{Answer}
 use Rattle.meaning.specs.Plain.{if_then_else_, _=?_}
 use Rattle.meaning.specs.Numbers.{accepted, excess, tagged, letsIn}
-use Rattle.meaning.specs.Header.{headerAt}
+use Rattle.meaning.specs.Header.{clpIn}
 use Rattle.meaning.specs.Words.{Second}
 use Rattle.meaning_runs.specs.Run.{Event, opened, closed, ran, served}
 use Rattle.meaning_runs.specs.Leak.{Opening, openingWith, dueTime, leakAccepts, sustains, verdictBy, accepts, sustainedAfter, openingOf}
@@ -54,27 +54,27 @@ accepted-by o clp t e f = rw e (go (clp =? 0) f)
     go true f = rw (f refl)
     go false f = refl
 
-module _ (z v m F C : ℕ) (x : Second) (before : List Event) where
+module _ (kind z v m F C : ℕ) (x : Second) (before : List Event) where
   abbrev came : List Event → List ℕ
-  came during = slotsOf (comes z v) before during
+  came during = slotsOf (comes kind z v) before during
 
   abbrev cameZero : List Event → List ℕ
-  cameZero during = slotsOf (comesZero z v) before during
+  cameZero during = slotsOf (comesZero kind z v) before during
 
   -- both rules are reckoned from all cells so far, and none was touched
   pub record Alone (during : List Event) : Type 0 where
     pub p : Option ℕ
     pub q : Option ℕ
     pub is : openingOf v (during ++ before) ≡ some (openingWith m F C p x q)
-    pub peak : Reckoned (2 ^ m) F (slotsOf (comes z v) before during) p
-    pub second : Reckoned (2 ^ x .m) (x .F) (slotsOf (comesZero z v) before during) q
+    pub peak : Reckoned (2 ^ m) F (slotsOf (comes kind z v) before during) p
+    pub second : Reckoned (2 ^ x .m) (x .F) (slotsOf (comesZero kind z v) before during) q
     pub untouched : Untouched v during
 
   -- one slot more
   module _ (during : List Event) (k : Alone during) (cell : List ℕ) (a : Answer) (out : List ℕ)
-      (s : Said z (during ++ before) cell a)
-      (keeps : Keeps m F C (slotsOf (comes z v) before (ran cell a out ∷ during)))
-      (keeps-second : Keeps (x .m) (x .F) (x .C) (slotsOf (comesZero z v) before (ran cell a out ∷ during))) where
+      (s : Said kind z (during ++ before) cell a)
+      (keeps : Keeps m F C (slotsOf (comes kind z v) before (ran cell a out ∷ during)))
+      (keeps-second : Keeps (x .m) (x .F) (x .C) (slotsOf (comesZero kind z v) before (ran cell a out ∷ during))) where
     abbrev t : ℕ
     t = served (during ++ before)
 
@@ -82,24 +82,24 @@ module _ (z v m F C : ℕ) (x : Second) (before : List Event) where
     o = openingWith m F C (k .p) x (k .q)
 
     abbrev clp : ℕ
-    clp = headerAt cell 0 .clp
+    clp = clpIn cell
 
-    -- ── a cell of the VC ──
-    module _ (c : comes z v cell a ≡ true) where
-      zero-is : comesZero z v cell a ≡ (headerAt cell 0 .clp =? 0)
+    -- ── a cell of the connection ──
+    module _ (c : comes kind z v cell a ≡ true) where
+      zero-is : comesZero kind z v cell a ≡ (clpIn cell =? 0)
       unfolding comesZero
       zero-is = rw c
 
       within-peak : leakAccepts o t ≡ true
       unfolding leakAccepts
       within-peak =
-          keeps-takes m F C t (came during) (k .p) (k .peak) (rw c at keeps) (slots-low (comes z v) before during)
+          keeps-takes m F C t (came during) (k .p) (k .peak) (rw c at keeps) (slots-low (comes kind z v) before during)
 
       within-rate : clp =? 0 ≡ true → sustains o t ≡ true
       unfolding sustains
       within-rate e =
           keeps-takes (x .m) (x .F) (x .C) t (cameZero during) (k .q) (k .second) (rw (zero-is, e) at keeps-second)
-          (slots-low (comesZero z v) before during)
+          (slots-low (comesZero kind z v) before during)
 
       verdict-is : a .verdict ≡ accepted
       verdict-is = s .own v o c (k .is) .1 ∙ accepted-by o clp t within-peak within-rate
@@ -109,7 +109,7 @@ module _ (z v m F C : ℕ) (x : Second) (before : List Event) where
       let-in = rw (verdict-is, eq-eqb (a .vci) v (s .own v o c (k .is) .0))
 
       second-more : (b : Bool) → clp =? 0 ≡ b
-          → Reckoned (2 ^ x .m) (x .F) (slotsOf (comesZero z v) before (ran cell a out ∷ during)) (sustainedAfter t clp accepted o)
+          → Reckoned (2 ^ x .m) (x .F) (slotsOf (comesZero kind z v) before (ran cell a out ∷ during)) (sustainedAfter t clp accepted o)
       second-more true e = rw (zero-is, e) (reckoned-more (2 ^ x .m) (x .F) t (cameZero during) (k .q) (k .second))
       second-more false e = rw (zero-is, e) (k .second)
 
@@ -126,8 +126,8 @@ module _ (z v m F C : ℕ) (x : Second) (before : List Event) where
           }
 
     -- ── any other ──
-    module _ (c : comes z v cell a ≡ false) where
-      not-zero : comesZero z v cell a ≡ false
+    module _ (c : comes kind z v cell a ≡ false) where
+      not-zero : comesZero kind z v cell a ≡ false
       unfolding comesZero
       not-zero = rw c
 
@@ -160,9 +160,9 @@ module _ (z v m F C : ℕ) (x : Second) (before : List Event) where
           }
 
     one-more : Alone (ran cell a out ∷ during)
-    one-more = go (comes z v cell a) refl
+    one-more = go (comes kind z v cell a) refl
       where
-        go : (b : Bool) → comes z v cell a ≡ b → Alone (ran cell a out ∷ during)
+        go : (b : Bool) → comes kind z v cell a ≡ b → Alone (ran cell a out ∷ during)
         go true c = own-cell c
         go false c = other-cell c
 
@@ -178,8 +178,8 @@ module _ (z v m F C : ℕ) (x : Second) (before : List Event) where
       go false k = k
 
   pub all-alone : openingOf v before ≡ some (openingWith m F C none x none) → (during : List Event) → Lasts v during
-      → SaidAll z (during ++ before)
-      → Keeps m F C (slotsOf (comes z v) before during) → Keeps (x .m) (x .F) (x .C) (slotsOf (comesZero z v) before during)
+      → SaidAll kind z (during ++ before)
+      → Keeps m F C (slotsOf (comes kind z v) before during) → Keeps (x .m) (x .F) (x .C) (slotsOf (comesZero kind z v) before during)
       → Alone during
   all-alone e [] l s f g =
       record {
@@ -212,6 +212,6 @@ module _ (z v m F C : ℕ) (x : Second) (before : List Event) where
       }
   all-alone e (ran cell a out ∷ during) l s f g =
       one-more during
-      (all-alone e during l (s .1) (keeps-less (comes z v) m F C during cell a out f)
-      (keeps-less (comesZero z v) (x .m) (x .F) (x .C) during cell a out g))
+      (all-alone e during l (s .1) (keeps-less (comes kind z v) m F C during cell a out f)
+      (keeps-less (comesZero kind z v) (x .m) (x .F) (x .C) during cell a out g))
       cell a out (s .0) f g

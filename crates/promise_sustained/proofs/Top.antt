@@ -1,13 +1,13 @@
--- REQUEST (iv), of every run from a fresh state: each slot says of a VC's cells what the leak rules do, from the open that began
+-- REQUEST (iv), of every run from a fresh state: each slot says of a connection's cells what the leak rules do, from the open that began
 -- the opening on.
 use Prim.Native.Nat.{ℕ}
-use mathlib.Core.Path.{_≡_, refl, sym, subst}
+use mathlib.Core.Path.{_≡_, refl, sym, subst, subst₂}
 use mathlib.Core.List.{List, [], _∷_, _++_}
 use mathlib.Core.Option.{some}
 use borrow.Author.Tests.{eq-eqb}
 use Rattle.meaning.specs.State.{State}
 use Rattle.meaning.specs.Words.{Second}
-use Rattle.meaning.specs.Calls.{setup}
+use Rattle.meaning.specs.Calls.{kindOf, optionsOf, setup}
 use Rattle.meaning_runs.specs.Run.{Event, opened, runOf, calls, freshRun}
 use Rattle.meaning_runs.specs.Leak.{newOpening, openingOf}
 use Rattle.theory_invariant.proofs.FreshLaws.{setup-fresh}
@@ -23,30 +23,31 @@ opens : (v m F C : ℕ) (x : Second) (h : List Event) → openingOf v (opened v 
 unfolding openingOf
 opens v m F C x h = rw (eq-eqb v v refl)
 
-module _ (z : ℕ) (h : List Event) (s : SaidAll z h) (v m F C : ℕ) (o : OneOpening v m F C h) where
-  said-of : SaidAll z (o .during ++ begun o)
-  said-of = said-before z (o .later) (o .during ++ begun o) (subst (SaidAll z) (o .is) s)
+module _ (kind z : ℕ) (h : List Event) (s : SaidAll kind z h) (v m F C : ℕ) (o : OneOpening v m F C h) where
+  said-of : SaidAll kind z (o .during ++ begun o)
+  said-of = said-before kind z (o .later) (o .during ++ begun o) (subst (SaidAll kind z) (o .is) s)
 
   passed : Keeps (o .second .m) (o .second .F) (o .second .C) (untagged o)
   passed =
-      all-kept z v m F C (o .second) (begun o) (opens v m F C (o .second) (o .before)) (o .during) (o .lasts) said-of .keeps
+      all-kept kind z v m F C (o .second) (begun o) (opens v m F C (o .second) (o .before)) (o .during) (o .lasts) said-of .keeps
 
-sustains : (z : ℕ) (h : List Event) → SaidAll z h → Sustained z h
-sustains z h s =
+sustains : (kind z : ℕ) (h : List Event) → SaidAll kind z h → Sustained kind z h
+sustains kind z h s =
     record {
-      window = λ v m F C o x w some-F some-w. few (o .second) x w (untagged o) some-F some-w (passed z h s v m F C o);
-      keeps = λ v m F C o. passed z h s v m F C o;
+      window = λ v m F C o x w some-F some-w. few (o .second) x w (untagged o) some-F some-w (passed kind z h s v m F C o);
+      keeps = λ v m F C o. passed kind z h s v m F C o;
       untouched = λ v m F C o f g.
-          all-alone z v m F C (o .second) (begun o) (opens v m F C (o .second) (o .before)) (o .during) (o .lasts)
-          (said-of z h s v m F C o) f g .untouched;
+          all-alone kind z v m F C (o .second) (begun o) (opens v m F C (o .second) (o .before)) (o .during) (o .lasts)
+          (said-of kind z h s v m F C o) f g .untouched;
     }
 
 -- REQUEST (iv)
 pub sustained : SustainedHolds
 unfolding freshRun calls
-sustained N z raw cells links calendar words e cs =
-    let fresh = setup-fresh N z raw cells links calendar words e in
-    let start = runOf (setup N z raw cells links calendar words .state) [] in
-    sustains z (calls start cs .events)
-    (calls-said N z start cs
-    (subst (λ (st : State). Kept N z (runOf st [])) (sym (fresh .1)) (run-kept N z (fresh .0) raw [])) tt)
+sustained N z raw kind cells links calendar words e cs =
+    let fresh = setup-fresh N z raw kind cells links calendar words e in
+    let start = runOf (setup N z raw kind cells links calendar words .state) [] in
+    sustains kind z (calls start cs .events)
+    (calls-said N z kind start cs
+    (subst₂ (λ (k : ℕ) (st : State). Kept N z k (runOf st [])) (fresh .2) (sym (fresh .1))
+    (run-kept N z (fresh .0) (optionsOf raw (kindOf kind)) [])) tt)

@@ -4,7 +4,7 @@ use Prim.Native.Nat.{ℕ}
 use mathlib.Core.Path.{_≡_, refl}
 use mathlib.Core.List.{List, [], _∷_, map}
 use lib.ListN.{take}
-use Rattle.meaning.specs.Header.{headerAt}
+use Rattle.meaning.specs.Header.{clpIn}
 use Rattle.meaning_runs.specs.Run.{Event, opened, closed, ran}
 use Rattle.meaning_runs.specs.Seen.{departuresOf}
 use Rattle.meaning_runs.specs.Computed.{byComputation}
@@ -32,6 +32,6 @@ unfolding byComputation opening passes
 met = (refl, refl)
 
 -- in the order in which they left
-pub tagged-leave : map (λ d. headerAt (d .octets) 0 .clp) (departuresOf 1 fiveEvents) ≡ 0 ∷ 0 ∷ 1 ∷ 1 ∷ 0 ∷ []
+pub tagged-leave : map (λ d. clpIn (d .octets)) (departuresOf 1 fiveEvents) ≡ 0 ∷ 0 ∷ 1 ∷ 1 ∷ 0 ∷ []
 unfolding byComputation
 tagged-leave = refl

@@ -3,7 +3,7 @@
 -- 3 that is also the most.
 use Prim.Native.Nat.{ℕ, _+_, _-_, _*_, _/_, _≤_, _<_}
 use mathlib.Core.Path.{_≡_, ap}
-use mathlib.Core.Bool.{Bool, true}
+use mathlib.Core.Bool.{true}
 use mathlib.Core.List.{List}
 use native.Mathlib.Decide.{decLt, ℕ-discrete}
 use native.Mathlib.Nat.{div-mul-le-self, le-div-iff-mul-le}
@@ -11,11 +11,11 @@ use native.Mathlib.Omega.{arith}
 use borrow.Author.Tests.{le-leb, lt-ltb}
 use lib.ListN.{length}
 use Rattle.meaning.specs.Numbers.{rangesHold}
-use Rattle.meaning_runs.specs.Run.{Event, Run, calls, freshRun, served}
-use Rattle.meaning_runs.specs.Seen.{noDeparture, cellsOf, departuresOf, cellAt, departureAt}
+use Rattle.meaning.specs.Calls.{Options, kindNumber}
+use Rattle.meaning_runs.specs.Run.{Event, Run, calls, freshRun}
+use Rattle.meaning_runs.specs.Seen.{noDeparture, departuresOf, cellAt, departureAt}
 use Rattle.theory_invariant.proofs.FreshLaws.{ranges-are}
 use Rattle.promises.specs.Demand3.{Demand3}
-use Rattle.promises.specs.Reached.{Reached, Within}
 use Rattle.promises.proofs.Demand3Laws.{demanded}
 use Rattle.promises.proofs.ReachedLaws.{not-within}
 use Rattle.promise_bound.specs.Bound.{inWindow}
@@ -25,9 +25,9 @@ use Rattle.promise_tight.proofs.PigeonLaws.{at-least, two-share}
 use Rattle.promise_tight.proofs.SendLaws.{Done}
 use Rattle.promise_tight.proofs.WholeLaws.{all-done}
 
-module _ (N z : ℕ) (raw : Bool) (range : rangesHold N z ≡ true) (N-low : 2 ≤ N) (N-high : N ≤ 1_024) (z-low : 3 ≤ z) where
+module _ (N z : ℕ) (o : Options) (range : rangesHold N z ≡ true) (N-low : 2 ≤ N) (N-high : N ≤ 1_024) (z-low : 3 ≤ z) where
   abbrev last : Run
-  last = calls (freshRun N z raw) (lateCalls N)
+  last = calls (freshRun N z o) (lateCalls N)
 
   abbrev h : List Event
   h = last .events
@@ -36,11 +36,11 @@ module _ (N z : ℕ) (raw : Bool) (range : rangesHold N z ≡ true) (N-low : 2 �
   abbrev a : ℕ
   a = N * 1_024
 
-  done : Done N z z-low (N - 1) (N - 1) last
-  done = all-done N z raw range N-low z-low
+  done : Done N z (kindNumber (o .kind)) z-low (N - 1) (N - 1) last
+  done = all-done N z o range N-low z-low
 
-  d : Demand3 N z h (last .state)
-  d = demanded N z h (last .state) (done .kept .inv)
+  d : Demand3 N z (kindNumber (o .kind)) h (last .state)
+  d = demanded N z (kindNumber (o .kind)) h (last .state) (done .kept .inv)
 
   due-one : (j : ℕ) → j < N - 1 → cellAt 1 j h .due ≡ a + j
   due-one j low = done .cells-one .1 j low
@@ -70,7 +70,7 @@ module _ (N z : ℕ) (raw : Bool) (range : rangesHold N z ≡ true) (N-low : 2 �
   gone-two =
       d .leaves 2 last-two (omega (arith, done .cells-two .0, N-low)) (omega (arith, last-due-two, done .slots, N-low))
 
-  -- one of a VC that is due from slot a on, and no later than its last, which leaves before a + w
+  -- one of a connection that is due from slot a on, and no later than its last, which leaves before a + w
   within : (v j l w : ℕ) → l < length (departuresOf v h) → j ≤ l → a ≤ cellAt v j h .due → departureAt v l h .slot < a + w
       → inWindow a w (departureAt v j h) ≡ true
   within v j l w low le early before =
@@ -107,11 +107,11 @@ module _ (N z : ℕ) (raw : Bool) (range : rangesHold N z ≡ true) (N-low : 2 �
           omega (arith, due-two (skip + j) (omega (arith, low)), y)
 
   -- both can't have left before slot a + 2 × N - 3
-  pub late : LateIn N z raw (lateCalls N)
+  pub late : LateIn N z o (lateCalls N)
   late = go (decLt (departureAt 1 last-one h .slot) (a + (2 * N - 3))) (decLt (departureAt 2 last-two h .slot) (a + (2 * N - 3)))
     where
       go : Dec (departureAt 1 last-one h .slot < a + (2 * N - 3)) → Dec (departureAt 2 last-two h .slot < a + (2 * N - 3))
-          → LateIn N z raw (lateCalls N)
+          → LateIn N z o (lateCalls N)
       go (no p) q = record { v = 1; k = last-one; reached = record { leaves = gone-one; late = omega (arith, p, last-due-one, d .not-late 1 last-one gone-one, N-low) } }
       go (yes p) (no q) = record { v = 2; k = last-two; reached = record { leaves = gone-two; late = omega (arith, q, last-due-two, d .not-late 2 last-two gone-two, N-low) } }
       go (yes p) (yes q) =
@@ -119,20 +119,20 @@ module _ (N z : ℕ) (raw : Bool) (range : rangesHold N z ≡ true) (N-low : 2 �
             arith,
             many-one (2 * N - 3) p,
             many-two (2 * N - 3) q,
-            two-share N z h (last .state) (done .kept .inv) 1 2 (λ e. omega (arith, e)) a (2 * N - 3),
+            two-share N z (kindNumber (o .kind)) h (last .state) (done .kept .inv) 1 2 (λ e. omega (arith, e)) a (2 * N - 3),
             N-low,
           ))
 
 -- N-1 is reached at every N from 2 to 1,024
 pub late-at-every-n : LateAtEveryN
-late-at-every-n N z raw range low vcs = late N z raw range low (ranges-are N z range .N-high) vcs
+late-at-every-n N z o range low vcs = late N z o range low (ranges-are N z range .N-high) vcs
 
 -- so no smaller number holds, at any N
 pub least-late : LeastLate
-least-late N w raw range b = go (decLt N 2)
+least-late N w o range b = go (decLt N 2)
   where
     go : Dec (N < 2) → N - 1 ≤ w
     go (yes p) = omega (arith, p)
     go (no p) =
-        let l = late-at-every-n N 3 raw range (omega (arith, p)) (omega arith) in
-        not-within N 3 w raw (lateCalls N) (l .v) (l .k) range (l .reached) b
+        let l = late-at-every-n N 3 o range (omega (arith, p)) (omega arith) in
+        not-within N 3 w o (lateCalls N) (l .v) (l .k) range (l .reached) b

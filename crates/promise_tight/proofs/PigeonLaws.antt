@@ -50,13 +50,13 @@ module _ {A : Type 0} (p : A → Bool) (d : A) where
 
 -- ── the departures of a run ──
 -- at most w of two VCs in w slots
-pub two-share : (N z : ℕ) (h : List Event) (s : State) → Inv N z h s → (u v : ℕ) → u ≢ v → (x w : ℕ)
+pub two-share : (N z kind : ℕ) (h : List Event) (s : State) → Inv N z kind h s → (u v : ℕ) → u ≢ v → (x w : ℕ)
     → count (inWindow x w) noDeparture (departuresOf u h) + count (inWindow x w) noDeparture (departuresOf v h) ≤ w
 unfolding departuresOf
-two-share N z h s i u v ne x w =
+two-share N z kind h s i u v ne x w =
     omega (
       arith,
       two-parts (inWindow x w) noDeparture (λ d. d .vci) u v ne (departuresIn h),
       leaving-is x w (departuresIn h),
-      whole-line N z h s i x w,
+      whole-line N z kind h s i x w,
     )

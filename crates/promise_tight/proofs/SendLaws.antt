@@ -1,26 +1,23 @@
 -- The run of `lateCalls`, call by call: VC 2's k-th cell, in slot k, is due at k × 1,025 parts of 1/1,024 slot; then VC 1's
 -- cells are due at once. Each is taken by the leak rule, so nothing of the policer's memory enters.
 use Prim.Native.Nat.{ℕ, zero, suc, _+_, _-_, _*_, _/_, _≤_, _<_}
-use mathlib.Core.Path.{_≡_, refl, sym, ap, _∙_, subst}
-use mathlib.Core.Bool.{Bool, true}
+use mathlib.Core.Path.{_≡_, refl, ap, _∙_, subst}
+use mathlib.Core.Bool.{true}
 use mathlib.Core.List.{List, [], _∷_, _++_}
 use mathlib.Core.Option.{Option, none, some}
 use native.Mathlib.Decide.{decLt}
-use native.Mathlib.Nat.{div-one, div-mul-le-self}
+use native.Mathlib.Nat.{div-one}
 use native.Mathlib.Omega.{arith}
-use borrow.Author.Tests.{le-leb, lt-ltb}
+use borrow.Author.Tests.{le-leb}
 use lib.ListN.{length, getD, replicate, length-append, List·getD-append}
 use lib.Seq.{getD-append-add}
-use Rattle.meaning.specs.Numbers.{rangesHold}
-use Rattle.meaning.specs.Bucket.{bucketOf, obeysRules}
 use Rattle.meaning.specs.Words.{noSecond}
-use Rattle.meaning_runs.specs.Run.{Call, onOpen, onSlot, Event, opened, Run, call, calls, freshRun, served}
+use Rattle.meaning_runs.specs.Run.{onSlot, Run, call, calls, served}
 use Rattle.meaning_runs.specs.Leak.{Opening, openingWith, dueTime, dueSlot, leakAccepts, openingOf}
-use Rattle.meaning_runs.specs.Seen.{Cell, noCell, cellsIn, cellsOf, cellAt}
-use Rattle.theory_invariant.proofs.RunLaws.{Kept, call-kept, run-kept}
-use Rattle.promises.specs.Reached.{cleanFor}
+use Rattle.meaning_runs.specs.Seen.{Cell, noCell, cellsOf}
+use Rattle.theory_invariant.proofs.RunLaws.{Kept, call-kept}
 use Rattle.promise_tight.specs.Tight.{cellOf}
-use Rattle.promise_tight.proofs.CallLaws.{Clean, clean-one, clean-two, Took, took, Idle, idle, opened-is}
+use Rattle.promise_tight.proofs.CallLaws.{clean-one, clean-two, Took, took, Idle, idle}
 
 -- ── lists of cells that grow at the end ──
 old-at : (l : List Cell) (c : Cell) (j : ℕ) → j < length l → getD (l ++ (c ∷ [])) j noCell ≡ getD l j noCell
@@ -44,7 +41,7 @@ dues-more due k l c d e = (omega (arith, length-append l (c ∷ []), d .0), λ j
         let f : k ≡ j = omega (arith, low, p) in
         ap (λ (x : Cell). x .due) (new-at l c j (omega (arith, low, p, d .0))) ∙ e ∙ ap due f
 
-module _ (N z : ℕ) (z-low : 3 ≤ z) where
+module _ (N z kind : ℕ) (z-low : 3 ≤ z) where
   -- ── VC 2 sends ──
   abbrev slower : ℕ → ℕ
   slower j = j * 1_025 / 1_024
@@ -83,7 +80,7 @@ module _ (N z : ℕ) (z-low : 3 ≤ z) where
   first = openingWith 0 1 1 none noSecond none
 
   pub record SentTwo (k : ℕ) (r : Run) : Type 0 where
-    pub kept : Kept N z r
+    pub kept : Kept N z kind r
     pub slots : served (r .events) ≡ k
     pub rate : Option ℕ
     pub one-is : openingOf 1 (r .events) ≡ some first
@@ -94,7 +91,7 @@ module _ (N z : ℕ) (z-low : 3 ≤ z) where
   send-two : (k : ℕ) (r : Run) → k < N * 1_024 → SentTwo k r → SentTwo (suc k) (call r (cellOf 2))
   send-two k r low s =
       record {
-        kept = call-kept N z r (cellOf 2) (s .kept);
+        kept = call-kept N z kind r (cellOf 2) (s .kept);
         slots = t .slots ∙ ap suc (s .slots);
         rate = t .rate;
         one-is = t .other 1 (λ e. omega (arith, e)) .0 ∙ s .one-is;
@@ -106,7 +103,7 @@ module _ (N z : ℕ) (z-low : 3 ≤ z) where
     where
       t : Took 2 (two k (s .rate)) (r .events) (call r (cellOf 2) .events)
       t =
-          took N z r (s .kept) 2 (clean-two z z-low) (two k (s .rate)) (s .two-is) (rw (s .slots) (two-takes k (s .rate) low))
+          took N z kind r (s .kept) 2 (clean-two z z-low) (two k (s .rate)) (s .two-is) (rw (s .slots) (two-takes k (s .rate) low))
           (two-none k (s .rate))
 
   pub all-two : (n k : ℕ) (r : Run) → k + n ≤ N * 1_024 → SentTwo k r → SentTwo (k + n) (calls r (replicate n (cellOf 2)))
@@ -149,7 +146,7 @@ module _ (N z : ℕ) (z-low : 3 ≤ z) where
   one-next (suc j) q p = ap (λ (x : ℕ). openingWith 0 1 1 (some x) noSecond p) (one-due (suc j) q)
 
   pub record SentOne (j : ℕ) (r : Run) : Type 0 where
-    pub kept : Kept N z r
+    pub kept : Kept N z kind r
     pub slots : served (r .events) ≡ a + j
     pub rate : Option ℕ
     pub one-is : openingOf 1 (r .events) ≡ some (one j rate)
@@ -159,7 +156,7 @@ module _ (N z : ℕ) (z-low : 3 ≤ z) where
   send-one : (j : ℕ) (r : Run) → SentOne j r → SentOne (suc j) (call r (cellOf 1))
   send-one j r s =
       record {
-        kept = call-kept N z r (cellOf 1) (s .kept);
+        kept = call-kept N z kind r (cellOf 1) (s .kept);
         slots = t .slots ∙ ap suc (s .slots) ∙ omega arith;
         rate = t .rate;
         one-is = t .own ∙ ap some (rw (s .slots) (one-next j (s .rate) (t .rate)));
@@ -170,7 +167,7 @@ module _ (N z : ℕ) (z-low : 3 ≤ z) where
     where
       t : Took 1 (one j (s .rate)) (r .events) (call r (cellOf 1) .events)
       t =
-          took N z r (s .kept) 1 (clean-one z z-low) (one j (s .rate)) (s .one-is) (rw (s .slots) (one-takes j (s .rate)))
+          took N z kind r (s .kept) 1 (clean-one z z-low) (one j (s .rate)) (s .one-is) (rw (s .slots) (one-takes j (s .rate)))
           (one-none j (s .rate))
 
   pub all-one : (n j : ℕ) (r : Run) → SentOne j r → SentOne (j + n) (calls r (replicate n (cellOf 1)))
@@ -182,7 +179,7 @@ module _ (N z : ℕ) (z-low : 3 ≤ z) where
 
   -- ── then nothing more arrives ──
   pub record Done (j i : ℕ) (r : Run) : Type 0 where
-    pub kept : Kept N z r
+    pub kept : Kept N z kind r
     pub slots : served (r .events) ≡ a + j + i
     pub cells-one : Dues (λ i. a + i) j (cellsOf 1 (r .events))
     pub cells-two : Dues slower a (cellsOf 2 (r .events))
@@ -190,14 +187,14 @@ module _ (N z : ℕ) (z-low : 3 ≤ z) where
   pause : (j i : ℕ) (r : Run) → Done j i r → Done j (suc i) (call r (onSlot []))
   pause j i r s =
       record {
-        kept = call-kept N z r (onSlot []) (s .kept);
+        kept = call-kept N z kind r (onSlot []) (s .kept);
         slots = q .slots ∙ ap suc (s .slots) ∙ omega arith;
         cells-one = rw (q .cells 1) (s .cells-one);
         cells-two = rw (q .cells 2) (s .cells-two);
       }
     where
       q : Idle (r .events) (call r (onSlot []) .events)
-      q = idle N z r (s .kept)
+      q = idle N z kind r (s .kept)
 
   pub all-pauses : (n j i : ℕ) (r : Run) → Done j i r → Done j (i + n) (calls r (replicate n (onSlot [])))
   unfolding calls

@@ -2,7 +2,7 @@
 -- accepted, and when they are due.
 use Prim.Native.Nat.{ℕ, _+_, _-_, _*_, _/_, _≤_}
 use mathlib.Core.Path.{_≡_, refl, sym, ap, _∙_, subst}
-use mathlib.Core.Bool.{Bool, true}
+use mathlib.Core.Bool.{true}
 use mathlib.Core.List.{List, [], _∷_, _++_}
 use mathlib.Core.Option.{none}
 use native.Mathlib.Nat.{div-mul-le-self}
@@ -12,6 +12,7 @@ use lib.ListN.{replicate}
 use Rattle.meaning.specs.Numbers.{rangesHold}
 use Rattle.meaning.specs.Bucket.{bucketOf, obeysRules}
 use Rattle.meaning.specs.Words.{noSecond}
+use Rattle.meaning.specs.Calls.{Options, kindNumber}
 use Rattle.meaning_runs.specs.Run.{Call, onOpen, onSlot, opened, Run, call, calls, freshRun, served}
 use Rattle.meaning_runs.specs.Leak.{openingOf}
 use Rattle.meaning_runs.specs.Seen.{cellsIn, cellsOf}
@@ -44,13 +45,16 @@ two-obeys N low =
           (omega (arith, low, div-mul-le-self (N * 1_024 + 1_024 - 1_025) 1_024)),
     )
 
-module _ (N z : ℕ) (raw : Bool) (range : rangesHold N z ≡ true) (N-low : 2 ≤ N) (z-low : 3 ≤ z) where
-  abbrev fresh : Run
-  fresh = freshRun N z raw
+module _ (N z : ℕ) (o : Options) (range : rangesHold N z ≡ true) (N-low : 2 ≤ N) (z-low : 3 ≤ z) where
+  abbrev kind : ℕ
+  kind = kindNumber (o .kind)
 
-  fresh-kept : Kept N z fresh
+  abbrev fresh : Run
+  fresh = freshRun N z o
+
+  fresh-kept : Kept N z kind fresh
   unfolding calls
-  fresh-kept = run-kept N z range raw []
+  fresh-kept = run-kept N z range o []
 
   fresh-none : (v : ℕ) → openingOf v (fresh .events) ≡ none
   unfolding freshRun openingOf
@@ -61,11 +65,11 @@ module _ (N z : ℕ) (raw : Bool) (range : rangesHold N z ≡ true) (N-low : 2 �
 
   one-events : after-one .events ≡ opened 1 0 1 1 noSecond 0 ∷ fresh .events
   one-events =
-      opened-is N z fresh fresh-kept 1 0 1 1 (omega arith) (omega (arith, z-low)) (fresh-none 1)
+      opened-is N z kind fresh fresh-kept 1 0 1 1 (omega arith) (omega (arith, z-low)) (fresh-none 1)
       (one-obeys N (omega (arith, N-low)))
 
-  one-kept : Kept N z after-one
-  one-kept = call-kept N z fresh (onOpen 1 0 1 1) fresh-kept
+  one-kept : Kept N z kind after-one
+  one-kept = call-kept N z kind fresh (onOpen 1 0 1 1) fresh-kept
 
   two-shut : openingOf 2 (after-one .events) ≡ none
   unfolding freshRun openingOf
@@ -77,15 +81,15 @@ module _ (N z : ℕ) (raw : Bool) (range : rangesHold N z ≡ true) (N-low : 2 �
   both-events : opened-both .events ≡ opened 2 10 1_025 (N * 1_024 + 1_024) noSecond 0 ∷ opened 1 0 1 1 noSecond 0 ∷ []
   unfolding freshRun
   both-events =
-      opened-is N z after-one one-kept 2 10 1_025 (N * 1_024 + 1_024) (omega arith) (omega (arith, z-low)) two-shut
+      opened-is N z kind after-one one-kept 2 10 1_025 (N * 1_024 + 1_024) (omega arith) (omega (arith, z-low)) two-shut
       (two-obeys N (omega (arith, N-low)))
       ∙ ap (λ l. opened 2 10 1_025 (N * 1_024 + 1_024) noSecond 0 ∷ l) one-events
 
-  start : SentTwo N z z-low 0 opened-both
+  start : SentTwo N z kind z-low 0 opened-both
   unfolding served openingOf cellsOf cellsIn
   start =
       record {
-        kept = call-kept N z after-one (onOpen 2 10 1_025 (N * 1_024 + 1_024)) one-kept;
+        kept = call-kept N z kind after-one (onOpen 2 10 1_025 (N * 1_024 + 1_024)) one-kept;
         slots = rw both-events;
         rate = none;
         one-is = rw both-events;
@@ -107,15 +111,15 @@ module _ (N z : ℕ) (raw : Bool) (range : rangesHold N z ≡ true) (N-low : 2 �
   abbrev last : Run
   last = calls sent-one (replicate (N - 1) (onSlot []))
 
-  twos : SentTwo N z z-low a sent-two
+  twos : SentTwo N z kind z-low a sent-two
   twos =
-      subst (λ (k : ℕ). SentTwo N z z-low k sent-two) (omega arith)
-      (all-two N z z-low (N * 1_024) 0 opened-both (omega arith) start)
+      subst (λ (k : ℕ). SentTwo N z kind z-low k sent-two) (omega arith)
+      (all-two N z kind z-low (N * 1_024) 0 opened-both (omega arith) start)
 
-  ones : SentOne N z z-low (N - 1) sent-one
+  ones : SentOne N z kind z-low (N - 1) sent-one
   ones =
-      subst (λ (k : ℕ). SentOne N z z-low k sent-one) (omega arith)
-      (all-one N z z-low (N - 1) 0 sent-two
+      subst (λ (k : ℕ). SentOne N z kind z-low k sent-one) (omega arith)
+      (all-one N z kind z-low (N - 1) 0 sent-two
       (record {
         kept = twos .kept;
         slots = twos .slots ∙ omega arith;
@@ -125,10 +129,10 @@ module _ (N z : ℕ) (raw : Bool) (range : rangesHold N z ≡ true) (N-low : 2 �
         cells-two = twos .cells-two;
       }))
 
-  done : Done N z z-low (N - 1) (N - 1) last
+  done : Done N z kind z-low (N - 1) (N - 1) last
   done =
-      subst (λ (k : ℕ). Done N z z-low (N - 1) k last) (omega arith)
-      (all-pauses N z z-low (N - 1) (N - 1) 0 sent-one
+      subst (λ (k : ℕ). Done N z kind z-low (N - 1) k last) (omega arith)
+      (all-pauses N z kind z-low (N - 1) (N - 1) 0 sent-one
       (record {
         kept = ones .kept;
         slots = ones .slots ∙ omega arith;
@@ -143,5 +147,5 @@ module _ (N z : ℕ) (raw : Bool) (range : rangesHold N z ≡ true) (N-low : 2 �
       ∙ calls-append opened-both (replicate (N * 1_024) (cellOf 2)) (replicate (N - 1) (cellOf 1) ++ replicate (N - 1) (onSlot []))
       ∙ calls-append sent-two (replicate (N - 1) (cellOf 1)) (replicate (N - 1) (onSlot []))
 
-  pub all-done : Done N z z-low (N - 1) (N - 1) (calls (freshRun N z raw) (lateCalls N))
-  all-done = subst (λ (r : Run). Done N z z-low (N - 1) (N - 1) r) (sym run-is) done
+  pub all-done : Done N z (kindNumber (o .kind)) z-low (N - 1) (N - 1) (calls (freshRun N z o) (lateCalls N))
+  all-done = subst (λ (r : Run). Done N z kind z-low (N - 1) (N - 1) r) (sym run-is) done

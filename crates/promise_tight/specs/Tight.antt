@@ -1,17 +1,19 @@
 -- That no smaller numbers can be promised than demand 3's N-1 and request (xiii)'s burst: runs in which they are met.
 --
---   LateIn                == in this run a cell of some VC leaves exactly N-1 slots after its due slot
+--   LateIn                == in this run a cell of some connection leaves exactly N-1 slots after its due slot
 --   LateAtEveryN          == such a run, for every N from 2 on, and every V that has two VCs
 --   LeastLate             == so no smaller lateness than N-1 holds, at any N
 --   Met                   == in this run as many cells of an opening of v leave in the slots x to x + w - 1 as the bound allows
---   AtMost N raw m F w B  == at this N, in no run of a raw policer, or of one that is not, do more than B cells of an opening
---                            with m and F leave in w consecutive slots
+--   AtMost N o m F w B    == at this N, in no run of a policer with these options, raw or not, on either kind of line, do more than
+--                            B cells of an opening with m and F leave in w consecutive slots
 use Prim.Native.Nat.{ℕ, _+_, _-_, _*_, _/_, _≤_}
 use mathlib.Core.Path.{_≡_}
-use mathlib.Core.Bool.{Bool, true}
+use mathlib.Core.Bool.{true}
 use mathlib.Core.List.{List, [], _∷_, _++_}
 use lib.ListN.{replicate}
 use Rattle.meaning.specs.Numbers.{rangesHold}
+use Rattle.meaning.specs.Header.{byVci}
+use Rattle.meaning.specs.Calls.{Options}
 use Rattle.meaning_runs.specs.Run.{Call, onOpen, onClose, onSlot, calls, freshRun}
 use Rattle.promises.specs.Reached.{Reached, Within, cleanFor}
 use Rattle.promise_bound.specs.Bound.{OneOpening, gone, leaving, spread}
@@ -32,25 +34,25 @@ lateCalls N =
     ∷ onOpen 2 10 1_025 (N * 1_024 + 1_024)
     ∷ (replicate (N * 1_024) (cellOf 2) ++ (replicate (N - 1) (cellOf 1) ++ replicate (N - 1) noCell))
 
-pub record LateIn (N z : ℕ) (raw : Bool) (cs : List Call) : Type 0 where
+pub record LateIn (N z : ℕ) (o : Options) (cs : List Call) : Type 0 where
   pub v : ℕ
   pub k : ℕ
-  pub reached : Reached N z raw cs v k
+  pub reached : Reached N z o cs v k
 
 abbrev pub LateAtEveryN : Type 0
-LateAtEveryN = (N z : ℕ) (raw : Bool) → rangesHold N z ≡ true → 2 ≤ N → 3 ≤ z → LateIn N z raw (lateCalls N)
+LateAtEveryN = (N z : ℕ) (o : Options) → rangesHold N z ≡ true → 2 ≤ N → 3 ≤ z → LateIn N z o (lateCalls N)
 
 abbrev pub LeastLate : Type 0
-LeastLate = (N w : ℕ) (raw : Bool) → rangesHold N 3 ≡ true → Within N raw w → N - 1 ≤ w
+LeastLate = (N w : ℕ) (o : Options) → rangesHold N 3 ≡ true → Within N o w → N - 1 ≤ w
 
 -- ── as many cells as the bound allows ──
-pub record Met (N z : ℕ) (raw : Bool) (cs : List Call) (v m F C x w : ℕ) : Type 0 where
-  pub opening : OneOpening v m F C (calls (freshRun N z raw) cs .events)
+pub record Met (N z : ℕ) (o : Options) (cs : List Call) (v m F C x w : ℕ) : Type 0 where
+  pub opening : OneOpening v m F C (calls (freshRun N z o) cs .events)
   pub meets : leaving x w (gone opening) ≡ 1 + spread N m w / F
 
-abbrev pub AtMost : ℕ → Bool → ℕ → ℕ → ℕ → ℕ → Type 0
-AtMost N raw m F w B = (z : ℕ) → rangesHold N z ≡ true → (cs : List Call) (v C x : ℕ)
-    → (o : OneOpening v m F C (calls (freshRun N z raw) cs .events)) → leaving x w (gone o) ≤ B
+abbrev pub AtMost : ℕ → Options → ℕ → ℕ → ℕ → ℕ → Type 0
+AtMost N o m F w B = (z : ℕ) → rangesHold N z ≡ true → (cs : List Call) (v C x : ℕ)
+    → (p : OneOpening v m F C (calls (freshRun N z o) cs .events)) → leaving x w (gone p) ≤ B
 
 -- N 2: VC 1 with m 0, F 2, C 3; VC 2 with m 0, F 1, C 1; cells of 1, 1, 2, none, 1. VC 1 leaves in the slots 0, 3 and 4.
 abbrev pub burstAtTwo : List Call
@@ -71,4 +73,4 @@ burstAtFive =
 -- burstAtTwo, then VC 1 is closed after slot 6 and opened with F and C 5, and has a cell in slot 7: its first opening still
 -- has its three cells
 abbrev pub closedAndReopened : List Call
-closedAndReopened = burstAtTwo ++ (noCell ∷ noCell ∷ onClose 1 ∷ onOpen 1 0 5 5 ∷ cellOf 1 ∷ [])
+closedAndReopened = burstAtTwo ++ (noCell ∷ noCell ∷ onClose (byVci 1) ∷ onOpen 1 0 5 5 ∷ cellOf 1 ∷ [])

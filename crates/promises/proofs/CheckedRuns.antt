@@ -16,9 +16,9 @@ use Rattle.base_hec.specs.Modes.{Arriving, correction, detection, passes, drops
 use Rattle.meaning.specs.Plain.{_=?_}
 use Rattle.meaning.specs.Numbers.{octets, dropped, letsIn}
 use Rattle.meaning.specs.State.{State, withWords}
-use Rattle.meaning.specs.Header.{headerAt, noUserCell, namesConnection}
+use Rattle.meaning.specs.Header.{headerAt, clpIn, noUserCell, Name, connection, namesConnection}
 use Rattle.meaning.specs.Words.{Second}
-use Rattle.meaning.specs.Calls.{rawNumber, freshRecord, freshState}
+use Rattle.meaning.specs.Calls.{Options, rawNumber, freshRecord, freshState}
 use Rattle.meaning.specs.Work.{Work}
 use Rattle.meaning.specs.Slot.{slot}
 use Rattle.meaning.proofs.CheckedLaws.{arriving-plain, arriving-none, not-raw, dropped-none}
@@ -33,14 +33,14 @@ use Rattle.theory_invariant.proofs.CheckLaws.{slot-is, slot-served, slot-refuse
 use Rattle.promises.specs.Checked.{Lent, after, modeOf, Mended, HeaderCheck, plainCall, plainCalls}
 
 -- ── raw never changes ──
-pub fresh-raw : (N z : ℕ) (raw : Bool) → freshState N z raw .ctl .raw ≡ rawNumber raw
+pub fresh-raw : (N z : ℕ) (o : Options) → freshState N z o .ctl .raw ≡ rawNumber (o .raw)
 unfolding freshState freshRecord
-fresh-raw N z raw = refl
+fresh-raw N z o = refl
 
 call-raw : (r : Run) (c : Call) → call r c .state .ctl .raw ≡ r .state .ctl .raw
 unfolding call withWords
-call-raw r (onOpenWith vci m F C x) = refl
-call-raw r (onClose vci) = refl
+call-raw r (onOpenWith name m F C x) = refl
+call-raw r (onClose name) = refl
 call-raw r (onSlot cell) = raw-kept (r .state) cell
 
 calls-raw : (r : Run) (cs : List Call) → calls r cs .state .ctl .raw ≡ r .state .ctl .raw
@@ -48,27 +48,27 @@ unfolding calls
 calls-raw r [] = refl
 calls-raw r (c ∷ cs) = calls-raw (call r c) cs ∙ call-raw r c
 
-pub raw-always : (N z : ℕ) (raw : Bool) (cs : List Call) → calls (freshRun N z raw) cs .state .ctl .raw ≡ rawNumber raw
+pub raw-always : (N z : ℕ) (o : Options) (cs : List Call) → calls (freshRun N z o) cs .state .ctl .raw ≡ rawNumber (o .raw)
 unfolding freshRun
-raw-always N z raw cs = calls-raw (runOf (freshState N z raw) []) cs ∙ fresh-raw N z raw
+raw-always N z o cs = calls-raw (runOf (freshState N z o) []) cs ∙ fresh-raw N z o
 
 -- ── verdict 4 is the header check's alone ──
-under-other : (t vci clp : ℕ) (o : Option Opening) → judgedUnder t vci clp o .verdict ≢ dropped
+under-other : (t vci c clp : ℕ) (o : Option Opening) → judgedUnder t vci c clp o .verdict ≢ dropped
 unfolding verdictBy
-under-other t vci clp none = λ e. omega (arith, e)
-under-other t vci clp (some o) =
+under-other t vci c clp none = λ e. omega (arith, e)
+under-other t vci c clp (some o) =
     if-holds (λ (k : ℕ). k ≢ dropped) (not (leakAccepts o t)) _ _ (λ _ e. omega (arith, e))
     (λ _. if-holds (λ (k : ℕ). k ≢ dropped) (clp =? 0 && not (sustains o t)) _ _
     (λ _. if-holds (λ (k : ℕ). k ≢ dropped) (o .second .tag =? 0) _ _ (λ _ e. omega (arith, e)) (λ _ e. omega (arith, e)))
     (λ _ e. omega (arith, e)))
 
-judged-other : (z t : ℕ) (openings : ℕ → Option Opening) (cell : List ℕ) → judgedBy z t openings cell .verdict ≢ dropped
+judged-other : (kind z t : ℕ) (openings : ℕ → Option Opening) (cell : List ℕ) → judgedBy kind z t openings cell .verdict ≢ dropped
 unfolding judgedBy
-judged-other z t openings cell =
-    let h = headerAt cell 0 in
+judged-other kind z t openings cell =
+    let h = headerAt kind cell 0 in
     if-holds (λ (j : Judged). j .verdict ≢ dropped) (length cell =? 0 || noUserCell h) _ _ (λ _ e. omega (arith, e))
     (λ _. if-holds (λ (j : Judged). j .verdict ≢ dropped) (not (namesConnection z h)) _ _ (λ _ e. omega (arith, e))
-    (λ _. under-other t (h .vci) (h .clp) (openings (h .vci))))
+    (λ _. under-other t (h .vci) (connection z h) (clpIn cell) (openings (connection z h))))
 
 -- ── what the check lets through ──
 lets-by : (a b c d : Bool) (mode bit : ℕ) (cell : List ℕ) → eqb mode correction ≡ c → ltb bit noError ≡ d
@@ -94,7 +94,7 @@ lets-in raw mode cell =
     let bit = wrongBit (syndromeOf cell) in
     lets-by (eqb (length cell) 0 || eqb raw 0) (eqb bit noError) (eqb mode correction) (ltb bit noError) mode bit cell refl refl
 
-module _ (N z : ℕ) (raw : Bool) (r : Run) (k : Kept N z r) where
+module _ (N z kind : ℕ) (raw : Bool) (r : Run) (k : Kept N z kind r) where
   abbrev s : State
   s = r .state
 
@@ -102,7 +102,7 @@ module _ (N z : ℕ) (raw : Bool) (r : Run) (k : Kept N z r) where
   h = r .events
 
   number-is : (cell : List ℕ) → Lent cell → slot s cell .answer .number ≡ 0
-  number-is cell lent = slot-served N z h s (k .inv) cell lent .number
+  number-is cell lent = slot-served N z kind h s (k .inv) cell lent .number
 
   noted : (cell : List ℕ) → after r cell .events ≡ ran (letIn s cell .cell) (slot s cell .answer) (shown (slot s cell)) ∷ h
   unfolding call
@@ -119,24 +119,24 @@ module _ (N z : ℕ) (raw : Bool) (r : Run) (k : Kept N z r) where
   unfolding call
   refused-keeps cell ne = ap (λ (x : State). x .ctl .mode) (slot-stays s cell ne)
 
-  open-keeps : (vci m F C : ℕ) (x : Second) → modeOf (call r (onOpenWith vci m F C x)) ≡ modeOf r
+  open-keeps : (name : Name) (m F C : ℕ) (x : Second) → modeOf (call r (onOpenWith name m F C x)) ≡ modeOf r
   unfolding call withWords
-  open-keeps vci m F C x = refl
+  open-keeps name m F C x = refl
 
-  close-keeps : (vci : ℕ) → modeOf (call r (onClose vci)) ≡ modeOf r
+  close-keeps : (name : Name) → modeOf (call r (onClose name)) ≡ modeOf r
   unfolding call withWords
-  close-keeps vci = refl
+  close-keeps name = refl
 
   says : (cell : List ℕ) → Lent cell
-      → judgedOf (slot s cell .answer .verdict) (slot s cell .answer .vci) (slot s cell .answer .d) ≡ judgedAs z h (letIn s cell)
-  says cell lent = slot-served N z h s (k .inv) cell lent .says
+      → judgedOf (slot s cell .answer .verdict) (slot s cell .answer .vci) (slot s cell .answer .d) ≡ judgedAs kind z h (letIn s cell)
+  says cell lent = slot-served N z kind h s (k .inv) cell lent .says
 
   dropped-is : (cell : List ℕ) → Lent cell → letIn s cell .dropped ≡ true
       → judgedOf (slot s cell .answer .verdict) (slot s cell .answer .vci) (slot s cell .answer .d) ≡ judgedOf dropped 0 0
   dropped-is cell lent e = says cell lent ∙ rw e
 
   let-in-is : (cell : List ℕ) → Lent cell → letIn s cell .dropped ≡ false
-      → judgedOf (slot s cell .answer .verdict) (slot s cell .answer .vci) (slot s cell .answer .d) ≡ judged z h (letIn s cell .cell)
+      → judgedOf (slot s cell .answer .verdict) (slot s cell .answer .vci) (slot s cell .answer .d) ≡ judged kind z h (letIn s cell .cell)
   let-in-is cell lent e = says cell lent ∙ rw e
 
   -- no cell more, and no opening moved
@@ -155,10 +155,10 @@ module _ (N z : ℕ) (raw : Bool) (r : Run) (k : Kept N z r) where
       go : (b d : Bool) → length cell =? 0 || length cell =? octets ≡ b → letIn s cell .dropped ≡ d → d ≡ true
       go b true e f = refl
       go false false e f =
-          absurd (omega (arith, four, ap (λ (w : Work). w .answer .verdict) (slot-refused N z h s (k .inv) cell e)))
+          absurd (omega (arith, four, ap (λ (w : Work). w .answer .verdict) (slot-refused N z kind h s (k .inv) cell e)))
       go true false e f =
           let said = ap (λ (j : Judged). j .verdict) (let-in-is cell e f) in
-          absurd (judged-other z (served h) (λ v. openingOf v h) (letIn s cell .cell) (sym said ∙ four))
+          absurd (judged-other kind z (served h) (λ v. openingOf v h) (letIn s cell .cell) (sym said ∙ four))
 
   pub check-kept : s .ctl .raw ≡ rawNumber raw → HeaderCheck raw r
   check-kept same =
@@ -166,7 +166,7 @@ module _ (N z : ℕ) (raw : Bool) (r : Run) (k : Kept N z r) where
         raw-is = same;
         mode-low = k .inv .mode-low;
         serves = number-is;
-        is-checked = slot-is N z h s (k .inv);
+        is-checked = slot-is N z kind h s (k .inv);
         notes = noted;
         lets-in = lets-in (s .ctl .raw) (s .ctl .mode);
         moves = moved;
@@ -188,8 +188,8 @@ module _ (N z : ℕ) (raw : Bool) (r : Run) (k : Kept N z r) where
 -- ── a policer that is not raw ──
 plain-call : (r : Run) (c : Call) → r .state .ctl .raw ≡ 0 → call r c ≡ plainCall r c
 unfolding call plainCall
-plain-call r (onOpenWith vci m F C x) e = refl
-plain-call r (onClose vci) e = refl
+plain-call r (onOpenWith name m F C x) e = refl
+plain-call r (onClose name) e = refl
 plain-call r (onSlot cell) e =
     ap (λ (a : Arriving). runOf (slot (r .state) cell .state)
     (ran (a .cell) (slot (r .state) cell .answer) (shown (slot (r .state) cell)) ∷ r .events))

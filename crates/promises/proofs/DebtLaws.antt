@@ -1,6 +1,6 @@
 -- Request (ii) over runs: the words say what the exact leak rule owes, so close answers 0 exactly when all has left and
 -- last due + F is at most t × L; at every close that was so, and time only goes on.
-use Prim.Native.Nat.{ℕ, zero, suc, _+_, _-_, _*_, _/_, _≤_, _<_}
+use Prim.Native.Nat.{ℕ, zero, suc, _+_, _-_, _*_, _≤_, _<_}
 use mathlib.Core.Path.{_≡_, refl, sym, ap, _∙_, subst}
 use mathlib.Core.Logic.{_≢_, _↔_}
 use mathlib.Core.Bool.{Bool, true, false, not, _&&_}
@@ -11,31 +11,33 @@ use native.Mathlib.Nat.{add-mul, suc-mul, le-div-iff-mul-le, mul-comm, mul-assoc
 use native.Mathlib.Omega.{arith}
 use lib.ListN.{length}
 use lib.Pow.{pow-pos}
-use borrow.Author.Tests.{eq-eqb, ne-eqb, eqb-true, leb-true, ltb-true}
-use Rattle.meaning.specs.Plain.{if_then_else_, _<?_, _≤?_, _=?_}
-use Rattle.meaning.specs.Numbers.{rangesHold}
+use borrow.Author.Tests.{eq-eqb, ne-eqb, eqb-true}
+use Rattle.meaning.specs.Plain.{if_then_else_, _=?_}
+use Rattle.meaning.specs.Numbers.{rangesHold, connectionsIn, unused}
 use Rattle.meaning.specs.State.{State}
+use Rattle.meaning.specs.Header.{Name, named, numberIn}
 use Rattle.meaning.specs.Words.{Connection, connectionAt, writeConnection, closedConnection, debt}
-use Rattle.meaning.specs.Calls.{calledOf, closeCall}
+use Rattle.meaning.specs.Calls.{Options, kindNumber, calledOf, closeCall}
+use Rattle.meaning.proofs.NamesLaws.{number-low, number-used}
 use Rattle.meaning_runs.specs.Run.{Call, onOpenWith, onClose, onSlot, Event, opened, closed, ran, Run, call, calls, freshRun, served}
 use Rattle.meaning_runs.specs.Leak.{Opening, parts, dueTime, openingOf}
 use Rattle.meaning_runs.specs.Seen.{ofConnection, cellsOf, departuresOf, cellAt}
-use Rattle.theory_queues.specs.Queue.{sum, sums, flat, turn}
+use Rattle.theory_queues.specs.Queue.{sum, flat, turn}
 use Rattle.theory_queues.proofs.QueueLaws.{sum-append, sums-flat, turn-sums}
 use Rattle.theory_queues.proofs.OrderLaws.{ofConnection-yes, ofConnection-no}
 use Rattle.theory_chains.proofs.CountLaws.{is-yes, is-no}
-use Rattle.theory_table.specs.Stored.{earliestAfter, earliest, level, clock, OpenConnection, ConnectionIs}
-use Rattle.theory_table.proofs.LeakLaws.{and-left, and-right, due-time}
+use Rattle.theory_table.specs.Stored.{earliestAfter, earliest, level, OpenConnection, ConnectionIs}
+use Rattle.theory_table.proofs.LeakLaws.{due-time}
 use Rattle.theory_table.proofs.ConnectionLaws.{debt-is}
 use Rattle.theory_memory.specs.Held.{Queued, vciOf}
 use Rattle.theory_invariant.specs.Invariant.{cellIn, connectionIn, isOf, waits, Inv}
+use Rattle.theory_invariant.proofs.LengthLaws.{connections-few}
 use Rattle.theory_invariant.proofs.CallLaws.{shared-in, shared-out}
 use Rattle.theory_invariant.proofs.RunLaws.{Kept, call-kept, calls-kept, run-kept}
-use Rattle.promises.specs.Demand3.{Demand3}
 use Rattle.promises.specs.Debt.{lastSlot, PaidAfter, Paid, AllLeft, Across, Debt, roundedUp, Refused}
 use Rattle.promises.proofs.Demand3Laws.{waiting, many-left, many-cells, demanded}
 
--- ── what close answers of an open VC, by waiting and what is left of S ──
+-- ── what close answers of an open connection, by waiting and what is left of S ──
 abbrev answeredBy : Bool → Bool → ℕ
 answeredBy a b = if not (a && b) then 8 else 0
 
@@ -63,7 +65,7 @@ paid-after : (L F t : ℕ) (p : Option ℕ) → (earliestAfter F p - t * L ≡ 0
 paid-after L F t none = (λ e. tt, λ e. omega arith)
 paid-after L F t (some p) = (λ e. omega (arith, e), λ e. omega (arith, e))
 
--- cells of the VC v in a list of queued ones
+-- cells of the connection v in a list of queued ones
 count-is : (v : ℕ) (q : List Queued) → length (ofConnection connectionIn v (map cellIn q)) ≡ sum (isOf v) q
 count-is v [] = refl
 count-is v (c ∷ q) = go (count-is v q) (ℕ-discrete (vciOf c) v)
@@ -78,8 +80,8 @@ count-is v (c ∷ q) = go (count-is v q) (ℕ-discrete (vciOf c) v)
         ∙ omega (arith, rest, is-no v (vciOf c) (λ e. ne (sym e)))
 
 -- ── after one run ──
-module _ (N z : ℕ) (h : List Event) (s : State) (i : Inv N z h s) where
-  many-waiting : (v : ℕ) → length (waiting N z h s i v) ≡ waits v (i .out) (turn (i .cal))
+module _ (N z kind : ℕ) (h : List Event) (s : State) (i : Inv N z kind h s) where
+  many-waiting : (v : ℕ) → length (waiting N z kind h s i v) ≡ waits v (i .out) (turn (i .cal))
   many-waiting v =
       omega (
         arith,
@@ -89,39 +91,54 @@ module _ (N z : ℕ) (h : List Event) (s : State) (i : Inv N z h s) where
         turn-sums (isOf v) (i .cal),
       )
 
-  module _ (v : ℕ) (o : Opening) (h1 : 1 ≤ v) (h2 : v < z) (e : openingOf v h ≡ some o) where
-    is-open : OpenConnection N z (served h) v (connectionAt (s .words) v) (waits v (i .out) (turn (i .cal))) o
+  module _ (name : Name) (o : Opening) (n : named z name ≡ true) (e : openingOf (numberIn z name) h ≡ some o) where
+    abbrev v : ℕ
+    v = numberIn z name
+
+    h1 : unused z v ≡ false
+    h1 = number-used z name n
+
+    h2 : v < connectionsIn z
+    h2 = number-low z name n
+
+    -- as the record has it
+    v-same : numberIn (s .ctl .v) name ≡ v
+    v-same = ap (λ (k : ℕ). numberIn k name) (i .stage .v-is)
+
+    is-open : OpenConnection N (connectionsIn z) (served h) v (connectionAt (s .words) v) (waits v (i .out) (turn (i .cal))) o
     is-open =
-        subst (λ (a : Option Opening). ConnectionIs N z (served h) v (connectionAt (s .words) v) (waits v (i .out) (turn (i .cal))) a) e
+        subst (λ (a : Option Opening). ConnectionIs N (connectionsIn z) (served h) v (connectionAt (s .words) v) (waits v (i .out) (turn (i .cal))) a) e
         (i .stage .table v h1 h2)
 
-    pub counted : length (departuresOf v h) + connectionAt (s .words) v .waiting ≡ length (cellsOf v h)
+    pub counted : length (departuresOf (numberIn z name) h) + connectionAt (s .words) (numberIn z name) .waiting
+        ≡ length (cellsOf (numberIn z name) h)
     counted =
         omega (
           arith,
-          many-left N z h s i v,
-          many-cells N z h s i v,
+          many-left N z kind h s i v,
+          many-cells N z kind h s i v,
           many-waiting v,
           ap (λ (c : Connection). c .waiting) (is-open .is),
         )
 
     -- what is left in the bucket as of the slot served last
-    pub owes : debt (s .ctl .t) (connectionAt (s .words) v) ≡ level o (served h)
+    pub owes : debt (s .ctl .t) (connectionAt (s .words) (numberIn z name)) ≡ level o (served h)
     owes =
         ap (λ (t : ℕ). debt t (connectionAt (s .words) v)) (i .stage .t-is)
-        ∙ debt-is N z (i .stage .ranges .z-high) (served h) v (connectionAt (s .words) v) (waits v (i .out) (turn (i .cal))) o h2
+        ∙ debt-is N (connectionsIn z) (connections-few N z (i .stage .ranges)) (served h) v (connectionAt (s .words) v) (waits v (i .out) (turn (i .cal))) o h2
         is-open
 
     told : (b : Bool) (x : List ℕ) → (if b then calledOf 8 (s .words) else calledOf 0 x) .number ≡ (if b then 8 else 0)
     told true x = refl
     told false x = refl
 
-    number-is : closeCall (s .ctl) (s .words) v .number
+    number-is : closeCall (s .ctl) (s .words) name .number
         ≡ answered (connectionAt (s .words) v .waiting) (debt (s .ctl .t) (connectionAt (s .words) v))
     unfolding closeCall
     number-is =
         rw (
-          shared-in N z h s i v h1 h2,
+          shared-in N z kind h s i name (ap (λ (k : ℕ). named k name) (i .stage .v-is) ∙ n),
+          v-same,
           ne-eqb (connectionAt (s .words) v .opened) 0 (λ y. omega (arith, y, ap (λ (c : Connection). c .opened) (is-open .is))),
         )
         (told (not (connectionAt (s .words) v .waiting =? 0 && debt (s .ctl .t) (connectionAt (s .words) v) =? 0))
@@ -133,7 +150,7 @@ module _ (N z : ℕ) (h : List Event) (s : State) (i : Inv N z h s) where
     abbrev d : ℕ
     d = debt (s .ctl .t) (connectionAt (s .words) v)
 
-    pub exactly : (closeCall (s .ctl) (s .words) v .number ≡ 0) ↔ (AllLeft v h × Paid o (lastSlot h))
+    pub exactly : (closeCall (s .ctl) (s .words) name .number ≡ 0) ↔ (AllLeft (numberIn z name) h × Paid o (lastSlot h))
     exactly = (
       λ e0.
           let a = answered-none w d .0 (sym number-is ∙ e0) in (
@@ -148,36 +165,36 @@ module _ (N z : ℕ) (h : List Event) (s : State) (i : Inv N z h s) where
           ),
     )
 
-    pub or-eight : closeCall (s .ctl) (s .words) v .number ≢ 0 → closeCall (s .ctl) (s .words) v .number ≡ 8
+    pub or-eight : closeCall (s .ctl) (s .words) name .number ≢ 0 → closeCall (s .ctl) (s .words) name .number ≡ 8
     or-eight ne = number-is ∙ eight-by (w =? 0) (d =? 0) (λ e0. ne (number-is ∙ e0))
 
     -- before the first slot nothing is owed
-    pub unused : served h ≡ 0 → earliest o ≡ 0
-    unused e0 = is-open .unused (omega (arith, is-open .past, e0))
+    pub unowed : served h ≡ 0 → earliest o ≡ 0
+    unowed e0 = is-open .unused (omega (arith, is-open .past, e0))
 
   pub waited : (v k : ℕ) → length (cellsOf v h) ≡ suc k → cellAt v k h .arrival + cellAt v k h .D + (N - 1) < served h
       → AllLeft v h
   waited v k many late =
-      let d = demanded N z h s i in
+      let d = demanded N z kind h s i in
       omega (
         arith,
         many,
-        many-left N z h s i v,
-        many-cells N z h s i v,
+        many-left N z kind h s i v,
+        many-cells N z kind h s i v,
         d .leaves v k (omega (arith, many)) (omega (arith, late, d .delay v k (omega (arith, many)) .0)),
       )
 
-  four : (v : ℕ) → 1 ≤? v && v <? z ≡ false → closeCall (s .ctl) (s .words) v .number ≡ 4
+  -- close answers 0 only for a connection that there is
+  four : (name : Name) → named (s .ctl .v) name ≡ false → closeCall (s .ctl) (s .words) name .number ≡ 4
   unfolding closeCall
-  four v e = rw (shared-out N z h s i v e)
+  four name e = rw (shared-out N z kind h s i name e)
 
-  -- close answers 0 only for a VC that is in its range
-  pub in-range : (v : ℕ) → closeCall (s .ctl) (s .words) v .number ≡ 0 → (1 ≤ v) × (v < z)
-  in-range v = go (1 ≤? v && v <? z) refl
+  pub in-range : (name : Name) → closeCall (s .ctl) (s .words) name .number ≡ 0 → named z name ≡ true
+  in-range name f = go (named (s .ctl .v) name) refl
     where
-      go : (b : Bool) → 1 ≤? v && v <? z ≡ b → closeCall (s .ctl) (s .words) v .number ≡ 0 → (1 ≤ v) × (v < z)
-      go true e f = (leb-true 1 v (and-left (1 ≤? v) (v <? z) e), ltb-true v z (and-right (1 ≤? v) (v <? z) e))
-      go false e f = absurd (omega (arith, f, four v e))
+      go : (b : Bool) → named (s .ctl .v) name ≡ b → named z name ≡ true
+      go true e = ap (λ (k : ℕ). named k name) (sym (i .stage .v-is)) ∙ e
+      go false e = absurd (omega (arith, f, four name e))
 
 -- ── at every close of a run the debt was paid ──
 abbrev pub PaidAtCloses : List Event → Type 0
@@ -187,38 +204,41 @@ PaidAtCloses (closed vci number ∷ h) =
     (number ≡ 0 → (o : Opening) → openingOf vci h ≡ some o → Paid o (lastSlot h)) × PaidAtCloses h
 PaidAtCloses (ran cell a out ∷ h) = PaidAtCloses h
 
-module _ (N z : ℕ) where
-  call-paid : (r : Run) (c : Call) → Kept N z r → PaidAtCloses (r .events) → PaidAtCloses (call r c .events)
+module _ (N z kind : ℕ) where
+  call-paid : (r : Run) (c : Call) → Kept N z kind r → PaidAtCloses (r .events) → PaidAtCloses (call r c .events)
   unfolding call
-  call-paid r (onOpenWith vci m F C x) k p = p
-  call-paid r (onClose vci) k p = (
+  call-paid r (onOpenWith name m F C x) k p = p
+  call-paid r (onClose name) k p = (
     λ e o q.
-        let v = in-range N z (r .events) (r .state) (k .inv) vci e in
-        exactly N z (r .events) (r .state) (k .inv) vci o (v .0) (v .1) q .0 e .1,
+        let i = k .inv in
+        let n = in-range N z kind (r .events) (r .state) i name e in
+        let same = ap (λ (v : ℕ). openingOf (numberIn v name) (r .events)) (i .stage .v-is) in
+        exactly N z kind (r .events) (r .state) i name o n (sym same ∙ q) .0 e .1,
     p,
   )
   call-paid r (onSlot cell) k p = p
 
-  pub calls-paid : (r : Run) (cs : List Call) → Kept N z r → PaidAtCloses (r .events) → PaidAtCloses (calls r cs .events)
+  pub calls-paid : (r : Run) (cs : List Call) → Kept N z kind r → PaidAtCloses (r .events) → PaidAtCloses (calls r cs .events)
   unfolding calls
   calls-paid r [] k p = p
-  calls-paid r (c ∷ cs) k p = calls-paid (call r c) cs (call-kept N z r c k) (call-paid r c k p)
-
-  pub fresh-paid : rangesHold N z ≡ true → (raw : Bool) (cs : List Call) → PaidAtCloses (calls (freshRun N z raw) cs .events)
-  unfolding freshRun calls
-  fresh-paid range raw cs = calls-paid (freshRun N z raw) cs (run-kept N z range raw []) tt
+  calls-paid r (c ∷ cs) k p = calls-paid (call r c) cs (call-kept N z kind r c k) (call-paid r c k p)
 
   -- slots are only added
   call-more : (r : Run) (c : Call) → served (r .events) ≤ served (call r c .events)
   unfolding call served
-  call-more r (onOpenWith vci m F C x) = omega arith
-  call-more r (onClose vci) = omega arith
+  call-more r (onOpenWith name m F C x) = omega arith
+  call-more r (onClose name) = omega arith
   call-more r (onSlot cell) = omega arith
 
   calls-more : (r : Run) (cs : List Call) → served (r .events) ≤ served (calls r cs .events)
   unfolding calls
   calls-more r [] = omega arith
   calls-more r (c ∷ cs) = omega (arith, call-more r c, calls-more (call r c) cs)
+
+pub fresh-paid : (N z : ℕ) → rangesHold N z ≡ true → (o : Options) (cs : List Call)
+    → PaidAtCloses (calls (freshRun N z o) cs .events)
+unfolding freshRun calls
+fresh-paid N z range o cs = calls-paid N z (kindNumber (o .kind)) (freshRun N z o) cs (run-kept N z range o []) tt
 
 served-before : (later h : List Event) → served h ≤ served (later ++ h)
 unfolding served
@@ -295,15 +315,15 @@ half e L (suc t) K low unowed more = (
     positive (suc n) ne = omega arith
 
 -- ── of every run from a fresh state ──
-module _ (N z : ℕ) (r : Run) (k : Kept N z r) where
+module _ (N z kind : ℕ) (r : Run) (k : Kept N z kind r) where
   pub debts : PaidAtCloses (r .events) → Debt N z (r .events) (r .state)
   debts p =
       record {
-        closes-exactly = exactly N z (r .events) (r .state) (k .inv);
-        else-eight = or-eight N z (r .events) (r .state) (k .inv);
-        waiting-is = counted N z (r .events) (r .state) (k .inv);
+        closes-exactly = exactly N z kind (r .events) (r .state) (k .inv);
+        else-eight = or-eight N z kind (r .events) (r .state) (k .inv);
+        waiting-is = counted N z kind (r .events) (r .state) (k .inv);
         across = across (r .events) p;
-        waiting-half = waited N z (r .events) (r .state) (k .inv);
+        waiting-half = waited N z kind (r .events) (r .state) (k .inv);
       }
 
   pub refused : (cs : List Call) → Refused z r cs
@@ -312,18 +332,18 @@ module _ (N z : ℕ) (r : Run) (k : Kept N z r) where
       later : Run
       later = calls r cs
 
-      kept : Kept N z (calls r cs)
-      kept = calls-kept N z r cs k
+      kept : Kept N z kind (calls r cs)
+      kept = calls-kept N z kind r cs k
 
-      lasts : (v : ℕ) (o : Opening) → 1 ≤ v → v < z → openingOf v (r .events) ≡ some o
-          → openingOf v (calls r cs .events) ≡ some o
-          → (debt (calls r cs .state .ctl .t) (connectionAt (calls r cs .state .words) v) ≢ 0)
+      lasts : (name : Name) (o : Opening) → named z name ≡ true → openingOf (numberIn z name) (r .events) ≡ some o
+          → openingOf (numberIn z name) (calls r cs .events) ≡ some o
+          → (debt (calls r cs .state .ctl .t) (connectionAt (calls r cs .state .words) (numberIn z name)) ≢ 0)
           ↔ (served (calls r cs .events)
-          < served (r .events) + roundedUp (debt (r .state .ctl .t) (connectionAt (r .state .words) v)) (parts o))
-      lasts v o h1 h2 e f =
+          < served (r .events) + roundedUp (debt (r .state .ctl .t) (connectionAt (r .state .words) (numberIn z name))) (parts o))
+      lasts name o n e f =
           rw (
-            owes N z (r .events) (r .state) (k .inv) v o h1 h2 e,
-            owes N z (calls r cs .events) (calls r cs .state) (kept .inv) v o h1 h2 f,
+            owes N z kind (r .events) (r .state) (k .inv) name o n e,
+            owes N z kind (calls r cs .events) (calls r cs .state) (kept .inv) name o n f,
           )
           (half (earliest o) (parts o) (served (r .events)) (served (calls r cs .events)) (pow-pos (o .m))
-          (unused N z (r .events) (r .state) (k .inv) v o h1 h2 e) (calls-more N z r cs))
+          (unowed N z kind (r .events) (r .state) (k .inv) name o n e) (calls-more N z kind r cs))

@@ -1,4 +1,4 @@
--- Demand 3, clause by clause, from the invariant: of each VC the accepted cells are those that left and then those that
+-- Demand 3, clause by clause, from the invariant: of each connection the accepted cells are those that left and then those that
 -- wait, so the k-th that left is the k-th accepted; one that waits can still be in time.
 use Prim.Native.Nat.{ℕ, zero, suc, _+_, _-_, _≤_, _<_}
 use mathlib.Core.Path.{_≡_, refl, sym, ap, _∙_}
@@ -37,11 +37,15 @@ all-at P [] k d a h = absurd (not-suc-le-zero h)
 all-at P (x ∷ l) zero d a h = a .0
 all-at P (x ∷ l) (suc k) d a h = all-at P l k d (a .1) (le-of-suc-le-suc h)
 
+pub all-image : {A B : Type 0} (P : B → Type 0) (f : A → B) (l : List A) → All (λ x. P (f x)) l → All P (map f l)
+all-image P f [] a = tt
+all-image P f (x ∷ l) a = (a .0, all-image P f l (a .1))
+
 abbrev noLeft : Left
 noLeft = record { slot = 0; cell = noCell }
 
-module _ (N z : ℕ) (h : List Event) (s : State) (i : Inv N z h s) where
-  -- those of the VC v that left, and the cells of it that wait
+module _ (N z kind : ℕ) (h : List Event) (s : State) (i : Inv N z kind h s) where
+  -- those of the connection v that left, and the cells of it that wait
   abbrev pub gone : ℕ → List Left
   gone v = ofConnection (λ p. p .cell .vci) v (i .left)
 
@@ -84,10 +88,6 @@ module _ (N z : ℕ) (h : List Event) (s : State) (i : Inv N z h s) where
     timely =
         all-at (InTime (N - 1)) (gone v) k noLeft (ofConnection-all (λ p. p .cell .vci) v (InTime (N - 1)) (i .left) (i .in-time))
         here
-
-  all-image : {A B : Type 0} (P : B → Type 0) (f : A → B) (l : List A) → All (λ x. P (f x)) l → All P (map f l)
-  all-image P f [] a = tt
-  all-image P f (x ∷ l) a = (a .0, all-image P f l (a .1))
 
   waiting-in-time : (v : ℕ) → All (λ c. served h ≤ c .due + (N - 1)) (waiting v)
   waiting-in-time v = ofConnection-all connectionIn v (λ c. served h ≤ c .due + (N - 1)) (map cellIn (i .out ++ flat (i .cal)))
@@ -155,7 +155,7 @@ module _ (N z : ℕ) (h : List Event) (s : State) (i : Inv N z h s) where
             (rising-of (λ p. p .slot) (λ p. p .cell .vci) v 0 (served h) (i .left) (i .left-rise)),
       )
 
-  pub demanded : Demand3 N z h s
+  pub demanded : Demand3 N z kind h s
   demanded =
       record {
         was-accepted = λ v k low. omega (arith, many-left v, many-cells v);
@@ -178,6 +178,6 @@ module _ (N z : ℕ) (h : List Event) (s : State) (i : Inv N z h s) where
         in-order = λ v j k less low.
             (arrivals-rise v j k less (omega (arith, many-left v, many-cells v)), departures-rise v j k less low);
         delay = λ v k low. let d = all-at (Delayed N) (cellsOf v h) k noCell (delays v) low in (d .0, omega (arith, d .1));
-        accepts-exactly = accepts N z h s i;
-        judges = says N z h s i;
+        accepts-exactly = accepts N z kind h s i;
+        judges = says N z kind h s i;
       }

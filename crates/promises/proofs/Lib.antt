@@ -7,3 +7,7 @@ pub mod QuotedLaws
 pub mod WipedLaws
 pub mod DebtLaws
 pub mod CheckedRuns
+pub mod PathWorked
+pub mod ApartLaws
+pub mod PathLaws
+pub mod NoPathLaws

@@ -7,8 +7,8 @@ use Rattle.meaning_runs.specs.Run.{Event}
 use Rattle.promises.specs.Demand3.{Demand3}
 use Rattle.promises.specs.Quoted.{Quoted}
 
-pub quoted : (N z : ℕ) (h : List Event) (s : State) → Demand3 N z h s → Quoted N h
-quoted N z h s d =
+pub quoted : (N z kind : ℕ) (h : List Event) (s : State) → Demand3 N z kind h s → Quoted N h
+quoted N z kind h s d =
     record {
       by-delay = λ v k low. omega (arith, d .not-late v k low, d .delay v k (d .was-accepted v k low) .0);
       at-most = λ v k low.

@@ -1,4 +1,4 @@
--- The bound N-1 is reached, at N 2 and N 5, so that no smaller one holds; and on the merged output one VC's departures
+-- The bound N-1 is reached, at N 2 and N 5, so that no smaller one holds; and on the merged output one connection's departures
 -- come closer than F/L, as the eight slots of document 01 show: 6 and 7 of VC 40. By computation.
 use Prim.Native.Nat.{ℕ, _-_, _*_, _≤_}
 use mathlib.Core.Path.{_≡_, refl}
@@ -8,6 +8,7 @@ use mathlib.Core.Option.{some}
 use native.Mathlib.Omega.{arith}
 use lib.Dec.{lit<}
 use Rattle.meaning.specs.Numbers.{rangesHold}
+use Rattle.meaning.specs.Calls.{Kind, UNI, NNI, Options, optionsOf, plain}
 use Rattle.meaning.specs.Words.{noSecond}
 use Rattle.meaning_runs.specs.Run.{Call}
 use Rattle.meaning_runs.specs.Leak.{openingWith}
@@ -16,20 +17,30 @@ use Rattle.meaning_runs.specs.Eight.{eightCalls, eightEvents}
 use Rattle.meaning_runs.specs.Computed.{byComputation}
 use Rattle.promises.specs.Reached.{Reached, Within, lateAtTwo, lateAtFive, PeakKept}
 
-pub reached-at-two : (raw : Bool) → Reached 2 3 raw lateAtTwo 2 1
+pub reached-at-two : (o : Options) → Reached 2 3 o lateAtTwo 2 1
 unfolding byComputation
-reached-at-two true = record { leaves = lit< tt; late = refl }
-reached-at-two false = record { leaves = lit< tt; late = refl }
+reached-at-two o = go (o .raw) (o .kind)
+  where
+    go : (raw : Bool) (kind : Kind) → Reached 2 3 (optionsOf raw kind) lateAtTwo 2 1
+    go true UNI = record { leaves = lit< tt; late = refl }
+    go false UNI = record { leaves = lit< tt; late = refl }
+    go true NNI = record { leaves = lit< tt; late = refl }
+    go false NNI = record { leaves = lit< tt; late = refl }
 
-pub reached-at-five : (raw : Bool) → Reached 5 3 raw lateAtFive 2 19
+pub reached-at-five : (o : Options) → Reached 5 3 o lateAtFive 2 19
 unfolding byComputation
-reached-at-five true = record { leaves = lit< tt; late = refl }
-reached-at-five false = record { leaves = lit< tt; late = refl }
+reached-at-five o = go (o .raw) (o .kind)
+  where
+    go : (raw : Bool) (kind : Kind) → Reached 5 3 (optionsOf raw kind) lateAtFive 2 19
+    go true UNI = record { leaves = lit< tt; late = refl }
+    go false UNI = record { leaves = lit< tt; late = refl }
+    go true NNI = record { leaves = lit< tt; late = refl }
+    go false NNI = record { leaves = lit< tt; late = refl }
 
 -- so no smaller bound holds there
-pub not-within : (N z w : ℕ) (raw : Bool) (cs : List Call) (v k : ℕ) → rangesHold N z ≡ true → Reached N z raw cs v k
-    → Within N raw w → N - 1 ≤ w
-not-within N z w raw cs v k e r b = omega (arith, b z e cs v k (r .leaves), r .late)
+pub not-within : (N z w : ℕ) (o : Options) (cs : List Call) (v k : ℕ) → rangesHold N z ≡ true → Reached N z o cs v k
+    → Within N o w → N - 1 ≤ w
+not-within N z w o cs v k e r b = omega (arith, b z e cs v k (r .leaves), r .late)
 
 two-allowed : rangesHold 2 3 ≡ true
 unfolding rangesHold
@@ -39,11 +50,11 @@ five-allowed : rangesHold 5 3 ≡ true
 unfolding rangesHold
 five-allowed = refl
 
-pub least-at-two : (raw : Bool) (w : ℕ) → Within 2 raw w → 1 ≤ w
-least-at-two raw w b = not-within 2 3 w raw lateAtTwo 2 1 two-allowed (reached-at-two raw) b
+pub least-at-two : (o : Options) (w : ℕ) → Within 2 o w → 1 ≤ w
+least-at-two o w b = not-within 2 3 w o lateAtTwo 2 1 two-allowed (reached-at-two o) b
 
-pub least-at-five : (raw : Bool) (w : ℕ) → Within 5 raw w → 4 ≤ w
-least-at-five raw w b = not-within 5 3 w raw lateAtFive 2 19 five-allowed (reached-at-five raw) b
+pub least-at-five : (o : Options) (w : ℕ) → Within 5 o w → 4 ≤ w
+least-at-five o w b = not-within 5 3 w o lateAtFive 2 19 five-allowed (reached-at-five o) b
 
 -- departures 6 and 7, though F/L is 2.5
 pub departures-six-seven : (departureAt 40 2 eightEvents .slot ≡ 6) × (departureAt 40 3 eightEvents .slot ≡ 7)
@@ -52,7 +63,7 @@ departures-six-seven = (refl, refl)
 
 closer : PeakKept → 10 ≤ (departureAt 40 3 eightEvents .slot - departureAt 40 2 eightEvents .slot) * 4
 unfolding byComputation
-closer p = p 5 64 false refl eightCalls 40 2 (openingWith 2 10 26 (some 30) noSecond (some 4)) refl (lit< tt)
+closer p = p 5 64 plain refl eightCalls 40 2 (openingWith 2 10 26 (some 30) noSecond (some 4)) refl (lit< tt)
 
 pub peak-not-kept : PeakKept → ⊥
 peak-not-kept p = omega (arith, closer p, departures-six-seven .0, departures-six-seven .1)

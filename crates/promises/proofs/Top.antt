@@ -1,12 +1,12 @@
 -- The theorems that readers are sent to: each from the invariant of runs, in one line.
 use Prim.Native.Nat.{ℕ}
-use mathlib.Core.Path.{_≡_, sym, ap, _∙_, subst}
+use mathlib.Core.Path.{_≡_, refl, sym, ap, _∙_, subst}
 use mathlib.Core.Logic.{_≢_}
 use mathlib.Core.Bool.{Bool, true, false}
 use mathlib.Core.List.{List, [], _∷_}
-use Rattle.meaning.specs.Numbers.{rangesHold}
+use Rattle.meaning.specs.Numbers.{rangesHold, uni}
 use Rattle.meaning.specs.State.{State}
-use Rattle.meaning.specs.Calls.{setup}
+use Rattle.meaning.specs.Calls.{Options, kindNumber, kindOf, optionsOf, setup}
 use Rattle.meaning_runs.specs.Run.{Call, Event, numberOf, Run, runOf, calls, freshRun}
 use Rattle.theory_queues.specs.Queue.{All}
 use Rattle.theory_invariant.proofs.FreshLaws.{setup-fresh}
@@ -20,26 +20,38 @@ use Rattle.promises.specs.Runs.{NeverThree, InOrder, InOrderAlways}
 use Rattle.promises.proofs.Demand3Laws.{demanded}
 use Rattle.promises.specs.Checked.{HeaderCheck, HeaderCheckHolds, NotRawAsBefore}
 use Rattle.promises.proofs.DebtLaws.{debts, refused, fresh-paid}
+use Rattle.promises.specs.Paths.{Apart, PathOrder, PathsHold, NoPaths, NoPathsHold}
+use Rattle.promises.proofs.ApartLaws.{apart}
+use Rattle.promises.proofs.PathLaws.{path-order}
+use Rattle.promises.proofs.NoPathLaws.{no-paths}
 use Rattle.promises.specs.Sustained.{AsBefore, AsBeforeHolds}
 use Rattle.promises.proofs.SustainedLaws.{as-before}
 use Rattle.promises.proofs.CheckedRuns.{fresh-raw, raw-always, check-kept, plain-before}
 
 -- a run after a setup that answered 0 is a run from a fresh state
-after-setup : (P : ℕ → ℕ → Bool → Run → Type 0)
-    → ((N z : ℕ) (raw : Bool) → rangesHold N z ≡ true → (cs : List Call) → P N z raw (calls (freshRun N z raw) cs))
-    → (N z : ℕ) (raw : Bool) (cells links calendar words : List ℕ) → setup N z raw cells links calendar words .number ≡ 0
-    → (cs : List Call) → P N z raw (calls (runOf (setup N z raw cells links calendar words .state) []) cs)
+after-setup : (P : ℕ → ℕ → Options → Run → Type 0)
+    → ((N z : ℕ) (o : Options) → rangesHold N z ≡ true → (cs : List Call) → P N z o (calls (freshRun N z o) cs))
+    → (N z : ℕ) (raw : Bool) (kind : ℕ) (cells links calendar words : List ℕ)
+    → setup N z raw kind cells links calendar words .number ≡ 0
+    → (cs : List Call)
+    → P N z (optionsOf raw (kindOf kind)) (calls (runOf (setup N z raw kind cells links calendar words .state) []) cs)
 unfolding freshRun
-after-setup P f N z raw cells links calendar words e cs =
-    let fresh = setup-fresh N z raw cells links calendar words e in
-    subst (λ (s : State). P N z raw (calls (runOf s []) cs)) (sym (fresh .1)) (f N z raw (fresh .0) cs)
+after-setup P f N z raw kind cells links calendar words e cs =
+    let fresh = setup-fresh N z raw kind cells links calendar words e in
+    let o = optionsOf raw (kindOf kind) in
+    subst (λ (s : State). P N z o (calls (runOf s []) cs)) (sym (fresh .1)) (f N z o (fresh .0) cs)
 
--- and keeps the invariant
-from-setup : (P : ℕ → ℕ → Run → Type 0) → ((N z : ℕ) (r : Run) → Kept N z r → P N z r)
-    → (N z : ℕ) (raw : Bool) (cells links calendar words : List ℕ) → setup N z raw cells links calendar words .number ≡ 0
-    → (cs : List Call) → P N z (calls (runOf (setup N z raw cells links calendar words .state) []) cs)
-from-setup P f =
-    after-setup (λ N z raw r. P N z r) (λ N z raw range cs. f N z (calls (freshRun N z raw) cs) (run-kept N z range raw cs))
+-- and keeps the invariant, on a line of the kind that setup was handed
+pub from-setup : (P : ℕ → ℕ → ℕ → Run → Type 0) → ((N z kind : ℕ) (r : Run) → Kept N z kind r → P N z kind r)
+    → (N z : ℕ) (raw : Bool) (kind : ℕ) (cells links calendar words : List ℕ)
+    → setup N z raw kind cells links calendar words .number ≡ 0
+    → (cs : List Call) → P N z kind (calls (runOf (setup N z raw kind cells links calendar words .state) []) cs)
+from-setup P f N z raw kind cells links calendar words e cs =
+    subst (λ (k : ℕ). P N z k (calls (runOf (setup N z raw kind cells links calendar words .state) []) cs))
+    (setup-fresh N z raw kind cells links calendar words e .2)
+    (after-setup (λ N z o r. P N z (kindNumber (o .kind)) r)
+    (λ N z o range cs. f N z (kindNumber (o .kind)) (calls (freshRun N z o) cs) (run-kept N z range o cs))
+    N z raw kind cells links calendar words e cs)
 
 never-three : (h : List Event) → All (λ e. numberOf e ≢ 3) h → NeverThree h
 never-three [] a = a
@@ -51,41 +63,56 @@ demand2 = never-wraps-after-setup
 
 -- DEMAND 3
 pub demand3 : Demand3Holds
-demand3 = from-setup (λ N z r. Demand3 N z (r .events) (r .state)) (λ N z r k. demanded N z (r .events) (r .state) (k .inv))
+demand3 =
+    from-setup (λ N z kind r. Demand3 N z kind (r .events) (r .state))
+    (λ N z kind r k. demanded N z kind (r .events) (r .state) (k .inv))
 
 -- 3 is never given, and the audit says yes
 pub in-order : InOrderAlways
 in-order =
-    from-setup (λ N z r. InOrder r)
-    (λ N z r k. record {
+    from-setup (λ N z kind r. InOrder r)
+    (λ N z kind r k. record {
       never-three = never-three (r .events) (k .never);
-      audited = audit-holds N z (r .events) (r .state)
-          (k .inv);
+      audited = audit-holds N z kind (r .events) (r .state) (k .inv);
     })
 
 -- REQUEST (ii): closing must not wipe a debt
 pub debt-kept : DebtHolds
 debt-kept =
-    after-setup (λ N z raw r. Debt N z (r .events) (r .state) × ((more : List Call) → Refused z r more))
-    (λ N z raw range cs.
-    let r = calls (freshRun N z raw) cs in
-    let k = run-kept N z range raw cs in
-    (debts N z r k (fresh-paid N z range raw cs), λ more. refused N z r k more))
+    after-setup (λ N z o r. Debt N z (r .events) (r .state) × ((more : List Call) → Refused z r more))
+    (λ N z o range cs.
+    let r = calls (freshRun N z o) cs in
+    let k = run-kept N z range o cs in
+    (debts N z (kindNumber (o .kind)) r k (fresh-paid N z range o cs), λ more. refused N z (kindNumber (o .kind)) r k more))
 
--- REQUEST (iv): a VC opened without a second bucket is judged as before
+-- REQUEST (iv): a connection opened without a second bucket is judged as before
 pub no-second-as-before : AsBeforeHolds
 no-second-as-before =
-    from-setup (λ N z r. AsBefore z (r .events) (r .state)) (λ N z r k. as-before N z (r .events) (r .state) (k .inv))
+    from-setup (λ N z kind r. AsBefore z kind (r .events) (r .state))
+    (λ N z kind r k. as-before N z kind (r .events) (r .state) (k .inv))
 
 -- REQUEST (i): header error control
 pub header-check : HeaderCheckHolds
 header-check =
-    after-setup (λ N z raw r. HeaderCheck raw r)
-    (λ N z raw range cs. check-kept N z raw (calls (freshRun N z raw) cs) (run-kept N z range raw cs) (raw-always N z raw cs))
+    after-setup (λ N z o r. HeaderCheck (o .raw) r)
+    (λ N z o range cs. check-kept N z (kindNumber (o .kind)) (o .raw) (calls (freshRun N z o) cs) (run-kept N z range o cs)
+    (raw-always N z o cs))
 
 -- "A policer that is not raw behaves octet for octet as before"
 pub not-raw-as-before : NotRawAsBefore
-not-raw-as-before N z cells links calendar words e cs =
-    let fresh = setup-fresh N z false cells links calendar words e in
-    plain-before (runOf (setup N z false cells links calendar words .state) []) cs
-    (ap (λ (s : State). s .ctl .raw) (fresh .1) ∙ fresh-raw N z false)
+not-raw-as-before N z kind cells links calendar words e cs =
+    let fresh = setup-fresh N z false kind cells links calendar words e in
+    plain-before (runOf (setup N z false kind cells links calendar words .state) []) cs
+    (ap (λ (s : State). s .ctl .raw) (fresh .1) ∙ fresh-raw N z (optionsOf false (kindOf kind)))
+
+-- REQUEST (vi): VCs and paths never share a bucket, and a path's cells leave in arrival order
+pub paths-hold : PathsHold
+paths-hold =
+    from-setup (λ N z kind r. Apart z kind r × PathOrder N z kind (r .events))
+    (λ N z kind r k. (apart N z kind r k, path-order N z kind (r .events) (r .state) (k .inv)))
+
+-- with no path open the UNI is as it was
+pub no-paths-as-before : NoPathsHold
+no-paths-as-before N z raw cells links calendar words e cs =
+    after-setup (λ N z o r. kindNumber (o .kind) ≡ uni → NoPaths z r) (λ N z o range cs k. no-paths N z range o k cs)
+    N z raw uni cells links calendar words e cs refl

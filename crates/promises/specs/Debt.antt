@@ -1,20 +1,22 @@
 -- REQUEST (ii) of document 02: closing must not wipe a debt. A setup has answered 0, then any calls followed. h is what
--- was called and said, the newest first; s is the record and memory that the next call gets; z is V. Slots don't wrap.
+-- was called and said, the newest first; s is the record and memory that the next call gets; z is V. Slots don't wrap. A
+-- connection is a VC or a path, named by VCI or VPI; numberIn z name is its number.
 --
---   lastSlot h      == the slot served last, t as of which close brings the VC up to date
+--   lastSlot h      == the slot served last, t as of which close brings the connection up to date
 --   Paid o t        == last due + F is at most t × L; an opening that accepted no cell owes nothing
---   AllLeft v h     == each accepted cell of the VC v has left
+--   AllLeft v h     == each accepted cell of the connection v has left
 --   Across h        == the claim across a close and a reopening
 --   Debt            == close's own rule, and that claim, of one run
 --   Refused         == how long close goes on being refused, of a run and the calls after it
 use Prim.Native.Nat.{ℕ, suc, _+_, _-_, _*_, _/_, _≤_, _<_}
 use mathlib.Core.Path.{_≡_}
-use mathlib.Core.Bool.{Bool}
+use mathlib.Core.Bool.{Bool, true}
 use mathlib.Core.List.{List, [], _∷_, _++_}
 use mathlib.Core.Logic.{_≢_, _↔_}
 use mathlib.Core.Option.{Option, none, some}
 use lib.ListN.{length}
 use Rattle.meaning.specs.State.{State}
+use Rattle.meaning.specs.Header.{Name, named, numberIn}
 use Rattle.meaning.specs.Words.{connectionAt, debt}
 use Rattle.meaning.specs.Calls.{setup, closeCall}
 use Rattle.meaning_runs.specs.Run.{Call, Event, closed, Run, runOf, calls, served}
@@ -34,7 +36,7 @@ Paid o t = PaidAfter (parts o) (o .F) t (o .previous)
 abbrev pub AllLeft : ℕ → List Event → Type 0
 AllLeft v h = length (departuresOf v h) ≡ length (cellsOf v h)
 
--- A VC was closed, its opening `old` having accepted a cell, the last of them due at p. Later it is open again as `new`,
+-- A connection was closed, its opening `old` having accepted a cell, the last of them due at p. Later it is open again as `new`,
 -- be it the next opening or a later one. A cell of it that arrives in the next slot, the first of its opening or not, is
 -- due at least at p + F: p + F in parts of 1/L of `old`, its due time in parts of 1/L of `new`, each multiplied by the
 -- other's L.
@@ -47,14 +49,15 @@ Across h = (v : ℕ) (old new : Opening) (p : ℕ) (later before : List Event)
     → (p + old .F) * parts new ≤ dueTime new (served h) * parts old
 
 pub record Debt (N z : ℕ) (h : List Event) (s : State) : Type 0 where
-  -- close's own rule: of an open VC it answers 0 exactly when waiting is 0 and last due + F is at most t × L, and else 8
-  pub closes-exactly : (v : ℕ) (o : Opening) → 1 ≤ v → v < z → openingOf v h ≡ some o
-      → (closeCall (s .ctl) (s .words) v .number ≡ 0) ↔ (AllLeft v h × Paid o (lastSlot h))
-  pub else-eight : (v : ℕ) (o : Opening) → 1 ≤ v → v < z → openingOf v h ≡ some o
-      → closeCall (s .ctl) (s .words) v .number ≢ 0 → closeCall (s .ctl) (s .words) v .number ≡ 8
+  -- close's own rule: of an open connection it answers 0 exactly when waiting is 0 and last due + F is at most t × L, and else 8
+  pub closes-exactly : (name : Name) (o : Opening) → named z name ≡ true → openingOf (numberIn z name) h ≡ some o
+      → (closeCall (s .ctl) (s .words) name .number ≡ 0) ↔ (AllLeft (numberIn z name) h × Paid o (lastSlot h))
+  pub else-eight : (name : Name) (o : Opening) → named z name ≡ true → openingOf (numberIn z name) h ≡ some o
+      → closeCall (s .ctl) (s .words) name .number ≢ 0 → closeCall (s .ctl) (s .words) name .number ≡ 8
   -- waiting counts the accepted cells that have not left
-  pub waiting-is : (v : ℕ) (o : Opening) → 1 ≤ v → v < z → openingOf v h ≡ some o
-      → length (departuresOf v h) + connectionAt (s .words) v .waiting ≡ length (cellsOf v h)
+  pub waiting-is : (name : Name) (o : Opening) → named z name ≡ true → openingOf (numberIn z name) h ≡ some o
+      → let v = numberIn z name in
+      length (departuresOf v h) + connectionAt (s .words) v .waiting ≡ length (cellsOf v h)
   pub across : Across h
   -- the waiting half of 8 is over at the latest D + N-1 slots after the arrival of the last accepted cell, the k-th
   pub waiting-half : (v k : ℕ) → length (cellsOf v h) ≡ suc k
@@ -65,19 +68,20 @@ pub record Debt (N z : ℕ) (h : List Event) (s : State) : Type 0 where
 abbrev pub roundedUp : ℕ → ℕ → ℕ
 roundedUp S L = (S + (L - 1)) / L
 
--- The S half of 8, where after a run r the calls cs follow in which no further cell of the VC is accepted, so that its
+-- The S half of 8, where after a run r the calls cs follow in which no further cell of the connection is accepted, so that its
 -- opening stays as it is: it lasts for exactly S/L slots, rounded up, S being what is left in the bucket after r.
 pub record Refused (z : ℕ) (r : Run) (cs : List Call) : Type 0 where
-  pub s-half : (v : ℕ) (o : Opening) → 1 ≤ v → v < z
-      → openingOf v (r .events) ≡ some o
-      → openingOf v (calls r cs .events) ≡ some o
-      → (debt (calls r cs .state .ctl .t) (connectionAt (calls r cs .state .words) v) ≢ 0)
+  pub s-half : (name : Name) (o : Opening) → named z name ≡ true
+      → openingOf (numberIn z name) (r .events) ≡ some o
+      → openingOf (numberIn z name) (calls r cs .events) ≡ some o
+      → let v = numberIn z name in
+      (debt (calls r cs .state .ctl .t) (connectionAt (calls r cs .state .words) v) ≢ 0)
       ↔ (served (calls r cs .events)
       < served (r .events) + roundedUp (debt (r .state .ctl .t) (connectionAt (r .state .words) v)) (parts o))
 
 abbrev pub DebtHolds : Type 0
-DebtHolds = (N z : ℕ) (raw : Bool) (cells links calendar words : List ℕ)
-    → setup N z raw cells links calendar words .number ≡ 0
+DebtHolds = (N z : ℕ) (raw : Bool) (kind : ℕ) (cells links calendar words : List ℕ)
+    → setup N z raw kind cells links calendar words .number ≡ 0
     → (cs : List Call)
-    → let r = calls (runOf (setup N z raw cells links calendar words .state) []) cs in
+    → let r = calls (runOf (setup N z raw kind cells links calendar words .state) []) cs in
     Debt N z (r .events) (r .state) × ((more : List Call) → Refused z r more)

@@ -2,17 +2,19 @@
 -- decides as a clock that never does: of any calls, refused ones among them, the answers, the line cells and the memories
 -- are those of a policer (crate theory_clock, specs/Unwrapped.antt) whose clock is the number of slots served, t and `last`
 -- being that policer's modulo 2^32. NeverWraps has a clause for each. Both have the header check of document 02 (i) in
--- front, so what is decided of is the mended header.
+-- front, so what is decided of is the mended header. By document 02 (vi) all of it holds on either kind of line, of VCs and of
+-- paths.
 use Prim.Native.Nat.{ℕ}
 use mathlib.Core.Path.{_≡_}
 use mathlib.Core.Bool.{Bool}
 use mathlib.Core.List.{List}
-use Rattle.meaning.specs.Calls.{setup}
+use Rattle.meaning.specs.Calls.{kindOf, optionsOf, setup}
 use Rattle.meaning_runs.specs.Run.{Call, freshRun}
 use Rattle.theory_clock.specs.UnwrappedRun.{NeverWraps}
 
 abbrev pub Demand2Holds : Type 0
-Demand2Holds = (N z : ℕ) (raw : Bool) (cells links calendar words : List ℕ)
-    → setup N z raw cells links calendar words .number ≡ 0
+Demand2Holds = (N z : ℕ) (raw : Bool) (kind : ℕ) (cells links calendar words : List ℕ)
+    → setup N z raw kind cells links calendar words .number ≡ 0
     → (cs : List Call)
-    → (setup N z raw cells links calendar words .state ≡ freshRun N z raw .state) × NeverWraps N z raw cs
+    → let o = optionsOf raw (kindOf kind) in
+    (setup N z raw kind cells links calendar words .state ≡ freshRun N z o .state) × NeverWraps N z o cs

@@ -1,18 +1,20 @@
 -- DEMAND 3. A setup of a policer with N spaces has answered 0, whatever the memory held before. Then any calls follow:
 -- open, close and slot, with any arguments, refused ones among them. After every such run the clauses below hold, where h
--- is what was called and said, the newest first, s the record and memory that the next call gets, and z is V.
+-- is what was called and said, the newest first, s the record and memory that the next call gets, z is V, and kind the line kind.
+-- Document 02 (vi): "Demands 2 and 3 read "VC" as VC or path": v is the number of a connection, a VC's VCI or V + VPI of a path.
 --
 -- They speak of the calls and answers alone (crate meaning_runs, specs/):
 --   served h             how many slots were served: slot numbers that don't wrap
---   cellAt v k h         the k-th accepted cell of the VC v, from 0: its arrival slot, the D answered, its octets, and,
+--   cellAt v k h         the k-th accepted cell of the connection v, from 0: its arrival slot, the D answered, its octets, and,
 --                        by the leak rule in exact parts of 1/L slot, its due slot. There are `length (cellsOf v h)`
---   departureAt v k h    the k-th departure of the VC v: its slot, and the octets of the line cell, which are the same
+--   departureAt v k h    the k-th departure of the connection v: its slot, and the octets of the line cell, which are the same
 --                        whatever idle cell is lent. There are `length (departuresOf v h)`
---   openingOf v h        the m, F, C and last due time of the VC v, if it is open, and those of its second bucket
+--   openingOf v h        the m, F, C and last due time of the connection v, if it is open, and those of its second bucket
 --   leakAccepts o t      the leak rule's verdict on a cell that arrives in slot t; sustains o t, the second bucket's
 --   letIn s cell         what the header check of document 02 (i) lets through of the octets lent: all of them, where the
 --                        policer is not raw; of a raw one the cell as it came or mended, or none where it is dropped
---   judgedAs z h a       verdict, VCI and D by the header let through and the exact leak rules; of a dropped cell 4, 0, 0
+--   headerLetIn kind s cell  the header of those octets, on a line of this kind
+--   judgedAs kind z h a  verdict, VCI and D by the header let through and the exact leak rules; of a dropped cell 4, 0, 0
 -- Document 02 (iv): "Demand 3 and the end line count tagged cells as accepted, with the two octets changed as said." An accepted
 -- cell's octets are those let through, the mended ones; a tagged cell's are those too, but for octet 4, whose CLP is 1, and
 -- octet 5, which is recomputed. Such cells are the accepted ones below.
@@ -27,7 +29,7 @@ use lib.ListN.{length}
 use Rattle.meaning.specs.Plain.{_=?_}
 use Rattle.meaning.specs.Numbers.{octets, letsIn}
 use Rattle.meaning.specs.State.{State, freeList}
-use Rattle.meaning.specs.Header.{headerAt, namesConnection}
+use Rattle.meaning.specs.Header.{Header, headerAt, clpIn, connection, namesConnection}
 use Rattle.meaning.specs.Lists.{isEmpty}
 use Rattle.meaning.specs.Calls.{setup}
 use Rattle.meaning.specs.Slot.{slot}
@@ -41,9 +43,12 @@ use Rattle.meaning_runs.specs.Judged.{judgedOf, judgedAs}
 unfoldable pub admits : Opening → ℕ → ℕ → Bool
 admits o clp t = leakAccepts o t && (not (clp =? 0) || sustains o t || not (o .second .tag =? 0))
 
-pub record Demand3 (N z : ℕ) (h : List Event) (s : State) : Type 0 where
-  -- 6, 1 and 4: the k-th departure of a VC is its k-th accepted cell. So nothing leaves that was not accepted, no cell
-  -- leaves twice, and one VC's cells leave in arrival order, also across a close and a reopening.
+abbrev pub headerLetIn : ℕ → State → List ℕ → Header
+headerLetIn kind s cell = headerAt kind (letIn s cell .cell) 0
+
+pub record Demand3 (N z kind : ℕ) (h : List Event) (s : State) : Type 0 where
+  -- 6, 1 and 4: the k-th departure of a connection is its k-th accepted cell. So nothing leaves that was not accepted, no cell
+  -- leaves twice, and one connection's cells leave in arrival order, also across a close and a reopening.
   pub was-accepted : (v k : ℕ) → k < length (departuresOf v h) → k < length (cellsOf v h)
   pub in-order : (v j k : ℕ) → j < k → k < length (departuresOf v h)
       → (cellAt v j h .arrival < cellAt v k h .arrival)
@@ -65,18 +70,21 @@ pub record Demand3 (N z : ℕ) (h : List Event) (s : State) : Type 0 where
   pub delay : (v k : ℕ) → k < length (cellsOf v h)
       → (cellAt v k h .due ≡ cellAt v k h .arrival + cellAt v k h .D)
       × (cellAt v k h .D ≤ N - 1)
-  -- 8: the next slot accepts or tags a cell that is let through with the header of an open VC exactly when the leak rules let it in
+  -- 8: the next slot accepts or tags a cell that is let through with the header of an open connection exactly when the leak rules let it in
   pub accepts-exactly : (cell : List ℕ) (o : Opening) → length cell ≡ octets
-      → namesConnection z (headerAt (letIn s cell .cell) 0) ≡ true
-      → openingOf (headerAt (letIn s cell .cell) 0 .vci) h ≡ some o
-      → (letsIn (slot s cell .answer .verdict) ≡ true) ↔ (admits o (headerAt (letIn s cell .cell) 0 .clp) (served h) ≡ true)
-  -- and whatever arrives, verdict, VCI and D are those of the header let through and the leak rules, or 4, 0 and 0
+      → namesConnection z (headerLetIn kind s cell) ≡ true
+      → openingOf (connection z (headerLetIn kind s cell)) h ≡ some o
+      → (letsIn (slot s cell .answer .verdict) ≡ true) ↔ (admits o (clpIn (letIn s cell .cell)) (served h) ≡ true)
+  -- and whatever arrives, verdict, VCI and D follow from the header let through, read by the line kind, and from exact fractions
+  -- alone: no S, no wrapped clock. Of a dropped cell they are 4, 0 and 0
   pub judges : (cell : List ℕ) → length cell =? 0 || length cell =? octets ≡ true
-      → judgedOf (slot s cell .answer .verdict) (slot s cell .answer .vci) (slot s cell .answer .d) ≡ judgedAs z h (letIn s cell)
+      → judgedOf (slot s cell .answer .verdict) (slot s cell .answer .vci) (slot s cell .answer .d)
+      ≡ judgedAs kind z h (letIn s cell)
 
 -- of every run from a fresh state
 abbrev pub Demand3Holds : Type 0
-Demand3Holds = (N z : ℕ) (raw : Bool) (cells links calendar words : List ℕ)
-    → setup N z raw cells links calendar words .number ≡ 0
+Demand3Holds = (N z : ℕ) (raw : Bool) (kind : ℕ) (cells links calendar words : List ℕ)
+    → setup N z raw kind cells links calendar words .number ≡ 0
     → (cs : List Call)
-    → let r = calls (runOf (setup N z raw cells links calendar words .state) []) cs in Demand3 N z (r .events) (r .state)
+    → let r = calls (runOf (setup N z raw kind cells links calendar words .state) []) cs in
+    Demand3 N z kind (r .events) (r .state)

@@ -7,3 +7,5 @@ pub mod Debt
 pub mod Wiped
 pub mod Checked
 pub mod Sustained
+pub mod Paths
+pub mod PathWorked

@@ -19,6 +19,6 @@ pub record InOrder (r : Run) : Type 0 where
   pub audited : AuditHolds (r .state)
 
 abbrev pub InOrderAlways : Type 0
-InOrderAlways = (N z : ℕ) (raw : Bool) (cells links calendar words : List ℕ)
-    → setup N z raw cells links calendar words .number ≡ 0
-    → (cs : List Call) → InOrder (calls (runOf (setup N z raw cells links calendar words .state) []) cs)
+InOrderAlways = (N z : ℕ) (raw : Bool) (kind : ℕ) (cells links calendar words : List ℕ)
+    → setup N z raw kind cells links calendar words .number ≡ 0
+    → (cs : List Call) → InOrder (calls (runOf (setup N z raw kind cells links calendar words .state) []) cs)

@@ -12,25 +12,27 @@ use lib.ListN.{replicate}
 use Rattle.meaning.specs.declared.Record.{Record}
 use Rattle.meaning.specs.Plain.{if_then_else_, _=?_}
 use Rattle.meaning.specs.State.{withWords}
+use Rattle.meaning.specs.Header.{Name, byVci, numberIn}
 use Rattle.meaning.specs.Words.{connectionAt, writeConnection, closedConnection}
 use Rattle.meaning.specs.Calls.{Called, calledOf, sharedRefusal}
 use Rattle.meaning_runs.specs.Run.{Call, onOpenWith, onOpen, onClose, onSlot, closed, Run, runOf, call}
 use Rattle.meaning_runs.specs.Eight.{cellFor}
 
-unfoldable pub closeWiping : Record → List ℕ → ℕ → Called
-closeWiping r words vci =
-    let k = sharedRefusal r words vci in
+unfoldable pub closeWiping : Record → List ℕ → Name → Called
+closeWiping r words name =
+    let c = numberIn (r .v) name in
+    let k = sharedRefusal r words name in
     if not (k =? 0) then calledOf k words
-    else if connectionAt words vci .opened =? 0 then calledOf 7 words
-    else if not (connectionAt words vci .waiting =? 0) then calledOf 8 words
-    else calledOf 0 (writeConnection words vci closedConnection)
+    else if connectionAt words c .opened =? 0 then calledOf 7 words
+    else if not (connectionAt words c .waiting =? 0) then calledOf 8 words
+    else calledOf 0 (writeConnection words c closedConnection)
 
 unfoldable pub callWiping : Run → Call → Run
-callWiping r (onOpenWith vci m F C x) = call r (onOpenWith vci m F C x)
-callWiping r (onClose vci) =
+callWiping r (onOpenWith name m F C x) = call r (onOpenWith name m F C x)
+callWiping r (onClose name) =
     let s = r .state in
-    let c = closeWiping (s .ctl) (s .words) vci in
-    runOf (withWords s (c .words)) (closed vci (c .number) ∷ r .events)
+    let c = closeWiping (s .ctl) (s .words) name in
+    runOf (withWords s (c .words)) (closed (numberIn (s .ctl .v) name) (c .number) ∷ r .events)
 callWiping r (onSlot cell) = call r (onSlot cell)
 
 unfoldable pub callsWiping : Run → List Call → Run
@@ -41,11 +43,11 @@ abbrev pub beforeClose : List Call
 beforeClose = onOpen 1 0 10 10 ∷ onSlot (cellFor 1) ∷ []
 
 abbrev pub reopenedAtOnce : List Call
-reopenedAtOnce = beforeClose ++ (onClose 1 ∷ onOpen 1 0 10 10 ∷ [])
+reopenedAtOnce = beforeClose ++ (onClose (byVci 1) ∷ onOpen 1 0 10 10 ∷ [])
 
 -- open, a cell and four empty slots, close
 abbrev fiveSlots : List Call
-fiveSlots = onOpen 1 0 10 10 ∷ onSlot (cellFor 1) ∷ (replicate 4 (onSlot []) ++ (onClose 1 ∷ []))
+fiveSlots = onOpen 1 0 10 10 ∷ onSlot (cellFor 1) ∷ (replicate 4 (onSlot []) ++ (onClose (byVci 1) ∷ []))
 
 abbrev pub closedEveryFive : List Call
 closedEveryFive = fiveSlots ++ (fiveSlots ++ (fiveSlots ++ fiveSlots))

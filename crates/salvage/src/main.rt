@@ -1,5 +1,5 @@
 // salvage: a damaged trace on standard input, the mended one on standard output, and on standard error a line `FIRST LENGTH`
-// for each stretch that was skipped; `stop 17` alone where the input doesn't begin with a readable GM or GR.
+// for each stretch that was skipped; `stop 17` alone where the input doesn't begin with a readable GM, GR or GN.
 //
 // 524,288 octets are kept; what lies beyond is read and counted, as part of the last stretch. A read that fails, or an input
 // that goes on after its end, ends the program with nothing written; a write that fails ends it there.

@@ -13,7 +13,8 @@ fn main() {
             return;
         }
     }
-    let mut out = [0u8; 524288];
+    let mut trace = [0u8; 524288];
     let mut line = [0u8; 64];
-    text_scribe::hand_over(1, 2, &input[..long], &mut out, &mut line);
+    let mut out = [0u8; 65536];
+    text_scribe::hand_over(1, 2, &input[..long], &mut trace, &mut line, &mut out);
 }

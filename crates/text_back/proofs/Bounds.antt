@@ -10,23 +10,28 @@ use lib.ListN.{length, getD, take, drop, length-drop}
 use lib.Seq.{getD-take, getD-drop, length-take-le}
 use Rattle.meaning.specs.Plain.{next, if_then_else_, _<?_, _≤?_, _=?_}
 use Rattle.meaning.specs.Numbers.{octets}
-use Rattle.trace_record.specs.Trace.{TraceRecord, GM, VO, VX, CA, SL, VS, Stands, event, finish, refusal, unreadable}
-use Rattle.trace_record.specs.Trace.{be16, be32, whole, setupAt, openAt, sustainAt, closeAt, cellAt, pauseAt, firstAt, laterAt, standsAt}
-use Rattle.trace_record.specs.Trace.{markOctets, markGM, markGR, markVO, markVX, markCA, markSL, markVS}
+use Rattle.trace_record.specs.Trace.{TraceRecord, GM, VO, VX, CA, SL, VS, PO, PX, Stands, event, finish, refusal, unreadable}
+use Rattle.trace_record.specs.Trace.{be16, be32, whole, setupAt, openAt, sustainAt, closeAt, openPathAt, closePathAt, cellAt, pauseAt, firstAt, laterAt, standsAt}
+use Rattle.trace_record.specs.Trace.{markOctets, markGM, markGR, markGN, markVO, markVX, markCA, markSL, markVS, markPO, markPX}
 use Rattle.trace_record.specs.Fits.{Fits, Allowed, stands-fits}
 use Rattle.text_meaning.specs.Events.{eventOf}
 use Rattle.text_meaning.specs.Grammar.{tells, line}
 use Rattle.text_print.specs.Print.{lineOf}
-use Rattle.text_print.proofs.Back.{setup-back, open-back, sustain-back, close-back, cell-back, pause-back}
+use Rattle.text_print.proofs.Back.{setup-back, open-back, sustain-back, close-back, path-back, path-close-back, cell-back, pause-back}
+
+abbrev Opens : (c m F C : ℕ) → Type 0
+Opens c m F C = (c ≤ 65_535) × (m ≤ 255) × (F ≤ 4_294_967_295) × (C ≤ 4_294_967_295)
 
 abbrev Bounded : TraceRecord → Type 0
-Bounded (GM N z raw) = (N ≤ 65_535) × (z ≤ 65_535)
-Bounded (VO vci m F C) = (vci ≤ 65_535) × (m ≤ 255) × (F ≤ 4_294_967_295) × (C ≤ 4_294_967_295)
+Bounded (GM N z head) = (N ≤ 65_535) × (z ≤ 65_535)
+Bounded (VO vci m F C) = Opens vci m F C
 Bounded (VX vci) = vci ≤ 65_535
 Bounded (CA start) = 0 ≤ 0
 Bounded (SL count) = count ≤ 65_535
+Bounded (PO vpi m F C) = Opens vpi m F C
+Bounded (PX vpi) = vpi ≤ 65_535
 Bounded (VS vci m F C x) =
-    ((vci ≤ 65_535) × (m ≤ 255) × (F ≤ 4_294_967_295) × (C ≤ 4_294_967_295))
+    Opens vci m F C
     × ((x .m ≤ 255) × (x .F ≤ 4_294_967_295) × (x .C ≤ 4_294_967_295) × (x .tag ≤ 255))
 
 abbrev Sized : Stands → Type 0
@@ -55,21 +60,26 @@ module _ (s : List ℕ) (b : (i : ℕ) → getD s i 0 < 256) where
     unfolding whole
     whole-sized long r h = choose Sized (at + long ≤? length s) h (omega arith)
 
+    opens-sized : Opens (be16 s (at + 2)) (getD s (at + 4) 0) (be32 s (at + 5)) (be32 s (at + 9))
+    opens-sized = (below16 (at + 2), below8 4, below32 (at + 5), below32 (at + 9))
+
     stands-sized : Sized (standsAt s at)
-    unfolding standsAt firstAt laterAt setupAt openAt sustainAt closeAt cellAt pauseAt
+    unfolding standsAt firstAt laterAt setupAt openAt sustainAt closeAt openPathAt closePathAt cellAt pauseAt
     stands-sized =
         choose Sized (1 ≤? at && at =? length s) (omega arith)
         (choose Sized (length s <? at + markOctets) (omega arith)
         (choose Sized (at =? 0)
         (choose Sized (be16 s at =? markGM) (whole-sized _ (GM _ _ _) (below16 (at + 2), below16 (at + 4)))
-        (choose Sized (be16 s at =? markGR) (whole-sized _ (GM _ _ _) (below16 (at + 2), below16 (at + 4))) (omega arith)))
+        (choose Sized (be16 s at =? markGR) (whole-sized _ (GM _ _ _) (below16 (at + 2), below16 (at + 4)))
+        (choose Sized (be16 s at =? markGN) (whole-sized _ (GM _ _ _) (below16 (at + 2), below16 (at + 4))) (omega arith))))
         (choose Sized (be16 s at =? markCA) (whole-sized _ (CA _) (omega arith))
         (choose Sized (be16 s at =? markSL) (choose Sized (be16 s (at + 2) =? 0) (omega arith) (whole-sized _ (SL _) (below16 (at + 2))))
-        (choose Sized (be16 s at =? markVO) (whole-sized _ (VO _ _ _ _) (below16 (at + 2), below8 4, below32 (at + 5), below32 (at + 9)))
+        (choose Sized (be16 s at =? markVO) (whole-sized _ (VO _ _ _ _) opens-sized)
         (choose Sized (be16 s at =? markVX) (whole-sized _ (VX _) (below16 (at + 2)))
         (choose Sized (be16 s at =? markVS)
-        (whole-sized _ (VS _ _ _ _ _) ((below16 (at + 2), below8 4, below32 (at + 5), below32 (at + 9)), (below8 13, below32 (at + 14), below32 (at + 18), below8 22)))
-        (omega arith))))))))
+        (whole-sized _ (VS _ _ _ _ _) (opens-sized, (below8 13, below32 (at + 14), below32 (at + 18), below8 22)))
+        (choose Sized (be16 s at =? markPO) (whole-sized _ (PO _ _ _ _) opens-sized)
+        (choose Sized (be16 s at =? markPX) (whole-sized _ (PX _) (below16 (at + 2))) (omega arith))))))))))
 
     cell-long : (start : ℕ) → start + octets ≤ length s → length (take octets (drop start s)) ≡ octets
     cell-long start h = length-take-le octets (drop start s) (omega (arith, h, length-drop start s))
@@ -81,13 +91,16 @@ module _ (s : List ℕ) (b : (i : ℕ) → getD s i 0 < 256) where
 
     line-by : (r : TraceRecord) (n : ℕ) (t : List ℕ) → Fits s at (event r n) → Bounded r
         → line (at =? 0) (lineOf s r ++ t) ≡ next (tells (eventOf s r) t)
-    line-by (GM N z raw) n t f h = ap (λ (x : Bool). line x (lineOf s (GM N z raw) ++ t)) (eq-eqb at 0 (f .2)) ∙ setup-back s t N z raw (h .0) (h .1)
+    line-by (GM N z head) n t f h = ap (λ (x : Bool). line x (lineOf s (GM N z head) ++ t)) (eq-eqb at 0 (f .2)) ∙ setup-back s t N z head (h .0) (h .1)
     line-by (VO vci m F C) n t f h =
         ap (λ (x : Bool). line x (lineOf s (VO vci m F C) ++ t)) (ne-eqb at 0 (λ z. omega (arith, z, f .2))) ∙ open-back s t vci m F C (h .0) (h .1) (h .2) (h .3)
     line-by (VS vci m F C x) n t f h =
         ap (λ (y : Bool). line y (lineOf s (VS vci m F C x) ++ t)) (ne-eqb at 0 (λ z. omega (arith, z, f .2)))
         ∙ sustain-back s t vci m F C x (h .0 .0) (h .0 .1) (h .0 .2) (h .0 .3) (h .1 .0) (h .1 .1) (h .1 .2) (h .1 .3)
     line-by (VX vci) n t f h = ap (λ (x : Bool). line x (lineOf s (VX vci) ++ t)) (ne-eqb at 0 (λ z. omega (arith, z, f .2))) ∙ close-back s t vci h
+    line-by (PO vpi m F C) n t f h =
+        ap (λ (x : Bool). line x (lineOf s (PO vpi m F C) ++ t)) (ne-eqb at 0 (λ z. omega (arith, z, f .2))) ∙ path-back s t vpi m F C (h .0) (h .1) (h .2) (h .3)
+    line-by (PX vpi) n t f h = ap (λ (x : Bool). line x (lineOf s (PX vpi) ++ t)) (ne-eqb at 0 (λ z. omega (arith, z, f .2))) ∙ path-close-back s t vpi h
     line-by (CA start) n t f h =
         let w : start + octets ≤ length s = omega (arith, f .0, f .1, f .2 .1) in
         ap (λ (x : Bool). line x (lineOf s (CA start) ++ t)) (ne-eqb at 0 (λ z. omega (arith, z, f .2 .0)))

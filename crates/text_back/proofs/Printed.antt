@@ -10,7 +10,7 @@ use lib.ListN.{length, getD, take, drop, length-append, length-drop}
 use lib.Seq.{drop-drop, drop-append-seam, take-at}
 use Rattle.meaning.specs.Plain.{next, if_then_else_, _<?_, _≤?_, _=?_}
 use Rattle.list_lines.specs.Text.{line as Text·line}
-use Rattle.trace_record.specs.Trace.{TraceRecord, GM, VO, VX, CA, SL, VS, Stands, event, finish, refusal, standsAt}
+use Rattle.trace_record.specs.Trace.{TraceRecord, GM, VO, VX, CA, SL, VS, PO, PX, Stands, event, finish, refusal, standsAt}
 use Rattle.trace_record.specs.Fits.{Fits, stands-fits}
 use Rattle.text_meaning.specs.Events.{Event, octetsAll, merge, eventOf}
 use Rattle.text_meaning.specs.Grammar.{tells, line}
@@ -18,7 +18,7 @@ use Rattle.text_meaning.specs.Writing.{placed, behind, lineAt, Said, good, bad,
 use Rattle.text_trip.specs.Settled.{Settled}
 use Rattle.text_trip.specs.Reading.{readAt, readFrom, read}
 use Rattle.text_trip.proofs.Trip.{trip}
-use Rattle.text_print.specs.Print.{lineOf, textFrom, textOf}
+use Rattle.text_print.specs.Print.{openingLine, closingLine, lineOf, textFrom, textOf}
 use Rattle.text_print.specs.Fill.{NoRecord}
 use Rattle.text_print.proofs.Whole.{text-step, text-over}
 use Rattle.text_print.proofs.Within.{read-within}
@@ -85,11 +85,13 @@ module _ (s : List ℕ) (b : (i : ℕ) → getD s i 0 < 256) where
 
   -- a line has octets
   line-some : (r : TraceRecord) → 0 < length (lineOf s r)
-  unfolding lineOf Text·line
-  line-some (GM N z raw) = omega arith
+  unfolding lineOf openingLine closingLine Text·line
+  line-some (GM N z head) = omega arith
   line-some (VO vci m F C) = omega arith
   line-some (VX vci) = omega arith
   line-some (VS vci m F C x) = omega arith
+  line-some (PO vpi m F C) = omega arith
+  line-some (PX vpi) = omega arith
   line-some (CA start) = omega arith
   line-some (SL count) = omega arith
 

@@ -16,7 +16,7 @@ use Rattle.list_lines.specs.Put.{puts, Put}
 use Rattle.list_lines.proofs.Puts.{put-whole}
 use Rattle.text_meaning.specs.Events.{Event, told, pause, full, slOf, octetsOf, octetsAll, join, merge, eventOf}
 use Rattle.text_meaning.specs.Writing.{Said, good, bad, onto}
-use Rattle.text_record.specs.Record.{Given, GM, VO, VX, CA, SL, VS, recordOctets, givenEvent, allowedAt, recordAt}
+use Rattle.text_record.specs.Record.{Given, GM, VO, VX, CA, SL, VS, PO, PX, recordOctets, givenEvent, allowedAt, recordAt}
 use Rattle.text_record.specs.Back.{Reads}
 use Rattle.text_record.proofs.Top.{put-reads}
 use Rattle.text_trip.specs.Reading.{readAt, readFrom, read}
@@ -45,10 +45,12 @@ Singles [] = 0 ≤ 0
 Singles (e ∷ es) = Single 1 e × Singles es
 
 told-octets : (o : List ℕ) (r : Given) → givenEvent r ≡ told o → o ≡ recordOctets r
-told-octets o (GM N z raw) e = cc
+told-octets o (GM N z head) e = cc
 told-octets o (VO vci m F C) e = cc
 told-octets o (VX vci) e = cc
 told-octets o (VS vci m F C x) e = cc
+told-octets o (PO vpi m F C) e = cc
+told-octets o (PX vpi) e = cc
 told-octets o (CA cell) e = cc
 told-octets o (SL count) e = let z : _≡_ {A = ℕ} 0 1 = cc in absurd (omega arith)
 
@@ -66,10 +68,12 @@ unfolding allowedAt
 pause-later n s = go (s .given) (s .says) (s .allowed)
   where
     go : (r : Given) → givenEvent r ≡ pause n → allowedAt 0 r ≡ true → ⊥
-    go (GM N z raw) e a = let y : _≡_ {A = ℕ} 0 1 = cc in omega arith
+    go (GM N z head) e a = let y : _≡_ {A = ℕ} 0 1 = cc in omega arith
     go (VO vci m F C) e a = never a
     go (VX vci) e a = never a
     go (VS vci m F C x) e a = never a
+    go (PO vpi m F C) e a = never a
+    go (PX vpi) e a = never a
     go (CA cell) e a = never a
     go (SL count) e a = never a
 
@@ -78,10 +82,12 @@ unfolding allowedAt
 pause-some n s = go (s .given) (s .says) (s .allowed)
   where
     go : (r : Given) → givenEvent r ≡ pause n → allowedAt 1 r ≡ true → 0 < n
-    go (GM N z raw) e a = never a
+    go (GM N z head) e a = never a
     go (VO vci m F C) e a = let y : _≡_ {A = ℕ} 0 1 = cc in absurd (omega arith)
     go (VX vci) e a = let y : _≡_ {A = ℕ} 0 1 = cc in absurd (omega arith)
     go (VS vci m F C x) e a = let y : _≡_ {A = ℕ} 0 1 = cc in absurd (omega arith)
+    go (PO vpi m F C) e a = let y : _≡_ {A = ℕ} 0 1 = cc in absurd (omega arith)
+    go (PX vpi) e a = let y : _≡_ {A = ℕ} 0 1 = cc in absurd (omega arith)
     go (CA cell) e a = let y : _≡_ {A = ℕ} 0 1 = cc in absurd (omega arith)
     go (SL count) e a = let y : count ≡ n = cc in let l = leb-true 1 count a in omega arith
 
@@ -128,19 +134,23 @@ merge-later (pause n ∷ es) h = join-later n (merge es) (pause-some n (h .0)) (
 -- a record that is read at one later place is read at any
 any-later : (at : ℕ) (r : Given) → 0 < at → allowedAt 1 r ≡ true → allowedAt at r ≡ true
 unfolding allowedAt
-any-later at (GM N z raw) h a = never a
+any-later at (GM N z head) h a = never a
 any-later at (VO vci m F C) h a = le-leb 1 at h
 any-later at (VX vci) h a = le-leb 1 at h
 any-later at (VS vci m F C x) h a = le-leb 1 at h
+any-later at (PO vpi m F C) h a = le-leb 1 at h
+any-later at (PX vpi) h a = le-leb 1 at h
 any-later at (CA cell) h a = simp (le-leb 1 at h) a
 any-later at (SL count) h a = simp (le-leb 1 at h) a
 
 some-octets : (r : Given) → 0 < length (recordOctets r)
 unfolding recordOctets
-some-octets (GM N z raw) = omega arith
+some-octets (GM N z head) = omega arith
 some-octets (VO vci m F C) = omega arith
 some-octets (VX vci) = omega arith
 some-octets (VS vci m F C x) = omega arith
+some-octets (PO vpi m F C) = omega arith
+some-octets (PX vpi) = omega arith
 some-octets (CA cell) = omega arith
 some-octets (SL count) = omega arith
 

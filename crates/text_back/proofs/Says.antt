@@ -11,12 +11,14 @@ use Rattle.meaning.specs.Plain.{Out, refused, next, _andThen_, if_then_else_, _
 use Rattle.meaning.specs.Numbers.{octets}
 use Rattle.list_lines.specs.Text.{space, lineFeed}
 use Rattle.meaning.specs.Words.{secondOf}
-use Rattle.trace_record.specs.Trace.{markGM, markGR, markVO, markVX, markCA, markSL, markVS}
+use Rattle.trace_record.specs.declared.Head.{Head}
+use Rattle.trace_record.specs.declared.Head.the-variants.{Gm, Gr, Gn}
+use Rattle.trace_record.specs.Trace.{headMark, markGM, markGR, markGN, markVO, markVX, markCA, markSL, markVS, markPO, markPX}
 use Rattle.text_meaning.specs.Shapes.{Field, n8, n16, n32, cell, top, of16, ofField, Shape, fields, slots, find, rowsOf}
 use Rattle.text_meaning.specs.Events.{Event, told, pause}
 use Rattle.text_meaning.specs.Grammar.{Number, number-of, Part, part, Told, tells, expect, digitOf, digits, within, number, nibbleOf, hexes}
 use Rattle.text_meaning.specs.Grammar.{fieldAt, fieldsAt, slotsAt, shapedLine, line}
-use Rattle.text_record.specs.Record.{GM, VO, VX, CA, SL, VS, recordOctets, allowedAt}
+use Rattle.text_record.specs.Record.{GM, VO, VX, CA, SL, VS, PO, PX, recordOctets, allowedAt}
 use Rattle.text_back.specs.Back.{Sayable}
 
 -- whatever was found is so
@@ -149,14 +151,18 @@ record Says (first : Bool) (s : List ℕ) (t : Told) : Type 0 where
   pub left : Left s (t .rest)
 
 module _ (s : List ℕ) where
-  setup-said : (m : ℕ) (raw : Bool) → (if raw then markGR else markGM) ≡ m → (d : List ℕ) → Filled (n16 ∷ n16 ∷ []) (of16 m) d → Sayable 0 (told d)
+  setup-said : (m : ℕ) (head : Head) → headMark head ≡ m → (d : List ℕ) → Filled (n16 ∷ n16 ∷ []) (of16 m) d → Sayable 0 (told d)
   unfolding allowedAt recordOctets
-  setup-said m raw e d (with16 N (with16 z end)) =
-      record { given = GM N z raw; says = ap (λ (k : ℕ). told (of16 k ++ (of16 N ++ of16 z))) e; allowed = refl }
+  setup-said m head e d (with16 N (with16 z end)) =
+      record { given = GM N z head; says = ap (λ (k : ℕ). told (of16 k ++ (of16 N ++ of16 z))) e; allowed = refl }
 
   open-said : (d : List ℕ) → Filled (n16 ∷ n8 ∷ n32 ∷ n32 ∷ []) (of16 markVO) d → Sayable 1 (told d)
   unfolding allowedAt recordOctets
   open-said d (with16 v (with8 m (with32 F (with32 C end)))) = record { given = VO v m F C; says = refl; allowed = refl }
+
+  path-said : (d : List ℕ) → Filled (n16 ∷ n8 ∷ n32 ∷ n32 ∷ []) (of16 markPO) d → Sayable 1 (told d)
+  unfolding allowedAt recordOctets
+  path-said d (with16 v (with8 m (with32 F (with32 C end)))) = record { given = PO v m F C; says = refl; allowed = refl }
 
   sustain-said : (d : List ℕ) → Filled (n16 ∷ n8 ∷ n32 ∷ n32 ∷ n8 ∷ n32 ∷ n32 ∷ n8 ∷ []) (of16 markVS) d → Sayable 1 (told d)
   unfolding allowedAt recordOctets
@@ -166,6 +172,10 @@ module _ (s : List ℕ) where
   close-said : (d : List ℕ) → Filled (n16 ∷ []) (of16 markVX) d → Sayable 1 (told d)
   unfolding allowedAt recordOctets
   close-said d (with16 v end) = record { given = VX v; says = refl; allowed = refl }
+
+  path-close-said : (d : List ℕ) → Filled (n16 ∷ []) (of16 markPX) d → Sayable 1 (told d)
+  unfolding allowedAt recordOctets
+  path-close-said d (with16 v end) = record { given = PX v; says = refl; allowed = refl }
 
   cell-said : (d : List ℕ) → Filled (cell ∷ []) (of16 markCA) d → Sayable 1 (told d)
   unfolding allowedAt recordOctets
@@ -200,8 +210,9 @@ module _ (s : List ℕ) where
   unfolding find shapedLine
   marked-said true m =
       let P : Out Shape → Type 0 = λ x. Holds (Says true s) (shapedLine m x s) in
-      choose P (m =? markGM) (λ t. shaped-said true m (n16 ∷ n16 ∷ []) (setup-said m false (sym (eqb-true m markGM t))))
-      (λ _. choose P (m =? markGR) (λ t. shaped-said true m (n16 ∷ n16 ∷ []) (setup-said m true (sym (eqb-true m markGR t)))) (λ _. omega arith))
+      choose P (m =? markGM) (λ t. shaped-said true m (n16 ∷ n16 ∷ []) (setup-said m Gm (sym (eqb-true m markGM t))))
+      (λ _. choose P (m =? markGR) (λ t. shaped-said true m (n16 ∷ n16 ∷ []) (setup-said m Gr (sym (eqb-true m markGR t))))
+      (λ _. choose P (m =? markGN) (λ t. shaped-said true m (n16 ∷ n16 ∷ []) (setup-said m Gn (sym (eqb-true m markGN t)))) (λ _. omega arith)))
   marked-said false m =
       let P : Out Shape → Type 0 = λ x. Holds (Says false s) (shapedLine m x s) in
       let at : (k : ℕ) (fs : List Field) → m ≡ k → ((d : List ℕ) → Filled fs (of16 k) d → Sayable 1 (told d)) → P (next (fields fs)) =
@@ -210,7 +221,9 @@ module _ (s : List ℕ) where
       (λ _. choose P (m =? markSL) (λ _. slots-said)
       (λ _. choose P (m =? markVO) (λ t. at markVO (n16 ∷ n8 ∷ n32 ∷ n32 ∷ []) (eqb-true m markVO t) open-said)
       (λ _. choose P (m =? markVX) (λ t. at markVX (n16 ∷ []) (eqb-true m markVX t) close-said)
-      (λ _. choose P (m =? markVS) (λ t. at markVS (n16 ∷ n8 ∷ n32 ∷ n32 ∷ n8 ∷ n32 ∷ n32 ∷ n8 ∷ []) (eqb-true m markVS t) sustain-said) (λ _. omega arith)))))
+      (λ _. choose P (m =? markVS) (λ t. at markVS (n16 ∷ n8 ∷ n32 ∷ n32 ∷ n8 ∷ n32 ∷ n32 ∷ n8 ∷ []) (eqb-true m markVS t) sustain-said)
+      (λ _. choose P (m =? markPO) (λ t. at markPO (n16 ∷ n8 ∷ n32 ∷ n32 ∷ []) (eqb-true m markPO t) path-said)
+      (λ _. choose P (m =? markPX) (λ t. at markPX (n16 ∷ []) (eqb-true m markPX t) path-close-said) (λ _. omega arith)))))))
 
 -- of what a line was read from, two octets at least are gone
 pub record LineSays (first : Bool) (s : List ℕ) (t : Told) : Type 0 where

@@ -3,7 +3,7 @@
 --
 --   Sayable at e      == e is what some record says that the reader reads at place at
 --   Later es          == events that never stand first
---   Begun es          == events of which the first sets up, as GM and GR do, and no other
+--   Begun es          == events of which the first sets up, as GM, GR and GN do, and no other
 --   ReadBack es       == of events es, merged and written: what the reader reads in those octets
 --   WrittenBack t o   == of a text t, written into the output o: what the reader reads in the octets that were written
 use Prim.Native.Nat.{ℕ, _≤_}

@@ -1,56 +1,29 @@
 -- The shapes of marks and the fields of a shape's number, case by case.
-use Prim.Native.Nat.{ℕ, zero, suc, _+_, _-_, _*_, _/_, _%_, _≤_, _<_}
-use mathlib.Core.Path.{_≡_, refl, sym, ap, _∙_}
+use Prim.Native.Nat.{ℕ, zero, suc, _+_, _-_, _/_, _%_, _<_}
+use mathlib.Core.Path.{_≡_, refl, ap}
 use mathlib.Core.Bool.{Bool, true, false}
-use mathlib.Core.List.{List, [], _∷_, _++_}
+use mathlib.Core.List.{List, [], _∷_}
 use native.Mathlib.Omega.{arith}
 use borrow.Author.Tests.{eq-eqb, ne-eqb}
-use Rattle.meaning.specs.Plain.{Out, refused, next}
-use Rattle.trace_record.specs.Trace.{markGM, markGR, markVO, markVX, markCA, markSL, markVS}
-use Rattle.text_meaning.specs.Shapes.{Field, n8, n16, n32, cell, wide, Shape, fields, slots, find, shapeOf}
+use Rattle.meaning.specs.Plain.{refused}
+use Rattle.trace_record.specs.Trace.{markGM, markGR, markGN, markVO, markVX, markCA, markSL, markVS, markPO, markPX}
+use Rattle.text_meaning.specs.Shapes.{Field, n8, n16, n32, cell, wide, find, shapeOf}
 use Rattle.text_line.specs.Found.{fieldNamed, decode, span}
 
-module _ (b : Bool) (m : ℕ) (f : b ≡ true) where
-  pub head-gm : m ≡ markGM → next (fields (n16 ∷ n16 ∷ [])) ≡ shapeOf b m
-  unfolding find
-  head-gm h = simp (f, eq-eqb m markGM h)
+-- the row of a mark
+pub row-is : {b c : Bool} {m k : ℕ} → b ≡ c → m ≡ k → shapeOf c k ≡ shapeOf b m
+row-is f h = rw (f, h)
 
-  pub head-gr : (m ≡ markGM → ⊥) → m ≡ markGR → next (fields (n16 ∷ n16 ∷ [])) ≡ shapeOf b m
-  unfolding find
-  head-gr n h = simp (f, ne-eqb m markGM n, eq-eqb m markGR h)
+pub head-no : (b : Bool) (m : ℕ) → b ≡ true → (m ≡ markGM → ⊥) → (m ≡ markGR → ⊥) → (m ≡ markGN → ⊥) → refused ≡ shapeOf b m
+unfolding find
+head-no b m f gm gr gn = simp (f, ne-eqb m markGM gm, ne-eqb m markGR gr, ne-eqb m markGN gn)
 
-  pub head-no : (m ≡ markGM → ⊥) → (m ≡ markGR → ⊥) → refused ≡ shapeOf b m
-  unfolding find
-  head-no n k = simp (f, ne-eqb m markGM n, ne-eqb m markGR k)
-
-module _ (b : Bool) (m : ℕ) (f : b ≡ false) where
-  pub later-ca : m ≡ markCA → next (fields (cell ∷ [])) ≡ shapeOf b m
-  unfolding find
-  later-ca h = simp (f, eq-eqb m markCA h)
-
-  module _ (ca : m ≡ markCA → ⊥) where
-    pub later-sl : m ≡ markSL → next slots ≡ shapeOf b m
-    unfolding find
-    later-sl h = simp (f, ne-eqb m markCA ca, eq-eqb m markSL h)
-
-    module _ (sl : m ≡ markSL → ⊥) where
-      pub later-vo : m ≡ markVO → next (fields (n16 ∷ n8 ∷ n32 ∷ n32 ∷ [])) ≡ shapeOf b m
-      unfolding find
-      later-vo h = simp (f, ne-eqb m markCA ca, ne-eqb m markSL sl, eq-eqb m markVO h)
-
-      module _ (vo : m ≡ markVO → ⊥) where
-        pub later-vx : m ≡ markVX → next (fields (n16 ∷ [])) ≡ shapeOf b m
-        unfolding find
-        later-vx h = simp (f, ne-eqb m markCA ca, ne-eqb m markSL sl, ne-eqb m markVO vo, eq-eqb m markVX h)
-
-        module _ (vx : m ≡ markVX → ⊥) where
-          pub later-vs : m ≡ markVS → next (fields (n16 ∷ n8 ∷ n32 ∷ n32 ∷ n8 ∷ n32 ∷ n32 ∷ n8 ∷ [])) ≡ shapeOf b m
-          unfolding find
-          later-vs h = simp (f, ne-eqb m markCA ca, ne-eqb m markSL sl, ne-eqb m markVO vo, ne-eqb m markVX vx, eq-eqb m markVS h)
-
-          pub later-no : (m ≡ markVS → ⊥) → refused ≡ shapeOf b m
-          unfolding find
-          later-no vs = simp (f, ne-eqb m markCA ca, ne-eqb m markSL sl, ne-eqb m markVO vo, ne-eqb m markVX vx, ne-eqb m markVS vs)
+pub later-no : (b : Bool) (m : ℕ) → b ≡ false → (m ≡ markCA → ⊥) → (m ≡ markSL → ⊥) → (m ≡ markVO → ⊥) → (m ≡ markVX → ⊥) → (m ≡ markVS → ⊥)
+    → (m ≡ markPO → ⊥) → (m ≡ markPX → ⊥) → refused ≡ shapeOf b m
+unfolding find
+later-no b m f ca sl vo vx vs po px =
+    simp
+    (f, ne-eqb m markCA ca, ne-eqb m markSL sl, ne-eqb m markVO vo, ne-eqb m markVX vx, ne-eqb m markVS vs, ne-eqb m markPO po, ne-eqb m markPX px)
 
 module _ (k : ℕ) where
   pub kind-8 : k ≡ 1 → fieldNamed k ≡ n8

@@ -36,11 +36,17 @@ const GM: u16 = 0x474d;
 
 const GR: u16 = 0x4752;
 
+const GN: u16 = 0x474e;
+
 const VO: u16 = 0x564f;
 
 const VS: u16 = 0x5653;
 
 const VX: u16 = 0x5658;
+
+const PO: u16 = 0x504f;
+
+const PX: u16 = 0x5058;
 
 const CA: u16 = 0x4341;
 
@@ -359,7 +365,7 @@ fn slots(text: &[u8], p: usize) -> Value
     }
 }
 
-// The shape of a mark: GM and GR first and only first.
+// The shape of a mark: GM, GR and GN first and only first.
 fn shape_of(first: bool, mark: u16) -> u64
     ensures { λ r. ⌜ (shapeNamed r ≡ shapeOf first mark) × (span (decode (r % 16) (r / 16)) ≤ 53) ⌝ }
 {
@@ -368,6 +374,9 @@ fn shape_of(first: bool, mark: u16) -> u64
             return TWO_NUMBERS;
         }
         if mark == GR {
+            return TWO_NUMBERS;
+        }
+        if mark == GN {
             return TWO_NUMBERS;
         }
         return 0;
@@ -386,6 +395,12 @@ fn shape_of(first: bool, mark: u16) -> u64
     }
     if mark == VS {
         return SUSTAINED;
+    }
+    if mark == PO {
+        return OPENING;
+    }
+    if mark == PX {
+        return CLOSING;
     }
     0
 }

@@ -6,12 +6,11 @@
 --   octetsAll es     == the octets of events, one after the other
 --   eventOf trace r  == the event of a record that the reader found in a trace
 use Prim.Native.Nat.{ℕ, zero, suc, _+_, _/_, _%_}
-use mathlib.Core.Bool.{Bool}
 use mathlib.Core.List.{List, [], _∷_, _++_}
 use lib.ListN.{take, drop}
 use Rattle.meaning.specs.Plain.{if_then_else_, _=?_}
 use Rattle.meaning.specs.Numbers.{octets}
-use Rattle.trace_record.specs.Trace.{TraceRecord, GM, VO, VX, CA, SL, VS, markGM, markGR, markVO, markVX, markCA, markSL, markVS}
+use Rattle.trace_record.specs.Trace.{TraceRecord, GM, VO, VX, CA, SL, VS, PO, PX, headMark, markVO, markVX, markCA, markSL, markVS, markPO, markPX}
 use Rattle.text_meaning.specs.Shapes.{of16, of32}
 
 pub data Event : Type 0 where
@@ -54,11 +53,20 @@ merge [] = []
 merge (told o ∷ es) = told o ∷ merge es
 merge (pause n ∷ es) = join n (merge es)
 
+-- an opening and a closing, by mark: PO and PX are VO and VX with the VPI
+abbrev pub openingOf : (mark c m F C : ℕ) → List ℕ
+openingOf mark c m F C = of16 mark ++ (of16 c ++ (m ∷ (of32 F ++ of32 C)))
+
+abbrev pub closingOf : (mark c : ℕ) → List ℕ
+closingOf mark c = of16 mark ++ of16 c
+
 -- A record found by the reader, by its own numbers, so that a VS with zeros stays a VS; a CA by the 53 octets that stand in the trace where it says.
 unfoldable pub eventOf : List ℕ → TraceRecord → Event
-eventOf trace (GM N z raw) = told (of16 (if raw then markGR else markGM) ++ (of16 N ++ of16 z))
-eventOf trace (VO vci m F C) = told (of16 markVO ++ (of16 vci ++ (m ∷ (of32 F ++ of32 C))))
-eventOf trace (VX vci) = told (of16 markVX ++ of16 vci)
+eventOf trace (GM N z head) = told (of16 (headMark head) ++ (of16 N ++ of16 z))
+eventOf trace (VO vci m F C) = told (openingOf markVO vci m F C)
+eventOf trace (VX vci) = told (closingOf markVX vci)
 eventOf trace (CA start) = told (of16 markCA ++ take octets (drop start trace))
 eventOf trace (SL count) = pause count
 eventOf trace (VS vci m F C x) = told (of16 markVS ++ (of16 vci ++ (m ∷ (of32 F ++ (of32 C ++ (x .m ∷ (of32 (x .F) ++ (of32 (x .C) ++ (x .tag ∷ [])))))))))
+eventOf trace (PO vpi m F C) = told (openingOf markPO vpi m F C)
+eventOf trace (PX vpi) = told (closingOf markPX vpi)

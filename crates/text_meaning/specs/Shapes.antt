@@ -8,10 +8,10 @@
 --   shapeOf b m    == the shape of mark m, where b says whether it stands first; refused where there is none
 use Prim.Native.Nat.{ℕ, _+_, _/_, _%_}
 use mathlib.Core.Bool.{Bool, true, false}
-use mathlib.Core.List.{List, [], _∷_, _++_}
+use mathlib.Core.List.{List, [], _∷_, _++_, map}
 use Rattle.meaning.specs.Plain.{Out, refused, next, if_then_else_, _=?_}
 use Rattle.meaning.specs.Numbers.{octets}
-use Rattle.trace_record.specs.Trace.{markGM, markGR, markVO, markVX, markCA, markSL, markVS}
+use Rattle.trace_record.specs.Trace.{markGM, markGR, markGN, markVO, markVX, markCA, markSL, markVS, markPO, markPX}
 
 pub data Field : Type 0 where
   n8 : Field
@@ -57,19 +57,27 @@ pub record Row : Type 0 where
 abbrev row : ℕ → Shape → Row
 row m x = record { mark = m; shape = x }
 
--- "GM: N, V"; document 02 (i): "a trace beginning GR instead of GM is raw"
+-- "GM: N, V"; document 02 (i): "a trace beginning GR instead of GM is raw"; (vi): "GN in place of GM begins an NNI trace"
 abbrev pub heads : List Row
-heads = row markGM (fields (n16 ∷ n16 ∷ [])) ∷ row markGR (fields (n16 ∷ n16 ∷ [])) ∷ []
+heads = map (λ m. row m (fields (n16 ∷ n16 ∷ []))) (markGM ∷ markGR ∷ markGN ∷ [])
 
 -- "VO: VCI, m, F, C. VX: VCI. CA: 53 octets, one slot. SL: a count of empty slots"; document 02 (iv): "VS: as VO, then
--- m (8), F (32), C (32), flag (8)"
+-- m (8), F (32), C (32), flag (8)"; (vi): "PO and PX are VO and VX with the VPI"
+abbrev pub opening : Shape
+opening = fields (n16 ∷ n8 ∷ n32 ∷ n32 ∷ [])
+
+abbrev pub closing : Shape
+closing = fields (n16 ∷ [])
+
 abbrev pub laters : List Row
 laters =
     row markCA (fields (cell ∷ []))
     ∷ row markSL slots
-    ∷ row markVO (fields (n16 ∷ n8 ∷ n32 ∷ n32 ∷ []))
-    ∷ row markVX (fields (n16 ∷ []))
+    ∷ row markVO opening
+    ∷ row markVX closing
     ∷ row markVS (fields (n16 ∷ n8 ∷ n32 ∷ n32 ∷ n8 ∷ n32 ∷ n32 ∷ n8 ∷ []))
+    ∷ row markPO opening
+    ∷ row markPX closing
     ∷ []
 
 unfoldable pub find : ℕ → List Row → Out Shape

@@ -2,7 +2,7 @@
 -- read back and put behind the octets before it.
 use Prim.Native.Nat.{ℕ, _+_, _≤_, _<_}
 use mathlib.Core.Path.{_≡_, refl, sym, ap, _∙_}
-use mathlib.Core.Bool.{Bool, true, false}
+use mathlib.Core.Bool.{true, false}
 use mathlib.Core.List.{List, [], _∷_, _++_, append-assoc}
 use lib.ListN.{length, getD, take, drop}
 use native.Mathlib.Omega.{arith}
@@ -10,13 +10,15 @@ use borrow.Author.Tests.{ne-eqb}
 use Rattle.meaning.specs.Plain.{Out, refused, next, _andThen_, if_then_else_, _=?_}
 use Rattle.meaning.specs.Numbers.{octets}
 use Rattle.meaning.specs.Words.{Second}
-use Rattle.trace_record.specs.Trace.{GM, VO, VX, CA, SL, VS, markGM, markGR, markVO, markVX, markCA, markSL, markVS}
+use Rattle.trace_record.specs.declared.Head.{Head}
+use Rattle.trace_record.specs.declared.Head.the-variants.{Gm, Gr, Gn}
+use Rattle.trace_record.specs.Trace.{GM, VO, VX, CA, SL, VS, PO, PX, markGM, markGR, markGN, markVO, markVX, markCA, markSL, markVS, markPO, markPX}
 use Rattle.list_lines.specs.Text.{decimalOf}
 use Rattle.list_lines.specs.Text.{line as Text·line}
 use Rattle.text_meaning.specs.Shapes.{Field, n8, n16, n32, cell, of16, of32, find}
-use Rattle.text_meaning.specs.Events.{Event, told, pause, eventOf}
+use Rattle.text_meaning.specs.Events.{Event, told, pause, openingOf, closingOf, eventOf}
 use Rattle.text_meaning.specs.Grammar.{Number, number-of, Part, part, Told, tells, expect, digitOf, number, hexes, fieldAt, fieldsAt, slotsAt, shapedLine, line}
-use Rattle.text_print.specs.Print.{hexOf, lineOf}
+use Rattle.text_print.specs.Print.{hexOf, openingLine, closingLine, lineOf}
 use Rattle.text_print.proofs.Parse.{number-back, hexes-back}
 
 -- neither a space nor a line feed is a digit
@@ -57,11 +59,20 @@ abbrev toldBy : Out Part → Out Told
 toldBy x = x andThen λ p. next (tells (told (p .done)) (p .rest))
 
 module _ (trace s : List ℕ) where
+  closing-parts : (mark c : ℕ) → closingLine mark c ++ s ≡ of16 mark ++ (32 ∷ (decimalOf c ++ (10 ∷ s)))
+  unfolding closingLine Text·line
+  closing-parts mark c = simp append-assoc
+
+  closing-fields : (mark c : ℕ) → c ≤ 65_535 → fieldsAt (n16 ∷ []) (of16 mark) (32 ∷ (decimalOf c ++ (10 ∷ s))) ≡ next (part (closingOf mark c) s)
+  closing-fields mark c h = field16 [] (of16 mark) c 10 s feed-ends h ∙ fields-end (of16 mark ++ of16 c) s
+
   pub close-back : (vci : ℕ) → vci ≤ 65_535 → line false (lineOf trace (VX vci) ++ s) ≡ next (tells (eventOf trace (VX vci)) s)
-  unfolding lineOf Text·line line shapedLine find eventOf
-  close-back vci h =
-      ap (λ (t : List ℕ). line false (of16 markVX ++ (32 ∷ t))) (append-assoc (decimalOf vci) (10 ∷ []) s)
-      ∙ ap toldBy (field16 [] (of16 markVX) vci 10 s feed-ends h ∙ fields-end (of16 markVX ++ of16 vci) s)
+  unfolding lineOf line shapedLine find eventOf
+  close-back vci h = ap (line false) (closing-parts markVX vci) ∙ ap toldBy (closing-fields markVX vci h)
+
+  pub path-close-back : (vpi : ℕ) → vpi ≤ 65_535 → line false (lineOf trace (PX vpi) ++ s) ≡ next (tells (eventOf trace (PX vpi)) s)
+  unfolding lineOf line shapedLine find eventOf
+  path-close-back vpi h = ap (line false) (closing-parts markPX vpi) ∙ ap toldBy (closing-fields markPX vpi h)
 
   pub pause-back : (count : ℕ) → 1 ≤ count → count ≤ 65_535 → line false (lineOf trace (SL count) ++ s) ≡ next (tells (eventOf trace (SL count)) s)
   unfolding lineOf Text·line line shapedLine find eventOf slotsAt expect
@@ -80,28 +91,37 @@ module _ (trace s : List ℕ) where
       ∙ field16 [] (of16 m ++ of16 N) z 10 s feed-ends k
       ∙ fields-end (of16 m ++ (of16 N ++ of16 z)) s
 
-  pub setup-back : (N z : ℕ) (raw : Bool) → N ≤ 65_535 → z ≤ 65_535
-      → line true (lineOf trace (GM N z raw) ++ s) ≡ next (tells (eventOf trace (GM N z raw)) s)
+  pub setup-back : (N z : ℕ) (head : Head) → N ≤ 65_535 → z ≤ 65_535
+      → line true (lineOf trace (GM N z head) ++ s) ≡ next (tells (eventOf trace (GM N z head)) s)
   unfolding lineOf line shapedLine find eventOf
-  setup-back N z false h k = ap (line true) (setup-parts markGM N z) ∙ ap toldBy (setup-fields markGM N z h k)
-  setup-back N z true h k = ap (line true) (setup-parts markGR N z) ∙ ap toldBy (setup-fields markGR N z h k)
+  setup-back N z Gm h k = ap (line true) (setup-parts markGM N z) ∙ ap toldBy (setup-fields markGM N z h k)
+  setup-back N z Gr h k = ap (line true) (setup-parts markGR N z) ∙ ap toldBy (setup-fields markGR N z h k)
+  setup-back N z Gn h k = ap (line true) (setup-parts markGN N z) ∙ ap toldBy (setup-fields markGN N z h k)
 
-  open-parts : (vci m F C : ℕ) → Text·line (of16 markVO ∷ decimalOf vci ∷ decimalOf m ∷ decimalOf F ∷ decimalOf C ∷ []) ++ s
-      ≡ of16 markVO ++ (32 ∷ (decimalOf vci ++ (32 ∷ (decimalOf m ++ (32 ∷ (decimalOf F ++ (32 ∷ (decimalOf C ++ (10 ∷ s)))))))))
-  unfolding Text·line
-  open-parts vci m F C = simp append-assoc
+  opening-parts : (mark c m F C : ℕ) → openingLine mark c m F C ++ s
+      ≡ of16 mark ++ (32 ∷ (decimalOf c ++ (32 ∷ (decimalOf m ++ (32 ∷ (decimalOf F ++ (32 ∷ (decimalOf C ++ (10 ∷ s)))))))))
+  unfolding openingLine Text·line
+  opening-parts mark c m F C = simp append-assoc
+
+  opening-fields : (mark c m F C : ℕ) → c ≤ 65_535 → m ≤ 255 → F ≤ 4_294_967_295 → C ≤ 4_294_967_295
+      → fieldsAt (n16 ∷ n8 ∷ n32 ∷ n32 ∷ []) (of16 mark) (32 ∷ (decimalOf c ++ (32 ∷ (decimalOf m ++ (32 ∷ (decimalOf F ++ (32 ∷ (decimalOf C ++ (10 ∷ s)))))))))
+      ≡ next (part (openingOf mark c m F C) s)
+  opening-fields mark c m F C hv hm hf hc =
+      field16 (n8 ∷ n32 ∷ n32 ∷ []) (of16 mark) c 32 (decimalOf m ++ (32 ∷ (decimalOf F ++ (32 ∷ (decimalOf C ++ (10 ∷ s)))))) space-ends hv
+      ∙ field8 (n32 ∷ n32 ∷ []) (of16 mark ++ of16 c) m 32 (decimalOf F ++ (32 ∷ (decimalOf C ++ (10 ∷ s)))) space-ends hm
+      ∙ field32 (n32 ∷ []) (of16 mark ++ (of16 c ++ (m ∷ []))) F 32 (decimalOf C ++ (10 ∷ s)) space-ends hf
+      ∙ field32 [] (of16 mark ++ (of16 c ++ (m ∷ of32 F))) C 10 s feed-ends hc
+      ∙ fields-end (openingOf mark c m F C) s
 
   pub open-back : (vci m F C : ℕ) → vci ≤ 65_535 → m ≤ 255 → F ≤ 4_294_967_295 → C ≤ 4_294_967_295
       → line false (lineOf trace (VO vci m F C) ++ s) ≡ next (tells (eventOf trace (VO vci m F C)) s)
   unfolding lineOf line shapedLine find eventOf
-  open-back vci m F C hv hm hf hc =
-      ap (line false) (open-parts vci m F C)
-      ∙ ap toldBy
-      (field16 (n8 ∷ n32 ∷ n32 ∷ []) (of16 markVO) vci 32 (decimalOf m ++ (32 ∷ (decimalOf F ++ (32 ∷ (decimalOf C ++ (10 ∷ s)))))) space-ends hv
-      ∙ field8 (n32 ∷ n32 ∷ []) (of16 markVO ++ of16 vci) m 32 (decimalOf F ++ (32 ∷ (decimalOf C ++ (10 ∷ s)))) space-ends hm
-      ∙ field32 (n32 ∷ []) (of16 markVO ++ (of16 vci ++ (m ∷ []))) F 32 (decimalOf C ++ (10 ∷ s)) space-ends hf
-      ∙ field32 [] (of16 markVO ++ (of16 vci ++ (m ∷ of32 F))) C 10 s feed-ends hc
-      ∙ fields-end (of16 markVO ++ (of16 vci ++ (m ∷ (of32 F ++ of32 C)))) s)
+  open-back vci m F C hv hm hf hc = ap (line false) (opening-parts markVO vci m F C) ∙ ap toldBy (opening-fields markVO vci m F C hv hm hf hc)
+
+  pub path-back : (vpi m F C : ℕ) → vpi ≤ 65_535 → m ≤ 255 → F ≤ 4_294_967_295 → C ≤ 4_294_967_295
+      → line false (lineOf trace (PO vpi m F C) ++ s) ≡ next (tells (eventOf trace (PO vpi m F C)) s)
+  unfolding lineOf line shapedLine find eventOf
+  path-back vpi m F C hv hm hf hc = ap (line false) (opening-parts markPO vpi m F C) ∙ ap toldBy (opening-fields markPO vpi m F C hv hm hf hc)
 
   -- a VS: the fields of a VO, then those of the second bucket and the flag
   abbrev behind : Second → List ℕ

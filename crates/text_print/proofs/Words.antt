@@ -1,6 +1,5 @@
 -- Each line part by part, in the order in which the functions put the parts; and hex digits, octet after octet.
 use mathlib.Core.Path.{_≡_, refl, sym, ap, _∙_}
-use mathlib.Core.Bool.{Bool}
 use mathlib.Core.List.{List, [], _∷_, _++_, append-assoc}
 use Prim.Native.Nat.{ℕ, _+_, _/_, _%_, _<_}
 use native.Mathlib.Numerals.{add-one}
@@ -11,20 +10,21 @@ use Rattle.list_lines.specs.Put.{Put}
 use Rattle.list_lines.proofs.Puts.{put-is}
 use Rattle.meaning.specs.Numbers.{octets}
 use Rattle.meaning.specs.Words.{Second}
-use Rattle.trace_record.specs.Trace.{GM, VO, VX, CA, SL, VS, markVO, markVX, markCA, markSL, markVS}
+use Rattle.trace_record.specs.declared.Head.{Head}
+use Rattle.trace_record.specs.Trace.{GM, CA, SL, VS, headMark, markCA, markSL, markVS}
 use Rattle.list_lines.specs.Text.{decimalOf, line}
 use Rattle.text_meaning.specs.Shapes.{of16}
-use Rattle.text_print.specs.Print.{hexDigit, hexPair, hexOf, setupMark, lineOf}
+use Rattle.text_print.specs.Print.{hexDigit, hexPair, hexOf, openingLine, closingLine, lineOf}
 
-pub setup-words : (trace : List ℕ) (n v : ℕ) (raw : Bool) (mark : ℕ) → mark ≡ setupMark raw
-    → lineOf trace (GM n v raw) ≡ ((of16 mark ++ (32 ∷ [])) ++ (decimalOf n ++ (32 ∷ []))) ++ (decimalOf v ++ (10 ∷ []))
+pub setup-words : (trace : List ℕ) (n v : ℕ) (head : Head) (mark : ℕ) → mark ≡ headMark head
+    → lineOf trace (GM n v head) ≡ ((of16 mark ++ (32 ∷ [])) ++ (decimalOf n ++ (32 ∷ []))) ++ (decimalOf v ++ (10 ∷ []))
 unfolding lineOf line
-setup-words trace n v raw mark e = rw e (simp append-assoc)
+setup-words trace n v head mark e = rw e (simp append-assoc)
 
-pub open-words : (trace : List ℕ) (vci m F C : ℕ)
-    → lineOf trace (VO vci m F C) ≡ ((((of16 markVO ++ (32 ∷ [])) ++ (decimalOf vci ++ (32 ∷ []))) ++ (decimalOf m ++ (32 ∷ []))) ++ (decimalOf F ++ (32 ∷ []))) ++ (decimalOf C ++ (10 ∷ []))
-unfolding lineOf line
-open-words trace vci m F C = simp append-assoc
+pub open-words : (mark c m F C : ℕ)
+    → openingLine mark c m F C ≡ ((((of16 mark ++ (32 ∷ [])) ++ (decimalOf c ++ (32 ∷ []))) ++ (decimalOf m ++ (32 ∷ []))) ++ (decimalOf F ++ (32 ∷ []))) ++ (decimalOf C ++ (10 ∷ []))
+unfolding openingLine line
+open-words mark c m F C = simp append-assoc
 
 pub sustain-words : (trace : List ℕ) (vci m F C : ℕ) (x : Second)
     → lineOf trace (VS vci m F C x) ≡ ((((((((of16 markVS ++ (32 ∷ [])) ++ (decimalOf vci ++ (32 ∷ []))) ++ (decimalOf m ++ (32 ∷ []))) ++ (decimalOf F ++ (32 ∷ []))) ++ (decimalOf C ++ (32 ∷ [])))
@@ -32,9 +32,9 @@ pub sustain-words : (trace : List ℕ) (vci m F C : ℕ) (x : Second)
 unfolding lineOf line
 sustain-words trace vci m F C x = simp append-assoc
 
-pub close-words : (trace : List ℕ) (vci : ℕ) → lineOf trace (VX vci) ≡ (of16 markVX ++ (32 ∷ [])) ++ (decimalOf vci ++ (10 ∷ []))
-unfolding lineOf line
-close-words trace vci = refl
+pub close-words : (mark c : ℕ) → closingLine mark c ≡ (of16 mark ++ (32 ∷ [])) ++ (decimalOf c ++ (10 ∷ []))
+unfolding closingLine line
+close-words mark c = refl
 
 pub pause-words : (trace : List ℕ) (count : ℕ) → lineOf trace (SL count) ≡ (of16 markSL ++ (32 ∷ [])) ++ (decimalOf count ++ (10 ∷ []))
 unfolding lineOf line

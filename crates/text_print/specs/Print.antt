@@ -6,13 +6,12 @@
 --   lineOf trace r     == the line of a record that the reader found in a trace
 --   textOf trace       == the lines of all records, up to the end or to the first that can't be read
 use Prim.Native.Nat.{ℕ, zero, suc, _+_, _/_, _%_, _≤_}
-use mathlib.Core.Bool.{Bool}
 use mathlib.Core.List.{List, [], _∷_, _++_}
 use lib.ListN.{length, take, drop}
 use Rattle.meaning.specs.Plain.{if_then_else_, _<?_}
 use Rattle.meaning.specs.Numbers.{octets}
-use Rattle.trace_record.specs.Trace.{TraceRecord, GM, VO, VX, CA, SL, VS, Stands, event, finish, refusal, standsAt}
-use Rattle.trace_record.specs.Trace.{markGM, markGR, markVO, markVX, markCA, markSL, markVS}
+use Rattle.trace_record.specs.Trace.{TraceRecord, GM, VO, VX, CA, SL, VS, PO, PX, Stands, event, finish, refusal, standsAt}
+use Rattle.trace_record.specs.Trace.{headMark, markVO, markVX, markCA, markSL, markVS, markPO, markPX}
 use Rattle.list_lines.specs.Text.{decimalOf, line}
 use Rattle.text_meaning.specs.Shapes.{of16}
 
@@ -27,13 +26,19 @@ unfoldable pub hexOf : List ℕ → List ℕ
 hexOf [] = []
 hexOf (x ∷ xs) = hexPair x ++ hexOf xs
 
-abbrev pub setupMark : Bool → ℕ
-setupMark raw = if raw then markGR else markGM
+-- an opening and a closing, by mark: PO and PX are VO and VX with the VPI
+unfoldable pub openingLine : (mark c m F C : ℕ) → List ℕ
+openingLine mark c m F C = line (of16 mark ∷ decimalOf c ∷ decimalOf m ∷ decimalOf F ∷ decimalOf C ∷ [])
+
+unfoldable pub closingLine : (mark c : ℕ) → List ℕ
+closingLine mark c = line (of16 mark ∷ decimalOf c ∷ [])
 
 unfoldable pub lineOf : List ℕ → TraceRecord → List ℕ
-lineOf trace (GM N z raw) = line (of16 (setupMark raw) ∷ decimalOf N ∷ decimalOf z ∷ [])
-lineOf trace (VO vci m F C) = line (of16 markVO ∷ decimalOf vci ∷ decimalOf m ∷ decimalOf F ∷ decimalOf C ∷ [])
-lineOf trace (VX vci) = line (of16 markVX ∷ decimalOf vci ∷ [])
+lineOf trace (GM N z head) = line (of16 (headMark head) ∷ decimalOf N ∷ decimalOf z ∷ [])
+lineOf trace (VO vci m F C) = openingLine markVO vci m F C
+lineOf trace (VX vci) = closingLine markVX vci
+lineOf trace (PO vpi m F C) = openingLine markPO vpi m F C
+lineOf trace (PX vpi) = closingLine markPX vpi
 lineOf trace (CA start) = line (of16 markCA ∷ hexOf (take octets (drop start trace)) ∷ [])
 lineOf trace (SL count) = line (of16 markSL ∷ decimalOf count ∷ [])
 lineOf trace (VS vci m F C x) =
@@ -55,12 +60,14 @@ lineRoom = 128
 
 -- a cell that a record names lies within the trace
 abbrev pub CellWithin : List ℕ → TraceRecord → Type 0
-CellWithin trace (GM N z raw) = 0 ≤ 0
+CellWithin trace (GM N z head) = 0 ≤ 0
 CellWithin trace (VO vci m F C) = 0 ≤ 0
 CellWithin trace (VX vci) = 0 ≤ 0
 CellWithin trace (CA start) = start + octets ≤ length trace
 CellWithin trace (SL count) = 0 ≤ 0
 CellWithin trace (VS vci m F C x) = 0 ≤ 0
+CellWithin trace (PO vpi m F C) = 0 ≤ 0
+CellWithin trace (PX vpi) = 0 ≤ 0
 
 -- the line of what stands at a place, and what is said from the next on
 unfoldable pub textAt : List ℕ → (ℕ → List ℕ) → Stands → List ℕ

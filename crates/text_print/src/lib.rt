@@ -4,16 +4,17 @@ ghost use mathlib.Core.List.{List, [], _∷_, _++_};
 ghost use Prim.Native.Nat.{ℕ, _+_, _≤_, _<_};
 ghost use lib.ListN.{length, take, drop};
 ghost use Rattle.list_lines.specs.Put.{Put};
-ghost use Rattle.trace_record.specs.Trace.{recordOf};
-ghost use Rattle.trace_record.specs.Trace.{GM as Trace·GM, VO as Trace·VO, VX as Trace·VX, CA as Trace·CA, SL as Trace·SL};
+ghost use Rattle.trace_record.specs.Trace.{recordOf, headMark};
+ghost use Rattle.trace_record.specs.Trace.{GM as Trace·GM, CA as Trace·CA, SL as Trace·SL};
 ghost use Rattle.trace_record.specs.Trace.{VS as Trace·VS};
 ghost use Rattle.meaning.specs.Words.{secondOf};
 ghost use Rattle.text_meaning.specs.Shapes.{of16};
-ghost use Rattle.text_print.specs.Print.{hexDigit, hexPair, hexOf, lineOf};
-ghost use Rattle.text_print.specs.Print.{setupMark, lineRoom, CellWithin};
+ghost use Rattle.text_print.specs.Print.{hexDigit, hexPair, hexOf, openingLine, closingLine, lineOf};
+ghost use Rattle.text_print.specs.Print.{lineRoom, CellWithin};
 ghost use Rattle.text_print.specs.Fill.{FillPromise};
 use trace_record::Event;
 use trace_record::Found;
+use trace_record::Head;
 
 // Where a fill ended: the place in the trace, and how many octets of the buffer it used.
 pub struct Printed {
@@ -26,20 +27,30 @@ const GM: u16 = 0x474d;
 
 const GR: u16 = 0x4752;
 
+const GN: u16 = 0x474e;
+
 const VO: u16 = 0x564f;
 
 const VS: u16 = 0x5653;
 
 const VX: u16 = 0x5658;
 
+const PO: u16 = 0x504f;
+
+const PX: u16 = 0x5058;
+
 const CA: u16 = 0x4341;
 
 const SL: u16 = 0x534c;
 
-fn setup_mark(raw: bool) -> u16
-    ensures { λ r. ⌜ r ≡ setupMark raw ⌝ }
+fn setup_mark(head: Head) -> u16
+    ensures { λ r. ⌜ r ≡ headMark head ⌝ }
 {
-    if raw { GR } else { GM }
+    match head {
+        Head::Gm => GM,
+        Head::Gr => GR,
+        Head::Gn => GN,
+    }
 }
 
 // A mark, and the space behind it.
@@ -101,23 +112,32 @@ fn feed(out: &mut [u8], at: usize) -> usize
     at + 1
 }
 
-fn setup_text(out: &mut [u8], at: usize, n: u16, v: u16, raw: bool) -> usize
+fn setup_text(out: &mut [u8], at: usize, n: u16, v: u16, head: Head) -> usize
     requires { ⌜ at + lineRoom ≤ length (now out) ⌝ }
-    ensures { λ r. ⌜ ((trace : List ℕ) → Put (now (out .entry)) at (lineOf trace (Trace·GM n v raw)) (now (out .exit)) r) ⌝ }
+    ensures { λ r. ⌜ ((trace : List ℕ) → Put (now (out .entry)) at (lineOf trace (Trace·GM n v head)) (now (out .exit)) r) ⌝ }
     ensures { λ r. ⌜ r ≤ at + lineRoom ⌝ }
 {
-    let a = mark(out, at, setup_mark(raw));
+    let a = mark(out, at, setup_mark(head));
     let b = list_lines::number(out, a, n as u32, 32);
     list_lines::number(out, b, v as u32, 10)
 }
 
-fn open_text(out: &mut [u8], at: usize, vci: u16, m: u8, f: u32, c: u32) -> usize
+// An opening, whatever its mark: of a VC or of a path.
+fn open_text(
+    out: &mut [u8],
+    at: usize,
+    letters: u16,
+    connection: u16,
+    m: u8,
+    f: u32,
+    c: u32,
+) -> usize
     requires { ⌜ at + lineRoom ≤ length (now out) ⌝ }
-    ensures { λ r. ⌜ ((trace : List ℕ) → Put (now (out .entry)) at (lineOf trace (Trace·VO vci m f c)) (now (out .exit)) r) ⌝ }
+    ensures { λ r. ⌜ Put (now (out .entry)) at (openingLine letters connection m f c) (now (out .exit)) r ⌝ }
     ensures { λ r. ⌜ r ≤ at + lineRoom ⌝ }
 {
-    let a = mark(out, at, VO);
-    let b = list_lines::number(out, a, vci as u32, 32);
+    let a = mark(out, at, letters);
+    let b = list_lines::number(out, a, connection as u32, 32);
     let d = list_lines::number(out, b, m as u32, 32);
     let e = list_lines::number(out, d, f, 32);
     list_lines::number(out, e, c, 10)
@@ -151,13 +171,13 @@ fn sustain_text(
     list_lines::number(out, j, tag as u32, 10)
 }
 
-fn close_text(out: &mut [u8], at: usize, vci: u16) -> usize
+fn close_text(out: &mut [u8], at: usize, letters: u16, connection: u16) -> usize
     requires { ⌜ at + lineRoom ≤ length (now out) ⌝ }
-    ensures { λ r. ⌜ ((trace : List ℕ) → Put (now (out .entry)) at (lineOf trace (Trace·VX vci)) (now (out .exit)) r) ⌝ }
+    ensures { λ r. ⌜ Put (now (out .entry)) at (closingLine letters connection) (now (out .exit)) r ⌝ }
     ensures { λ r. ⌜ r ≤ at + lineRoom ⌝ }
 {
-    let a = mark(out, at, VX);
-    list_lines::number(out, a, vci as u32, 10)
+    let a = mark(out, at, letters);
+    list_lines::number(out, a, connection as u32, 10)
 }
 
 fn pause_text(out: &mut [u8], at: usize, slots: u16) -> usize
@@ -186,9 +206,9 @@ fn line_text(trace: &[u8], event: Event, out: &mut [u8], at: usize) -> usize
     ensures { λ r. ⌜ r ≤ at + lineRoom ⌝ }
 {
     match event {
-        Event::Setup { n, v, raw } => setup_text(out, at, n, v, raw),
-        Event::Open { vci, m, f, c } => open_text(out, at, vci, m, f, c),
-        Event::Close { vci } => close_text(out, at, vci),
+        Event::Setup { n, v, head } => setup_text(out, at, n, v, head),
+        Event::Open { vci, m, f, c } => open_text(out, at, VO, vci, m, f, c),
+        Event::Close { vci } => close_text(out, at, VX, vci),
         Event::Cell { start } => cell_text(trace, start, out, at),
         Event::Pause { slots } => pause_text(out, at, slots),
         Event::Sustain {
@@ -201,6 +221,8 @@ fn line_text(trace: &[u8], event: Event, out: &mut [u8], at: usize) -> usize
             c2,
             tag,
         } => sustain_text(out, at, vci, m, f, c, m2, f2, c2, tag),
+        Event::OpenPath { vpi, m, f, c } => open_text(out, at, PO, vpi, m, f, c),
+        Event::ClosePath { vpi } => close_text(out, at, PX, vpi),
     }
 }
 

@@ -1,18 +1,22 @@
 -- Each record, put in its place, is what the reader reads there: each number is read back from the octets that hold it.
 use Prim.Native.Nat.{ℕ, suc, _+_, _-_, _*_, _/_, _%_, _≤_, _<_}
 use mathlib.Core.Path.{_≡_, refl, sym, ap, _∙_}
-use mathlib.Core.Bool.{Bool, true, false}
 use mathlib.Core.List.{List, _++_}
 use lib.ListN.{length, getD, take, drop, length-drop}
 use lib.Seq.{ext-getD, getD-take, getD-drop, length-take-le}
 use native.Mathlib.Omega.{arith}
 use Rattle.meaning.specs.Numbers.{octets}
 use Rattle.meaning.specs.Words.{Second}
-use Rattle.trace_record.specs.Trace.{be16, be32, event, standsAt, setupAt, openAt, sustainAt, closeAt, cellAt, pauseAt, firstAt, laterAt}
-use Rattle.trace_record.specs.Trace.{markGM, markGR, markVO, markVX, markCA, markSL, markVS, longGM, longVO, longVX, longCA, longSL, longVS}
-use Rattle.trace_record.proofs.Cases.{whole-read, sustain-same, pause-whole, first-gm, first-gr, later-cell, later-pause, later-open, later-close, later-sustain, stands-first, stands-later}
+use Rattle.trace_record.specs.declared.Head.{Head}
+use Rattle.trace_record.specs.declared.Head.the-variants.{Gm, Gr, Gn}
+use Rattle.trace_record.specs.Trace.{TraceRecord, GM as Trace·GM, VO as Trace·VO, VX as Trace·VX, PO as Trace·PO, PX as Trace·PX}
+use Rattle.trace_record.specs.Trace.{be16, be32, whole, event, standsAt, setupAt, openAt, sustainAt, closeAt, openPathAt, closePathAt, cellAt, pauseAt, firstAt, laterAt}
+use Rattle.trace_record.specs.Trace.{headMark, markVO, markVX, markCA, markSL, markVS, markPO, markPX, longGM, longVO, longVX, longCA, longSL, longVS}
+use Rattle.trace_record.proofs.Cases.{whole-read, sustain-same, pause-whole, later-cell, later-pause, later-sustain, stands-first, stands-later}
+use Rattle.text_meaning.specs.Shapes.{of16}
+use Rattle.text_meaning.specs.Events.{openingOf, closingOf}
 use Rattle.list_lines.specs.Put.{puts}
-use Rattle.text_record.specs.Record.{GM, VO, VX, CA, SL, VS, recordOctets, recordAt}
+use Rattle.text_record.specs.Record.{GM, VO, VX, CA, SL, VS, PO, PX, recordOctets, recordAt}
 use Rattle.text_record.proofs.Puts.{puts-length, puts-in}
 
 add-two : (k : ℕ) → k + 2 ≡ suc (suc k)
@@ -51,36 +55,69 @@ module _ (out : List ℕ) (at : ℕ) (os : List ℕ) (h : at + length os ≤ len
   room-back k m = omega (arith, puts-length out at os)
 
 module _ (out : List ℕ) (at : ℕ) where
-  pub setup-back : (N z : ℕ) (raw : Bool) → at ≡ 0 → at + longGM ≤ length out
-      → standsAt (puts out at (recordOctets (GM N z raw))) at ≡ event (recordAt at (GM N z raw)) (at + longGM)
-  unfolding recordOctets recordAt setupAt
-  setup-back N z false e h =
-      let os = recordOctets (GM N z false) in let s = puts out at os in let l = puts-length out at os in
+  -- a head's mark leads to its record
+  headed : (s : List ℕ) (head : Head) → firstAt s at (headMark head) ≡ setupAt s at head
+  unfolding firstAt
+  headed s Gm = refl
+  headed s Gr = refl
+  headed s Gn = refl
+
+  head-back : (mark N z : ℕ) (head : Head) → mark ≡ headMark head → at ≡ 0 → at + longGM ≤ length out
+      → standsAt (puts out at (of16 mark ++ (of16 N ++ of16 z))) at ≡ event (Trace·GM N z head) (at + longGM)
+  unfolding setupAt
+  head-back mark N z head q e h =
+      let os = of16 mark ++ (of16 N ++ of16 z) in let s = puts out at os in let l = puts-length out at os in
       let n : N ≡ be16 s (at + 2) = two-back out at os h 2 (at + 2) N refl (omega arith) refl refl in
       let v : z ≡ be16 s (at + 4) = two-back out at os h 4 (at + 4) z refl (omega arith) refl refl in
-      sym (stands-first s at (λ q. omega arith) (omega arith) (two-back out at os h 0 at markGM (omega arith) (omega arith) refl refl) e
-      (first-gm s at markGM refl (whole-read s at longGM _ (cc) (omega arith))))
-  setup-back N z true e h =
-      let os = recordOctets (GM N z true) in let s = puts out at os in let l = puts-length out at os in
-      let n : N ≡ be16 s (at + 2) = two-back out at os h 2 (at + 2) N refl (omega arith) refl refl in
-      let v : z ≡ be16 s (at + 4) = two-back out at os h 4 (at + 4) z refl (omega arith) refl refl in
-      sym (stands-first s at (λ q. omega arith) (omega arith) (two-back out at os h 0 at markGR (omega arith) (omega arith) refl refl) e
-      (first-gr s at markGR (λ q. omega arith) refl (whole-read s at longGM _ (cc) (omega arith))))
+      sym (stands-first s at (λ q. omega arith) (omega arith) (two-back out at os h 0 at mark (omega arith) (omega arith) refl refl) e
+      (whole-read s at longGM (Trace·GM (be16 s (at + 2)) (be16 s (at + 4)) head) (cc) (omega arith) ∙ sym (headed s head) ∙ ap (firstAt s at) (sym q)))
+
+  pub setup-back : (N z : ℕ) (head : Head) → at ≡ 0 → at + longGM ≤ length out
+      → standsAt (puts out at (recordOctets (GM N z head))) at ≡ event (recordAt at (GM N z head)) (at + longGM)
+  unfolding recordOctets recordAt
+  setup-back N z head e h = head-back (headMark head) N z head refl e h
 
   module _ (later : at ≡ 0 → ⊥) where
+    -- an opening and a closing, by mark and by the record that the mark leads to
+    opening-back : (f : (c m F C : ℕ) → TraceRecord) (mark c m F C : ℕ)
+        → ((s : List ℕ) → laterAt s at mark ≡ whole s at longVO (f (be16 s (at + 2)) (getD s (at + 4) 0) (be32 s (at + 5)) (be32 s (at + 9))))
+        → at + longVO ≤ length out → standsAt (puts out at (openingOf mark c m F C)) at ≡ event (f c m F C) (at + longVO)
+    opening-back f mark c m F C leads h =
+        let os = openingOf mark c m F C in let s = puts out at os in let l = puts-length out at os in
+        let n : c ≡ be16 s (at + 2) = two-back out at os h 2 (at + 2) c refl (omega arith) refl refl in
+        let k : m ≡ getD s (at + 4) 0 = octet-back out at os h 4 (at + 4) m refl (omega arith) refl in
+        let x : F ≡ be32 s (at + 5) = four-back out at os h 5 (at + 5) F refl (omega arith) refl refl refl refl in
+        let y : C ≡ be32 s (at + 9) = four-back out at os h 9 (at + 9) C refl (omega arith) refl refl refl refl in
+        sym (stands-later s at (λ q. omega arith) (omega arith) (two-back out at os h 0 at mark (omega arith) (omega arith) refl refl) later
+        (whole-read s at longVO (f (be16 s (at + 2)) (getD s (at + 4) 0) (be32 s (at + 5)) (be32 s (at + 9))) (cc) (omega arith) ∙ sym (leads s)))
+
+    closing-back : (f : (c : ℕ) → TraceRecord) (mark c : ℕ) → ((s : List ℕ) → laterAt s at mark ≡ whole s at longVX (f (be16 s (at + 2))))
+        → at + longVX ≤ length out → standsAt (puts out at (closingOf mark c)) at ≡ event (f c) (at + longVX)
+    closing-back f mark c leads h =
+        let os = closingOf mark c in let s = puts out at os in let l = puts-length out at os in
+        let n : c ≡ be16 s (at + 2) = two-back out at os h 2 (at + 2) c refl (omega arith) refl refl in
+        sym (stands-later s at (λ q. omega arith) (omega arith) (two-back out at os h 0 at mark (omega arith) (omega arith) refl refl) later
+        (whole-read s at longVX (f (be16 s (at + 2))) (ap f n) (omega arith) ∙ sym (leads s)))
+
     pub open-back : (vci m F C : ℕ) → at + longVO ≤ length out
         → standsAt (puts out at (recordOctets (VO vci m F C))) at ≡ event (recordAt at (VO vci m F C)) (at + longVO)
-    unfolding recordOctets recordAt openAt
-    open-back vci m F C h =
-        let os = recordOctets (VO vci m F C) in let s = puts out at os in let l = puts-length out at os in
-        let n : vci ≡ be16 s (at + 2) = two-back out at os h 2 (at + 2) vci refl (omega arith) refl refl in
-        let k : m ≡ getD s (at + 4) 0 = octet-back out at os h 4 (at + 4) m refl (omega arith) refl in
-        let f : F ≡ be32 s (at + 5) = be32-is s (at + 5) F (two-back out at os h 5 (at + 5) (F / 65_536) refl (omega arith) refl refl)
-        (two-back out at os h 7 (at + 5 + 2) (F % 65_536) (omega arith) (omega arith) refl refl) in
-        let d : C ≡ be32 s (at + 9) = be32-is s (at + 9) C (two-back out at os h 9 (at + 9) (C / 65_536) refl (omega arith) refl refl)
-        (two-back out at os h 11 (at + 9 + 2) (C % 65_536) (omega arith) (omega arith) refl refl) in
-        sym (stands-later s at (λ q. omega arith) (omega arith) (two-back out at os h 0 at markVO (omega arith) (omega arith) refl refl) later
-        (later-open s at markVO (λ q. omega arith) (λ q. omega arith) refl (whole-read s at longVO _ (cc) (omega arith))))
+    unfolding recordOctets recordAt laterAt openAt
+    open-back vci m F C h = opening-back Trace·VO markVO vci m F C (λ s. refl) h
+
+    pub path-back : (vpi m F C : ℕ) → at + longVO ≤ length out
+        → standsAt (puts out at (recordOctets (PO vpi m F C))) at ≡ event (recordAt at (PO vpi m F C)) (at + longVO)
+    unfolding recordOctets recordAt laterAt openPathAt
+    path-back vpi m F C h = opening-back Trace·PO markPO vpi m F C (λ s. refl) h
+
+    pub close-back : (vci : ℕ) → at + longVX ≤ length out
+        → standsAt (puts out at (recordOctets (VX vci))) at ≡ event (recordAt at (VX vci)) (at + longVX)
+    unfolding recordOctets recordAt laterAt closeAt
+    close-back vci h = closing-back Trace·VX markVX vci (λ s. refl) h
+
+    pub path-close-back : (vpi : ℕ) → at + longVX ≤ length out
+        → standsAt (puts out at (recordOctets (PX vpi))) at ≡ event (recordAt at (PX vpi)) (at + longVX)
+    unfolding recordOctets recordAt laterAt closePathAt
+    path-close-back vpi h = closing-back Trace·PX markPX vpi (λ s. refl) h
 
     pub sustain-back : (vci m F C : ℕ) (x : Second) → at + longVS ≤ length out
         → standsAt (puts out at (recordOctets (VS vci m F C x))) at ≡ event (recordAt at (VS vci m F C x)) (at + longVS)
@@ -100,15 +137,6 @@ module _ (out : List ℕ) (at : ℕ) where
         (four-back out at os h 18 (at + 18) (x .C) refl (omega arith) refl refl refl refl)
         (octet-back out at os h 22 (at + 22) (x .tag) refl (omega arith) refl))
         (omega arith))))
-
-    pub close-back : (vci : ℕ) → at + longVX ≤ length out
-        → standsAt (puts out at (recordOctets (VX vci))) at ≡ event (recordAt at (VX vci)) (at + longVX)
-    unfolding recordOctets recordAt closeAt
-    close-back vci h =
-        let os = recordOctets (VX vci) in let s = puts out at os in let l = puts-length out at os in
-        let n : vci ≡ be16 s (at + 2) = two-back out at os h 2 (at + 2) vci refl (omega arith) refl refl in
-        sym (stands-later s at (λ q. omega arith) (omega arith) (two-back out at os h 0 at markVX (omega arith) (omega arith) refl refl) later
-        (later-close s at markVX (λ q. omega arith) (λ q. omega arith) (λ q. omega arith) refl (whole-read s at longVX _ (cc) (omega arith))))
 
     pub pause-back : (count : ℕ) → (count ≡ 0 → ⊥) → at + longSL ≤ length out
         → standsAt (puts out at (recordOctets (SL count))) at ≡ event (recordAt at (SL count)) (at + longSL)

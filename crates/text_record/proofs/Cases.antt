@@ -10,12 +10,14 @@ use native.Mathlib.Omega.{arith}
 use Rattle.meaning.specs.Plain.{if_then_else_, _≤?_, _=?_}
 use Rattle.meaning.specs.Numbers.{octets}
 use Rattle.meaning.specs.Words.{Second}
-use Rattle.trace_record.specs.Trace.{markVO, markVX, markCA, markSL, markVS, longGM, longVO, longVX, longCA, longSL, longVS}
+use Rattle.trace_record.specs.declared.Head.{Head}
+use Rattle.trace_record.specs.Trace.{headMark, markVO, markVX, markCA, markSL, markVS, markPO, markPX, longGM, longCA, longSL, longVS}
 use Rattle.text_meaning.specs.Shapes.{of16, of32}
+use Rattle.text_meaning.specs.Events.{openingOf, closingOf}
 use Rattle.list_lines.specs.Put.{puts, Put}
 use Rattle.list_lines.proofs.Puts.{put-whole}
 use Rattle.text_meaning.specs.declared.Written.{Written}
-use Rattle.text_record.specs.Record.{Given, GM, VO, VX, CA, SL, VS, setupMark, recordOctets, allowedAt}
+use Rattle.text_record.specs.Record.{Given, GM, VO, VX, CA, SL, VS, PO, PX, recordOctets, allowedAt, Later}
 use Rattle.text_record.specs.Promises.{numberAt, nextAt, outputAt, WritePromise}
 
 never : (b : Bool) → (b && false) ≡ false
@@ -23,21 +25,40 @@ never true = refl
 never false = refl
 
 -- where the reader reads which record
-pub setup-first : (at N z : ℕ) (raw : Bool) → at ≡ 0 → allowedAt at (GM N z raw) ≡ true
+pub setup-first : (at N z : ℕ) (head : Head) → at ≡ 0 → allowedAt at (GM N z head) ≡ true
 unfolding allowedAt
-setup-first at N z raw h = eq-eqb at 0 h
+setup-first at N z head h = eq-eqb at 0 h
 
-pub setup-later : (at N z : ℕ) (raw : Bool) → (at ≡ 0 → ⊥) → allowedAt at (GM N z raw) ≡ false
+pub setup-later : (at N z : ℕ) (head : Head) → (at ≡ 0 → ⊥) → allowedAt at (GM N z head) ≡ false
 unfolding allowedAt
-setup-later at N z raw h = ne-eqb at 0 h
+setup-later at N z head h = ne-eqb at 0 h
 
-pub open-first : (at vci m F C : ℕ) → at ≡ 0 → allowedAt at (VO vci m F C) ≡ false
-unfolding allowedAt
-open-first at vci m F C h = lt-leb 1 at (omega arith)
+-- a record that may stand at every place but the first
+module _ {os : List ℕ} {r : Given} (l : Later os r) (at : ℕ) where
+  pub not-first : at ≡ 0 → allowedAt at r ≡ false
+  not-first h = l .anywhere at ∙ lt-leb 1 at (omega arith)
 
-pub open-later : (at vci m F C : ℕ) → (at ≡ 0 → ⊥) → allowedAt at (VO vci m F C) ≡ true
-unfolding allowedAt
-open-later at vci m F C h = le-leb 1 at (omega arith)
+  pub but-first : (at ≡ 0 → ⊥) → allowedAt at r ≡ true
+  but-first h = l .anywhere at ∙ le-leb 1 at (omega arith)
+
+pub its-long : {os : List ℕ} {r : Given} → Later os r → length (recordOctets r) ≡ length os
+its-long l = ap length (l .octets-are)
+
+pub open-later : (vci m F C : ℕ) → Later (openingOf markVO vci m F C) (VO vci m F C)
+unfolding recordOctets allowedAt
+open-later vci m F C = record { octets-are = refl; anywhere = λ _. refl }
+
+pub path-later : (vpi m F C : ℕ) → Later (openingOf markPO vpi m F C) (PO vpi m F C)
+unfolding recordOctets allowedAt
+path-later vpi m F C = record { octets-are = refl; anywhere = λ _. refl }
+
+pub close-later : (vci : ℕ) → Later (closingOf markVX vci) (VX vci)
+unfolding recordOctets allowedAt
+close-later vci = record { octets-are = refl; anywhere = λ _. refl }
+
+pub path-close-later : (vpi : ℕ) → Later (closingOf markPX vpi) (PX vpi)
+unfolding recordOctets allowedAt
+path-close-later vpi = record { octets-are = refl; anywhere = λ _. refl }
 
 pub sustain-first : (at vci m F C : ℕ) (x : Second) → at ≡ 0 → allowedAt at (VS vci m F C x) ≡ false
 unfolding allowedAt
@@ -46,14 +67,6 @@ sustain-first at vci m F C x h = lt-leb 1 at (omega arith)
 pub sustain-later : (at vci m F C : ℕ) (x : Second) → (at ≡ 0 → ⊥) → allowedAt at (VS vci m F C x) ≡ true
 unfolding allowedAt
 sustain-later at vci m F C x h = le-leb 1 at (omega arith)
-
-pub close-first : (at vci : ℕ) → at ≡ 0 → allowedAt at (VX vci) ≡ false
-unfolding allowedAt
-close-first at vci h = lt-leb 1 at (omega arith)
-
-pub close-later : (at vci : ℕ) → (at ≡ 0 → ⊥) → allowedAt at (VX vci) ≡ true
-unfolding allowedAt
-close-later at vci h = le-leb 1 at (omega arith)
 
 module _ (at : ℕ) (cell : List ℕ) where
   pub cell-first : at ≡ 0 → allowedAt at (CA cell) ≡ false
@@ -82,21 +95,13 @@ module _ (at count : ℕ) where
   pause-later h l = simp (le-leb 1 at (omega arith), le-leb 1 count (omega arith))
 
 -- how long each record is
-pub setup-long : (N z : ℕ) (raw : Bool) → length (recordOctets (GM N z raw)) ≡ longGM
+pub setup-long : (N z : ℕ) (head : Head) → length (recordOctets (GM N z head)) ≡ longGM
 unfolding recordOctets
-setup-long N z raw = refl
-
-pub open-long : (vci m F C : ℕ) → length (recordOctets (VO vci m F C)) ≡ longVO
-unfolding recordOctets
-open-long vci m F C = refl
+setup-long N z head = refl
 
 pub sustain-long : (vci m F C : ℕ) (x : Second) → length (recordOctets (VS vci m F C x)) ≡ longVS
 unfolding recordOctets
 sustain-long vci m F C x = refl
-
-pub close-long : (vci : ℕ) → length (recordOctets (VX vci)) ≡ longVX
-unfolding recordOctets
-close-long vci = refl
 
 pub cell-long : (cell : List ℕ) → length cell ≡ octets → length (recordOctets (CA cell)) ≡ longCA
 unfolding recordOctets
@@ -114,22 +119,14 @@ puts-part l i xs k e h =
     sym (put-whole p h)
 
 -- the octets of each record, in the order in which they are put
-pub setup-octets : (N z : ℕ) (raw : Bool) (mark : ℕ) → mark ≡ setupMark raw → recordOctets (GM N z raw) ≡ of16 mark ++ (of16 N ++ of16 z)
+pub setup-octets : (N z : ℕ) (head : Head) (mark : ℕ) → mark ≡ headMark head → recordOctets (GM N z head) ≡ of16 mark ++ (of16 N ++ of16 z)
 unfolding recordOctets
-setup-octets N z raw mark e = ap (λ (k : ℕ). of16 k ++ (of16 N ++ of16 z)) (sym e)
-
-pub open-octets : (vci m F C : ℕ) → recordOctets (VO vci m F C) ≡ of16 markVO ++ (of16 vci ++ ((m ∷ []) ++ (of32 F ++ of32 C)))
-unfolding recordOctets
-open-octets vci m F C = refl
+setup-octets N z head mark e = ap (λ (k : ℕ). of16 k ++ (of16 N ++ of16 z)) (sym e)
 
 pub sustain-octets : (vci m F C : ℕ) (x : Second) → recordOctets (VS vci m F C x)
     ≡ of16 markVS ++ (of16 vci ++ ((m ∷ []) ++ (of32 F ++ (of32 C ++ ((x .m ∷ []) ++ (of32 (x .F) ++ (of32 (x .C) ++ (x .tag ∷ []))))))))
 unfolding recordOctets
 sustain-octets vci m F C x = refl
-
-pub close-octets : (vci : ℕ) → recordOctets (VX vci) ≡ of16 markVX ++ of16 vci
-unfolding recordOctets
-close-octets vci = refl
 
 pub cell-octets : (cell : List ℕ) → recordOctets (CA cell) ≡ of16 markCA ++ cell
 unfolding recordOctets

@@ -17,12 +17,11 @@ use Rattle.list_lines.specs.Put.{puts}
 use Rattle.text_meaning.specs.declared.Written.{Written}
 use Rattle.text_meaning.specs.Shapes.{of16}
 use Rattle.text_meaning.specs.Events.{Event, told, pause, eventOf}
-use Rattle.text_record.specs.Record.{Given, GM, VO, VX, CA, SL, VS, recordOctets, givenEvent, allowedAt, recordAt}
+use Rattle.text_record.specs.Record.{Given, GM, VO, VX, CA, SL, VS, PO, PX, recordOctets, givenEvent, allowedAt, recordAt}
 use Rattle.text_record.specs.Promises.{numberAt, nextAt, outputAt, WritePromise}
 use Rattle.text_record.specs.Back.{Reads, Kept}
-use Rattle.text_record.proofs.Cases.{setup-long, open-long, close-long, cell-long, pause-long}
 use Rattle.text_record.proofs.Puts.{puts-length, puts-before, puts-behind}
-use Rattle.text_record.proofs.Back.{setup-back, open-back, sustain-back, close-back, pause-back, cell-back, cell-same}
+use Rattle.text_record.proofs.Back.{setup-back, open-back, sustain-back, close-back, path-back, path-close-back, pause-back, cell-back, cell-same}
 
 both : (a b : Bool) → a && b ≡ true → (a ≡ true) × (b ≡ true)
 both true true h = (refl, refl)
@@ -36,9 +35,11 @@ not-zero n t e = let h = leb-true 1 n t in omega arith
 pub put-reads : (out : List ℕ) (at : ℕ) (r : Given) → allowedAt at r ≡ true → at + length (recordOctets r) ≤ length out
     → Reads (puts out at (recordOctets r)) at r
 unfolding allowedAt recordOctets recordAt eventOf
-put-reads out at (GM N z raw) a h = record { stands = setup-back out at N z raw (eqb-true at 0 a) h; says = refl }
+put-reads out at (GM N z head) a h = record { stands = setup-back out at N z head (eqb-true at 0 a) h; says = refl }
 put-reads out at (VO vci m F C) a h = record { stands = open-back out at (not-zero at a) vci m F C h; says = refl }
 put-reads out at (VS vci m F C x) a h = record { stands = sustain-back out at (not-zero at a) vci m F C x h; says = refl }
+put-reads out at (PO vpi m F C) a h = record { stands = path-back out at (not-zero at a) vpi m F C h; says = refl }
+put-reads out at (PX vpi) a h = record { stands = path-close-back out at (not-zero at a) vpi h; says = refl }
 put-reads out at (VX vci) a h = record { stands = close-back out at (not-zero at a) vci h; says = refl }
 put-reads out at (SL count) a h =
     let t = both (1 ≤? at) (1 ≤? count) a in
@@ -58,23 +59,22 @@ differ {a} {b} h k e =
     let n : _≡_ {A = ℕ} 0 1 = cc in omega arith
 
 -- what the reader reads at a place is what it allows there
+allowed-there : (trace : List ℕ) (at : ℕ) (r : Given) → Reads trace at r → Fits trace at (event (recordAt at r) (at + length (recordOctets r)))
+allowed-there trace at r q = subst (Fits trace at) (q .stands) (stands-fits trace at)
+
+not-later : (at : ℕ) → (1 ≤? at) ≡ false → 0 < at → ⊥
+not-later at a h = let l = leb-false 1 at a in omega arith
+
 never-read : (trace : List ℕ) (at : ℕ) (r : Given) → allowedAt at r ≡ false → Reads trace at r → ⊥
 unfolding allowedAt recordOctets recordAt eventOf
-never-read trace at (GM N z raw) a q =
-    let f : Fits trace at (event (recordAt at (GM N z raw)) _) = subst (Fits trace at) (q .stands) (stands-fits trace at) in
-    eqb-false at 0 a (f .2)
-never-read trace at (VO vci m F C) a q =
-    let f : Fits trace at (event (recordAt at (VO vci m F C)) _) = subst (Fits trace at) (q .stands) (stands-fits trace at) in
-    let l = leb-false 1 at a in omega (arith, f .2)
-never-read trace at (VS vci m F C x) a q =
-    let f : Fits trace at (event (recordAt at (VS vci m F C x)) _) = subst (Fits trace at) (q .stands) (stands-fits trace at) in
-    let l = leb-false 1 at a in omega (arith, f .2)
-never-read trace at (VX vci) a q =
-    let f : Fits trace at (event (recordAt at (VX vci)) _) = subst (Fits trace at) (q .stands) (stands-fits trace at) in
-    let l = leb-false 1 at a in omega (arith, f .2)
+never-read trace at (GM N z head) a q = eqb-false at 0 a (allowed-there trace at (GM N z head) q .2)
+never-read trace at (VO vci m F C) a q = not-later at a (allowed-there trace at (VO vci m F C) q .2)
+never-read trace at (VS vci m F C x) a q = not-later at a (allowed-there trace at (VS vci m F C x) q .2)
+never-read trace at (VX vci) a q = not-later at a (allowed-there trace at (VX vci) q .2)
+never-read trace at (PO vpi m F C) a q = not-later at a (allowed-there trace at (PO vpi m F C) q .2)
+never-read trace at (PX vpi) a q = not-later at a (allowed-there trace at (PX vpi) q .2)
 never-read trace at (SL count) a q =
-    let f : Fits trace at (event (recordAt at (SL count)) _) = subst (Fits trace at) (q .stands) (stands-fits trace at) in
-    differ (le-leb 1 at (f .2 .0)) (le-leb 1 count (f .2 .1)) a
+    let f = allowed-there trace at (SL count) q in differ (le-leb 1 at (f .2 .0)) (le-leb 1 count (f .2 .1)) a
 never-read trace at (CA cell) a q =
     let f : Fits trace at (event (recordAt at (CA cell)) _) = subst (Fits trace at) (q .stands) (stands-fits trace at) in
     let t : length (take octets (drop (at + 2) trace)) ≡ octets = length-take-le octets (drop (at + 2) trace) (omega (arith, length-drop (at + 2) trace, f .0, f .1)) in

@@ -5,24 +5,32 @@ ghost use mathlib.Core.Path.{_≡_};
 ghost use Prim.Native.Nat.{_+_, _-_, _≤_};
 ghost use lib.ListN.{length};
 ghost use Rattle.list_lines.specs.Put.{Put};
-ghost use Rattle.text_record.specs.Record.{GM as Record·GM, VO as Record·VO, VX as Record·VX, CA as Record·CA, SL as Record·SL};
+ghost use Rattle.text_record.specs.Record.{Given, Later, GM as Record·GM, VO as Record·VO, VX as Record·VX, CA as Record·CA, SL as Record·SL};
 ghost use Rattle.text_meaning.specs.Shapes.{of16, of32};
-ghost use Rattle.text_record.specs.Record.{VS as Record·VS};
+ghost use Rattle.text_meaning.specs.Events.{openingOf, closingOf};
+ghost use Rattle.text_record.specs.Record.{VS as Record·VS, PO as Record·PO, PX as Record·PX};
 ghost use Rattle.meaning.specs.Words.{secondOf};
-ghost use Rattle.text_record.specs.Record.{setupMark};
+ghost use Rattle.trace_record.specs.Trace.{headMark};
 ghost use Rattle.text_record.specs.Promises.{WritePromise};
 use text_meaning::Written;
+use trace_record::Head;
 
 // The two letters of each mark, high octet first.
 const GM: u16 = 0x474d;
 
 const GR: u16 = 0x4752;
 
+const GN: u16 = 0x474e;
+
 const VO: u16 = 0x564f;
 
 const VS: u16 = 0x5653;
 
 const VX: u16 = 0x5658;
+
+const PO: u16 = 0x504f;
+
+const PX: u16 = 0x5058;
 
 const CA: u16 = 0x4341;
 
@@ -76,15 +84,19 @@ fn room(at: usize, long: usize) -> usize
     long - at
 }
 
-fn setup_mark(raw: bool) -> u16
-    ensures { λ r. ⌜ r ≡ setupMark raw ⌝ }
+fn setup_mark(head: Head) -> u16
+    ensures { λ r. ⌜ r ≡ headMark head ⌝ }
 {
-    if raw { GR } else { GM }
+    match head {
+        Head::Gm => GM,
+        Head::Gr => GR,
+        Head::Gn => GN,
+    }
 }
 
-// GM or GR: first and only first.
-pub fn write_setup(out: &mut [u8], at: usize, n: u16, v: u16, raw: bool) -> Written
-    ensures { λ r. ⌜ WritePromise (now (out .entry)) at (Record·GM n v raw) r (now (out .exit)) ⌝ }
+// GM, GR or GN: first and only first.
+pub fn write_setup(out: &mut [u8], at: usize, n: u16, v: u16, head: Head) -> Written
+    ensures { λ r. ⌜ WritePromise (now (out .entry)) at (Record·GM n v head) r (now (out .exit)) ⌝ }
 {
     if at != 0 {
         return Written {
@@ -98,7 +110,7 @@ pub fn write_setup(out: &mut [u8], at: usize, n: u16, v: u16, raw: bool) -> Writ
             place: at,
         };
     }
-    let a = two(out, at, setup_mark(raw));
+    let a = two(out, at, setup_mark(head));
     let b = two(out, a, n);
     let next = two(out, b, v);
     Written {
@@ -107,8 +119,17 @@ pub fn write_setup(out: &mut [u8], at: usize, n: u16, v: u16, raw: bool) -> Writ
     }
 }
 
-pub fn write_open(out: &mut [u8], at: usize, vci: u16, m: u8, f: u32, c: u32) -> Written
-    ensures { λ r. ⌜ WritePromise (now (out .entry)) at (Record·VO vci m f c) r (now (out .exit)) ⌝ }
+// An opening, whatever its mark: of a VC or of a path.
+fn write_opening(
+    out: &mut [u8],
+    at: usize,
+    mark: u16,
+    connection: u16,
+    m: u8,
+    f: u32,
+    c: u32,
+) -> Written
+    ensures { λ r. ⌜ ((g : Given) → Later (openingOf mark connection m f c) g → WritePromise (now (out .entry)) at g r (now (out .exit))) ⌝ }
 {
     if at == 0 {
         return Written {
@@ -122,8 +143,8 @@ pub fn write_open(out: &mut [u8], at: usize, vci: u16, m: u8, f: u32, c: u32) ->
             place: at,
         };
     }
-    let a = two(out, at, VO);
-    let b = two(out, a, vci);
+    let a = two(out, at, mark);
+    let b = two(out, a, connection);
     let d = one(out, b, m);
     let e = four(out, d, f);
     let next = four(out, e, c);
@@ -131,6 +152,18 @@ pub fn write_open(out: &mut [u8], at: usize, vci: u16, m: u8, f: u32, c: u32) ->
         number: 0,
         place: next,
     }
+}
+
+pub fn write_open(out: &mut [u8], at: usize, vci: u16, m: u8, f: u32, c: u32) -> Written
+    ensures { λ r. ⌜ WritePromise (now (out .entry)) at (Record·VO vci m f c) r (now (out .exit)) ⌝ }
+{
+    write_opening(out, at, VO, vci, m, f, c)
+}
+
+pub fn write_open_path(out: &mut [u8], at: usize, vpi: u16, m: u8, f: u32, c: u32) -> Written
+    ensures { λ r. ⌜ WritePromise (now (out .entry)) at (Record·PO vpi m f c) r (now (out .exit)) ⌝ }
+{
+    write_opening(out, at, PO, vpi, m, f, c)
 }
 
 // A VO with the second bucket and the flag behind it.
@@ -175,8 +208,9 @@ pub fn write_sustain(
     }
 }
 
-pub fn write_close(out: &mut [u8], at: usize, vci: u16) -> Written
-    ensures { λ r. ⌜ WritePromise (now (out .entry)) at (Record·VX vci) r (now (out .exit)) ⌝ }
+// A closing, whatever its mark.
+fn write_closing(out: &mut [u8], at: usize, mark: u16, connection: u16) -> Written
+    ensures { λ r. ⌜ ((g : Given) → Later (closingOf mark connection) g → WritePromise (now (out .entry)) at g r (now (out .exit))) ⌝ }
 {
     if at == 0 {
         return Written {
@@ -190,12 +224,24 @@ pub fn write_close(out: &mut [u8], at: usize, vci: u16) -> Written
             place: at,
         };
     }
-    let a = two(out, at, VX);
-    let next = two(out, a, vci);
+    let a = two(out, at, mark);
+    let next = two(out, a, connection);
     Written {
         number: 0,
         place: next,
     }
+}
+
+pub fn write_close(out: &mut [u8], at: usize, vci: u16) -> Written
+    ensures { λ r. ⌜ WritePromise (now (out .entry)) at (Record·VX vci) r (now (out .exit)) ⌝ }
+{
+    write_closing(out, at, VX, vci)
+}
+
+pub fn write_close_path(out: &mut [u8], at: usize, vpi: u16) -> Written
+    ensures { λ r. ⌜ WritePromise (now (out .entry)) at (Record·PX vpi) r (now (out .exit)) ⌝ }
+{
+    write_closing(out, at, PX, vpi)
 }
 
 // A cell of another length than 53 is no record: nothing that the reader reads would be it.

@@ -1,1 +1,2 @@
 pub mod Scribe
+pub mod Handed

@@ -46,8 +46,3 @@ errorOf (bad p) room = stopLine p
 pub record ScribePromise (input out line : List ℕ) (r : Scribed) (out′ line′ : List ℕ) : Type 0 where
   pub trace : Put out 0 (traceOf (saidOf input) (length out)) out′ (r .trace)
   pub error : Put line 0 (errorOf (saidOf input) (length out)) line′ (r .line)
-
--- the same, where the two parts were then handed to the system
-pub record Handed (input out line out′ line′ : List ℕ) : Type 0 where
-  pub parts : Scribed
-  pub promise : ScribePromise input out line parts out′ line′

@@ -11,11 +11,13 @@ use lib.ListN.{length, getD, take, drop, take-append-drop}
 use lib.Seq.{drop-cons, drop-drop}
 use Rattle.meaning.specs.Plain.{if_then_else_, _<?_, _≤?_, _=?_}
 use Rattle.meaning.specs.Numbers.{octets}
-use Rattle.trace_record.specs.Trace.{TraceRecord, GM, VO, VX, CA, SL, VS, Stands, event, finish, refusal, unreadable}
-use Rattle.trace_record.specs.Trace.{be16, be32, whole, setupAt, openAt, sustainAt, closeAt, cellAt, pauseAt, firstAt, laterAt, standsAt}
-use Rattle.trace_record.specs.Trace.{markOctets, markGM, markGR, markVO, markVX, markCA, markSL, markVS}
+use Rattle.trace_record.specs.Trace.{Stands, event, finish, refusal}
+use Rattle.trace_record.specs.Trace.{be16, be32, whole, setupAt, openAt, sustainAt, closeAt, openPathAt, closePathAt, cellAt, pauseAt, firstAt, laterAt, standsAt}
+use Rattle.trace_record.specs.declared.Head.{Head}
+use Rattle.trace_record.specs.declared.Head.the-variants.{Gm, Gr, Gn}
+use Rattle.trace_record.specs.Trace.{headMark, markOctets, markGM, markGR, markGN, markVO, markVX, markCA, markSL, markVS, markPO, markPX}
 use Rattle.text_meaning.specs.Shapes.{of16, of32}
-use Rattle.text_meaning.specs.Events.{Event, told, pause, full, slOf, octetsOf, eventOf}
+use Rattle.text_meaning.specs.Events.{Event, told, pause, full, octetsOf, openingOf, closingOf, eventOf}
 use Rattle.text_trip.proofs.Settled.{single-octets}
 
 -- a pause of one record, as the reader reads it
@@ -74,16 +76,16 @@ module _ (s : List ℕ) (b : (i : ℕ) → getD s i 0 < 256) where
     marked : (m : ℕ) (x : List ℕ) → be16 s at ≡ m → at + 2 ≤ length s → x ≡ drop (at + 2) s → of16 m ++ x ≡ drop at s
     marked m x e h f = ap (λ (k : ℕ). of16 k ++ x) (sym e) ∙ ap (λ (y : List ℕ). of16 (be16 s at) ++ y) f ∙ two at h
 
-    setup-same : (m : ℕ) (raw : Bool) → (if raw then markGR else markGM) ≡ m → be16 s at ≡ m → Same (setupAt s at raw)
+    setup-same : (head : Head) → be16 s at ≡ headMark head → Same (setupAt s at head)
     unfolding setupAt whole octetsOf eventOf
-    setup-same m raw g e =
+    setup-same head e =
         choose Same (at + 6 ≤? length s)
         (λ t.
         let h : at + 6 ≤ length s = leb-true (at + 6) (length s) t in
         let j : at + 6 ≡ at + 4 + 2 = omega arith in
         let k : at + 4 ≡ at + 2 + 2 = omega arith in (
-          append-assoc (of16 (if raw then markGR else markGM)) (of16 (be16 s (at + 2)) ++ of16 (be16 s (at + 4))) (drop (at + 6) s)
-              ∙ marked (if raw then markGR else markGM) ((of16 (be16 s (at + 2)) ++ of16 (be16 s (at + 4))) ++ drop (at + 6) s) (e ∙ sym g) (omega arith)
+          append-assoc (of16 (headMark head)) (of16 (be16 s (at + 2)) ++ of16 (be16 s (at + 4))) (drop (at + 6) s)
+              ∙ marked (headMark head) ((of16 (be16 s (at + 2)) ++ of16 (be16 s (at + 4))) ++ drop (at + 6) s) e (omega arith)
               (append-assoc (of16 (be16 s (at + 2))) (of16 (be16 s (at + 4))) (drop (at + 6) s)
               ∙ ap (λ (y : List ℕ). of16 (be16 s (at + 2)) ++ y) (ap (λ (i : ℕ). of16 (be16 s (at + 4)) ++ drop i s) j ∙ two (at + 4) (omega arith) ∙ ap (λ (i : ℕ). drop i s) k)
               ∙ two (at + 2) (omega arith)),
@@ -92,19 +94,20 @@ module _ (s : List ℕ) (b : (i : ℕ) → getD s i 0 < 256) where
         ))
         (λ _. omega arith)
 
+    -- a closing that stands there, whatever its mark
+    closed : (mark : ℕ) → be16 s at ≡ mark → at + 4 ≤ length s → closingOf mark (be16 s (at + 2)) ++ drop (at + 4) s ≡ drop at s
+    closed mark e h =
+        let k : at + 4 ≡ at + 2 + 2 = omega arith in
+        append-assoc (of16 mark) (of16 (be16 s (at + 2))) (drop (at + 4) s)
+        ∙ marked mark (of16 (be16 s (at + 2)) ++ drop (at + 4) s) e (omega arith) (ap (λ (i : ℕ). of16 (be16 s (at + 2)) ++ drop i s) k ∙ two (at + 2) (omega arith))
+
     close-same : be16 s at ≡ markVX → Same (closeAt s at)
     unfolding closeAt whole octetsOf eventOf
-    close-same e =
-        choose Same (at + 4 ≤? length s)
-        (λ t.
-        let h : at + 4 ≤ length s = leb-true (at + 4) (length s) t in
-        let k : at + 4 ≡ at + 2 + 2 = omega arith in (
-          append-assoc (of16 markVX) (of16 (be16 s (at + 2))) (drop (at + 4) s)
-              ∙ marked markVX (of16 (be16 s (at + 2)) ++ drop (at + 4) s) e (omega arith) (ap (λ (i : ℕ). of16 (be16 s (at + 2)) ++ drop i s) k ∙ two (at + 2) (omega arith)),
-          omega arith,
-          omega arith,
-        ))
-        (λ _. omega arith)
+    close-same e = choose Same (at + 4 ≤? length s) (λ t. (closed markVX e (leb-true _ _ t), omega arith, omega arith)) (λ _. omega arith)
+
+    path-close-same : be16 s at ≡ markPX → Same (closePathAt s at)
+    unfolding closePathAt whole octetsOf eventOf
+    path-close-same e = choose Same (at + 4 ≤? length s) (λ t. (closed markPX e (leb-true _ _ t), omega arith, omega arith)) (λ _. omega arith)
 
     pause-same : be16 s at ≡ markSL → Same (pauseAt s at)
     unfolding pauseAt whole eventOf
@@ -142,32 +145,34 @@ module _ (s : List ℕ) (b : (i : ℕ) → getD s i 0 < 256) where
         ))
         (λ _. omega arith)
 
-    open-same : be16 s at ≡ markVO → Same (openAt s at)
-    unfolding openAt whole octetsOf eventOf
-    open-same e =
-        choose Same (at + 13 ≤? length s)
-        (λ t.
-        let h : at + 13 ≤ length s = leb-true (at + 13) (length s) t in
+    -- an opening that stands there, whatever its mark
+    opened : (mark : ℕ) → be16 s at ≡ mark → at + 13 ≤ length s
+        → openingOf mark (be16 s (at + 2)) (getD s (at + 4) 0) (be32 s (at + 5)) (be32 s (at + 9)) ++ drop (at + 13) s ≡ drop at s
+    opened mark e h =
         let f = be32 s (at + 5) in
         let k = be32 s (at + 9) in
         let e1 : at + 13 ≡ at + 9 + 4 = omega arith in
         let e2 : at + 9 ≡ at + 5 + 4 = omega arith in
         let e3 : at + 5 ≡ at + 4 + 1 = omega arith in
-        let e4 : at + 4 ≡ at + 2 + 2 = omega arith in (
-          append-assoc (of16 markVO) (of16 (be16 s (at + 2)) ++ (getD s (at + 4) 0 ∷ (of32 f ++ of32 k))) (drop (at + 13) s)
-              ∙ marked markVO ((of16 (be16 s (at + 2)) ++ (getD s (at + 4) 0 ∷ (of32 f ++ of32 k))) ++ drop (at + 13) s) e (omega arith)
-              (append-assoc (of16 (be16 s (at + 2))) (getD s (at + 4) 0 ∷ (of32 f ++ of32 k)) (drop (at + 13) s)
-              ∙ ap (λ (y : List ℕ). of16 (be16 s (at + 2)) ++ y)
-              (ap (λ (y : List ℕ). getD s (at + 4) 0 ∷ y)
-              (append-assoc (of32 f) (of32 k) (drop (at + 13) s)
-              ∙ ap (λ (y : List ℕ). of32 f ++ y) (ap (λ (i : ℕ). of32 k ++ drop i s) e1 ∙ four (at + 9) (omega arith) ∙ ap (λ (i : ℕ). drop i s) e2)
-              ∙ four (at + 5) (omega arith) ∙ ap (λ (i : ℕ). drop i s) e3)
-              ∙ one (at + 4) (omega arith) ∙ ap (λ (i : ℕ). drop i s) e4)
-              ∙ two (at + 2) (omega arith)),
-          omega arith,
-          omega arith,
-        ))
-        (λ _. omega arith)
+        let e4 : at + 4 ≡ at + 2 + 2 = omega arith in
+        append-assoc (of16 mark) (of16 (be16 s (at + 2)) ++ (getD s (at + 4) 0 ∷ (of32 f ++ of32 k))) (drop (at + 13) s)
+        ∙ marked mark ((of16 (be16 s (at + 2)) ++ (getD s (at + 4) 0 ∷ (of32 f ++ of32 k))) ++ drop (at + 13) s) e (omega arith)
+        (append-assoc (of16 (be16 s (at + 2))) (getD s (at + 4) 0 ∷ (of32 f ++ of32 k)) (drop (at + 13) s)
+        ∙ ap (λ (y : List ℕ). of16 (be16 s (at + 2)) ++ y)
+        (ap (λ (y : List ℕ). getD s (at + 4) 0 ∷ y)
+        (append-assoc (of32 f) (of32 k) (drop (at + 13) s)
+        ∙ ap (λ (y : List ℕ). of32 f ++ y) (ap (λ (i : ℕ). of32 k ++ drop i s) e1 ∙ four (at + 9) (omega arith) ∙ ap (λ (i : ℕ). drop i s) e2)
+        ∙ four (at + 5) (omega arith) ∙ ap (λ (i : ℕ). drop i s) e3)
+        ∙ one (at + 4) (omega arith) ∙ ap (λ (i : ℕ). drop i s) e4)
+        ∙ two (at + 2) (omega arith))
+
+    open-same : be16 s at ≡ markVO → Same (openAt s at)
+    unfolding openAt whole octetsOf eventOf
+    open-same e = choose Same (at + 13 ≤? length s) (λ t. (opened markVO e (leb-true _ _ t), omega arith, omega arith)) (λ _. omega arith)
+
+    path-same : be16 s at ≡ markPO → Same (openPathAt s at)
+    unfolding openPathAt whole octetsOf eventOf
+    path-same e = choose Same (at + 13 ≤? length s) (λ t. (opened markPO e (leb-true _ _ t), omega arith, omega arith)) (λ _. omega arith)
 
     -- octets that stand there up to place j, and a part before them from place i on
     behind : {x : List ℕ} (f : List ℕ → List ℕ) (i j : ℕ) → i ≡ j → x ≡ drop i s → f x ≡ f (drop j s)
@@ -200,10 +205,13 @@ module _ (s : List ℕ) (b : (i : ℕ) → getD s i 0 < 256) where
         choose Same (1 ≤? at && at =? length s) (λ t. eqb-true at (length s) (both (1 ≤? at) (at =? length s) t))
         (λ _. choose Same (length s <? at + markOctets) (λ _. omega arith)
         (λ _. choose Same (at =? 0)
-        (λ _. choose Same (be16 s at =? markGM) (λ t. setup-same markGM false refl (eqb-true _ _ t))
-        (λ _. choose Same (be16 s at =? markGR) (λ t. setup-same markGR true refl (eqb-true _ _ t)) (λ _. omega arith)))
+        (λ _. choose Same (be16 s at =? markGM) (λ t. setup-same Gm (eqb-true _ _ t))
+        (λ _. choose Same (be16 s at =? markGR) (λ t. setup-same Gr (eqb-true _ _ t))
+        (λ _. choose Same (be16 s at =? markGN) (λ t. setup-same Gn (eqb-true _ _ t)) (λ _. omega arith))))
         (λ _. choose Same (be16 s at =? markCA) (λ t. cell-same (eqb-true _ _ t))
         (λ _. choose Same (be16 s at =? markSL) (λ t. pause-same (eqb-true _ _ t))
         (λ _. choose Same (be16 s at =? markVO) (λ t. open-same (eqb-true _ _ t))
         (λ _. choose Same (be16 s at =? markVX) (λ t. close-same (eqb-true _ _ t))
-        (λ _. choose Same (be16 s at =? markVS) (λ t. sustain-same (eqb-true _ _ t)) (λ _. omega arith))))))))
+        (λ _. choose Same (be16 s at =? markVS) (λ t. sustain-same (eqb-true _ _ t))
+        (λ _. choose Same (be16 s at =? markPO) (λ t. path-same (eqb-true _ _ t))
+        (λ _. choose Same (be16 s at =? markPX) (λ t. path-close-same (eqb-true _ _ t)) (λ _. omega arith))))))))))

@@ -1,90 +1,89 @@
 -- Open and close: over the stored words they give the stored outcome, and what rotation keeps is kept.
-use Prim.Native.Nat.{ℕ, _+_, _-_, _*_, _%_, _≤_, _<_}
+use Prim.Native.Nat.{ℕ, _+_, _-_, _%_, _≤_, _<_}
 use mathlib.Core.Path.{_≡_, refl, sym, _∙_, ap}
-use mathlib.Core.Bool.{true, not, _&&_}
+use mathlib.Core.Bool.{true, not, _&&_, false}
 use mathlib.Core.List.{List}
 use native.Mathlib.Omega.{arith}
 use native.Mathlib.Nat.{mod-lt}
-use borrow.Author.Tests.{leb-true, ltb-true, eqb-true, eqb-false, ne-eqb, not-false}
+use borrow.Author.Tests.{eqb-true, eqb-false, ne-eqb, not-false}
 use lib.ListN.{length}
 use Rattle.meaning.specs.declared.Record.{Record}
-use Rattle.meaning.specs.Plain.{_<?_, _≤?_, _=?_}
-use Rattle.meaning.specs.Numbers.{rangesHold, wordsPerConnection}
+use Rattle.meaning.specs.Plain.{_=?_}
+use Rattle.meaning.specs.Numbers.{rangesHold, connectionsIn, unused, wordsIn}
 use Rattle.meaning.specs.State.{State, wordsLong, withRecord, withWords, recordWith, withClock}
+use Rattle.meaning.specs.Header.{Name, named, numberIn}
 use Rattle.meaning.specs.Bucket.{bucketOf, obeysRules, fall}
 use Rattle.meaning.specs.Words.{Connection, Second, connectionAt, writeConnection, secondObeys, openedConnection, closedConnection, openWordFits, bucketsFit, connectionFits, debt}
 use Rattle.meaning.specs.Calls.{Called, calledOf, sharedRefusal, openCall, closeCall}
+use Rattle.meaning.proofs.NamesLaws.{number-low, number-used}
 use Rattle.meaning_runs.proofs.OutLaws.{if-holds}
 use Rattle.theory_clock.specs.Stored.{stored, storedConnection, storedWords, storedState, storedCalled}
 use Rattle.theory_clock.specs.Unwrapped.{unwrappedOpen, unwrappedDebt, unwrappedClose}
 use Rattle.theory_clock.specs.Kept.{since, longest, Behind, Kept}
-use Rattle.theory_clock.proofs.Outs.{both-true, if-both}
+use Rattle.theory_clock.proofs.Outs.{if-both}
 use Rattle.theory_clock.proofs.WordsStored.{stored-length, stored-read, stored-write}
 use Rattle.theory_clock.proofs.Wrap.{elapsed-true}
 use Rattle.theory_clock.proofs.Since.{since-low, recent-write}
 use Rattle.theory_clock.proofs.SlotAgrees.{ranges-v}
-
-in-range : (z vci : ℕ) → 1 ≤? vci && vci <? z ≡ true → (1 ≤ vci) × (vci < z)
-in-range z vci p =
-    let q = both-true (1 ≤? vci) (vci <? z) p in
-    (leb-true 1 vci (q .0), ltb-true vci z (q .1))
 
 fits-stored : (N : ℕ) (vc : Connection) → connectionFits N (storedConnection vc) ≡ connectionFits N vc
 unfolding connectionFits openWordFits bucketsFit storedConnection
 fits-stored N vc = refl
 
 -- refusals 1, 2, 4 and 3 read nothing that differs
-shared-stored : (u : State) (vci : ℕ) → length (u .words) ≡ wordsPerConnection * u .ctl .v
-    → sharedRefusal (storedState u .ctl) (storedState u .words) vci ≡ sharedRefusal (u .ctl) (u .words) vci
+shared-stored : (u : State) (name : Name) → length (u .words) ≡ wordsIn (u .ctl .v)
+    → sharedRefusal (storedState u .ctl) (storedState u .words) name ≡ sharedRefusal (u .ctl) (u .words) name
 unfolding sharedRefusal storedState withClock withRecord withWords recordWith wordsLong
-shared-stored u vci long =
+shared-stored u name long =
     let r = u .ctl in
+    let c = numberIn (r .v) name in
     if-both (λ (n : ℕ). n) (not (rangesHold (r .n) (r .v))) _ _ _ _ (λ _. refl)
-    (λ _. rw (stored-length (r .v) (u .words))
-    (if-both (λ (n : ℕ). n) (not (length (u .words) =? wordsPerConnection * r .v)) _ _ _ _ (λ _. refl)
-    (λ _. if-both (λ (n : ℕ). n) (not (1 ≤? vci && vci <? r .v)) _ _ _ _ (λ _. refl)
-    (λ e. let low = in-range (r .v) vci (not-false (1 ≤? vci && vci <? r .v) e) .1 in
-    rw (stored-read (r .v) (u .words) vci low (omega arith), fits-stored (r .n) (connectionAt (u .words) vci))))))
+    (λ _. rw (stored-length (connectionsIn (r .v)) (u .words))
+    (if-both (λ (n : ℕ). n) (not (length (u .words) =? wordsIn (r .v))) _ _ _ _ (λ _. refl)
+    (λ _. if-both (λ (n : ℕ). n) (not (named (r .v) name)) _ _ _ _ (λ _. refl)
+    (λ e. let low = number-low (r .v) name (not-false (named (r .v) name) e) in
+    rw (stored-read (connectionsIn (r .v)) (u .words) c low (omega arith), fits-stored (r .n) (connectionAt (u .words) c))))))
 
--- none of them: N and V are in their ranges, and the VCI is in its own
-shared-low : (r : Record) (words : List ℕ) (vci : ℕ) → sharedRefusal r words vci ≡ 0
-    → (rangesHold (r .n) (r .v) ≡ true) × (1 ≤ vci) × (vci < r .v)
+-- none of them: N and V are in their ranges, and there is such a connection
+shared-low : (r : Record) (words : List ℕ) (name : Name) → sharedRefusal r words name ≡ 0
+    → (rangesHold (r .n) (r .v) ≡ true) × (named (r .v) name ≡ true)
 unfolding sharedRefusal
-shared-low r words vci =
+shared-low r words name =
     if-holds P (not (rangesHold (r .n) (r .v))) _ _ (λ _ p. absurd (omega arith))
     (λ a. if-holds P (not (wordsLong (r .v) words)) _ _ (λ _ p. absurd (omega arith))
-    (λ _. if-holds P (not (1 ≤? vci && vci <? r .v)) _ _ (λ _ p. absurd (omega arith))
-    (λ e p. let q = in-range (r .v) vci (not-false (1 ≤? vci && vci <? r .v) e) in
-    (not-false (rangesHold (r .n) (r .v)) a, q .0, q .1))))
+    (λ _. if-holds P (not (named (r .v) name)) _ _ (λ _ p. absurd (omega arith))
+    (λ e p. (not-false (rangesHold (r .n) (r .v)) a, not-false (named (r .v) name) e))))
   where
     P : ℕ → Type 0
-    P n = n ≡ 0 → (rangesHold (r .n) (r .v) ≡ true) × (1 ≤ vci) × (vci < r .v)
+    P n = n ≡ 0 → (rangesHold (r .n) (r .v) ≡ true) × (named (r .v) name ≡ true)
 
-pub open-agrees : (u : State) (vci m F C : ℕ) (x : Second) → Kept u
-    → openCall (storedState u .ctl) (storedState u .words) vci m F C x
-    ≡ storedCalled (u .ctl .v) (unwrappedOpen (u .ctl) (u .words) vci m F C x)
+pub open-agrees : (u : State) (name : Name) (m F C : ℕ) (x : Second) → Kept u
+    → openCall (storedState u .ctl) (storedState u .words) name m F C x
+    ≡ storedCalled (u .ctl .v) (unwrappedOpen (u .ctl) (u .words) name m F C x)
 unfolding openCall unwrappedOpen storedCalled storedState withClock withRecord withWords recordWith storedConnection openedConnection
-open-agrees u vci m F C x kept =
+open-agrees u name m F C x kept =
     let r = u .ctl in
-    let k = sharedRefusal r (u .words) vci in
-    rw (shared-stored u vci (kept .recent .long))
+    let vci = numberIn (r .v) name in
+    let k = sharedRefusal r (u .words) name in
+    rw (shared-stored u name (kept .recent .long))
     (if-both (storedCalled (r .v)) (not (k =? 0)) _ _ _ _ (λ _. refl)
-    (λ e. let low = shared-low r (u .words) vci (eqb-true k 0 (not-false (k =? 0) e)) .2 in
-    rw (stored-read (r .v) (u .words) vci low (omega (arith, kept .recent .long)))
+    (λ e. let low = number-low (r .v) name (shared-low r (u .words) name (eqb-true k 0 (not-false (k =? 0) e)) .1) in
+    rw (stored-read (connectionsIn (r .v)) (u .words) vci low (omega (arith, kept .recent .long)))
     (if-both (storedCalled (r .v)) (connectionAt (u .words) vci .opened =? 1) _ _ _ _ (λ _. refl)
     (λ _. if-both (storedCalled (r .v)) (not (obeysRules (r .n) (bucketOf m F C 0))) _ _ _ _ (λ _. refl)
     (λ _. if-both (storedCalled (r .v)) (not (secondObeys (bucketOf (x .m) (x .F) (x .C) 0) (x .tag))) _ _ _ _ (λ _. refl)
-    (λ _. ap (calledOf 0) (sym (stored-write (r .v) (u .words) vci (openedConnection (r .t) (bucketOf m F C 0) x) low (kept .recent .long)))))))))
+    (λ _. ap (calledOf 0) (sym (stored-write (connectionsIn (r .v)) (u .words) vci (openedConnection (r .t) (bucketOf m F C 0) x) low (kept .recent .long)))))))))
 
--- rotation names every VC at least every V slots
-since-most : (N z k r v : ℕ) → r ≡ (k + z - 1) % z → rangesHold N z ≡ true → 1 ≤ v → v < z → since z r v ≤ longest
+-- rotation names every connection at least every V + 256 slots
+since-most : (N z k r v : ℕ) → r ≡ (k + connectionsIn z - 1) % connectionsIn z → rangesHold N z ≡ true → unused z v ≡ false → v < connectionsIn z → since (connectionsIn z) r v ≤ longest
 unfolding longest
 since-most N z k r v e range h1 h2 =
     let few = ranges-v N z range in
-    omega (arith, few .1, since-low z r v (omega (arith, e, mod-lt (k + z - 1) {m = z} (omega (arith, few .0)))) h1 h2)
+    let R = connectionsIn z in
+    omega (arith, few .1, since-low R r v (omega (arith, e, mod-lt (k + R - 1) {m = R} (omega arith))) h2)
 
--- what close works out of S is the same: no open VC is so far behind that elapsed could wrap
-debt-agrees : (u : State) (vci : ℕ) → Kept u → rangesHold (u .ctl .n) (u .ctl .v) ≡ true → 1 ≤ vci → vci < u .ctl .v
+-- what close works out of S is the same: no open connection is so far behind that elapsed could wrap
+debt-agrees : (u : State) (vci : ℕ) → Kept u → rangesHold (u .ctl .n) (u .ctl .v) ≡ true → unused (u .ctl .v) vci ≡ false → vci < connectionsIn (u .ctl .v)
     → (connectionAt (u .words) vci .opened ≡ 0 → ⊥)
     → debt (stored (u .ctl .t)) (storedConnection (connectionAt (u .words) vci)) ≡ unwrappedDebt (u .ctl .t) (connectionAt (u .words) vci)
 unfolding debt unwrappedDebt fall storedConnection
@@ -101,56 +100,60 @@ closed-same : storedConnection closedConnection ≡ closedConnection
 unfolding storedConnection closedConnection
 closed-same = refl
 
-pub close-agrees : (u : State) (vci : ℕ) → Kept u
-    → closeCall (storedState u .ctl) (storedState u .words) vci ≡ storedCalled (u .ctl .v) (unwrappedClose (u .ctl) (u .words) vci)
+pub close-agrees : (u : State) (name : Name) → Kept u
+    → closeCall (storedState u .ctl) (storedState u .words) name ≡ storedCalled (u .ctl .v) (unwrappedClose (u .ctl) (u .words) name)
 unfolding closeCall unwrappedClose storedCalled storedState withClock withRecord withWords recordWith storedConnection
-close-agrees u vci kept =
+close-agrees u name kept =
     let r = u .ctl in
+    let vci = numberIn (r .v) name in
     let vc = connectionAt (u .words) vci in
-    let k = sharedRefusal r (u .words) vci in
-    rw (shared-stored u vci (kept .recent .long))
+    let k = sharedRefusal r (u .words) name in
+    rw (shared-stored u name (kept .recent .long))
     (if-both (storedCalled (r .v)) (not (k =? 0)) _ _ _ _ (λ _. refl)
-    (λ e. let p = shared-low r (u .words) vci (eqb-true k 0 (not-false (k =? 0) e)) in
-    rw (stored-read (r .v) (u .words) vci (p .2) (omega (arith, kept .recent .long)))
+    (λ e. let p = shared-low r (u .words) name (eqb-true k 0 (not-false (k =? 0) e)) in
+    let low = number-low (r .v) name (p .1) in
+    rw (stored-read (connectionsIn (r .v)) (u .words) vci low (omega (arith, kept .recent .long)))
     (if-both (storedCalled (r .v)) (vc .opened =? 0) _ _ _ _ (λ _. refl)
-    (λ f. rw (debt-agrees u vci kept (p .0) (p .1) (p .2) (eqb-false (vc .opened) 0 f))
+    (λ f. rw (debt-agrees u vci kept (p .0) (number-used (r .v) name (p .1)) low (eqb-false (vc .opened) 0 f))
     (if-both (storedCalled (r .v)) (not (vc .waiting =? 0 && unwrappedDebt (r .t) vc =? 0)) _ _ _ _ (λ _. refl)
-    (λ _. ap (calledOf 0) (sym (stored-write (r .v) (u .words) vci closedConnection (p .2) (kept .recent .long)
-    ∙ ap (writeConnection (storedWords (r .v) (u .words)) vci) closed-same))))))))
+    (λ _. ap (calledOf 0) (sym (stored-write (connectionsIn (r .v)) (u .words) vci closedConnection low (kept .recent .long)
+    ∙ ap (writeConnection (storedWords (connectionsIn (r .v)) (u .words)) vci) closed-same))))))))
 
--- one VC's words written between two slots
-kept-write : (u : State) (vci : ℕ) (vc : Connection) → vci < u .ctl .v → Kept u
-    → Behind (u .ctl .t) (since (u .ctl .v) (u .ctl .rotation) vci) vc → Kept (withWords u (writeConnection (u .words) vci vc))
+-- one connection's words written between two slots
+kept-write : (u : State) (vci : ℕ) (vc : Connection) → vci < connectionsIn (u .ctl .v) → Kept u
+    → Behind (u .ctl .t) (since (connectionsIn (u .ctl .v)) (u .ctl .rotation) vci) vc → Kept (withWords u (writeConnection (u .words) vci vc))
 unfolding withWords
 kept-write u vci vc low kept b =
     record {
       turns = kept .turns;
-      recent = recent-write (u .ctl .v) (u .ctl .t) (since (u .ctl .v) (u .ctl .rotation)) (u .words) vci vc low (kept .recent .long)
+      recent = recent-write (u .ctl .v) (u .ctl .t) (since (connectionsIn (u .ctl .v)) (u .ctl .rotation)) (u .words) vci vc low (kept .recent .long)
           (λ v p q _. kept .recent .behind v p q) b;
     }
 
-pub open-keeps : (u : State) (vci m F C : ℕ) (x : Second) → Kept u
-    → Kept (withWords u (unwrappedOpen (u .ctl) (u .words) vci m F C x .words))
+pub open-keeps : (u : State) (name : Name) (m F C : ℕ) (x : Second) → Kept u
+    → Kept (withWords u (unwrappedOpen (u .ctl) (u .words) name m F C x .words))
 unfolding openCall unwrappedOpen openedConnection withWords
-open-keeps u vci m F C x kept =
+open-keeps u name m F C x kept =
     let r = u .ctl in
-    let k = sharedRefusal r (u .words) vci in
+    let vci = numberIn (r .v) name in
+    let k = sharedRefusal r (u .words) name in
     if-holds (λ (c : Called). Kept (withWords u (c .words))) (not (k =? 0)) _ _ (λ _. kept)
-    (λ e. let low = shared-low r (u .words) vci (eqb-true k 0 (not-false (k =? 0) e)) .2 in
+    (λ e. let low = number-low (r .v) name (shared-low r (u .words) name (eqb-true k 0 (not-false (k =? 0) e)) .1) in
     if-holds (λ (c : Called). Kept (withWords u (c .words))) (connectionAt (u .words) vci .opened =? 1) _ _ (λ _. kept)
     (λ _. if-holds (λ (c : Called). Kept (withWords u (c .words))) (not (obeysRules (r .n) (bucketOf m F C 0))) _ _ (λ _. kept)
     (λ _. if-holds (λ (c : Called). Kept (withWords u (c .words))) (not (secondObeys (bucketOf (x .m) (x .F) (x .C) 0) (x .tag))) _ _
     (λ _. kept)
     (λ _. kept-write u vci (openedConnection (r .t) (bucketOf m F C 0) x) low kept (λ o. (omega arith, omega arith))))))
 
-pub close-keeps : (u : State) (vci : ℕ) → Kept u → Kept (withWords u (unwrappedClose (u .ctl) (u .words) vci .words))
+pub close-keeps : (u : State) (name : Name) → Kept u → Kept (withWords u (unwrappedClose (u .ctl) (u .words) name .words))
 unfolding unwrappedClose closedConnection withWords
-close-keeps u vci kept =
+close-keeps u name kept =
     let r = u .ctl in
+    let vci = numberIn (r .v) name in
     let vc = connectionAt (u .words) vci in
-    let k = sharedRefusal r (u .words) vci in
+    let k = sharedRefusal r (u .words) name in
     if-holds (λ (c : Called). Kept (withWords u (c .words))) (not (k =? 0)) _ _ (λ _. kept)
-    (λ e. let low = shared-low r (u .words) vci (eqb-true k 0 (not-false (k =? 0) e)) .2 in
+    (λ e. let low = number-low (r .v) name (shared-low r (u .words) name (eqb-true k 0 (not-false (k =? 0) e)) .1) in
     if-holds (λ (c : Called). Kept (withWords u (c .words))) (vc .opened =? 0) _ _ (λ _. kept)
     (λ _. if-holds (λ (c : Called). Kept (withWords u (c .words))) (not (vc .waiting =? 0 && unwrappedDebt (r .t) vc =? 0)) _ _ (λ _. kept)
     (λ _. kept-write u vci closedConnection low kept (λ o. absurd (o refl)))))

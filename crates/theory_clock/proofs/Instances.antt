@@ -6,6 +6,7 @@ use Rattle.meaning.specs.declared.Record.{Record}
 use Rattle.meaning.specs.Numbers.{slotNumbers}
 use Rattle.meaning.specs.State.{State}
 use Rattle.meaning.specs.Bucket.{elapsed}
+use Rattle.meaning.specs.Header.{Name}
 use Rattle.meaning.specs.Words.{Connection, upToDate, debt}
 use Rattle.meaning.specs.Calls.{closeCall}
 use Rattle.meaning.specs.Work.{Work}
@@ -40,6 +41,6 @@ pub debt-is : (t : ℕ) (vc : Connection) → debtBy elapsed t vc ≡ debt t vc
 unfolding debt
 debt-is t vc = refl
 
-pub close-is : (r : Record) (words : List ℕ) (vci : ℕ) → closeBy debt r words vci ≡ closeCall r words vci
+pub close-is : (r : Record) (words : List ℕ) (name : Name) → closeBy debt r words name ≡ closeCall r words name
 unfolding closeCall
-close-is r words vci = refl
+close-is r words name = refl

@@ -1,6 +1,6 @@
 -- From setup on, the 32-bit slot number decides as a clock that never wraps, over runs of any length: each call agrees
 -- (SlotAgrees, CallsAgree), and the fresh states agree.
-use Prim.Native.Nat.{ℕ, zero, suc, _+_, _-_, _*_, _≤_}
+use Prim.Native.Nat.{ℕ, zero, suc, _+_, _-_}
 use mathlib.Core.Path.{_≡_, refl, sym, _∙_, ap}
 use mathlib.Core.Bool.{Bool, true, not}
 use mathlib.Core.List.{List, [], _∷_}
@@ -9,10 +9,11 @@ use native.Mathlib.Nat.{mod-eq-of-lt}
 use borrow.Author.Tests.{eq-eqb, not-false}
 use lib.ListN.{getD, replicate, length-replicate}
 use Rattle.meaning.specs.Plain.{if_then_else_, _=?_}
-use Rattle.meaning.specs.Numbers.{rangesHold, openPlace, wordsPerConnection}
+use Rattle.meaning.specs.Numbers.{rangesHold, openPlace, connectionsIn, kindFits, wordsIn}
 use Rattle.meaning.specs.State.{State, lengthsHold, withRecord, withWords, recordWith, withClock}
+use Rattle.meaning.specs.Header.{numberIn}
 use Rattle.meaning.specs.Words.{Connection, connectionAt, writeConnection}
-use Rattle.meaning.specs.Calls.{Called, SetUp, freshRecord, freshState, setup}
+use Rattle.meaning.specs.Calls.{Options, optionsOf, kindOf, Called, SetUp, freshRecord, freshState, setup}
 use Rattle.meaning.specs.Work.{Work}
 use Rattle.meaning.proofs.WordsLaws.{write-stored}
 use Rattle.meaning.specs.Line.{lineCell}
@@ -23,10 +24,10 @@ use Rattle.theory_clock.specs.Unwrapped.{unwrappedSlot, unwrappedFresh}
 use Rattle.theory_clock.specs.Kept.{Kept}
 use Rattle.theory_clock.specs.UnwrappedRun.{unwrappedCall, unwrappedCalls, unwrappedFreshRun, NeverWraps}
 use Rattle.theory_clock.proofs.Wrap.{stored-zero}
-use Rattle.theory_clock.proofs.SlotAgrees.{ranges-v, slot-agrees, slot-keeps, slot-counts}
+use Rattle.theory_clock.proofs.SlotAgrees.{slot-agrees, slot-keeps, slot-counts}
 use Rattle.theory_clock.proofs.CallsAgree.{open-agrees, open-keeps, close-agrees, close-keeps}
 
--- words that are all 0: every VC is closed, so nothing is stored otherwise
+-- words that are all 0: every connection is closed, so nothing is stored otherwise
 zeros : ℕ → List ℕ
 zeros k = replicate k 0
 
@@ -40,27 +41,27 @@ closed-stored : (vc : Connection) → vc .opened ≡ 0 → storedConnection vc �
 unfolding storedConnection
 closed-stored vc e = rw (eq-eqb (vc .opened) 0 e)
 
-fresh-words : (z k : ℕ) → storedWords z (zeros k) ≡ zeros k
+fresh-words : (R k : ℕ) → storedWords R (zeros k) ≡ zeros k
 unfolding storedWords connectionAt
 fresh-words zero k = refl
-fresh-words (suc z) k =
-    ap (λ (l : List ℕ). writeConnection l z (storedConnection (connectionAt (zeros k) z))) (fresh-words z k)
-    ∙ ap (writeConnection (zeros k) z) (closed-stored (connectionAt (zeros k) z) (zeros-at k (openPlace z)))
-    ∙ write-stored (zeros k) z
+fresh-words (suc R) k =
+    ap (λ (l : List ℕ). writeConnection l R (storedConnection (connectionAt (zeros k) R))) (fresh-words R k)
+    ∙ ap (writeConnection (zeros k) R) (closed-stored (connectionAt (zeros k) R) (zeros-at k (openPlace R)))
+    ∙ write-stored (zeros k) R
 
 -- after setup t is 2^32-1, which is what is stored of 0 slots served
-pub fresh-agrees : (N z : ℕ) (raw : Bool) → storedState (unwrappedFresh N z raw) ≡ freshState N z raw
+pub fresh-agrees : (N z : ℕ) (o : Options) → storedState (unwrappedFresh N z o) ≡ freshState N z o
 unfolding storedState unwrappedFresh freshState freshRecord withClock withRecord withWords recordWith zeros
-fresh-agrees N z raw = rw (stored-zero, fresh-words z (wordsPerConnection * z))
+fresh-agrees N z o = rw (stored-zero, fresh-words (connectionsIn z) (wordsIn z))
 
-pub fresh-kept : (N z : ℕ) (raw : Bool) → 2 ≤ z → Kept (unwrappedFresh N z raw)
+pub fresh-kept : (N z : ℕ) (o : Options) → Kept (unwrappedFresh N z o)
 unfolding unwrappedFresh freshState freshRecord withClock withRecord recordWith connectionAt zeros
-fresh-kept N z raw h =
+fresh-kept N z o =
     record {
-      turns = omega (arith, mod-eq-of-lt {n = 0 + z - 1} {m = z} (omega arith));
+      turns = omega (arith, mod-eq-of-lt {n = 0 + connectionsIn z - 1} {m = connectionsIn z} (omega arith));
       recent = record {
-        long = length-replicate (wordsPerConnection * z) 0;
-        behind = λ vci a b o. absurd (o (zeros-at (wordsPerConnection * z) (openPlace vci)));
+        long = length-replicate (wordsIn z) 0;
+        behind = λ vci a b o. absurd (o (zeros-at (wordsIn z) (openPlace vci)));
       };
     }
 
@@ -69,28 +70,28 @@ storedRun r = runOf (storedState (r .state)) (r .events)
 
 pub call-agrees : (r : Run) (c : Call) → Kept (r .state) → call (storedRun r) c ≡ storedRun (unwrappedCall r c)
 unfolding call unwrappedCall storedRun storedCalled storedWork storedState withClock withRecord withWords recordWith shown
-call-agrees r (onOpenWith vci m F C x) kept =
-    ap (λ (c : Called). runOf (withWords (storedState (r .state)) (c .words)) (opened vci m F C x (c .number) ∷ r .events))
-    (open-agrees (r .state) vci m F C x kept)
-call-agrees r (onClose vci) kept =
-    ap (λ (c : Called). runOf (withWords (storedState (r .state)) (c .words)) (closed vci (c .number) ∷ r .events))
-    (close-agrees (r .state) vci kept)
+call-agrees r (onOpenWith name m F C x) kept =
+    ap (λ (c : Called). runOf (withWords (storedState (r .state)) (c .words)) (opened (numberIn (r .state .ctl .v) name) m F C x (c .number) ∷ r .events))
+    (open-agrees (r .state) name m F C x kept)
+call-agrees r (onClose name) kept =
+    ap (λ (c : Called). runOf (withWords (storedState (r .state)) (c .words)) (closed (numberIn (r .state .ctl .v) name) (c .number) ∷ r .events))
+    (close-agrees (r .state) name kept)
 call-agrees r (onSlot cell) kept =
     ap (λ (w : Work). runOf (w .state) (ran (letIn (r .state) cell .cell) (w .answer) (shown w) ∷ r .events))
     (slot-agrees (r .state) cell kept)
 
 pub call-keeps : (r : Run) (c : Call) → Kept (r .state) → Kept (unwrappedCall r c .state)
 unfolding unwrappedCall
-call-keeps r (onOpenWith vci m F C x) kept = open-keeps (r .state) vci m F C x kept
-call-keeps r (onClose vci) kept = close-keeps (r .state) vci kept
+call-keeps r (onOpenWith name m F C x) kept = open-keeps (r .state) name m F C x kept
+call-keeps r (onClose name) kept = close-keeps (r .state) name kept
 call-keeps r (onSlot cell) kept = slot-keeps (r .state) cell kept
 
 -- a run whose clock is the number of slots that its events served
 pub call-counts : (r : Run) (c : Call) → Kept (r .state) → r .state .ctl .t ≡ served (r .events)
     → unwrappedCall r c .state .ctl .t ≡ served (unwrappedCall r c .events)
 unfolding unwrappedCall served withWords
-call-counts r (onOpenWith vci m F C x) kept e = e
-call-counts r (onClose vci) kept e = e
+call-counts r (onOpenWith name m F C x) kept e = e
+call-counts r (onClose name) kept e = e
 call-counts r (onSlot cell) kept e =
     slot-counts (r .state) cell kept ∙ ap (λ (n : ℕ). (if unwrappedSlot (r .state) cell .answer .number =? 0 then 1 else 0) + n) e
 
@@ -105,16 +106,16 @@ calls-agree r (c ∷ cs) kept e =
     let rest = calls-agree (unwrappedCall r c) cs (call-keeps r c kept) (call-counts r c kept e) in
     (ap (λ (r′ : Run). calls r′ cs) (call-agrees r c kept) ∙ rest .0, rest .1, rest .2)
 
-fresh-counts : (N z : ℕ) (raw : Bool) → unwrappedFresh N z raw .ctl .t ≡ served []
+fresh-counts : (N z : ℕ) (o : Options) → unwrappedFresh N z o .ctl .t ≡ served []
 unfolding unwrappedFresh freshState withClock withRecord recordWith served
-fresh-counts N z raw = refl
+fresh-counts N z o = refl
 
-pub never-wraps : (N z : ℕ) (raw : Bool) → rangesHold N z ≡ true → (cs : List Call) → NeverWraps N z raw cs
+pub never-wraps : (N z : ℕ) (o : Options) → rangesHold N z ≡ true → (cs : List Call) → NeverWraps N z o cs
 unfolding freshRun unwrappedFreshRun storedRun storedState withClock withRecord withWords
-never-wraps N z raw range cs =
-    let fresh = runOf (unwrappedFresh N z raw) [] in
-    let all = calls-agree fresh cs (fresh-kept N z raw (ranges-v N z range .0)) (fresh-counts N z raw) in
-    let same = ap (λ (s : State). calls (runOf s []) cs) (sym (fresh-agrees N z raw)) ∙ all .0 in
+never-wraps N z o range cs =
+    let fresh = runOf (unwrappedFresh N z o) [] in
+    let all = calls-agree fresh cs (fresh-kept N z o) (fresh-counts N z o) in
+    let same = ap (λ (s : State). calls (runOf s []) cs) (sym (fresh-agrees N z o)) ∙ all .0 in
     record {
       memories = ap (λ (r : Run). r .state) same;
       answers = ap (λ (r : Run). r .events) same;
@@ -124,22 +125,25 @@ never-wraps N z raw range cs =
     }
 
 -- "'From a fresh state' means that a setup has answered 0": whatever the lent memories held before
-pub setup-fresh : (N z : ℕ) (raw : Bool) (cells links calendar words : List ℕ)
-    → setup N z raw cells links calendar words .number ≡ 0
-    → (rangesHold N z ≡ true) × (setup N z raw cells links calendar words .state ≡ freshState N z raw)
+pub setup-fresh : (N z : ℕ) (raw : Bool) (kind : ℕ) (cells links calendar words : List ℕ)
+    → setup N z raw kind cells links calendar words .number ≡ 0
+    → (rangesHold N z ≡ true)
+    × (setup N z raw kind cells links calendar words .state ≡ freshState N z (optionsOf raw (kindOf kind)))
 unfolding setup
-setup-fresh N z raw cells links calendar words =
+setup-fresh N z raw kind cells links calendar words =
     if-holds P (not (rangesHold N z)) _ _ (λ _ p. absurd (omega arith))
-    (λ range. if-holds P (not (lengthsHold N z cells links calendar words)) _ _ (λ _ p. absurd (omega arith))
-    (λ _ p. (not-false (rangesHold N z) range, refl)))
+    (λ range. if-holds P (not (kindFits kind)) _ _ (λ _ p. absurd (omega arith))
+    (λ _. if-holds P (not (lengthsHold N z cells links calendar words)) _ _ (λ _ p. absurd (omega arith))
+    (λ _ p. (not-false (rangesHold N z) range, refl))))
   where
     P : SetUp → Type 0
-    P u = u .number ≡ 0 → (rangesHold N z ≡ true) × (u .state ≡ freshState N z raw)
+    P u = u .number ≡ 0 → (rangesHold N z ≡ true) × (u .state ≡ freshState N z (optionsOf raw (kindOf kind)))
 
-pub never-wraps-after-setup : (N z : ℕ) (raw : Bool) (cells links calendar words : List ℕ)
-    → setup N z raw cells links calendar words .number ≡ 0 → (cs : List Call)
-    → (setup N z raw cells links calendar words .state ≡ freshRun N z raw .state) × NeverWraps N z raw cs
+pub never-wraps-after-setup : (N z : ℕ) (raw : Bool) (kind : ℕ) (cells links calendar words : List ℕ)
+    → setup N z raw kind cells links calendar words .number ≡ 0 → (cs : List Call)
+    → (setup N z raw kind cells links calendar words .state ≡ freshRun N z (optionsOf raw (kindOf kind)) .state)
+    × NeverWraps N z (optionsOf raw (kindOf kind)) cs
 unfolding freshRun
-never-wraps-after-setup N z raw cells links calendar words p cs =
-    let f = setup-fresh N z raw cells links calendar words p in
-    (f .1, never-wraps N z raw (f .0) cs)
+never-wraps-after-setup N z raw kind cells links calendar words p cs =
+    let f = setup-fresh N z raw kind cells links calendar words p in
+    (f .1, never-wraps N z (optionsOf raw (kindOf kind)) (f .0) cs)

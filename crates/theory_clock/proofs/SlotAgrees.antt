@@ -1,5 +1,5 @@
 -- One slot: over the stored state it gives the stored outcome of the unwrapped slot, and what rotation keeps is kept.
-use Prim.Native.Nat.{ℕ, _+_, _-_, _*_, _%_, _≤_, _<_}
+use Prim.Native.Nat.{ℕ, _+_, _-_, _%_, _≤_, _<_}
 use mathlib.Core.Path.{_≡_, refl, sym, _∙_, ap}
 use mathlib.Core.Bool.{Bool, true, false, not, _&&_, _||_}
 use mathlib.Core.List.{List}
@@ -9,7 +9,7 @@ use borrow.Author.Tests.{leb-true, not-false, ne-eqb}
 use lib.ListN.{length}
 use Rattle.base_hec.specs.Modes.{Arriving, arrivingFits}
 use Rattle.meaning.specs.Plain.{if_then_else_, _≤?_, _=?_, Out, refused, next, needs, _andThen_}
-use Rattle.meaning.specs.Numbers.{rangesHold, octets, leastV, mostV, mostN, wordsPerConnection}
+use Rattle.meaning.specs.Numbers.{rangesHold, octets, leastV, mostV, mostN, connectionsIn, unused, wordsIn}
 use Rattle.meaning.specs.State.{State, wordsLong, lengthsHold, withRecord, withWords, recordWith, withClock}
 use Rattle.meaning.specs.State.{recordInMode, withMode}
 use Rattle.meaning.specs.Work.{Work, workOf, bareAnswer}
@@ -33,91 +33,94 @@ ranges-v N z p =
     (leb-true 2 z (both-true (1 ≤? N && N ≤? mostN) (leastV ≤? z) (q .0) .1), leb-true z 1_024 (q .1))
 
 -- the five steps of slot k+1, after rotation stood at r
-module _ (cell : List ℕ) (w : Work) (z k r : ℕ) (begun : On z k r (since z r) w) (low : r < z) (high : z ≤ 1_024) where
+module _ (cell : List ℕ) (w : Work) (z k r : ℕ) (begun : On z k r (since (connectionsIn z) r) w) (low : r < connectionsIn z) (high : z ≤ 1_024) where
   abbrev next-r : ℕ
-  next-r = (r + 1) % z
+  next-r = (r + 1) % connectionsIn z
 
-  ticked : AllOut (On z (k + 1) next-r (λ v. since z r v + 1)) (tick w)
-  ticked = tick-on z k r (since z r) w begun
+  ticked : AllOut (On z (k + 1) next-r (λ v. since (connectionsIn z) r v + 1)) (tick w)
+  ticked = tick-on z k r (since (connectionsIn z) r) w begun
 
-  rotated : AllOut (On z (k + 1) next-r (since z next-r)) (tick w andThen rotate)
+  rotated : AllOut (On z (k + 1) next-r (since (connectionsIn z) next-r)) (tick w andThen rotate)
   rotated =
-      then-all (On z (k + 1) next-r (λ v. since z r v + 1)) (On z (k + 1) next-r (since z next-r)) (tick w) rotate ticked
+      then-all (On z (k + 1) next-r (λ v. since (connectionsIn z) r v + 1)) (On z (k + 1) next-r (since (connectionsIn z) next-r)) (tick w) rotate ticked
       (λ w′ h. rotate-on z (k + 1) r w′ low h)
 
-  arrived : AllOut (On z (k + 1) next-r (since z next-r)) (tick w andThen rotate andThen arrive cell)
+  arrived : AllOut (On z (k + 1) next-r (since (connectionsIn z) next-r)) (tick w andThen rotate andThen arrive cell)
   arrived =
-      then-all (On z (k + 1) next-r (since z next-r)) (On z (k + 1) next-r (since z next-r)) (tick w andThen rotate) (arrive cell) rotated
-      (λ w′ h. arrive-on z (k + 1) next-r (since z next-r) cell w′ h)
+      then-all (On z (k + 1) next-r (since (connectionsIn z) next-r)) (On z (k + 1) next-r (since (connectionsIn z) next-r)) (tick w andThen rotate) (arrive cell) rotated
+      (λ w′ h. arrive-on z (k + 1) next-r (since (connectionsIn z) next-r) cell w′ h)
 
-  moved : AllOut (On z (k + 1) next-r (since z next-r)) (tick w andThen rotate andThen arrive cell andThen step4)
+  moved : AllOut (On z (k + 1) next-r (since (connectionsIn z) next-r)) (tick w andThen rotate andThen arrive cell andThen step4)
   moved =
-      then-all (On z (k + 1) next-r (since z next-r)) (On z (k + 1) next-r (since z next-r))
+      then-all (On z (k + 1) next-r (since (connectionsIn z) next-r)) (On z (k + 1) next-r (since (connectionsIn z) next-r))
       (tick w andThen rotate andThen arrive cell) step4 arrived
-      (λ w′ h. step4-on z (k + 1) next-r (since z next-r) w′ h)
+      (λ w′ h. step4-on z (k + 1) next-r (since (connectionsIn z) next-r) w′ h)
 
-  pub steps-keep : AllOut (On z (k + 1) ((r + 1) % z) (since z ((r + 1) % z))) (unwrappedSteps cell w)
+  pub steps-keep : AllOut (On z (k + 1) ((r + 1) % connectionsIn z) (since (connectionsIn z) ((r + 1) % connectionsIn z))) (unwrappedSteps cell w)
   unfolding unwrappedSteps
   steps-keep =
-      then-all (On z (k + 1) next-r (since z next-r)) (On z (k + 1) next-r (since z next-r))
+      then-all (On z (k + 1) next-r (since (connectionsIn z) next-r)) (On z (k + 1) next-r (since (connectionsIn z) next-r))
       (tick w andThen rotate andThen arrive cell andThen step4) step5 moved
-      (λ w′ h. step5-on z (k + 1) next-r (since z next-r) w′ h)
+      (λ w′ h. step5-on z (k + 1) next-r (since (connectionsIn z) next-r) w′ h)
 
-  -- "no VC is ever more than V slots behind": just after the tick the VC that rotation names may be V behind
-  long-of : (most : ℕ → ℕ) (w′ : Work) → On z (k + 1) next-r most w′ → length (w′ .state .words) ≡ wordsPerConnection * w′ .state .ctl .v
-  long-of most w′ h = h .recent .long ∙ ap (λ (n : ℕ). wordsPerConnection * n) (sym (h .v-is))
+  -- "no VC is ever more than V slots behind": just after the tick the connection that rotation names may be V + 256 behind
+  long-of : (most : ℕ → ℕ) (w′ : Work) → On z (k + 1) next-r most w′ → length (w′ .state .words) ≡ wordsIn (w′ .state .ctl .v)
+  long-of most w′ h = h .recent .long ∙ ap wordsIn (sym (h .v-is))
 
-  gap₁ : (v : ℕ) → 1 ≤ v → v < z → since z r v + 1 ≤ longest
+  gap₁ : (v : ℕ) → unused z v ≡ false → v < connectionsIn z → since (connectionsIn z) r v + 1 ≤ longest
   unfolding longest
-  gap₁ v a b = let c = since-low z r v low a b in omega arith
+  gap₁ v a b = let c = since-low (connectionsIn z) r v low b in omega arith
 
-  gap : (v : ℕ) → 1 ≤ v → v < z → since z next-r v ≤ longest
+  gap : (v : ℕ) → unused z v ≡ false → v < connectionsIn z → since (connectionsIn z) next-r v ≤ longest
   unfolding longest
-  gap v a b = let c = since-low z next-r v (rotation-low z r low) a b in omega arith
+  gap v a b = let c = since-low (connectionsIn z) next-r v (rotation-low (connectionsIn z) r low) b in omega arith
 
   same₂ : (step1 (storedWork w) andThen step2) ≡ mapOut storedWork (tick w andThen rotate)
   same₂ =
-      then-agrees storedWork (On z (k + 1) next-r (λ v. since z r v + 1)) (step1 (storedWork w)) (tick w) step2 rotate
+      then-agrees storedWork (On z (k + 1) next-r (λ v. since (connectionsIn z) r v + 1)) (step1 (storedWork w)) (tick w) step2 rotate
       (step1-stored w) ticked
-      (λ w′ h. step2-stored w′ (omega (arith, h .v-is, h .r-is, rotation-low z r low)) (long-of _ w′ h)
-      (on-near z (k + 1) next-r (λ v. since z r v + 1) w′ h gap₁))
+      (λ w′ h. step2-stored w′ (omega (arith, h .v-is, h .r-is, rotation-low (connectionsIn z) r low)) (long-of _ w′ h)
+      (on-near z (k + 1) next-r (λ v. since (connectionsIn z) r v + 1) w′ h gap₁))
 
   same₃ : (step1 (storedWork w) andThen step2 andThen step3 cell) ≡ mapOut storedWork (tick w andThen rotate andThen arrive cell)
   same₃ =
-      then-agrees storedWork (On z (k + 1) next-r (since z next-r)) (step1 (storedWork w) andThen step2) (tick w andThen rotate)
+      then-agrees storedWork (On z (k + 1) next-r (since (connectionsIn z) next-r)) (step1 (storedWork w) andThen step2) (tick w andThen rotate)
       (step3 cell) (arrive cell) same₂ rotated
-      (λ w′ h. step3-stored cell w′ (long-of _ w′ h) (on-near z (k + 1) next-r (since z next-r) w′ h gap))
+      (λ w′ h. step3-stored cell w′ (long-of _ w′ h) (on-near z (k + 1) next-r (since (connectionsIn z) next-r) w′ h gap))
 
   same₄ : (step1 (storedWork w) andThen step2 andThen step3 cell andThen step4)
       ≡ mapOut storedWork (tick w andThen rotate andThen arrive cell andThen step4)
   same₄ =
-      then-agrees storedWork (On z (k + 1) next-r (since z next-r)) (step1 (storedWork w) andThen step2 andThen step3 cell)
+      then-agrees storedWork (On z (k + 1) next-r (since (connectionsIn z) next-r)) (step1 (storedWork w) andThen step2 andThen step3 cell)
       (tick w andThen rotate andThen arrive cell) step4 step4 same₃ arrived
       (λ w′ h. step4-stored w′)
 
   pub steps-agree : fiveSteps cell (storedWork w) ≡ mapOut storedWork (unwrappedSteps cell w)
   unfolding fiveSteps unwrappedSteps
   steps-agree =
-      then-agrees storedWork (On z (k + 1) next-r (since z next-r))
+      then-agrees storedWork (On z (k + 1) next-r (since (connectionsIn z) next-r))
       (step1 (storedWork w) andThen step2 andThen step3 cell andThen step4)
       (tick w andThen rotate andThen arrive cell andThen step4) step5 step5 same₄ moved
       (λ w′ h. step5-stored w′ (long-of _ w′ h))
 
--- rotation, read off the clock, is below V
-turns-low : (u : State) → Kept u → 2 ≤ u .ctl .v → u .ctl .rotation < u .ctl .v
-turns-low u kept low = let h = mod-lt (u .ctl .t + u .ctl .v - 1) {m = u .ctl .v} (omega arith) in omega (arith, kept .turns)
+-- rotation, read off the clock, is below V + 256
+turns-low : (u : State) → Kept u → u .ctl .rotation < connectionsIn (u .ctl .v)
+turns-low u kept =
+    let R = connectionsIn (u .ctl .v) in
+    let h = mod-lt (u .ctl .t + R - 1) {m = R} (omega arith) in
+    omega (arith, kept .turns)
 
 -- whatever mode the header check leads to
 begin : (u : State) (mode : ℕ) → Kept u
-    → On (u .ctl .v) (u .ctl .t) (u .ctl .rotation) (since (u .ctl .v) (u .ctl .rotation)) (workOf (withMode u mode) (bareAnswer 0))
+    → On (u .ctl .v) (u .ctl .t) (u .ctl .rotation) (since (connectionsIn (u .ctl .v)) (u .ctl .rotation)) (workOf (withMode u mode) (bareAnswer 0))
 unfolding withMode withRecord recordInMode
 begin u mode kept = record { v-is = refl; t-is = refl; r-is = refl; done = refl; recent = kept .recent }
 
 lengths-stored : (u : State) (z : ℕ)
-    → lengthsHold (u .ctl .n) z (u .cells) (u .links) (u .calendar) (storedWords z (u .words))
+    → lengthsHold (u .ctl .n) z (u .cells) (u .links) (u .calendar) (storedWords (connectionsIn z) (u .words))
     ≡ lengthsHold (u .ctl .n) z (u .cells) (u .links) (u .calendar) (u .words)
 unfolding lengthsHold wordsLong
-lengths-stored u z = rw (stored-length z (u .words))
+lengths-stored u z = rw (stored-length (connectionsIn z) (u .words))
 
 finish-stored : (u : State) (x : Out Work) → finish (storedState u) (mapOut storedWork x) ≡ storedWork (finish u x)
 unfolding finish storedWork
@@ -162,7 +165,7 @@ module _ (u : State) (cell : List ℕ) where
       (telling (unwrappedSteps (a .cell) first-work))
       (λ _. ap telling (ap (fiveSteps (a .cell)) (mode-stored u (a .mode))
       ∙ steps-agree (a .cell) first-work (u .ctl .v) (u .ctl .t) (u .ctl .rotation) (begin u (a .mode) kept)
-      (turns-low u kept (b .0)) (b .1))
+      (turns-low u kept) (b .1))
       ∙ then-map storedWork storedWork (unwrappedSteps (a .cell) first-work) (λ w. next (told (a .dropped) w))
       (λ w. next (told (a .dropped) w)) (λ w. ap next (told-stored (a .dropped) w))))
       ∙ finish-stored u (needs fits (telling (unwrappedSteps (a .cell) first-work)))
@@ -188,13 +191,13 @@ slot-agrees u cell kept =
 
 -- of a slot done
 abbrev servedOn : State → Work → Type 0
-servedOn u = On (u .ctl .v) (u .ctl .t + 1) ((u .ctl .rotation + 1) % u .ctl .v) (since (u .ctl .v) ((u .ctl .rotation + 1) % u .ctl .v))
+servedOn u = On (u .ctl .v) (u .ctl .t + 1) ((u .ctl .rotation + 1) % connectionsIn (u .ctl .v)) (since (connectionsIn (u .ctl .v)) ((u .ctl .rotation + 1) % connectionsIn (u .ctl .v)))
 
 -- a slot done: the clock has moved on by one
 done-keeps : (u : State) → Kept u → 2 ≤ u .ctl .v → (w : Work) → servedOn u w → Kept (w .state)
 done-keeps u kept low w h =
     record {
-      turns = rw (h .v-is, h .t-is) (h .r-is ∙ ap (λ (n : ℕ). (n + 1) % u .ctl .v) (kept .turns) ∙ rotation-next (u .ctl .v) (u .ctl .t) (omega arith));
+      turns = rw (h .v-is, h .t-is) (h .r-is ∙ ap (λ (n : ℕ). (n + 1) % connectionsIn (u .ctl .v)) (kept .turns) ∙ rotation-next (connectionsIn (u .ctl .v)) (u .ctl .t) (omega arith));
       recent = rw (h .v-is, h .t-is, h .r-is) (h .recent);
     }
 
@@ -215,7 +218,7 @@ slot-cases u cell P no-slot done kept =
     let a = letIn u cell in
     let w = workOf (withMode u (a .mode)) (bareAnswer 0) in
     finished (b .0) (a .dropped) (unwrappedSteps (a .cell) w)
-    (steps-keep (a .cell) w z (u .ctl .t) (u .ctl .rotation) (begin u (a .mode) kept) (turns-low u kept (b .0)) (b .1)))
+    (steps-keep (a .cell) w z (u .ctl .t) (u .ctl .rotation) (begin u (a .mode) kept) (turns-low u kept) (b .1)))
     (λ _. no-slot 3 (omega arith)))))
   where
     finished : 2 ≤ u .ctl .v → (drop : Bool) (x : Out Work) → AllOut (servedOn u) x

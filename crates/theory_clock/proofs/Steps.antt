@@ -1,23 +1,24 @@
--- Each step of a slot over the stored state gives the stored outcome of the unwrapped step, while no open VC is 2^32
+-- Each step of a slot over the stored state gives the stored outcome of the unwrapped step, while no open connection is 2^32
 -- slots behind.
-use Prim.Native.Nat.{ℕ, _+_, _-_, _*_, _%_, _≤_, _<_}
+use Prim.Native.Nat.{ℕ, _+_, _-_, _%_, _≤_, _<_}
 use mathlib.Core.Path.{_≡_, refl, sym, _∙_, ap}
-use mathlib.Core.Bool.{Bool, true, false, not, _&&_, _||_}
+use mathlib.Core.Bool.{Bool, true, false, not, _&&_}
 use mathlib.Core.List.{List}
 use native.Mathlib.Omega.{arith}
-use borrow.Author.Tests.{ltb-true, leb-true, eqb-false, not-false}
+use borrow.Author.Tests.{eqb-false, not-false}
 use lib.ListN.{length, getD}
 use Rattle.meaning.specs.Plain.{if_then_else_, _<?_, _≤?_, _=?_, Out, next, needs, _andThen_}
-use Rattle.meaning.specs.Numbers.{excess, unknown, openPlace, cellStart, wordsPerConnection}
+use Rattle.meaning.specs.Numbers.{excess, unknown, openPlace, cellStart, connectionsIn, unused, kindFits, wordsIn}
 use Rattle.meaning.specs.State.{withRecord, withCells, withLinks, withCalendar, withWords, recordWith}
 use Rattle.meaning.specs.State.{withClock, withFreeList, withOutputList, freeList, outputList}
-use Rattle.meaning.specs.Header.{Header, headerAt, noUserCell, namesConnection, namesOpen}
+use Rattle.meaning.specs.Header.{Header, headerAt, clpIn, noUserCell, connection, namesConnection, namesOpen}
 use Rattle.meaning.specs.Bucket.{delay, fill}
 use Rattle.meaning.specs.Words.{Connection, connectionAt, withWaiting, withBuckets, openWordFits, bucketsFit, fallenTo, upToDate}
 use Rattle.meaning.specs.Lists.{isEmpty, endsFit, entryAt, Taken, takeHead, addTail}
 use Rattle.meaning.specs.Work.{Work, withState, withConnection, withArrival, withDeparture}
 use Rattle.meaning.specs.Arrival.{verdictOn, secondAfter, sentAs, place, accept, judge}
 use Rattle.meaning.specs.Slot.{step1, step2, step3, step4, depart, step5}
+use Rattle.meaning.proofs.NamesLaws.{names-low, names-used}
 use Rattle.theory_clock.specs.Stored.{stored, storedConnection, storedWords, storedState, storedWork}
 use Rattle.theory_clock.specs.Unwrapped.{caughtUp, tick, rotate, arrive}
 use Rattle.theory_clock.specs.Kept.{longest, Behind}
@@ -31,11 +32,11 @@ unfolding step1 tick storedWork storedState withClock withRecord withWords recor
 step1-stored w =
     let s = w .state in
     let r = s .ctl in
-    needs-map storedWork (r .turn <? r .n && r .rotation <? r .v) _ _
-    (λ _. ap (λ (t : ℕ). next (withState (storedWork w) (withClock (storedState s) t ((r .turn + 1) % r .n) ((r .rotation + 1) % r .v))))
+    needs-map storedWork (r .turn <? r .n && r .rotation <? connectionsIn (r .v)) _ _
+    (λ _. ap (λ (t : ℕ). next (withState (storedWork w) (withClock (storedState s) t ((r .turn + 1) % r .n) ((r .rotation + 1) % connectionsIn (r .v)))))
     (stored-next (r .t)))
 
--- an open VC that is not 2^32 slots behind is brought up to date alike
+-- an open connection that is not 2^32 slots behind is brought up to date alike
 pub up-stored : (N k : ℕ) (vc : Connection) → vc .opened =? 0 ≡ false → vc .last ≤ k → k ≤ vc .last + longest
     → upToDate N (stored k) (storedConnection vc) ≡ mapOut storedConnection (caughtUp N k vc)
 unfolding upToDate caughtUp fallenTo bucketsFit storedConnection
@@ -43,29 +44,22 @@ up-stored N k vc o a b =
     needs-map storedConnection (bucketsFit N vc) _ _
     (λ _. rw o (rw (elapsed-true k (vc .last) a b)))
 
--- a VC's words are written
-pub connection-stored : (w : Work) (v : ℕ) (vc : Connection) → v < w .state .ctl .v → length (w .state .words) ≡ wordsPerConnection * w .state .ctl .v
+-- a connection's words are written
+pub connection-stored : (w : Work) (v : ℕ) (vc : Connection) → v < connectionsIn (w .state .ctl .v) → length (w .state .words) ≡ wordsIn (w .state .ctl .v)
     → withConnection (storedWork w) v (storedConnection vc) ≡ storedWork (withConnection w v vc)
 unfolding storedWork storedState withClock withRecord withWords recordWith
 connection-stored w v vc h long =
     ap (λ (l : List ℕ). withState (storedWork w) (withWords (storedState (w .state)) l))
-    (sym (stored-write (w .state .ctl .v) (w .state .words) v vc h long))
+    (sym (stored-write (connectionsIn (w .state .ctl .v)) (w .state .words) v vc h long))
 
--- "VPI is 0 and its VCI is 1 to V-1"
-pub names-low : (z : ℕ) (h : Header) → namesConnection z h ≡ true → (1 ≤ h .vci) × (h .vci < z)
-unfolding namesConnection
-names-low z h p =
-    let q = both-true (h .vpi =? 0 && 1 ≤? h .vci) (h .vci <? z) p in
-    (leb-true 1 (h .vci) (both-true (h .vpi =? 0) (1 ≤? h .vci) (q .0) .1), ltb-true (h .vci) z (q .1))
-
--- what steps 2 and 3 do with a VC: nothing of their own (x) where it is closed, and f or g of it up to date where it is open
-at-stored : (w : Work) (v : ℕ) (x : Out Work) (f g : Connection → Out Work) → v < w .state .ctl .v
-    → length (w .state .words) ≡ wordsPerConnection * w .state .ctl .v
+-- what steps 2 and 3 do with a connection: nothing of their own (x) where it is closed, and f or g of it up to date where it is open
+at-stored : (w : Work) (v : ℕ) (x : Out Work) (f g : Connection → Out Work) → v < connectionsIn (w .state .ctl .v)
+    → length (w .state .words) ≡ wordsIn (w .state .ctl .v)
     → Behind (w .state .ctl .t) longest (connectionAt (w .state .words) v)
     → ((vc : Connection) → f (storedConnection vc) ≡ mapOut storedWork (g vc))
-    → needs (openWordFits (connectionAt (storedWords (w .state .ctl .v) (w .state .words)) v))
-    (if connectionAt (storedWords (w .state .ctl .v) (w .state .words)) v .opened =? 0 then mapOut storedWork x
-    else (upToDate (w .state .ctl .n) (stored (w .state .ctl .t)) (connectionAt (storedWords (w .state .ctl .v) (w .state .words)) v) andThen f))
+    → needs (openWordFits (connectionAt (storedWords (connectionsIn (w .state .ctl .v)) (w .state .words)) v))
+    (if connectionAt (storedWords (connectionsIn (w .state .ctl .v)) (w .state .words)) v .opened =? 0 then mapOut storedWork x
+    else (upToDate (w .state .ctl .n) (stored (w .state .ctl .t)) (connectionAt (storedWords (connectionsIn (w .state .ctl .v)) (w .state .words)) v) andThen f))
     ≡ mapOut storedWork
     (needs (openWordFits (connectionAt (w .state .words) v))
     (if connectionAt (w .state .words) v .opened =? 0 then x
@@ -74,7 +68,7 @@ unfolding openWordFits storedConnection
 at-stored w v x f g low long near same =
     let s = w .state in
     let vc = connectionAt (s .words) v in
-    rw (stored-read (s .ctl .v) (s .words) v low (omega arith))
+    rw (stored-read (connectionsIn (s .ctl .v)) (s .words) v low (omega arith))
     (needs-map storedWork (vc .opened ≤? 1) _ _
     (λ _. if-map storedWork (vc .opened =? 0) _ _ _ _ (λ _. refl)
     (λ o. let b = near (eqb-false (vc .opened) 0 o) in
@@ -82,17 +76,17 @@ at-stored w v x f g low long near same =
     ∙ then-map storedConnection storedWork (caughtUp (s .ctl .n) (s .ctl .t) vc) f g same)))
 
 -- "2. If the VC that rotation names is open, it is brought up to date"
-pub step2-stored : (w : Work) → w .state .ctl .rotation < w .state .ctl .v → length (w .state .words) ≡ wordsPerConnection * w .state .ctl .v
-    → ((vci : ℕ) → 1 ≤ vci → vci < w .state .ctl .v → Behind (w .state .ctl .t) longest (connectionAt (w .state .words) vci))
+pub step2-stored : (w : Work) → w .state .ctl .rotation < connectionsIn (w .state .ctl .v) → length (w .state .words) ≡ wordsIn (w .state .ctl .v)
+    → ((vci : ℕ) → unused (w .state .ctl .v) vci ≡ false → vci < connectionsIn (w .state .ctl .v) → Behind (w .state .ctl .t) longest (connectionAt (w .state .words) vci))
     → step2 (storedWork w) ≡ mapOut storedWork (rotate w)
 unfolding step2 rotate storedWork storedState withClock withRecord withWords recordWith
 step2-stored w low long near =
     let s = w .state in
     let vci = s .ctl .rotation in
     let vc = connectionAt (s .words) vci in
-    if-map storedWork (vci =? 0) _ _ _ _ (λ _. refl)
-    (λ v0. at-stored w vci (next w) _ (λ now. next (withConnection w vci now)) low long
-    (near vci (omega (arith, eqb-false vci 0 v0)) low)
+    if-map storedWork (unused (s .ctl .v) vci) _ _ _ _ (λ _. refl)
+    (λ used. at-stored w vci (next w) _ (λ now. next (withConnection w vci now)) low long
+    (near vci used low)
     (λ vc. ap next (connection-stored w vci vc low long)))
 
 -- "3. Arrival at an open VC", from the end: the cell's place, the verdict, the whole step
@@ -103,13 +97,13 @@ place-stored cell D w taken =
     let s = w .state in
     needs-map storedWork (endsFit (s .ctl .n) (entryAt (s .calendar) ((s .ctl .turn + D) % s .ctl .n))) _ _ (λ _. refl)
 
-pub judge-stored : (cell : List ℕ) (v : ℕ) (w : Work) (vc : Connection) → v < w .state .ctl .v → length (w .state .words) ≡ wordsPerConnection * w .state .ctl .v
+pub judge-stored : (cell : List ℕ) (v : ℕ) (w : Work) (vc : Connection) → v < connectionsIn (w .state .ctl .v) → length (w .state .words) ≡ wordsIn (w .state .ctl .v)
     → judge cell v (storedWork w) (storedConnection vc) ≡ mapOut storedWork (judge cell v w vc)
 unfolding judge accept verdictOn storedWork storedState storedConnection withClock withRecord withWords recordWith
 judge-stored cell v w vc h long =
     let s = w .state in
     let D = delay (vc .bucket) in
-    let clp = headerAt cell 0 .clp in
+    let clp = clpIn cell in
     let verdict = verdictOn clp vc in
     let sent = sentAs verdict cell in
     let filled = withWaiting (withBuckets vc (fill (vc .bucket)) (secondAfter clp verdict (vc .second))) (vc .waiting + 1) in
@@ -121,19 +115,23 @@ judge-stored cell v w vc h long =
     (λ taken. ap (λ (w′ : Work). place sent D (withArrival w′ verdict v D) taken) (connection-stored w v filled h long)
     ∙ place-stored sent D (withArrival (withConnection w v filled) verdict v D) taken))))
 
-pub step3-stored : (cell : List ℕ) (w : Work) → length (w .state .words) ≡ wordsPerConnection * w .state .ctl .v
-    → ((vci : ℕ) → 1 ≤ vci → vci < w .state .ctl .v → Behind (w .state .ctl .t) longest (connectionAt (w .state .words) vci))
+pub step3-stored : (cell : List ℕ) (w : Work) → length (w .state .words) ≡ wordsIn (w .state .ctl .v)
+    → ((vci : ℕ) → unused (w .state .ctl .v) vci ≡ false → vci < connectionsIn (w .state .ctl .v) → Behind (w .state .ctl .t) longest (connectionAt (w .state .words) vci))
     → step3 cell (storedWork w) ≡ mapOut storedWork (arrive cell w)
 unfolding step3 arrive storedWork storedState withClock withRecord withWords recordWith
 step3-stored cell w long near =
     let s = w .state in
-    let h = headerAt cell 0 in
-    if-map storedWork (length cell =? 0 || noUserCell h) _ _ _ _ (λ _. refl)
+    let h = headerAt (s .ctl .kind) cell 0 in
+    let c = connection (s .ctl .v) h in
+    if-map storedWork (length cell =? 0) _ _ _ _ (λ _. refl)
+    (λ _. needs-map storedWork (kindFits (s .ctl .kind)) _ _
+    (λ _. if-map storedWork (noUserCell h) _ _ _ _ (λ _. refl)
     (λ _. if-map storedWork (not (namesConnection (s .ctl .v) h)) _ _ _ _ (λ _. refl)
-    (λ e. let low = names-low (s .ctl .v) h (not-false (namesConnection (s .ctl .v) h) e) in
-    at-stored w (h .vci) (next (withArrival w unknown (h .vci) 0)) _ (judge cell (h .vci) w) (low .1) long
-    (near (h .vci) (low .0) (low .1))
-    (λ vc. judge-stored cell (h .vci) w vc (low .1) long)))
+    (λ e. let named = not-false (namesConnection (s .ctl .v) h) e in
+    let low = names-low (s .ctl .v) h named in
+    at-stored w c (next (withArrival w unknown (h .vci) 0)) _ (judge cell c w) low long
+    (near c (names-used (s .ctl .v) h named) low)
+    (λ vc. judge-stored cell c w vc low long)))))
 
 -- "4. Entry T, if marked, is joined to the end of the Output List"
 pub step4-stored : (w : Work) → step4 (storedWork w) ≡ mapOut storedWork (step4 w)
@@ -145,39 +143,41 @@ step4-stored w =
     (λ _. if-map storedWork (isEmpty entry) _ _ _ _ (λ _. refl) (λ _. refl))
 
 -- "5. The head of the Output List, if any, departs.": the departing header reads alike
-pub names-stored : (z : ℕ) (l : List ℕ) (h : Header) → length l ≡ wordsPerConnection * z
-    → namesOpen z (storedWords z l) h ≡ namesOpen z l h
+pub names-stored : (z : ℕ) (l : List ℕ) (h : Header) → length l ≡ wordsIn z
+    → namesOpen z (storedWords (connectionsIn z) l) h ≡ namesOpen z l h
 unfolding namesOpen
 names-stored z l h long = go (namesConnection z h) refl
   where
     go : (b : Bool) → namesConnection z h ≡ b
-        → b && getD (storedWords z l) (openPlace (h .vci)) 0 =? 1 ≡ b && getD l (openPlace (h .vci)) 0 =? 1
-    go true e = ap (λ (o : ℕ). o =? 1) (opened-stored z l (h .vci) (names-low z h e .1) (omega arith))
+        → b && getD (storedWords (connectionsIn z) l) (openPlace (connection z h)) 0 =? 1 ≡ b && getD l (openPlace (connection z h)) 0 =? 1
+    go true e = ap (λ (o : ℕ). o =? 1) (opened-stored (connectionsIn z) l (connection z h) (names-low z h e) (omega arith))
     go false e = refl
 
-pub open-low : (z : ℕ) (l : List ℕ) (h : Header) → namesOpen z l h ≡ true → (1 ≤ h .vci) × (h .vci < z)
+pub open-names : (z : ℕ) (l : List ℕ) (h : Header) → namesOpen z l h ≡ true → namesConnection z h ≡ true
 unfolding namesOpen
-open-low z l h p = names-low z h (both-true (namesConnection z h) (getD l (openPlace (h .vci)) 0 =? 1) p .0)
+open-names z l h p = both-true (namesConnection z h) (getD l (openPlace (connection z h)) 0 =? 1) p .0
 
-pub depart-stored : (w : Work) (taken : Taken) → length (w .state .words) ≡ wordsPerConnection * w .state .ctl .v
+pub depart-stored : (w : Work) (taken : Taken) → length (w .state .words) ≡ wordsIn (w .state .ctl .v)
     → depart (storedWork w) taken ≡ mapOut storedWork (depart w taken)
 unfolding depart storedConnection storedWork storedState withClock withRecord withWords recordWith withFreeList withOutputList withLinks
 depart-stored w taken long =
     let s = w .state in
-    let h = headerAt (s .cells) (cellStart (taken .space)) in
+    let h = headerAt (s .ctl .kind) (s .cells) (cellStart (taken .space)) in
+    let c = connection (s .ctl .v) h in
     rw (names-stored (s .ctl .v) (s .words) h long)
-    (needs-map storedWork (namesOpen (s .ctl .v) (s .words) h) _ _
-    (λ e. let low = open-low (s .ctl .v) (s .words) h e .1 in
-    let vc = connectionAt (s .words) (h .vci) in
+    (needs-map storedWork (kindFits (s .ctl .kind) && namesOpen (s .ctl .v) (s .words) h) _ _
+    (λ e. let low = names-low (s .ctl .v) h (open-names (s .ctl .v) (s .words) h
+    (both-true (kindFits (s .ctl .kind)) (namesOpen (s .ctl .v) (s .words) h) e .1)) in
+    let vc = connectionAt (s .words) c in
     let grown = addTail (s .links) (freeList s) (taken .space) in
     let s2 = withLinks (withFreeList (withOutputList s (taken .left)) (grown .ends)) (grown .links) in
-    rw (stored-read (s .ctl .v) (s .words) (h .vci) low (omega arith))
+    rw (stored-read (connectionsIn (s .ctl .v)) (s .words) c low (omega arith))
     (needs-map storedWork (1 ≤? vc .waiting && vc .waiting ≤? s .ctl .n) _ _
     (λ _. needs-map storedWork (endsFit (s .ctl .n) (freeList s)) _ _
-    (λ _. ap (λ (w′ : Work). next (withDeparture w′ (taken .space) (h .vci)))
-    (connection-stored (withState w s2) (h .vci) (withWaiting vc (vc .waiting - 1)) low long))))))
+    (λ _. ap (λ (w′ : Work). next (withDeparture w′ (taken .space) c))
+    (connection-stored (withState w s2) c (withWaiting vc (vc .waiting - 1)) low long))))))
 
-pub step5-stored : (w : Work) → length (w .state .words) ≡ wordsPerConnection * w .state .ctl .v
+pub step5-stored : (w : Work) → length (w .state .words) ≡ wordsIn (w .state .ctl .v)
     → step5 (storedWork w) ≡ mapOut storedWork (step5 w)
 unfolding step5 storedWork storedState withClock withRecord withWords recordWith
 step5-stored w long =

@@ -8,7 +8,7 @@ use Rattle.meaning.specs.Bucket.{elapsed}
 use Rattle.theory_clock.specs.Stored.{stored}
 use Rattle.theory_clock.specs.Kept.{longest}
 
--- no VC can be so far behind that its elapsed count wraps
+-- no connection can be so far behind that its elapsed count wraps
 pub numbers-enough : longest < slotNumbers
 unfolding slotNumbers longest
 numbers-enough = omega arith
@@ -30,7 +30,7 @@ pub elapsed-true : (k l : ℕ) → l ≤ k → k ≤ l + longest → elapsed (st
 unfolding elapsed stored slotNumbers
 elapsed-true k l a b = let c : longest < slotNumbers = numbers-enough in omega arith
 
--- Without rotation a VC that is silent for 2^32 slots would seem to have been brought up to date in this one.
+-- Without rotation a connection that is silent for 2^32 slots would seem to have been brought up to date in this one.
 pub elapsed-lost : (l : ℕ) → elapsed (stored (l + slotNumbers)) (stored l) ≡ 0
 unfolding elapsed stored slotNumbers
 elapsed-lost l = omega arith

@@ -2,15 +2,15 @@
 -- t and elapsed modulo 2^32 they are those of document 01 (proofs/Instances.antt), so a policer with another clock differs
 -- from it in the clock alone. Each step takes the part before it as a parameter too, under the name that it has there.
 use Prim.Native.Nat.{ℕ, _+_, _%_}
-use mathlib.Core.Bool.{Bool, not, _&&_, _||_}
+use mathlib.Core.Bool.{not, _&&_, _||_}
 use mathlib.Core.List.{List}
 use lib.ListN.{length}
 use Rattle.base_hec.specs.Modes.{arrivingFits}
 use Rattle.meaning.specs.declared.Record.{Record}
 use Rattle.meaning.specs.Plain.{if_then_else_, _<?_, _=?_, Out, next, needs, _andThen_}
-use Rattle.meaning.specs.Numbers.{rangesHold, octets, unknown}
+use Rattle.meaning.specs.Numbers.{rangesHold, octets, connectionsIn, unused, kindFits, unknown}
 use Rattle.meaning.specs.State.{State, lengthsHold, withClock, withMode}
-use Rattle.meaning.specs.Header.{headerAt, noUserCell, namesConnection}
+use Rattle.meaning.specs.Header.{headerAt, noUserCell, Name, numberIn, connection, namesConnection}
 use Rattle.meaning.specs.Bucket.{fall}
 use Rattle.meaning.specs.Words.{Connection, connectionAt, writeConnection, closedConnection, openWordFits, bucketsFit, fallenTo}
 use Rattle.meaning.specs.Calls.{Called, calledOf, sharedRefusal}
@@ -23,38 +23,41 @@ use Rattle.meaning_runs.specs.Run.{letIn}
 abbrev pub upToDateBy : (ℕ → ℕ → ℕ) → ℕ → ℕ → Connection → Out Connection
 upToDateBy elapsedBy N t vc = needs (bucketsFit N vc) (next (fallenTo (elapsedBy t (vc .last)) t vc))
 
--- 1: the clock moves; "T by one modulo N, rotation by one modulo V"
+-- 1: the clock moves; "T by one modulo N, rotation by one modulo V", by document 02 (vi) V + 256
 abbrev pub step1By : (ℕ → ℕ) → Work → Out Work
 step1By later w =
     let s = w .state in
     let r = s .ctl in
     let T = (r .turn + 1) % r .n in
-    let rotation = (r .rotation + 1) % r .v in
-    needs (r .turn <? r .n && r .rotation <? r .v) (next (withState w (withClock s (later (r .t)) T rotation)))
+    let rotation = (r .rotation + 1) % connectionsIn (r .v) in
+    needs (r .turn <? r .n && r .rotation <? connectionsIn (r .v)) (next (withState w (withClock s (later (r .t)) T rotation)))
 
--- 2: the VC that rotation names
+-- 2: the connection that rotation names
 abbrev pub step2By : (ℕ → ℕ → Connection → Out Connection) → Work → Out Work
 step2By upToDate w =
     let s = w .state in
-    let vci = s .ctl .rotation in
-    let vc = connectionAt (s .words) vci in
-    if vci =? 0 then next w
+    let c = s .ctl .rotation in
+    let vc = connectionAt (s .words) c in
+    if unused (s .ctl .v) c then next w
     else needs (openWordFits vc)
     (if vc .opened =? 0 then next w
-    else (upToDate (s .ctl .n) (s .ctl .t) vc andThen λ now. next (withConnection w vci now)))
+    else (upToDate (s .ctl .n) (s .ctl .t) vc andThen λ now. next (withConnection w c now)))
 
--- 3: the VC of the arriving cell
+-- 3: the connection of the arriving cell
 abbrev pub step3By : (ℕ → ℕ → Connection → Out Connection) → List ℕ → Work → Out Work
 step3By upToDate cell w =
     let s = w .state in
-    let h = headerAt cell 0 in
-    let vc = connectionAt (s .words) (h .vci) in
+    let h = headerAt (s .ctl .kind) cell 0 in
+    let c = connection (s .ctl .v) h in
+    let vc = connectionAt (s .words) c in
     let isUnknown = next (withArrival w unknown (h .vci) 0) in
-    if length cell =? 0 || noUserCell h then next w
+    if length cell =? 0 then next w
+    else needs (kindFits (s .ctl .kind))
+    (if noUserCell h then next w
     else if not (namesConnection (s .ctl .v) h) then isUnknown
     else needs (openWordFits vc)
     (if vc .opened =? 0 then isUnknown
-    else (upToDate (s .ctl .n) (s .ctl .t) vc andThen judge cell (h .vci) w))
+    else (upToDate (s .ctl .n) (s .ctl .t) vc andThen judge cell c w)))
 
 -- 4 and 5 touch neither t nor elapsed, and keep every `last`
 abbrev pub fiveStepsBy : (Work → Out Work) → (Work → Out Work) → (List ℕ → Work → Out Work) → List ℕ → Work → Out Work
@@ -77,10 +80,11 @@ abbrev pub debtBy : (ℕ → ℕ → ℕ) → ℕ → Connection → ℕ
 debtBy elapsedBy t vc = fall (elapsedBy t (vc .last)) (vc .bucket) .S
 
 -- "8 is given when waiting or the updated S isn't 0"; "Closing clears all seven words.", and the five of document 02 (iv)
-abbrev pub closeBy : (ℕ → Connection → ℕ) → Record → List ℕ → ℕ → Called
-closeBy debt r words vci =
-    let k = sharedRefusal r words vci in
+abbrev pub closeBy : (ℕ → Connection → ℕ) → Record → List ℕ → Name → Called
+closeBy debt r words name =
+    let c = numberIn (r .v) name in
+    let k = sharedRefusal r words name in
     if not (k =? 0) then calledOf k words
-    else if connectionAt words vci .opened =? 0 then calledOf 7 words
-    else if not (connectionAt words vci .waiting =? 0 && debt (r .t) (connectionAt words vci) =? 0) then calledOf 8 words
-    else calledOf 0 (writeConnection words vci closedConnection)
+    else if connectionAt words c .opened =? 0 then calledOf 7 words
+    else if not (connectionAt words c .waiting =? 0 && debt (r .t) (connectionAt words c) =? 0) then calledOf 8 words
+    else calledOf 0 (writeConnection words c closedConnection)

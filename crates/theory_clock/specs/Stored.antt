@@ -3,7 +3,7 @@
 use Prim.Native.Nat.{ℕ, zero, suc, _+_, _-_, _%_}
 use mathlib.Core.List.{List}
 use Rattle.meaning.specs.Plain.{if_then_else_, _=?_}
-use Rattle.meaning.specs.Numbers.{slotNumbers}
+use Rattle.meaning.specs.Numbers.{slotNumbers, connectionsIn}
 use Rattle.meaning.specs.State.{State, withClock, withWords}
 use Rattle.meaning.specs.Words.{Connection, connectionAt, writeConnection}
 use Rattle.meaning.specs.Calls.{Called, calledOf}
@@ -13,7 +13,7 @@ use Rattle.meaning.specs.Work.{Work, workOf}
 unfoldable pub stored : ℕ → ℕ
 stored k = (k + slotNumbers - 1) % slotNumbers
 
--- a VC's words; those of a closed one hold no slot number
+-- a connection's words; those of a closed one hold no slot number
 unfoldable pub storedConnection : Connection → Connection
 storedConnection vc =
     record {
@@ -25,15 +25,15 @@ storedConnection vc =
       tag = vc .tag;
     }
 
--- the words of the VCs below z
+-- the words of the connections below R
 unfoldable pub storedWords : ℕ → List ℕ → List ℕ
 storedWords zero words = words
-storedWords (suc z) words = writeConnection (storedWords z words) z (storedConnection (connectionAt words z))
+storedWords (suc R) words = writeConnection (storedWords R words) R (storedConnection (connectionAt words R))
 
 unfoldable pub storedState : State → State
 storedState u =
     let r = u .ctl in
-    withWords (withClock u (stored (r .t)) (r .turn) (r .rotation)) (storedWords (r .v) (u .words))
+    withWords (withClock u (stored (r .t)) (r .turn) (r .rotation)) (storedWords (connectionsIn (r .v)) (u .words))
 
 -- the answer is the same
 unfoldable pub storedWork : Work → Work
@@ -41,4 +41,4 @@ storedWork w = workOf (storedState (w .state)) (w .answer)
 
 -- so is the number that open and close give
 unfoldable pub storedCalled : ℕ → Called → Called
-storedCalled z c = calledOf (c .number) (storedWords z (c .words))
+storedCalled z c = calledOf (c .number) (storedWords (connectionsIn z) (c .words))

@@ -1,16 +1,16 @@
 -- Open, close and slot with a clock that never wraps: an instance of those over any clock (specs/Clocked.antt).
 --
 -- The clock is the number k of slots served since setup, and stands where the record holds t. The word `last` of an open
--- VC holds the number of slots that had been served when the VC was opened or last brought up to date. Both grow without
+-- connection holds the number of slots that had been served when it was opened or last brought up to date. Both grow without
 -- bound: there is no modulus of t, `last` or elapsed here. All that touches none of the three is shared.
 use Prim.Native.Nat.{ℕ, _+_, _-_}
-use mathlib.Core.Bool.{Bool}
 use mathlib.Core.List.{List}
 use Rattle.meaning.specs.declared.Record.{Record}
 use Rattle.meaning.specs.Plain.{Out}
 use Rattle.meaning.specs.State.{State, withClock}
+use Rattle.meaning.specs.Header.{Name}
 use Rattle.meaning.specs.Words.{Connection, Second}
-use Rattle.meaning.specs.Calls.{Called, openCall, freshState}
+use Rattle.meaning.specs.Calls.{Options, Called, openCall, freshState}
 use Rattle.meaning.specs.Work.{Work}
 use Rattle.theory_clock.specs.Clocked.{upToDateBy, step1By, step2By, step3By, fiveStepsBy, slotBy, debtBy, closeBy}
 
@@ -35,17 +35,17 @@ unfoldable pub unwrappedSlot : State → List ℕ → Work
 unwrappedSlot s cell = slotBy unwrappedSteps s cell
 
 -- "Opening sets .. last t": here the number of slots served
-unfoldable pub unwrappedOpen : Record → List ℕ → ℕ → ℕ → ℕ → ℕ → Second → Called
-unwrappedOpen r words vci m F C x = openCall r words vci m F C x
+unfoldable pub unwrappedOpen : Record → List ℕ → Name → ℕ → ℕ → ℕ → Second → Called
+unwrappedOpen r words name m F C x = openCall r words name m F C x
 
 unfoldable pub unwrappedDebt : ℕ → Connection → ℕ
 unwrappedDebt k vc = debtBy (λ t last. t - last) k vc
 
-unfoldable pub unwrappedClose : Record → List ℕ → ℕ → Called
-unwrappedClose r words vci = closeBy unwrappedDebt r words vci
+unfoldable pub unwrappedClose : Record → List ℕ → Name → Called
+unwrappedClose r words name = closeBy unwrappedDebt r words name
 
 -- after setup no slot has been served; all else as setup leaves it
-unfoldable pub unwrappedFresh : ℕ → ℕ → Bool → State
-unwrappedFresh N z raw =
-    let s = freshState N z raw in
+unfoldable pub unwrappedFresh : ℕ → ℕ → Options → State
+unwrappedFresh N z o =
+    let s = freshState N z o in
     withClock s 0 (s .ctl .turn) (s .ctl .rotation)

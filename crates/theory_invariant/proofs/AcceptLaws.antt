@@ -2,7 +2,7 @@
 -- joins the entry of its due slot.
 use Prim.Native.Nat.{ℕ, suc, _+_, _-_, _%_, _≤_, _<_}
 use mathlib.Core.Path.{_≡_, refl, sym, ap, _∙_, subst}
-use mathlib.Core.Bool.{true, _&&_}
+use mathlib.Core.Bool.{true, _&&_, false}
 use mathlib.Core.List.{List, [], _∷_, _++_}
 use mathlib.Core.Option.{Option, none, some}
 use native.Mathlib.Decide.{ℕ-discrete}
@@ -10,15 +10,15 @@ use native.Mathlib.Omega.{arith}
 use borrow.Author.Tests.{lt-ltb}
 use lib.ListN.{length}
 use Rattle.meaning.specs.Plain.{_=?_, next}
-use Rattle.meaning.specs.Numbers.{empty, accepted, letsIn}
+use Rattle.meaning.specs.Numbers.{connectionsIn, unused, empty, accepted, letsIn}
 use Rattle.meaning.specs.State.{State, freeList, outputList, withRecord, recordWith, withCells, withLinks, withCalendar, withWords, withFreeList, writeCell}
-use Rattle.meaning.specs.Header.{headerAt, namesConnection}
+use Rattle.meaning.specs.Header.{headerAt, clpIn, connection, namesConnection}
 use Rattle.meaning.specs.Bucket.{bucketOf, delay, fill}
 use Rattle.meaning.specs.Words.{Connection, connectionAt, writeConnection, withWaiting, withBuckets}
 use Rattle.meaning.specs.Lists.{entryAt, writeEntry, Grown, joinHead}
 use Rattle.meaning.specs.Work.{Work, bareAnswer, withState, withConnection, withArrival}
 use Rattle.meaning.specs.Arrival.{secondAfter, sentAs, place, accept}
-use Rattle.meaning.proofs.TaggedLaws.{sent-length, sent-vci}
+use Rattle.meaning.proofs.TaggedLaws.{sent-length, sent-connection, sent-named}
 use Rattle.meaning.proofs.WordsLaws.{write-length, write-read, write-read-other}
 use Rattle.meaning_runs.specs.Leak.{Opening, dueTime, dueSlot, leakAccepts, sustains, verdictBy}
 use Rattle.meaning_runs.specs.Seen.{ofConnection}
@@ -40,7 +40,7 @@ use Rattle.theory_memory.proofs.HasLaws.{free-fits, entry-fits, SomeFree, some-
 use Rattle.theory_invariant.specs.Invariant.{isOf, waits, Under, Sits, Stage}
 use Rattle.theory_invariant.specs.Came.{onward, Came}
 use Rattle.theory_invariant.proofs.StepLaws.{Goes}
-use Rattle.theory_invariant.proofs.SentLaws.{sent-names}
+use Rattle.theory_invariant.proofs.LengthLaws.{connections-few}
 use Rattle.theory_invariant.proofs.AfterLaws.{after-own, after-other, sits-after, waits-low}
 
 module _ (now : ℕ) (cell : List ℕ) (op : ℕ → Option Opening) (free : List ℕ) (out : List Queued) (cal : List (List Queued))
@@ -54,17 +54,20 @@ module _ (now : ℕ) (cell : List ℕ) (op : ℕ → Option Opening) (free : Lis
   abbrev z : ℕ
   z = s .ctl .v
 
-  module _ (st : Stage N z (suc now) (suc now) (s .ctl .turn) s op free out (turn cal))
+  abbrev kind : ℕ
+  kind = s .ctl .kind
+
+  module _ (st : Stage N z kind (suc now) (suc now) (s .ctl .turn) s op free out (turn cal))
       (good : Good dueOf (N - 1) now cal out)
-      (sits-out : All (Sits z op) out) (sits-cal : Alls (Sits z op) cal) (blank : w .answer ≡ bareAnswer 0)
+      (sits-out : All (Sits kind z op) out) (sits-cal : Alls (Sits kind z op) cal) (blank : w .answer ≡ bareAnswer 0)
       (long : length cell ≡ 53)
-      (u : ℕ) (named : namesConnection z (headerAt cell 0) ≡ true) (u-is : headerAt cell 0 .vci ≡ u) (u-low : 1 ≤ u)
-      (u-high : u < z)
-      (o : Opening) (o-is : op u ≡ some o) (opn : OpenConnection N z (suc now) u (connectionAt (s .words) u) (waits u out (turn cal)) o)
-      (verdict : ℕ) (verdict-is : verdictBy o (headerAt cell 0 .clp) now ≡ verdict) (lets : letsIn verdict ≡ true)
-      (judges : judgedBy z now op cell ≡ judgedOf verdict u (dueSlot o now - now)) where
+      (u : ℕ) (named : namesConnection z (headerAt kind cell 0) ≡ true) (u-is : connection z (headerAt kind cell 0) ≡ u)
+      (u-high : u < connectionsIn z)
+      (o : Opening) (o-is : op u ≡ some o) (opn : OpenConnection N (connectionsIn z) (suc now) u (connectionAt (s .words) u) (waits u out (turn cal)) o)
+      (verdict : ℕ) (verdict-is : verdictBy o (clpIn cell) now ≡ verdict) (lets : letsIn verdict ≡ true)
+      (judges : judgedBy kind z now op cell ≡ judgedOf verdict u (dueSlot o now - now)) where
     abbrev clp : ℕ
-    clp = headerAt cell 0 .clp
+    clp = clpIn cell
 
     abbrev sent : List ℕ
     sent = sentAs verdict cell
@@ -97,10 +100,10 @@ module _ (now : ℕ) (cell : List ℕ) (op : ℕ → Option Opening) (free : Lis
     low = omega (arith, st .ranges .N-high)
 
     D-low : D < N
-    D-low = delay-low N z (st .ranges .z-high) o now q (opn .rules) within-peak
+    D-low = delay-low N (connectionsIn z) (connections-few N z (st .ranges)) o now q (opn .rules) within-peak
 
     D-due : dueSlot o now ≡ now + D
-    D-due = delay-due N z (st .ranges .z-high) o now q
+    D-due = delay-due N (connectionsIn z) (connections-few N z (st .ranges)) o now q
 
     room : sums one (turn cal) + sum one out < N
     room = omega (arith, turn-sums one cal, good .room, st .ranges .N-low)
@@ -146,29 +149,29 @@ module _ (now : ℕ) (cell : List ℕ) (op : ℕ → Option Opening) (free : Lis
     entered : sums (isOf u) (put D new (turn cal)) ≡ suc (sums (isOf u) (turn cal))
     entered = omega (arith, put-sums (isOf u) D new (turn cal) (omega (arith, st .has .wide, D-low)), is-same u)
 
-    each : (v : ℕ) → 1 ≤ v → v < z → Dec (v ≡ u) → ConnectionIs N z (suc now) v (connectionAt (writeConnection (s .words) u full) v)
+    each : (v : ℕ) → unused z v ≡ false → v < connectionsIn z → Dec (v ≡ u) → ConnectionIs N (connectionsIn z) (suc now) v (connectionAt (writeConnection (s .words) u full) v)
         (waits v out (put D new (turn cal))) (onward now cell verdict u op v)
     each v h1 h2 (yes p) =
-        subst (λ (i : ℕ). ConnectionIs N z (suc now) i (connectionAt (writeConnection (s .words) u full) i) (waits i out (put D new (turn cal)))
+        subst (λ (i : ℕ). ConnectionIs N (connectionsIn z) (suc now) i (connectionAt (writeConnection (s .words) u full) i) (waits i out (put D new (turn cal)))
         (onward now cell verdict u op i)) (sym p)
         (rw (
           write-read (s .words) u full (omega (arith, st .words-long, u-high)),
           after-own now clp verdict u lets op u refl,
           o-is,
-          filled N z (st .ranges .z-high) o now q clp verdict,
+          filled N (connectionsIn z) (connections-few N z (st .ranges)) o now q clp verdict,
         )
-        (subst (λ (i : ℕ). OpenConnection N z (suc now) u (stored (moved N z (st .ranges .z-high) now clp verdict o) (suc now) (suc q)) i
-        (moved N z (st .ranges .z-high) now clp verdict o)) (omega (arith, entered))
-        (filled-open N z (st .ranges .z-high) o now (suc now) u q clp verdict (connectionAt (s .words) u) within-peak within-rate (omega arith)
+        (subst (λ (i : ℕ). OpenConnection N (connectionsIn z) (suc now) u (stored (moved N (connectionsIn z) (connections-few N z (st .ranges)) now clp verdict o) (suc now) (suc q)) i
+        (moved N (connectionsIn z) (connections-few N z (st .ranges)) now clp verdict o)) (omega (arith, entered))
+        (filled-open N (connectionsIn z) (connections-few N z (st .ranges)) o now (suc now) u q clp verdict (connectionAt (s .words) u) within-peak within-rate (omega arith)
         opn)))
     each v h1 h2 (no p) =
         rw (write-read-other (s .words) u full v p, after-other now clp verdict u lets op v (λ y. p (sym y)))
-        (subst (λ (i : ℕ). ConnectionIs N z (suc now) v (connectionAt (s .words) v) i (op v)) same (st .table v h1 h2))
+        (subst (λ (i : ℕ). ConnectionIs N (connectionsIn z) (suc now) v (connectionAt (s .words) v) i (op v)) same (st .table v h1 h2))
       where
         same : waits v out (turn cal) ≡ waits v out (put D new (turn cal))
         same = omega (arith, put-sums (isOf v) D new (turn cal) (omega (arith, st .has .wide, D-low)), is-no v u p)
 
-    behind : (b : Queued) → Sits z op b → vciOf b ≡ u → dueOf b < dueOf new
+    behind : (b : Queued) → Sits kind z op b → vciOf b ≡ u → dueOf b < dueOf new
     behind b p y = go (op (vciOf b)) (ap op y ∙ o-is) (p .2)
       where
         go : (a : Option Opening) → a ≡ some o → Under a (b .cell) → dueOf b < dueSlot o now
@@ -181,11 +184,11 @@ module _ (now : ℕ) (cell : List ℕ) (op : ℕ → Option Opening) (free : Lis
             ended : Under (some o) (b .cell) → dueOf b < dueSlot o now
             ended t = omega (arith, t .0, due-grows o (b .cell .time) now (t .2) (t .1))
 
-    sits-new : Sits z (λ v. onward now cell verdict u op v) new
+    sits-new : Sits kind z (λ v. onward now cell verdict u op v) new
     unfolding dueSlot
     sits-new = (
-      sent-names verdict cell (omega (arith, long)) z ∙ named,
-      sent-vci verdict cell (omega (arith, long)) ∙ u-is,
+      sent-named kind z verdict cell (omega (arith, long)) ∙ named,
+      sent-connection kind z verdict cell (omega (arith, long)) ∙ u-is,
       rw (after-own now clp verdict u lets op u refl, o-is)
           (refl, omega arith, rules-are N (bucketOf (o .m) (o .F) (o .C) 0) (opn .rules) .F-low),
     )
@@ -193,7 +196,7 @@ module _ (now : ℕ) (cell : List ℕ) (op : ℕ → Option Opening) (free : Lis
     less : D ≡ dueSlot o now - now
     less = omega (arith, D-due)
 
-    pub accept-goes : Goes (accept cell verdict u w vc) (Came N z now cell op out cal)
+    pub accept-goes : Goes (accept cell verdict u w vc) (Came N z kind now cell op out cal)
     unfolding withFreeList withCells withLinks withCalendar withWords withRecord recordWith
     accept-goes =
         record {
@@ -215,23 +218,26 @@ module _ (now : ℕ) (cell : List ℕ) (op : ℕ → Option Opening) (free : Lis
               t-is = st .t-is;
               turn-low = st .turn-low;
               rotation-is = st .rotation-is;
+              kind-is = st .kind-is;
+              kind-fits = st .kind-fits;
               has = placed low has D new D-low refl (sent-length verdict cell ∙ long) (taken .left) (taken .rest);
               words-long = write-length (s .words) u full ∙ st .words-long;
               table = λ v h1 h2. each v h1 h2 (ℕ-discrete v u);
             };
             arrived = arrive-some dueOf (N - 1) now cal out D new (omega (arith, D-low)) D-due good;
-            sits-out = all-map (Sits z op) (Sits z (λ v. onward now cell verdict u op v)) (sits-after now clp verdict u lets op z) out sits-out;
-            sits-cal = alls-put (Sits z (λ v. onward now cell verdict u op v)) D new (turn cal) sits-new
-                (alls-turn (Sits z (λ v. onward now cell verdict u op v)) cal
-                (alls-map (Sits z op) (Sits z (λ v. onward now cell verdict u op v)) (sits-after now clp verdict u lets op z) cal sits-cal));
+            sits-out = all-map (Sits kind z op) (Sits kind z (λ v. onward now cell verdict u op v)) (sits-after now clp verdict u lets op kind z) out sits-out;
+            sits-cal = alls-put (Sits kind z (λ v. onward now cell verdict u op v)) D new (turn cal) sits-new
+                (alls-turn (Sits kind z (λ v. onward now cell verdict u op v)) cal
+                (alls-map (Sits kind z op) (Sits kind z (λ v. onward now cell verdict u op v)) (sits-after now clp verdict u lets op kind z) cal sits-cal));
             order =
                 λ v. put-order vciOf dueOf v now D new (turn cal) (omega (arith, st .has .wide, D-low))
                 (timed-turn dueOf now cal (good .timed)) D-due
                 (alls-turn (λ b. vciOf b ≡ u → dueOf b < dueOf new) cal
-                (alls-map (Sits z op) (λ b. vciOf b ≡ u → dueOf b < dueOf new) behind cal sits-cal))
+                (alls-map (Sits kind z op) (λ b. vciOf b ≡ u → dueOf b < dueOf new) behind cal sits-cal))
                 ∙ ap (λ l. ofConnection vciOf v l ++ ofConnection vciOf v (new ∷ [])) (turn-flat cal);
             notes = rw (lets, o-is);
             delays = ((D-due, D-low), tt);
+            named = ((sits-new .0, sits-new .1), tt);
             rises = λ l k. rising-add (λ c. c .arrival) 0 now l (new .cell) (omega arith) k;
           };
         }

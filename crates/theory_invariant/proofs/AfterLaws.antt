@@ -1,4 +1,4 @@
--- What a cell that is let in changes for the cells already queued: their VC's opening has moved on, and they keep their place
+-- What a cell that is let in changes for the cells already queued: their connection's opening has moved on, and they keep their place
 -- under it.
 use Prim.Native.Nat.{ℕ, _+_, _≤_}
 use mathlib.Core.Path.{_≡_}
@@ -20,7 +20,7 @@ use Rattle.theory_memory.specs.Held.{Queued, vciOf}
 use Rattle.theory_invariant.specs.Invariant.{isOf, waits, Under, Sits}
 use Rattle.theory_invariant.specs.Came.{after}
 
--- a queued cell's place under its VC's opening, once a further cell is let in
+-- a queued cell's place under its connection's opening, once a further cell is let in
 under-moved : (now clp verdict : ℕ) (o : Option Opening) (c : Cell) → Under o c → Under (afterCell now clp verdict o) c
 under-moved now clp verdict none c u = u
 under-moved now clp verdict (some o) c u = (u .0, omega (arith, u .1, due-time o now), u .2)
@@ -39,10 +39,10 @@ module _ (now clp verdict vci : ℕ) (lets : letsIn verdict ≡ true) (op : ℕ 
       go (yes e) = rw (after-own (c .vci) e) (under-moved now clp verdict (op (c .vci)) c u)
       go (no e) = rw (after-other (c .vci) e) u
 
-  pub sits-after : (z : ℕ) (c : Queued) → Sits z op c → Sits z (λ v. after now clp verdict vci op v) c
-  sits-after z c p = (p .0, p .1, under-after (c .cell) (p .2))
+  pub sits-after : (kind z : ℕ) (c : Queued) → Sits kind z op c → Sits kind z (λ v. after now clp verdict vci op v) c
+  sits-after kind z c p = (p .0, p .1, under-after (c .cell) (p .2))
 
--- fewer than N cells of a VC are queued
+-- fewer than N cells of a connection are queued
 pub waits-low : (v w : ℕ) (o : List Queued) (r : List (List Queued)) → sums one r + sum one o ≤ w → waits v o r ≤ w
 waits-low v w o r h =
     omega (arith, sums-le (isOf v) one (λ c. is-le v (vciOf c)) r, sum-le (isOf v) one (λ c. is-le v (vciOf c)) o)

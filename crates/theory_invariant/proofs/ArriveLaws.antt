@@ -1,23 +1,24 @@
 -- Step 3 of a slot, from the invariant: nothing, unknown, excess, tagged or accepted, as the header and the leak rules say,
 -- and never refused.
-use Prim.Native.Nat.{ℕ, suc, _-_, _≤_, _<_}
-use mathlib.Core.Path.{_≡_, refl, sym, ap, _∙_, subst₂, fun-ext}
+use Prim.Native.Nat.{ℕ, suc, _-_, _<_}
+use mathlib.Core.Path.{_≡_, refl, sym, ap, _∙_, subst, subst₂, fun-ext}
 use mathlib.Core.Logic.{_≢_}
-use mathlib.Core.Bool.{Bool, true, false, _&&_, _||_}
+use mathlib.Core.Bool.{Bool, true, false, _||_}
 use mathlib.Core.List.{List, [], append-nil}
 use mathlib.Core.Option.{Option, none, some}
 use native.Mathlib.Decide.{ℕ-discrete}
 use native.Mathlib.Omega.{arith}
-use borrow.Author.Tests.{eq-eqb, ne-eqb, leb-true, ltb-true, eqb-true}
+use borrow.Author.Tests.{eq-eqb, ne-eqb, eqb-true}
 use lib.ListN.{length}
-use Rattle.meaning.specs.Plain.{if_then_else_, _<?_, _≤?_, _=?_, next}
-use Rattle.meaning.specs.Numbers.{excess, unknown, nothing, letsIn}
+use Rattle.meaning.specs.Plain.{if_then_else_, _=?_, next}
+use Rattle.meaning.specs.Numbers.{connectionsIn, unused, excess, unknown, nothing, letsIn}
 use Rattle.meaning.specs.State.{State, withWords}
-use Rattle.meaning.specs.Header.{Header, headerAt, noUserCell, namesConnection}
+use Rattle.meaning.specs.Header.{Header, headerAt, clpIn, noUserCell, connection, namesConnection}
 use Rattle.meaning.specs.Words.{Connection, connectionAt, writeConnection, upToDate}
 use Rattle.meaning.specs.Work.{Work, bareAnswer, withConnection, withArrival}
 use Rattle.meaning.specs.Arrival.{judge}
 use Rattle.meaning.specs.Slot.{step3}
+use Rattle.meaning.proofs.NamesLaws.{names-low, names-used}
 use Rattle.meaning.proofs.WordsLaws.{write-length, write-read, write-read-other}
 use Rattle.meaning_runs.specs.Leak.{Opening, dueSlot, verdictBy}
 use Rattle.meaning_runs.specs.Seen.{ofConnection}
@@ -28,12 +29,12 @@ use Rattle.theory_queues.proofs.LineLaws.{arrive-none}
 use Rattle.theory_queues.proofs.RisingLaws.{rising-up}
 use Rattle.theory_table.specs.Stored.{stored, ConnectionIs, OpenConnection}
 use Rattle.theory_table.proofs.ClockLaws.{clock-next}
-use Rattle.theory_table.proofs.LeakLaws.{and-left, and-right}
 use Rattle.theory_table.proofs.VerdictLaws.{verdict-is, verdict-says}
 use Rattle.theory_table.proofs.ConnectionLaws.{word-fits, up-to-date, now-open}
 use Rattle.theory_memory.specs.Held.{Queued, dueOf, vciOf}
 use Rattle.theory_invariant.specs.Invariant.{waits, Sits, Stage}
 use Rattle.theory_invariant.specs.Came.{after, half, Came}
+use Rattle.theory_invariant.proofs.LengthLaws.{connections-few}
 use Rattle.theory_invariant.proofs.StepLaws.{Goes}
 use Rattle.theory_invariant.proofs.AcceptLaws.{accept-goes}
 
@@ -46,16 +47,9 @@ not-excess : (verdict : ℕ) → letsIn verdict ≡ true → verdict =? excess �
 unfolding letsIn
 not-excess verdict lets = ne-eqb verdict excess (λ e. absurd (let y : _≡_ {A = Bool} false true = rw e at lets in let z : _≡_ {A = ℕ} 0 1 = cc in omega arith))
 
-pub names-facts : (z : ℕ) (h : Header) → namesConnection z h ≡ true → (1 ≤ h .vci) × (h .vci < z)
-unfolding namesConnection
-names-facts z h e = (
-  leb-true 1 (h .vci) (and-right (h .vpi =? 0) (1 ≤? h .vci) (and-left (h .vpi =? 0 && 1 ≤? h .vci) (h .vci <? z) e)),
-  ltb-true (h .vci) z (and-right (h .vpi =? 0 && 1 ≤? h .vci) (h .vci <? z) e),
-)
-
-second : (a b c : Bool) → a || b ≡ true → a || c ≡ false → b ≡ true
-second true b c e f = absurd (let y : _≡_ {A = ℕ} 0 1 = cc in omega arith)
-second false b c e f = e
+second : (a b : Bool) → a || b ≡ true → a ≡ false → b ≡ true
+second true b e f = absurd (let y : _≡_ {A = ℕ} 0 1 = cc in omega arith)
+second false b e f = e
 
 module _ (now : ℕ) (cell : List ℕ) (op : ℕ → Option Opening) (free : List ℕ) (out : List Queued) (cal : List (List Queued))
   where
@@ -69,17 +63,24 @@ module _ (now : ℕ) (cell : List ℕ) (op : ℕ → Option Opening) (free : Lis
       abbrev z : ℕ
       z = s .ctl .v
 
-      abbrev u : ℕ
-      u = headerAt cell 0 .vci
+      abbrev kind : ℕ
+      kind = s .ctl .kind
 
-      module _ (st : Stage N z (suc now) (suc now) (s .ctl .turn) s op free out (turn cal))
+      abbrev h : Header
+      h = headerAt kind cell 0
+
+      -- the connection that the header names
+      abbrev u : ℕ
+      u = connection z h
+
+      module _ (st : Stage N z kind (suc now) (suc now) (s .ctl .turn) s op free out (turn cal))
           (good : Good dueOf (N - 1) now cal out)
-          (sits-out : All (Sits z op) out) (sits-cal : Alls (Sits z op) cal) (blank : w .answer ≡ bareAnswer 0) where
+          (sits-out : All (Sits kind z op) out) (sits-cal : Alls (Sits kind z op) cal) (blank : w .answer ≡ bareAnswer 0) where
         -- no cell is let in
         quiet : (w′ : Work) (verdict vci : ℕ) → letsIn verdict ≡ false → w′ .answer ≡ half verdict vci 0
-            → judgedBy z now op cell ≡ judgedOf verdict vci 0
-            → Stage N z (suc now) (suc now) (w′ .state .ctl .turn) (w′ .state) op free out (turn cal)
-            → Came N z now cell op out cal w′
+            → judgedBy kind z now op cell ≡ judgedOf verdict vci 0
+            → Stage N z kind (suc now) (suc now) (w′ .state .ctl .turn) (w′ .state) op free out (turn cal)
+            → Came N z kind now cell op out cal w′
         quiet w′ verdict vci ne says judges st′ =
             record {
               verdict = verdict;
@@ -90,32 +91,33 @@ module _ (now : ℕ) (cell : List ℕ) (op : ℕ → Option Opening) (free : Lis
               free = free;
               new = [];
               r = turn cal;
-              stage = rw (after-none now (headerAt cell 0 .clp) verdict vci op ne) st′;
+              stage = rw (after-none now (clpIn cell) verdict vci op ne) st′;
               arrived = arrive-none dueOf (N - 1) now cal out good;
-              sits-out = rw (after-none now (headerAt cell 0 .clp) verdict vci op ne) sits-out;
-              sits-cal = rw (after-none now (headerAt cell 0 .clp) verdict vci op ne) (alls-turn (Sits z op) cal sits-cal);
+              sits-out = rw (after-none now (clpIn cell) verdict vci op ne) sits-out;
+              sits-cal = rw (after-none now (clpIn cell) verdict vci op ne) (alls-turn (Sits kind z op) cal sits-cal);
               order = λ v. ap (ofConnection vciOf v) (turn-flat cal) ∙ sym (append-nil (ofConnection vciOf v (flat cal)));
               notes = rw ne;
               delays = tt;
+              named = tt;
               rises = λ l k. rw (append-nil l) (rising-up (λ c. c .arrival) 0 now (suc now) l (omega arith) k);
             }
 
-        -- the VC is brought up to date, and no more changes
-        module _ (u-low : 1 ≤ u) (u-high : u < z) (o : Opening) (o-is : op u ≡ some o)
-            (opn : OpenConnection N z (suc now) u (connectionAt (s .words) u) (waits u out (turn cal)) o) where
+        -- the connection is brought up to date, and no more changes
+        module _ (u-high : u < connectionsIn z) (o : Opening) (o-is : op u ≡ some o)
+            (opn : OpenConnection N (connectionsIn z) (suc now) u (connectionAt (s .words) u) (waits u out (turn cal)) o) where
           abbrev vc : Connection
           vc = stored o (suc now) (waits u out (turn cal))
 
-          renewed : (v : ℕ) → 1 ≤ v → v < z → Dec (v ≡ u) → ConnectionIs N z (suc now) v (connectionAt (writeConnection (s .words) u vc) v)
+          renewed : (v : ℕ) → unused z v ≡ false → v < connectionsIn z → Dec (v ≡ u) → ConnectionIs N (connectionsIn z) (suc now) v (connectionAt (writeConnection (s .words) u vc) v)
               (waits v out (turn cal)) (op v)
           renewed v h1 h2 (yes p) =
               rw (p, write-read (s .words) u vc (omega (arith, st .words-long, u-high)), o-is)
-              (now-open N z (st .ranges .z-high) now (suc now) u (connectionAt (s .words) u) (waits u out (turn cal)) o (omega arith)
+              (now-open N (connectionsIn z) (connections-few N z (st .ranges)) now (suc now) u (connectionAt (s .words) u) (waits u out (turn cal)) o (omega arith)
               (omega arith) opn)
           renewed v h1 h2 (no p) = rw (write-read-other (s .words) u vc v p) (st .table v h1 h2)
 
-          over : judgedBy z now op cell ≡ judgedOf excess u 0
-              → Came N z now cell op out cal (withArrival (withConnection w u vc) excess u 0)
+          over : judgedBy kind z now op cell ≡ judgedOf excess u 0
+              → Came N z kind now cell op out cal (withArrival (withConnection w u vc) excess u 0)
           unfolding withWords letsIn
           over judges = quiet (withArrival (withConnection w u vc) excess u 0) excess u refl (rw blank) judges
               (record {
@@ -125,6 +127,8 @@ module _ (now : ℕ) (cell : List ℕ) (op : ℕ → Option Opening) (free : Lis
                 t-is = st .t-is;
                 turn-low = st .turn-low;
                 rotation-is = st .rotation-is;
+                kind-is = st .kind-is;
+                kind-fits = st .kind-fits;
                 has = st .has;
                 words-long = write-length (s .words) u vc ∙ st .words-long;
                 table = λ v h1 h2. renewed v h1 h2 (ℕ-discrete v u);
@@ -133,102 +137,123 @@ module _ (now : ℕ) (cell : List ℕ) (op : ℕ → Option Opening) (free : Lis
           brought : upToDate N (s .ctl .t) (connectionAt (s .words) u) ≡ next vc
           brought =
               ap (λ (t : ℕ). upToDate N t (connectionAt (s .words) u)) (st .t-is ∙ clock-next now)
-              ∙ up-to-date N z (st .ranges .z-high) now (suc now) u (connectionAt (s .words) u) (waits u out (turn cal)) o u-high
+              ∙ up-to-date N (connectionsIn z) (connections-few N z (st .ranges)) now (suc now) u (connectionAt (s .words) u) (waits u out (turn cal)) o u-high
               (omega arith) (omega arith) opn
 
           abbrev verdict : ℕ
-          verdict = verdictBy o (headerAt cell 0 .clp) now
+          verdict = verdictBy o (clpIn cell) now
 
-          judge-goes : (b : Bool) → letsIn verdict ≡ b → length cell ≡ 53 → namesConnection z (headerAt cell 0) ≡ true
-              → judgedBy z now op cell ≡ judgedOf verdict u (if b then dueSlot o now - now else 0)
-              → Goes (judge cell u w vc) (Came N z now cell op out cal)
+          judge-goes : (b : Bool) → letsIn verdict ≡ b → length cell ≡ 53 → namesConnection z (h) ≡ true
+              → judgedBy kind z now op cell ≡ judgedOf verdict u (if b then dueSlot o now - now else 0)
+              → Goes (judge cell u w vc) (Came N z kind now cell op out cal)
           unfolding judge
           judge-goes true e long named judges =
-              rw (verdict-is o (headerAt cell 0 .clp) now (waits u out (turn cal)), not-excess verdict e)
-              (accept-goes now cell op free out cal w st good sits-out sits-cal blank long u named refl u-low u-high o o-is
+              rw (verdict-is o (clpIn cell) now (waits u out (turn cal)), not-excess verdict e)
+              (accept-goes now cell op free out cal w st good sits-out sits-cal blank long u named refl u-high o o-is
               opn verdict refl e judges)
           judge-goes false e long named judges =
-              rw (verdict-is o (headerAt cell 0 .clp) now (waits u out (turn cal)), eq-eqb verdict excess is)
+              rw (verdict-is o (clpIn cell) now (waits u out (turn cal)), eq-eqb verdict excess is)
               (record {
                 work = withArrival (withConnection w u vc) excess u 0;
                 goes = refl;
                 holds = over (judges ∙ ap (λ (k : ℕ). judgedOf k u 0) is);
               })
             where
-              is : verdictBy o (headerAt cell 0 .clp) now ≡ excess
-              is = verdict-says o (headerAt cell 0 .clp) now .2 e
+              is : verdictBy o (clpIn cell) now ≡ excess
+              is = verdict-says o (clpIn cell) now .2 e
 
-        strange : judgedBy z now op cell ≡ judgedOf unknown u 0 → Came N z now cell op out cal (withArrival w unknown u 0)
+        strange : judgedBy kind z now op cell ≡ judgedOf unknown (h .vci) 0
+            → Came N z kind now cell op out cal (withArrival w unknown (h .vci) 0)
         unfolding letsIn
-        strange judges = quiet (withArrival w unknown u 0) unknown u refl (rw blank) judges st
+        strange judges = quiet (withArrival w unknown (h .vci) 0) unknown (h .vci) refl (rw blank) judges st
 
-        -- the header names a VC
-        module _ (some-cell : length cell =? 0 || noUserCell (headerAt cell 0) ≡ false)
-            (named : namesConnection z (headerAt cell 0) ≡ true) (long : length cell ≡ 53) where
-          under : judgedBy z now op cell ≡ judgedUnder now u (headerAt cell 0 .clp) (op u)
+        -- the header names a connection
+        module _ (lent : length cell =? 0 ≡ false) (user : noUserCell h ≡ false)
+            (named : namesConnection z h ≡ true) (long : length cell ≡ 53) where
+          under : judgedBy kind z now op cell ≡ judgedUnder now (h .vci) u (clpIn cell) (op u)
           unfolding judgedBy
-          under = rw (some-cell, named)
+          under = rw (lent, user, named)
 
-          known : (a : Option Opening) → op u ≡ a → ConnectionIs N z (suc now) u (connectionAt (s .words) u) (waits u out (turn cal)) a
-              → Goes (step3 cell w) (Came N z now cell op out cal)
+          known : (a : Option Opening) → op u ≡ a → ConnectionIs N (connectionsIn z) (suc now) u (connectionAt (s .words) u) (waits u out (turn cal)) a
+              → Goes (step3 cell w) (Came N z kind now cell op out cal)
           unfolding step3
           known none e k =
               record {
-                work = withArrival w unknown u 0;
+                work = withArrival w unknown (h .vci) 0;
                 goes = rw (
-                  some-cell,
+                  lent,
+                  st .kind-fits,
+                  user,
                   named,
-                  word-fits N z (st .ranges .z-high) (suc now) u (connectionAt (s .words) u)
+                  word-fits N (connectionsIn z) (connections-few N z (st .ranges)) (suc now) u (connectionAt (s .words) u)
                       (waits u out (turn cal)) none k,
                   eq-eqb (connectionAt (s .words) u .opened) 0 k,
                 );
-                holds = strange (under ∙ ap (judgedUnder now u (headerAt cell 0 .clp)) e);
+                holds = strange (under ∙ ap (judgedUnder now (h .vci) u (clpIn cell)) e);
               }
           known (some o) e k =
               rw (
-                some-cell,
+                lent,
+                st .kind-fits,
+                user,
                 named,
-                word-fits N z (st .ranges .z-high) (suc now) u (connectionAt (s .words) u) (waits u out (turn cal)) (some o) k,
+                word-fits N (connectionsIn z) (connections-few N z (st .ranges)) (suc now) u (connectionAt (s .words) u) (waits u out (turn cal)) (some o) k,
                 ne-eqb (connectionAt (s .words) u .opened) 0 is-open,
-                brought (names .0) (names .1) o e k,
+                brought names o e k,
               )
-              (judge-goes (names .0) (names .1) o e k (letsIn (verdictBy o (headerAt cell 0 .clp) now)) refl long named (under ∙ ap (judgedUnder now u (headerAt cell 0 .clp)) e))
+              (judge-goes names o e k (letsIn (verdictBy o (clpIn cell) now)) refl long named (under ∙ ap (judgedUnder now (h .vci) u (clpIn cell)) e))
             where
-              names : (1 ≤ u) × (u < z)
-              names = names-facts z (headerAt cell 0) named
+              names : u < connectionsIn z
+              names = names-low z h named
 
               is-open : connectionAt (s .words) u .opened ≢ 0
               is-open y = omega (arith, ap (λ (c : Connection). c .opened) (k .is))
 
-        empty-goes : length cell =? 0 || noUserCell (headerAt cell 0) ≡ true
-            → Goes (step3 cell w) (Came N z now cell op out cal)
+        empty-goes : length cell =? 0 ≡ true → Goes (step3 cell w) (Came N z kind now cell op out cal)
         unfolding step3 judgedBy letsIn
         empty-goes e = record { work = w; goes = rw e; holds = quiet w nothing 0 refl blank (rw e) st }
 
-        strange-goes : length cell =? 0 || noUserCell (headerAt cell 0) ≡ false → namesConnection z (headerAt cell 0) ≡ false
-            → Goes (step3 cell w) (Came N z now cell op out cal)
+        no-user-goes : length cell =? 0 ≡ false → noUserCell h ≡ true → Goes (step3 cell w) (Came N z kind now cell op out cal)
+        unfolding step3 judgedBy letsIn
+        no-user-goes e f =
+            record { work = w; goes = rw (e, st .kind-fits, f); holds = quiet w nothing 0 refl blank (rw (e, f)) st }
+
+        strange-goes : length cell =? 0 ≡ false → noUserCell h ≡ false → namesConnection z h ≡ false
+            → Goes (step3 cell w) (Came N z kind now cell op out cal)
         unfolding step3 judgedBy
-        strange-goes e f = record { work = withArrival w unknown u 0; goes = rw (e, f); holds = strange (rw (e, f)) }
+        strange-goes e f g =
+            record {
+              work = withArrival w unknown (h .vci) 0;
+              goes = rw (e, st .kind-fits, f, g);
+              holds = strange (rw (e, f, g));
+            }
 
-        step3-at : length cell =? 0 || length cell =? 53 ≡ true → Goes (step3 cell w) (Came N z now cell op out cal)
-        step3-at fits = go (length cell =? 0 || noUserCell (headerAt cell 0)) (namesConnection z (headerAt cell 0)) refl refl
+        step3-at : length cell =? 0 || length cell =? 53 ≡ true → Goes (step3 cell w) (Came N z kind now cell op out cal)
+        step3-at fits = go (length cell =? 0) (noUserCell h) (namesConnection z h) refl refl refl
           where
-            go : (a b : Bool) → length cell =? 0 || noUserCell (headerAt cell 0) ≡ a → namesConnection z (headerAt cell 0) ≡ b
-                → Goes (step3 cell w) (Came N z now cell op out cal)
-            go true b e f = empty-goes e
-            go false false e f = strange-goes e f
-            go false true e f =
-                known e f (eqb-true (length cell) 53
-                (second (length cell =? 0) (length cell =? 53) (noUserCell (headerAt cell 0)) fits e)) (op u) refl
-                (st .table u (names-facts z (headerAt cell 0) f .0) (names-facts z (headerAt cell 0) f .1))
+            go : (a b c : Bool) → length cell =? 0 ≡ a → noUserCell h ≡ b → namesConnection z h ≡ c
+                → Goes (step3 cell w) (Came N z kind now cell op out cal)
+            go true b c e f g = empty-goes e
+            go false true c e f g = no-user-goes e f
+            go false false false e f g = strange-goes e f g
+            go false false true e f g =
+                known e f g (eqb-true (length cell) 53 (second (length cell =? 0) (length cell =? 53) fits e)) (op u) refl
+                (st .table u (names-used z h g) (names-low z h g))
 
-    pub step3-goes : (N z : ℕ) (w : Work) → Stage N z (suc now) (suc now) (w .state .ctl .turn) (w .state) op free out
+    pub step3-goes : (N z kind : ℕ) (w : Work) → Stage N z kind (suc now) (suc now) (w .state .ctl .turn) (w .state) op free out
         (turn cal) → Good dueOf (N - 1) now cal out
-        → All (Sits z op) out → Alls (Sits z op) cal → w .answer ≡ bareAnswer 0 → length cell =? 0 || length cell =? 53 ≡ true
-        → Goes (step3 cell w) (Came N z now cell op out cal)
-    step3-goes N z w st =
-        subst₂ (λ (n v : ℕ). Stage n v (suc now) (suc now) (w .state .ctl .turn) (w .state) op free out (turn cal)
-        → Good dueOf (n - 1) now cal out
-        → All (Sits v op) out → Alls (Sits v op) cal → w .answer ≡ bareAnswer 0 → length cell =? 0 || length cell =? 53 ≡ true
-        → Goes (step3 cell w) (Came n v now cell op out cal))
-        (st .n-is) (st .v-is) (step3-at w) st
+        → All (Sits kind z op) out → Alls (Sits kind z op) cal → w .answer ≡ bareAnswer 0
+        → length cell =? 0 || length cell =? 53 ≡ true
+        → Goes (step3 cell w) (Came N z kind now cell op out cal)
+    step3-goes N z kind w st =
+        subst (λ (k : ℕ). Stage N z k (suc now) (suc now) (w .state .ctl .turn) (w .state) op free out (turn cal)
+        → Good dueOf (N - 1) now cal out
+        → All (Sits k z op) out → Alls (Sits k z op) cal → w .answer ≡ bareAnswer 0 → length cell =? 0 || length cell =? 53 ≡ true
+        → Goes (step3 cell w) (Came N z k now cell op out cal))
+        (st .kind-is)
+        (subst₂ (λ (n v : ℕ). Stage n v (w .state .ctl .kind) (suc now) (suc now) (w .state .ctl .turn) (w .state) op free out
+        (turn cal) → Good dueOf (n - 1) now cal out
+        → All (Sits (w .state .ctl .kind) v op) out → Alls (Sits (w .state .ctl .kind) v op) cal → w .answer ≡ bareAnswer 0
+        → length cell =? 0 || length cell =? 53 ≡ true
+        → Goes (step3 cell w) (Came n v (w .state .ctl .kind) now cell op out cal))
+        (st .n-is) (st .v-is) (step3-at w)) st

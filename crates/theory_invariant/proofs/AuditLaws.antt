@@ -1,22 +1,23 @@
 -- The invariant implies the audit's clauses: the calendar's queues, from the next slot on, turned back to entry after
 -- entry.
 use Prim.Native.Nat.{ℕ, _+_, _-_, _%_, _≤_, _<_}
-use mathlib.Core.Path.{_≡_, refl, sym, ap, _∙_, subst}
-use mathlib.Core.Bool.{true}
+use mathlib.Core.Path.{_≡_, refl, sym, ap, ap₂, _∙_, subst}
+use mathlib.Core.Bool.{true, false}
 use mathlib.Core.List.{List, [], _∷_, _++_, map}
 use mathlib.Core.Option.{Option, none, some}
 use native.Mathlib.Nat.{mod-lt, mod-eq-of-lt, add-mod-right}
 use native.Mathlib.Decide.{decLt}
 use native.Mathlib.Omega.{arith}
-use borrow.Author.Tests.{eq-eqb}
+use borrow.Author.Tests.{eq-eqb, leb-true}
 use lib.ListN.{length, getD, take, drop, take-append-drop}
 use Rattle.meaning.specs.Plain.{if_then_else_, _=?_}
-use Rattle.meaning.specs.Numbers.{cellStart, openPlace}
+use Rattle.meaning.specs.Numbers.{connectionsIn, unused, kindFits, cellStart, openPlace}
 use Rattle.meaning.specs.State.{State, freeList, outputList}
-use Rattle.meaning.specs.Header.{Header, headerAt, namesOpen}
+use Rattle.meaning.specs.Header.{Header, headerAt, connection, namesOpen}
 use Rattle.meaning.specs.Words.{Connection, connectionAt, connectionFits}
 use Rattle.meaning.specs.Lists.{entryAt}
 use Rattle.meaning.specs.Audit.{Chain, count, joined, connectionIn, AuditHolds}
+use Rattle.meaning.proofs.NamesLaws.{names-low, names-used}
 use Rattle.meaning_runs.specs.Run.{Event, served}
 use Rattle.meaning_runs.specs.Leak.{Opening, openingOf}
 use Rattle.theory_queues.specs.Queue.{sum, sums, All, flat, turn}
@@ -29,11 +30,10 @@ use Rattle.theory_memory.specs.Held.{Queued, spaceOf, vciOf, Held}
 use Rattle.theory_memory.proofs.ShownLaws.{header-in}
 use Rattle.theory_invariant.specs.Invariant.{isOf, waits, Under, Sits, Inv}
 use Rattle.theory_invariant.proofs.RoundLaws.{count-append, joined-append, getD-map, round, round-length, round-low, round-high, pick}
-use Rattle.theory_invariant.proofs.ArriveLaws.{names-facts}
 use Rattle.theory_invariant.proofs.SlotLaws.{ranges-at, lengths-at}
 use Rattle.theory_invariant.proofs.CallLaws.{fits}
 
-module _ (N z : ℕ) (h : List Event) (s : State) (i : Inv N z h s) where
+module _ (N z kind : ℕ) (h : List Event) (s : State) (i : Inv N z kind h s) where
   abbrev op : ℕ → Option Opening
   op v = openingOf v h
 
@@ -141,71 +141,74 @@ module _ (N z : ℕ) (h : List Event) (s : State) (i : Inv N z h s) where
 
   -- what the memory says of a queued cell
   abbrev Known : Queued → Type 0
-  Known c = Held (s .cells) c × Sits z op c
+  Known c = Held (s .cells) c × Sits kind z op c
 
   known-out : All Known (i .out)
-  known-out = all-both (Held (s .cells)) (Sits z op) (i .out) (i .stage .has .held-out) (i .sits-out)
+  known-out = all-both (Held (s .cells)) (Sits kind z op) (i .out) (i .stage .has .held-out) (i .sits-out)
 
   known-cal : All Known (flat (turn (i .cal)))
   known-cal =
-      all-both (Held (s .cells)) (Sits z op) (flat (turn (i .cal)))
+      all-both (Held (s .cells)) (Sits kind z op) (flat (turn (i .cal)))
       (alls-flat (Held (s .cells)) (turn (i .cal)) (i .stage .has .held-cal))
-      (alls-flat (Sits z op) (turn (i .cal)) (alls-turn (Sits z op) (i .cal) (i .sits-cal)))
+      (alls-flat (Sits kind z op) (turn (i .cal)) (alls-turn (Sits kind z op) (i .cal) (i .sits-cal)))
 
   all-known : All Known all
   all-known = all-append Known (i .out) (flat (turn (i .cal))) known-out known-cal
 
-  header-of : (c : Queued) → Known c → headerAt (s .cells) (cellStart (c .space)) ≡ headerAt (c .cell .octets) 0
-  header-of c p = header-in (s .cells) (c .space) ∙ ap (λ l. headerAt l 0) (p .0)
+  header-of : (c : Queued) → Known c → headerAt kind (s .cells) (cellStart (c .space)) ≡ headerAt kind (c .cell .octets) 0
+  header-of c p = header-in kind (s .cells) (c .space) ∙ ap (λ l. headerAt kind l 0) (p .0)
 
   opened-word : (v : ℕ) (q : ℕ) (a : Option Opening) (c : Queued) → Under a (c .cell)
-      → ConnectionIs N z (served h) v (connectionAt (s .words) v) q a → connectionAt (s .words) v .opened ≡ 1
+      → ConnectionIs N (connectionsIn z) (served h) v (connectionAt (s .words) v) q a → connectionAt (s .words) v .opened ≡ 1
   opened-word v q none c u t = absurd u
   opened-word v q (some a) c u t = ap (λ (y : Connection). y .opened) (t .is)
 
-  names-open : (c : Queued) → Known c → namesOpen z (s .words) (headerAt (s .cells) (cellStart (c .space))) ≡ true
+  names-open : (c : Queued) → Known c → namesOpen z (s .words) (headerAt kind (s .cells) (cellStart (c .space))) ≡ true
   unfolding namesOpen connectionAt
   names-open c p = rw (header-of c p, p .1 .0, p .1 .1, eq-eqb (getD (s .words) (openPlace (vciOf c)) 0) 1 word)
     where
-      bounds : (1 ≤ headerAt (c .cell .octets) 0 .vci) × (headerAt (c .cell .octets) 0 .vci < z)
-      bounds = names-facts z (headerAt (c .cell .octets) 0) (p .1 .0)
+      hd : Header
+      hd = headerAt kind (c .cell .octets) 0
+
+      used : unused z (vciOf c) ≡ false
+      used = ap (unused z) (sym (p .1 .1)) ∙ names-used z hd (p .1 .0)
 
       word : getD (s .words) (openPlace (vciOf c)) 0 ≡ 1
       word = opened-word (vciOf c) (waits (vciOf c) (i .out) (turn (i .cal))) (op (vciOf c)) c (p .1 .2)
-          (i .stage .table (vciOf c) (omega (arith, p .1 .1, bounds .0)) (omega (arith, p .1 .1, bounds .1)))
+          (i .stage .table (vciOf c) used (omega (arith, p .1 .1, names-low z hd (p .1 .0))))
 
-  all-names : All (λ c. namesOpen z (s .words) (headerAt (s .cells) (cellStart (c .space))) ≡ true) all
+  all-names : All (λ c. namesOpen z (s .words) (headerAt kind (s .cells) (cellStart (c .space))) ≡ true) all
   all-names =
-      all-map Known (λ c. namesOpen z (s .words) (headerAt (s .cells) (cellStart (c .space))) ≡ true) names-open all
+      all-map Known (λ c. namesOpen z (s .words) (headerAt kind (s .cells) (cellStart (c .space))) ≡ true) names-open all
       all-known
 
-  vci-of : (c : Queued) → Known c → connectionIn (s .cells) (c .space) ≡ vciOf c
+  vci-of : (c : Queued) → Known c → connectionIn kind z (s .cells) (c .space) ≡ vciOf c
   unfolding connectionIn
-  vci-of c p = ap (λ (y : Header). y .vci) (header-of c p) ∙ p .1 .1
+  vci-of c p = ap (connection z) (header-of c p) ∙ p .1 .1
 
-  -- a VC's queued cells, counted by the headers in the memory
-  counted : (v : ℕ) (q : List Queued) → All Known q → count v (map (connectionIn (s .cells)) (map spaceOf q)) ≡ sum (isOf v) q
+  -- a connection's queued cells, counted by the headers in the memory
+  counted : (v : ℕ) (q : List Queued) → All Known q → count v (map (connectionIn kind z (s .cells)) (map spaceOf q)) ≡ sum (isOf v) q
   unfolding is
   counted v [] a = refl
   counted v (c ∷ q) a =
-      ap (λ (x : ℕ). (if v =? x then 1 else 0) + count v (map (connectionIn (s .cells)) (map spaceOf q))) (vci-of c (a .0))
+      ap (λ (x : ℕ). (if v =? x then 1 else 0) + count v (map (connectionIn kind z (s .cells)) (map spaceOf q))) (vci-of c (a .0))
       ∙ ap (λ (n : ℕ). (if v =? vciOf c then 1 else 0) + n) (counted v q (a .1))
 
-  counted-all : (v : ℕ) → count v (map (connectionIn (s .cells)) (map spaceOf (i .out) ++ joined queues)) ≡ waits v (i .out)
+  counted-all : (v : ℕ) → count v (map (connectionIn kind z (s .cells)) (map spaceOf (i .out) ++ joined queues)) ≡ waits v (i .out)
       (turn (i .cal))
   counted-all v =
-      ap (count v) (map-append (connectionIn (s .cells)) (map spaceOf (i .out)) (joined queues))
-      ∙ count-append v (map (connectionIn (s .cells)) (map spaceOf (i .out))) (map (connectionIn (s .cells)) (joined queues))
+      ap (count v) (map-append (connectionIn kind z (s .cells)) (map spaceOf (i .out)) (joined queues))
+      ∙ count-append v (map (connectionIn kind z (s .cells)) (map spaceOf (i .out))) (map (connectionIn kind z (s .cells)) (joined queues))
       ∙ omega (
         arith,
-        joined-mapped (connectionIn (s .cells)) v,
+        joined-mapped (connectionIn kind z (s .cells)) v,
         counted v (i .out) known-out,
         counted v (flat (turn (i .cal))) known-cal,
         sums-flat (isOf v) (turn (i .cal)),
       )
 
   waiting-word : (v q : ℕ) (a : Option Opening) → connectionAt (s .words) v .opened ≡ 1
-      → ConnectionIs N z (served h) v (connectionAt (s .words) v) q a → connectionAt (s .words) v .waiting ≡ q
+      → ConnectionIs N (connectionsIn z) (served h) v (connectionAt (s .words) v) q a → connectionAt (s .words) v .waiting ≡ q
   waiting-word v q none e t = absurd (omega (arith, e, t))
   waiting-word v q (some a) e t = ap (λ (y : Connection). y .waiting) (t .is)
 
@@ -217,17 +220,19 @@ module _ (N z : ℕ) (h : List Event) (s : State) (i : Inv N z h s) where
       ∙ getD-past (i .cal) (k + s .ctl .turn) (omega (arith, i .good .long, b-low)))
 
   pub audit-holds : AuditHolds s
+  unfolding kindFits
   audit-holds =
       record {
-        ranges = ranges-at N z h s i;
-        lengths = lengths-at N z h s i;
+        ranges = ranges-at N z kind h s i;
+        lengths = lengths-at N z kind h s i;
         turn-low = omega (arith, i .stage .turn-low, i .stage .n-is);
         rotation-low = rw (i .stage .rotation-is, i .stage .v-is)
-            (mod-lt (served h + (z - 1)) {m = z} (omega (arith, i .stage .ranges .z-low)));
+            (mod-lt (served h + (connectionsIn z - 1)) {m = connectionsIn z} (omega arith));
         raw-low = i .raw-low;
         mode-low = i .mode-low;
+        kind-low = leb-true (s .ctl .kind) 1 kind-fits;
         connections-fit = λ v h1 h2. ap (λ (n : ℕ). connectionFits n (connectionAt (s .words) v)) (i .stage .n-is)
-            ∙ fits N z h s i v h1 (omega (arith, i .stage .v-is));
+            ∙ fits N z kind h s i v (at-z v h2) (omega (arith, i .stage .v-is));
         free = i .free;
         output = map spaceOf (i .out);
         queues = queues;
@@ -240,9 +245,17 @@ module _ (N z : ℕ) (h : List Event) (s : State) (i : Inv N z h s) where
         once = λ x hx. whole-count x ∙ inside-yes x N (omega (arith, i .stage .n-is));
         no-other = λ x hx. whole-count x ∙ inside-no x N (omega (arith, i .stage .n-is));
         turn-empty = next-empty;
-        named = λ x hx. ap (λ (v : ℕ). namesOpen v (s .words) (headerAt (s .cells) (cellStart x))) (i .stage .v-is)
-            ∙ pick (λ (y : ℕ). namesOpen z (s .words) (headerAt (s .cells) (cellStart y)) ≡ true) x all all-names
+        named = λ x hx. ap₂ (λ (v k : ℕ). namesOpen v (s .words) (headerAt k (s .cells) (cellStart x))) (i .stage .v-is) (i .stage .kind-is)
+            ∙ pick (λ (y : ℕ). namesOpen z (s .words) (headerAt kind (s .cells) (cellStart y)) ≡ true) x all all-names
             (omega (arith, queued-count x));
         waits = λ v h1 h2 e. waiting-word v (waits v (i .out) (turn (i .cal))) (op v) e
-            (i .stage .table v h1 (omega (arith, i .stage .v-is))) ∙ sym (counted-all v);
+            (i .stage .table v (at-z v h2) (omega (arith, i .stage .v-is))) ∙ sym (counted-all v)
+            ∙ ap₂ (λ (k n : ℕ). count v (map (connectionIn k n (s .cells)) (map spaceOf (i .out) ++ joined queues)))
+            (sym (i .stage .kind-is)) (sym (i .stage .v-is));
       }
+    where
+      at-z : (v : ℕ) → unused (s .ctl .v) v ≡ false → unused z v ≡ false
+      at-z v e = ap (λ (n : ℕ). unused n v) (sym (i .stage .v-is)) ∙ e
+
+      kind-fits : kindFits (s .ctl .kind) ≡ true
+      kind-fits = ap kindFits (i .stage .kind-is) ∙ i .stage .kind-fits

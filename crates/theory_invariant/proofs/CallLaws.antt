@@ -1,18 +1,19 @@
--- A call that serves no slot: refused it changes nothing; else one VC, of which no cell is queued, gets another opening or
+-- A call that serves no slot: refused it changes nothing; else one connection, of which no cell is queued, gets another opening or
 -- none. Refusals 1, 2 and 3 are not given.
-use Prim.Native.Nat.{ℕ, _≤_, _<_}
+use Prim.Native.Nat.{ℕ, _<_}
 use mathlib.Core.Path.{_≡_, refl, sym, ap, _∙_, subst}
 use mathlib.Core.Logic.{_≢_}
-use mathlib.Core.Bool.{true, false, _&&_}
+use mathlib.Core.Bool.{true, false}
 use mathlib.Core.List.{List, [], _∷_}
 use mathlib.Core.Option.{Option}
 use native.Mathlib.Decide.{ℕ-discrete}
 use native.Mathlib.Omega.{arith}
-use borrow.Author.Tests.{le-leb, lt-ltb}
-use Rattle.meaning.specs.Plain.{_<?_, _≤?_}
-use Rattle.meaning.specs.State.{State, withWords}
+use Rattle.meaning.specs.Numbers.{rangesHold, connectionsIn, unused}
+use Rattle.meaning.specs.State.{State, wordsLong, withWords}
+use Rattle.meaning.specs.Header.{Name, named, numberIn}
 use Rattle.meaning.specs.Words.{Connection, connectionAt, writeConnection, connectionFits}
 use Rattle.meaning.specs.Calls.{sharedRefusal}
+use Rattle.meaning.proofs.NamesLaws.{number-low, number-used}
 use Rattle.meaning.proofs.WordsLaws.{write-length, write-read, write-read-other}
 use Rattle.meaning_runs.specs.Run.{Event, served}
 use Rattle.meaning_runs.specs.Leak.{Opening, openingOf}
@@ -25,9 +26,9 @@ use Rattle.theory_table.proofs.ConnectionLaws.{connection-fits}
 use Rattle.theory_memory.specs.Held.{Queued, vciOf}
 use Rattle.theory_invariant.specs.Invariant.{isOf, waits, Sits, Inv}
 use Rattle.theory_invariant.proofs.AfterLaws.{waits-low}
-use Rattle.theory_invariant.proofs.LengthLaws.{ranges-hold, words-hold}
+use Rattle.theory_invariant.proofs.LengthLaws.{connections-few, ranges-hold, words-hold}
 
--- a cell of another VC
+-- a cell of another connection
 abbrev pub Away : ℕ → Queued → Type 0
 Away u c = vciOf c ≢ u
 
@@ -53,7 +54,7 @@ pub record Still (h h′ : List Event) : Type 0 where
   pub cells : cellsIn h′ ≡ cellsIn h
   pub departures : departuresIn h′ ≡ departuresIn h
 
-module _ (N z : ℕ) (h : List Event) (s : State) (i : Inv N z h s) where
+module _ (N z kind : ℕ) (h : List Event) (s : State) (i : Inv N z kind h s) where
   abbrev now : ℕ
   now = served h
 
@@ -61,7 +62,7 @@ module _ (N z : ℕ) (h : List Event) (s : State) (i : Inv N z h s) where
   op v = openingOf v h
 
   -- a refused call changes nothing; nor does another verdict that accepts no cell
-  pub unchanged : (h′ : List Event) → Still h h′ → ((v : ℕ) → openingOf v h′ ≡ openingOf v h) → Inv N z h′ s
+  pub unchanged : (h′ : List Event) → Still h h′ → ((v : ℕ) → openingOf v h′ ≡ openingOf v h) → Inv N z kind h′ s
   unchanged h′ same e =
       record {
         free = i .free;
@@ -75,6 +76,8 @@ module _ (N z : ℕ) (h : List Event) (s : State) (i : Inv N z h s) where
           t-is = i .stage .t-is ∙ ap clock (sym (same .slots));
           turn-low = i .stage .turn-low;
           rotation-is = rw (same .slots) (i .stage .rotation-is);
+          kind-is = i .stage .kind-is;
+          kind-fits = i .stage .kind-fits;
           has = i .stage .has;
           words-long = i .stage .words-long;
           table = λ v h1 h2. rw (same .slots, e v) (i .stage .table v h1 h2);
@@ -82,39 +85,41 @@ module _ (N z : ℕ) (h : List Event) (s : State) (i : Inv N z h s) where
         raw-low = i .raw-low;
         mode-low = i .mode-low;
         good = rw (same .slots) (i .good);
-        sits-out = all-map (Sits z op) (Sits z (λ v. openingOf v h′)) sits (i .out) (i .sits-out);
-        sits-cal = alls-map (Sits z op) (Sits z (λ v. openingOf v h′)) sits (i .cal) (i .sits-cal);
+        sits-out = all-map (Sits kind z op) (Sits kind z (λ v. openingOf v h′)) sits (i .out) (i .sits-out);
+        sits-cal = alls-map (Sits kind z op) (Sits kind z (λ v. openingOf v h′)) sits (i .cal) (i .sits-cal);
         seen = same .departures ∙ i .seen;
         in-time = i .in-time;
         order = λ v. rw (same .cells) (i .order v);
         delays = rw (same .cells) (i .delays);
+        named = rw (same .cells) (i .named);
+        named-left = i .named-left;
         left-rise = rw (same .slots) (i .left-rise);
         cells-rise = rw (same .slots, same .cells) (i .cells-rise);
       }
     where
-      sits : (c : Queued) → Sits z op c → Sits z (λ v. openingOf v h′) c
+      sits : (c : Queued) → Sits kind z op c → Sits kind z (λ v. openingOf v h′) c
       sits c p = (p .0, p .1, rw (e (vciOf c)) (p .2))
 
-  -- another opening, or none, for a VC of which no cell is queued
-  module _ (u : ℕ) (u-high : u < z) (away-out : All (Away u) (i .out)) (away-cal : Alls (Away u) (i .cal)) (vc′ : Connection)
+  -- another opening, or none, for a connection of which no cell is queued
+  module _ (u : ℕ) (u-high : u < connectionsIn z) (away-out : All (Away u) (i .out)) (away-cal : Alls (Away u) (i .cal)) (vc′ : Connection)
       (new : Option Opening)
-      (is : ConnectionIs N z now u vc′ 0 new) (h′ : List Event) (same : Still h h′) (own : openingOf u h′ ≡ new)
+      (is : ConnectionIs N (connectionsIn z) now u vc′ 0 new) (h′ : List Event) (same : Still h h′) (own : openingOf u h′ ≡ new)
       (other : (v : ℕ) → v ≢ u → openingOf v h′ ≡ openingOf v h) where
     nobody : waits u (i .out) (turn (i .cal)) ≡ 0
     nobody = omega (arith, turn-sums (isOf u) (i .cal), away-sum u (i .out) away-out, away-sums u (i .cal) away-cal)
 
-    each : (v : ℕ) → 1 ≤ v → v < z → Dec (v ≡ u) → ConnectionIs N z (served h′) v (connectionAt (writeConnection (s .words) u vc′) v)
+    each : (v : ℕ) → unused z v ≡ false → v < connectionsIn z → Dec (v ≡ u) → ConnectionIs N (connectionsIn z) (served h′) v (connectionAt (writeConnection (s .words) u vc′) v)
         (waits v (i .out) (turn (i .cal))) (openingOf v h′)
     each v h1 h2 (yes p) =
-        subst (λ (k : ℕ). ConnectionIs N z (served h′) k (connectionAt (writeConnection (s .words) u vc′) k) (waits k (i .out) (turn (i .cal)))
+        subst (λ (k : ℕ). ConnectionIs N (connectionsIn z) (served h′) k (connectionAt (writeConnection (s .words) u vc′) k) (waits k (i .out) (turn (i .cal)))
         (openingOf k h′)) (sym p)
         (rw (same .slots, write-read (s .words) u vc′ (omega (arith, i .stage .words-long)), nobody, own) is)
     each v h1 h2 (no p) = rw (same .slots, write-read-other (s .words) u vc′ v p, other v p) (i .stage .table v h1 h2)
 
-    sits-on : (c : Queued) → Sits z op c × Away u c → Sits z (λ v. openingOf v h′) c
+    sits-on : (c : Queued) → Sits kind z op c × Away u c → Sits kind z (λ v. openingOf v h′) c
     sits-on c p = (p .0 .0, p .0 .1, rw (other (vciOf c) (p .1)) (p .0 .2))
 
-    pub renewed : Inv N z h′ (withWords s (writeConnection (s .words) u vc′))
+    pub renewed : Inv N z kind h′ (withWords s (writeConnection (s .words) u vc′))
     unfolding withWords
     renewed =
         record {
@@ -129,6 +134,8 @@ module _ (N z : ℕ) (h : List Event) (s : State) (i : Inv N z h s) where
             t-is = i .stage .t-is ∙ ap clock (sym (same .slots));
             turn-low = i .stage .turn-low;
             rotation-is = rw (same .slots) (i .stage .rotation-is);
+            kind-is = i .stage .kind-is;
+            kind-fits = i .stage .kind-fits;
             has = i .stage .has;
             words-long = write-length (s .words) u vc′ ∙ i .stage .words-long;
             table = λ v h1 h2. each v h1 h2 (ℕ-discrete v u);
@@ -136,45 +143,46 @@ module _ (N z : ℕ) (h : List Event) (s : State) (i : Inv N z h s) where
           raw-low = i .raw-low;
           mode-low = i .mode-low;
           good = rw (same .slots) (i .good);
-          sits-out = all-map (λ c. Sits z op c × Away u c) (Sits z (λ v. openingOf v h′)) sits-on (i .out)
-              (all-both (Sits z op) (Away u) (i .out) (i .sits-out) away-out);
-          sits-cal = alls-map (λ c. Sits z op c × Away u c) (Sits z (λ v. openingOf v h′)) sits-on (i .cal)
-              (alls-both (Sits z op) (Away u) (i .cal) (i .sits-cal) away-cal);
+          sits-out = all-map (λ c. Sits kind z op c × Away u c) (Sits kind z (λ v. openingOf v h′)) sits-on (i .out)
+              (all-both (Sits kind z op) (Away u) (i .out) (i .sits-out) away-out);
+          sits-cal = alls-map (λ c. Sits kind z op c × Away u c) (Sits kind z (λ v. openingOf v h′)) sits-on (i .cal)
+              (alls-both (Sits kind z op) (Away u) (i .cal) (i .sits-cal) away-cal);
           seen = same .departures ∙ i .seen;
           in-time = i .in-time;
           order = λ v. rw (same .cells) (i .order v);
           delays = rw (same .cells) (i .delays);
+          named = rw (same .cells) (i .named);
+          named-left = i .named-left;
           left-rise = rw (same .slots) (i .left-rise);
           cells-rise = rw (same .slots, same .cells) (i .cells-rise);
         }
 
   -- ── the refusals that open and close share ──
-  pub fits : (v : ℕ) → 1 ≤ v → v < z → connectionFits N (connectionAt (s .words) v) ≡ true
+  ranges-at : rangesHold (s .ctl .n) (s .ctl .v) ≡ true
+  ranges-at = rw (i .stage .n-is, i .stage .v-is) (ranges-hold N z (i .stage .ranges))
+
+  words-at : wordsLong (s .ctl .v) (s .words) ≡ true
+  words-at = rw (i .stage .v-is) (words-hold z (s .words) (i .stage .words-long))
+
+  pub fits : (v : ℕ) → unused z v ≡ false → v < connectionsIn z → connectionFits N (connectionAt (s .words) v) ≡ true
   fits v h1 h2 =
-      connection-fits N z (i .stage .ranges .z-high) now v (connectionAt (s .words) v) (waits v (i .out) (turn (i .cal))) (op v)
+      connection-fits N (connectionsIn z) (connections-few N z (i .stage .ranges)) now v (connectionAt (s .words) v) (waits v (i .out) (turn (i .cal))) (op v)
       (waits-low v N (i .out) (turn (i .cal))
       (omega (arith, turn-sums one (i .cal), i .good .room, i .stage .ranges .N-low))) (i .stage .table v h1 h2)
 
-  pub shared-in : (v : ℕ) → 1 ≤ v → v < z → sharedRefusal (s .ctl) (s .words) v ≡ 0
+  pub shared-in : (name : Name) → named (s .ctl .v) name ≡ true → sharedRefusal (s .ctl) (s .words) name ≡ 0
   unfolding sharedRefusal
-  shared-in v h1 h2 =
+  shared-in name e =
       rw (
-        i .stage .n-is,
-        i .stage .v-is,
-        ranges-hold N z (i .stage .ranges),
-        words-hold z (s .words) (i .stage .words-long),
-        le-leb 1 v h1,
-        lt-ltb v z h2,
-        fits v h1 h2,
+        ranges-at,
+        words-at,
+        e,
+        ap (λ (n : ℕ). connectionFits n (connectionAt (s .words) (numberIn (s .ctl .v) name))) (i .stage .n-is),
+        fits (numberIn (s .ctl .v) name)
+            (ap (λ (v : ℕ). unused v (numberIn (s .ctl .v) name)) (sym (i .stage .v-is)) ∙ number-used (s .ctl .v) name e)
+            (omega (arith, number-low (s .ctl .v) name e, i .stage .v-is)),
       )
 
-  pub shared-out : (v : ℕ) → 1 ≤? v && v <? z ≡ false → sharedRefusal (s .ctl) (s .words) v ≡ 4
+  pub shared-out : (name : Name) → named (s .ctl .v) name ≡ false → sharedRefusal (s .ctl) (s .words) name ≡ 4
   unfolding sharedRefusal
-  shared-out v e =
-      rw (
-        i .stage .n-is,
-        i .stage .v-is,
-        ranges-hold N z (i .stage .ranges),
-        words-hold z (s .words) (i .stage .words-long),
-        e,
-      )
+  shared-out name e = rw (ranges-at, words-at, e)

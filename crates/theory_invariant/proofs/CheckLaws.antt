@@ -22,9 +22,9 @@ use Rattle.theory_invariant.proofs.SlotLaws.{Ran, unchecked-served, unc
 use Rattle.theory_invariant.proofs.CallLaws.{Still, unchanged}
 
 -- the invariant speaks of the mode's range alone
-pub inv-mode : (N z : ℕ) (h : List Event) (s : State) (mode : ℕ) → Inv N z h s → mode ≤ 1 → Inv N z h (withMode s mode)
+pub inv-mode : (N z kind : ℕ) (h : List Event) (s : State) (mode : ℕ) → Inv N z kind h s → mode ≤ 1 → Inv N z kind h (withMode s mode)
 unfolding withMode withRecord recordInMode
-inv-mode N z h s mode i low =
+inv-mode N z kind h s mode i low =
     record {
       free = i .free;
       out = i .out;
@@ -37,6 +37,8 @@ inv-mode N z h s mode i low =
         t-is = i .stage .t-is;
         turn-low = i .stage .turn-low;
         rotation-is = i .stage .rotation-is;
+        kind-is = i .stage .kind-is;
+        kind-fits = i .stage .kind-fits;
         has = i .stage .has;
         words-long = i .stage .words-long;
         table = i .stage .table;
@@ -50,15 +52,17 @@ inv-mode N z h s mode i low =
       in-time = i .in-time;
       order = i .order;
       delays = i .delays;
+      named = i .named;
+      named-left = i .named-left;
       left-rise = i .left-rise;
       cells-rise = i .cells-rise;
     }
 
 -- what a slot leaves
-pub record Checked (N z : ℕ) (h : List Event) (a : Arriving) (w : Work) : Type 0 where
-  pub inv : Inv N z (eventOf (a .cell) w ∷ h) (w .state)
+pub record Checked (N z kind : ℕ) (h : List Event) (a : Arriving) (w : Work) : Type 0 where
+  pub inv : Inv N z kind (eventOf (a .cell) w ∷ h) (w .state)
   pub number : w .answer .number ≡ 0
-  pub says : judgedOf (w .answer .verdict) (w .answer .vci) (w .answer .d) ≡ judgedAs z h a
+  pub says : judgedOf (w .answer .verdict) (w .answer .vci) (w .answer .d) ≡ judgedAs kind z h a
 
 -- verdict 4 in place of 0: no cell more, no opening moved, the same slots and departures
 still-dropped : (h : List Event) (cell : List ℕ) (w : Work) → w .answer .verdict ≡ nothing
@@ -72,45 +76,45 @@ unfolding openingOf accepts letsIn
 opening-dropped h cell w e v = rw e
 
 -- nothing arrives: verdict 0
-judged-none : (z : ℕ) (h : List Event) → judged z h [] ≡ judgedOf nothing 0 0
+judged-none : (kind z : ℕ) (h : List Event) → judged kind z h [] ≡ judgedOf nothing 0 0
 unfolding judgedBy
-judged-none z h = refl
+judged-none kind z h = refl
 
-told-kept : (N z : ℕ) (h : List Event) (a : Arriving) (w : Work) → (a .dropped ≡ true → a .cell ≡ []) → Ran N z h (a .cell) w
-    → (drop : Bool) → a .dropped ≡ drop → Checked N z h a (told drop w)
-told-kept N z h a w none g false e = record { inv = g .inv; number = g .number; says = rw e (g .says) }
-told-kept N z h a w none g true e =
+told-kept : (N z kind : ℕ) (h : List Event) (a : Arriving) (w : Work) → (a .dropped ≡ true → a .cell ≡ []) → Ran N z kind h (a .cell) w
+    → (drop : Bool) → a .dropped ≡ drop → Checked N z kind h a (told drop w)
+told-kept N z kind h a w none g false e = record { inv = g .inv; number = g .number; says = rw e (g .says) }
+told-kept N z kind h a w none g true e =
     record {
-      inv = unchanged N z (eventOf (a .cell) w ∷ h) (w .state) (g .inv) (eventOf (a .cell) (told true w) ∷ h)
+      inv = unchanged N z kind (eventOf (a .cell) w ∷ h) (w .state) (g .inv) (eventOf (a .cell) (told true w) ∷ h)
           (still-dropped h (a .cell) w quiet) (opening-dropped h (a .cell) w quiet);
       number = g .number;
       says = rw e;
     }
   where
     quiet : w .answer .verdict ≡ nothing
-    quiet = ap (λ (j : Judged). j .verdict) (g .says ∙ ap (judged z h) (none e) ∙ judged-none z h)
+    quiet = ap (λ (j : Judged). j .verdict) (g .says ∙ ap (judged kind z h) (none e) ∙ judged-none kind z h)
 
-module _ (N z : ℕ) (h : List Event) (s : State) (i : Inv N z h s) (cell : List ℕ) where
+module _ (N z kind : ℕ) (h : List Event) (s : State) (i : Inv N z kind h s) (cell : List ℕ) where
   abbrev a : Arriving
   a = letIn s cell
 
   -- a slot that is served, and one that is refused, with 9
   module _ (lent : length cell =? 0 || length cell =? 53 ≡ true) where
-    unchecked : Ran N z h (a .cell) (uncheckedSlot (withMode s (a .mode)) (a .cell))
+    unchecked : Ran N z kind h (a .cell) (uncheckedSlot (withMode s (a .mode)) (a .cell))
     unchecked =
-        unchecked-served N z h (withMode s (a .mode))
-        (inv-mode N z h s (a .mode) i (mode-low (s .ctl .raw) (s .ctl .mode) cell (i .mode-low)))
+        unchecked-served N z kind h (withMode s (a .mode))
+        (inv-mode N z kind h s (a .mode) i (mode-low (s .ctl .raw) (s .ctl .mode) cell (i .mode-low)))
         (a .cell) (through-lent (s .ctl .raw) (s .ctl .mode) cell lent)
 
     pub slot-is : slot s cell ≡ told (letIn s cell .dropped) (uncheckedSlot (withMode s (letIn s cell .mode)) (letIn s cell .cell))
     slot-is =
         served-is s cell lent (fits-low (s .ctl .raw) (s .ctl .mode) cell (i .raw-low) (i .mode-low)) (unchecked .number)
 
-    pub slot-served : Checked N z h (letIn s cell) (slot s cell)
+    pub slot-served : Checked N z kind h (letIn s cell) (slot s cell)
     slot-served =
-        subst (Checked N z h a) (sym slot-is)
-        (told-kept N z h a (uncheckedSlot (withMode s (a .mode)) (a .cell)) (dropped-none (s .ctl .raw) (s .ctl .mode) cell)
+        subst (Checked N z kind h a) (sym slot-is)
+        (told-kept N z kind h a (uncheckedSlot (withMode s (a .mode)) (a .cell)) (dropped-none (s .ctl .raw) (s .ctl .mode) cell)
         unchecked (a .dropped) refl)
 
   pub slot-refused : length cell =? 0 || length cell =? 53 ≡ false → slot s cell ≡ workOf s (bareAnswer 9)
-  slot-refused lent = unlent s cell lent ∙ unchecked-refused N z h s i cell lent
+  slot-refused lent = unlent s cell lent ∙ unchecked-refused N z kind h s i cell lent

@@ -1,8 +1,8 @@
--- Step 5 of a slot, from the invariant: the head of the Output List names an open VC with a cell waiting, so that no test
+-- Step 5 of a slot, from the invariant: the head of the Output List names an open connection with a cell waiting, so that no test
 -- of refusal 3 fails; it departs with the octets that were accepted.
 use Prim.Native.Nat.{ℕ, suc, _+_, _-_, _≤_, _<_}
 use mathlib.Core.Path.{_≡_, refl, sym, ap, _∙_, subst, subst₂}
-use mathlib.Core.Bool.{true}
+use mathlib.Core.Bool.{true, false}
 use mathlib.Core.List.{List, [], _∷_, _++_}
 use mathlib.Core.Option.{Option, none, some}
 use native.Mathlib.Decide.{ℕ-discrete}
@@ -10,13 +10,14 @@ use native.Mathlib.Omega.{arith}
 use borrow.Author.Tests.{eq-eqb, le-leb}
 use lib.ListN.{getD}
 use Rattle.meaning.specs.Plain.{next}
-use Rattle.meaning.specs.Numbers.{empty, cellStart, openPlace}
+use Rattle.meaning.specs.Numbers.{connectionsIn, unused, empty, cellStart, openPlace}
 use Rattle.meaning.specs.State.{State, freeList, outputList, withRecord, recordWith, withLinks, withWords, withFreeList, withOutputList}
-use Rattle.meaning.specs.Header.{Header, headerAt, namesOpen}
+use Rattle.meaning.specs.Header.{Header, headerAt, connection, namesOpen}
 use Rattle.meaning.specs.Words.{Connection, connectionAt, writeConnection, withWaiting}
 use Rattle.meaning.specs.Lists.{Grown, addTail}
 use Rattle.meaning.specs.Work.{Work, answerOf, withState, withConnection, withDeparture}
 use Rattle.meaning.specs.Slot.{step5, depart}
+use Rattle.meaning.proofs.NamesLaws.{names-low, names-used}
 use Rattle.meaning.proofs.WordsLaws.{write-length, write-read, write-read-other}
 use Rattle.meaning_runs.specs.Run.{idle}
 use Rattle.meaning_runs.specs.Leak.{Opening}
@@ -32,8 +33,8 @@ use Rattle.theory_memory.proofs.MoveLaws.{out-bare, out-marked, out-low, out-ta
 use Rattle.theory_invariant.specs.Invariant.{isOf, waits, Under, Sits, Stage}
 use Rattle.theory_invariant.specs.Gone.{Gone}
 use Rattle.theory_invariant.proofs.StepLaws.{Goes}
+use Rattle.theory_invariant.proofs.LengthLaws.{connections-few}
 use Rattle.theory_invariant.proofs.AfterLaws.{waits-low}
-use Rattle.theory_invariant.proofs.ArriveLaws.{names-facts}
 
 module _ (now : ℕ) (op : ℕ → Option Opening) (free : List ℕ) (r : List (List Queued)) where
   module _ (w : Work) where
@@ -46,11 +47,14 @@ module _ (now : ℕ) (op : ℕ → Option Opening) (free : List ℕ) (r : List (
     abbrev z : ℕ
     z = s .ctl .v
 
+    abbrev kind : ℕ
+    kind = s .ctl .kind
+
     abbrev b : ℕ
     b = s .ctl .turn + 1
 
     -- nothing departs
-    idles : Stage N z (suc now) (suc now) b s op free [] r → Goes (step5 w) (Gone N z now op [] r w)
+    idles : Stage N z kind (suc now) (suc now) b s op free [] r → Goes (step5 w) (Gone N z kind now op [] r w)
     unfolding step5
     idles st =
         record {
@@ -59,13 +63,13 @@ module _ (now : ℕ) (op : ℕ → Option Opening) (free : List ℕ) (r : List (
           holds = record { free = free; stage = st; departs = refl };
         }
 
-    module _ (c : Queued) (o : List Queued) (st : Stage N z (suc now) (suc now) b s op free (c ∷ o) r) (sits : Sits z op c)
+    module _ (c : Queued) (o : List Queued) (st : Stage N z kind (suc now) (suc now) b s op free (c ∷ o) r) (sits : Sits kind z op c)
         (few : sums one r + sum one (c ∷ o) ≤ N) where
       abbrev h : Header
-      h = headerAt (c .cell .octets) 0
+      h = headerAt kind (c .cell .octets) 0
 
       abbrev u : ℕ
-      u = h .vci
+      u = connection z h
 
       abbrev x : ℕ
       x = s .ctl .outhead
@@ -76,11 +80,11 @@ module _ (now : ℕ) (op : ℕ → Option Opening) (free : List ℕ) (r : List (
       octets-are : octetsIn (s .cells) x ≡ c .cell .octets
       octets-are = ap (octetsIn (s .cells)) (st .has .out-is .0) ∙ st .has .held-out .0
 
-      header-is : headerAt (s .cells) (cellStart x) ≡ h
-      header-is = header-in (s .cells) x ∙ ap (λ l. headerAt l 0) octets-are
+      header-is : headerAt kind (s .cells) (cellStart x) ≡ h
+      header-is = header-in kind (s .cells) x ∙ ap (λ l. headerAt kind l 0) octets-are
 
-      names : (1 ≤ u) × (u < z)
-      names = names-facts z h (sits .0)
+      names : u < connectionsIn z
+      names = names-low z h (sits .0)
 
       abbrev vc : Connection
       vc = connectionAt (s .words) u
@@ -91,21 +95,21 @@ module _ (now : ℕ) (op : ℕ → Option Opening) (free : List ℕ) (r : List (
       one-more : waits u (c ∷ o) r ≡ suc q
       one-more = omega (arith, is-yes u (vciOf c) (sits .1))
 
-      -- its VC is open, and has a cell waiting
+      -- its connection is open, and has a cell waiting
       pub record Opened : Type 0 where
         pub opening : Opening
         pub is : op u ≡ some opening
-        pub connection-open : OpenConnection N z (suc now) u vc (suc q) opening
+        pub connection-open : OpenConnection N (connectionsIn z) (suc now) u vc (suc q) opening
 
       opened : Opened
       opened =
           go (op u) refl (subst (λ (i : ℕ). Under (op i) (c .cell)) (sym (sits .1)) (sits .2))
-          (st .table u (names .0) (names .1))
+          (st .table u (names-used z h (sits .0)) names)
         where
-          go : (a : Option Opening) → op u ≡ a → Under a (c .cell) → ConnectionIs N z (suc now) u vc (waits u (c ∷ o) r) a → Opened
+          go : (a : Option Opening) → op u ≡ a → Under a (c .cell) → ConnectionIs N (connectionsIn z) (suc now) u vc (waits u (c ∷ o) r) a → Opened
           go none e p k = absurd p
           go (some a) e p k =
-              record { opening = a; is = e; connection-open = subst (λ (i : ℕ). OpenConnection N z (suc now) u vc i a) one-more k }
+              record { opening = a; is = e; connection-open = subst (λ (i : ℕ). OpenConnection N (connectionsIn z) (suc now) u vc i a) one-more k }
 
       is-open : vc .opened ≡ 1
       is-open = ap (λ (y : Connection). y .opened) (opened .connection-open .is)
@@ -142,26 +146,27 @@ module _ (now : ℕ) (op : ℕ → Option Opening) (free : List ℕ) (r : List (
             out-marked low (st .has),
             taken .goes,
             header-is,
+            st .kind-fits,
             names-open,
             le-leb 1 (vc .waiting) (omega (arith, waiting-is)),
             le-leb (vc .waiting) N few-wait,
             free-fits low (st .has),
           )
 
-      each : (v : ℕ) → 1 ≤ v → v < z → Dec (v ≡ u) → ConnectionIs N z (suc now) v (connectionAt (writeConnection (s .words) u less) v) (waits v o r)
+      each : (v : ℕ) → unused z v ≡ false → v < connectionsIn z → Dec (v ≡ u) → ConnectionIs N (connectionsIn z) (suc now) v (connectionAt (writeConnection (s .words) u less) v) (waits v o r)
           (op v)
       each v h1 h2 (yes p) =
-          subst (λ (i : ℕ). ConnectionIs N z (suc now) i (connectionAt (writeConnection (s .words) u less) i) (waits i o r) (op i)) (sym p)
-          (rw (write-read (s .words) u less (omega (arith, st .words-long, names .1)), opened .is)
-          (left-open N z (st .ranges .z-high) (suc now) u vc q (opened .opening) (opened .connection-open)))
+          subst (λ (i : ℕ). ConnectionIs N (connectionsIn z) (suc now) i (connectionAt (writeConnection (s .words) u less) i) (waits i o r) (op i)) (sym p)
+          (rw (write-read (s .words) u less (omega (arith, st .words-long, names)), opened .is)
+          (left-open N (connectionsIn z) (connections-few N z (st .ranges)) (suc now) u vc q (opened .opening) (opened .connection-open)))
       each v h1 h2 (no p) =
           rw (write-read-other (s .words) u less v p)
-          (subst (λ (i : ℕ). ConnectionIs N z (suc now) v (connectionAt (s .words) v) i (op v)) same (st .table v h1 h2))
+          (subst (λ (i : ℕ). ConnectionIs N (connectionsIn z) (suc now) v (connectionAt (s .words) v) i (op v)) same (st .table v h1 h2))
         where
           same : waits v (c ∷ o) r ≡ waits v o r
           same = omega (arith, is-no v (vciOf c) (λ e. p (e ∙ sym (sits .1))))
 
-      leaves : Goes (step5 w) (Gone N z now op (c ∷ o) r w)
+      leaves : Goes (step5 w) (Gone N z kind now op (c ∷ o) r w)
       unfolding withOutputList withLinks withFreeList withWords withRecord recordWith
       leaves =
           record {
@@ -176,6 +181,8 @@ module _ (now : ℕ) (op : ℕ → Option Opening) (free : List ℕ) (r : List (
                 t-is = st .t-is;
                 turn-low = st .turn-low;
                 rotation-is = st .rotation-is;
+                kind-is = st .kind-is;
+                kind-fits = st .kind-fits;
                 has = departed low (st .has)
                     (taken .left) (taken .rest);
                 words-long = write-length (s .words) u less ∙ st .words-long;
@@ -192,16 +199,20 @@ module _ (now : ℕ) (op : ℕ → Option Opening) (free : List ℕ) (r : List (
             };
           }
 
-    step5-at : (o : List Queued) → Stage N z (suc now) (suc now) b s op free o r → All (Sits z op) o
-        → sums one r + sum one o ≤ N → Goes (step5 w) (Gone N z now op o r w)
+    step5-at : (o : List Queued) → Stage N z kind (suc now) (suc now) b s op free o r → All (Sits kind z op) o
+        → sums one r + sum one o ≤ N → Goes (step5 w) (Gone N z kind now op o r w)
     step5-at [] st a few = idles st
     step5-at (c ∷ o) st a few = leaves c o st (a .0) few
 
-  pub step5-goes : (N z : ℕ) (w : Work) (o : List Queued)
-      → Stage N z (suc now) (suc now) (w .state .ctl .turn + 1) (w .state) op free o r → All (Sits z op) o
-      → sums one r + sum one o ≤ N → Goes (step5 w) (Gone N z now op o r w)
-  step5-goes N z w o st =
-      subst₂ (λ (n v : ℕ). Stage n v (suc now) (suc now) (w .state .ctl .turn + 1) (w .state) op free o r
-      → All (Sits v op) o
-      → sums one r + sum one o ≤ n → Goes (step5 w) (Gone n v now op o r w))
-      (st .n-is) (st .v-is) (step5-at w o) st
+  pub step5-goes : (N z kind : ℕ) (w : Work) (o : List Queued)
+      → Stage N z kind (suc now) (suc now) (w .state .ctl .turn + 1) (w .state) op free o r → All (Sits kind z op) o
+      → sums one r + sum one o ≤ N → Goes (step5 w) (Gone N z kind now op o r w)
+  step5-goes N z kind w o st =
+      subst (λ (k : ℕ). Stage N z k (suc now) (suc now) (w .state .ctl .turn + 1) (w .state) op free o r
+      → All (Sits k z op) o
+      → sums one r + sum one o ≤ N → Goes (step5 w) (Gone N z k now op o r w))
+      (st .kind-is)
+      (subst₂ (λ (n v : ℕ). Stage n v (w .state .ctl .kind) (suc now) (suc now) (w .state .ctl .turn + 1) (w .state) op free o r
+      → All (Sits (w .state .ctl .kind) v op) o
+      → sums one r + sum one o ≤ n → Goes (step5 w) (Gone n v (w .state .ctl .kind) now op o r w))
+      (st .n-is) (st .v-is) (step5-at w o)) st

@@ -1,4 +1,4 @@
--- A fresh state is in order: nothing is queued, every space is in the Free List, every VC is closed.
+-- A fresh state is in order: nothing is queued, every space is in the Free List, every connection is closed.
 use Prim.Native.Nat.{ℕ, zero, suc, _+_, _-_, _*_, _%_, _≤_, _<_}
 use mathlib.Core.Path.{_≡_, refl, sym, ap, _∙_}
 use mathlib.Core.Bool.{Bool, true, false, not, _&&_}
@@ -9,11 +9,11 @@ use native.Mathlib.Omega.{arith}
 use borrow.Author.Tests.{leb-true}
 use lib.ListN.{length, getD, replicate, length-replicate, getD-replicate, length-append, List·getD-append}
 use Rattle.meaning.specs.Plain.{if_then_else_, _≤?_}
-use Rattle.meaning.specs.Numbers.{rangesHold, mostN, leastV, mostV, empty, slotNumbers, wordsPerConnection, openPlace}
+use Rattle.meaning.specs.Numbers.{rangesHold, connectionsIn, kindFits, nni, mostN, leastV, mostV, empty, slotNumbers, wordsIn, openPlace}
 use Rattle.meaning.specs.State.{State, stateOf, freeList, outputList, lengthsHold}
 use Rattle.meaning.specs.Words.{connectionAt}
 use Rattle.meaning.specs.Lists.{entryAt}
-use Rattle.meaning.specs.Calls.{SetUp, setUpOf, zeros, rawNumber, freshRecord, countUp, freshState, setup}
+use Rattle.meaning.specs.Calls.{SetUp, setUpOf, zeros, rawNumber, UNI, NNI, kindNumber, kindOf, Options, optionsOf, freshRecord, countUp, freshState, setup, Kind}
 use Rattle.meaning_runs.specs.Run.{served}
 use Rattle.meaning_runs.specs.Leak.{openingOf}
 use Rattle.meaning_runs.specs.Seen.{cellsIn, departuresIn}
@@ -94,11 +94,17 @@ up-last zero i = omega arith
 up-last (suc m) i = up-last m (i + 1) ∙ omega arith
 
 -- "Raw is a yes or no at setup"
-number-low : (raw : Bool) → rawNumber raw ≤ 1
-number-low true = omega arith
-number-low false = omega arith
+raw-number : (raw : Bool) → rawNumber raw ≤ 1
+raw-number true = omega arith
+raw-number false = omega arith
 
-module _ (N z : ℕ) (raw : Bool) (r : Ranges N z) where
+-- "a line kind chosen at setup"
+kind-number : (kind : Kind) → kindFits (kindNumber kind) ≡ true
+unfolding kindFits
+kind-number UNI = refl
+kind-number NNI = refl
+
+module _ (N z : ℕ) (o : Options) (r : Ranges N z) where
   size : N ≡ suc (N - 1)
   size = omega (arith, r .N-low)
 
@@ -106,7 +112,7 @@ module _ (N z : ℕ) (raw : Bool) (r : Ranges N z) where
   w = N - 1
 
   abbrev s : State
-  s = freshState N z raw
+  s = freshState N z o
 
   long : length (replicate (2 * N) empty) ≡ 2 * N
   long = length-replicate (2 * N) empty
@@ -147,7 +153,7 @@ module _ (N z : ℕ) (raw : Bool) (r : Ranges N z) where
       whole : 1 + w ≡ N
       whole = omega (arith, size)
 
-  pub fresh-inv : Inv N z [] (freshState N z raw)
+  pub fresh-inv : Inv N z (kindNumber (o .kind)) [] (freshState N z o)
   unfolding freshState freshRecord served openingOf cellsIn departuresIn connectionAt
   fresh-inv =
       record {
@@ -162,20 +168,25 @@ module _ (N z : ℕ) (raw : Bool) (r : Ranges N z) where
           t-is = sym (ap (λ (k : ℕ). k % slotNumbers) zeroth
               ∙ mod-eq-of-lt {n = slotNumbers - 1} {m = slotNumbers} (omega (arith, slots-many)));
           turn-low = omega (arith, r .N-low);
-          rotation-is = sym (ap (λ (k : ℕ). k % z) first ∙ mod-eq-of-lt {n = z - 1} {m = z} (omega (arith, r .z-low)));
+          rotation-is = sym (ap (λ (k : ℕ). k % connectionsIn z) first
+              ∙ mod-eq-of-lt {n = connectionsIn z - 1} {m = connectionsIn z} (omega arith));
+          kind-is = refl;
+          kind-fits = kind-number (o .kind);
           has = fresh-has;
-          words-long = length-replicate (wordsPerConnection * z) 0;
-          table = λ v h1 h2. getD-replicate (wordsPerConnection * z) (openPlace v) 0 0 (omega arith);
+          words-long = length-replicate (wordsIn z) 0;
+          table = λ v h1 h2. getD-replicate (wordsIn z) (openPlace v) 0 0 (omega arith);
         };
-        raw-low = number-low raw;
+        raw-low = raw-number (o .raw);
         mode-low = omega arith;
         good = fresh-good dueOf w;
         sits-out = tt;
-        sits-cal = alls-bare (Sits z (λ v. openingOf v [])) w;
+        sits-cal = alls-bare (Sits (kindNumber (o .kind)) z (λ v. openingOf v [])) w;
         seen = refl;
         in-time = tt;
         order = λ v. rw (bare-flat Queued w);
         delays = tt;
+        named = tt;
+        named-left = tt;
         left-rise = omega arith;
         cells-rise = omega arith;
       }
@@ -183,24 +194,42 @@ module _ (N z : ℕ) (raw : Bool) (r : Ranges N z) where
       zeroth : 0 + (slotNumbers - 1) ≡ slotNumbers - 1
       zeroth = omega arith
 
-      first : 0 + (z - 1) ≡ z - 1
+      first : 0 + (connectionsIn z - 1) ≡ connectionsIn z - 1
       first = omega arith
 
+-- the kind that a setup was handed is the kind that it chose
+kind-chosen : (kind : ℕ) → kindFits kind ≡ true → kindNumber (kindOf kind) ≡ kind
+unfolding kindFits
+kind-chosen zero e = refl
+kind-chosen (suc zero) e = refl
+kind-chosen (suc (suc k)) e = absurd (omega (arith, leb-true (suc (suc k)) nni e))
+
 -- a setup that answers 0 leaves a fresh state, whatever the memory held
-pub setup-fresh : (N z : ℕ) (raw : Bool) (cells links calendar words : List ℕ)
-    → setup N z raw cells links calendar words .number ≡ 0
-    → (rangesHold N z ≡ true) × (setup N z raw cells links calendar words .state ≡ freshState N z raw)
+pub setup-fresh : (N z : ℕ) (raw : Bool) (kind : ℕ) (cells links calendar words : List ℕ)
+    → setup N z raw kind cells links calendar words .number ≡ 0
+    → (rangesHold N z ≡ true)
+    × (setup N z raw kind cells links calendar words .state ≡ freshState N z (optionsOf raw (kindOf kind)))
+    × (kindNumber (kindOf kind) ≡ kind)
 unfolding setup
-setup-fresh N z raw cells links calendar words e = go (rangesHold N z) (lengthsHold N z cells links calendar words) refl e
+setup-fresh N z raw kind cells links calendar words e =
+    go (rangesHold N z) (kindFits kind) (lengthsHold N z cells links calendar words) refl refl e
   where
     asItCame : State
     asItCame = stateOf zeros cells links calendar words
 
-    after : Bool → Bool → SetUp
-    after a b = if not a then setUpOf 1 asItCame else if not b then setUpOf 2 asItCame else setUpOf 0 (freshState N z raw)
+    fresh : State
+    fresh = freshState N z (optionsOf raw (kindOf kind))
 
-    go : (a b : Bool) → rangesHold N z ≡ a → after a b .number ≡ 0
-        → (rangesHold N z ≡ true) × (after a b .state ≡ freshState N z raw)
-    go false b p q = absurd (omega (arith, q))
-    go true false p q = absurd (omega (arith, q))
-    go true true p q = (p, refl)
+    after : Bool → Bool → Bool → SetUp
+    after a b c =
+        if not a then setUpOf 1 asItCame
+        else if not b then setUpOf 13 asItCame
+        else if not c then setUpOf 2 asItCame
+        else setUpOf 0 fresh
+
+    go : (a b c : Bool) → rangesHold N z ≡ a → kindFits kind ≡ b → after a b c .number ≡ 0
+        → (rangesHold N z ≡ true) × (after a b c .state ≡ fresh) × (kindNumber (kindOf kind) ≡ kind)
+    go false b c p k q = absurd (omega (arith, q))
+    go true false c p k q = absurd (omega (arith, q))
+    go true true false p k q = absurd (omega (arith, q))
+    go true true true p k q = (p, refl, kind-chosen kind k)

@@ -1,4 +1,4 @@
--- The order of one VC's cells through a slot: those that left, then the Output List, then the calendar, always in order
+-- The order of one connection's cells through a slot: those that left, then the Output List, then the calendar, always in order
 -- of arrival; and what the events of a slot add to the cells let in and the departures.
 use Prim.Native.Nat.{ℕ, suc}
 use mathlib.Core.Path.{_≡_, refl, sym, ap, _∙_}

@@ -1,11 +1,12 @@
 -- The tests of refusals 1 and 2 pass where the ranges and lengths hold.
-use Prim.Native.Nat.{ℕ, _*_}
+use Prim.Native.Nat.{ℕ, _*_, _≤_}
 use mathlib.Core.Path.{_≡_}
 use mathlib.Core.Bool.{true}
 use mathlib.Core.List.{List}
+use native.Mathlib.Omega.{arith}
 use borrow.Author.Tests.{eq-eqb, le-leb}
 use lib.ListN.{length}
-use Rattle.meaning.specs.Numbers.{rangesHold, wordsPerConnection}
+use Rattle.meaning.specs.Numbers.{rangesHold, connectionsIn, wordsIn}
 use Rattle.meaning.specs.State.{wordsLong, lengthsHold}
 use Rattle.theory_invariant.specs.Invariant.{Ranges}
 
@@ -14,12 +15,16 @@ unfolding rangesHold
 ranges-hold N z r =
     rw (le-leb 1 N (r .N-low), le-leb N 1_024 (r .N-high), le-leb 2 z (r .z-low), le-leb z 1_024 (r .z-high))
 
-pub words-hold : (z : ℕ) (words : List ℕ) → length words ≡ wordsPerConnection * z → wordsLong z words ≡ true
+-- rotation's round
+pub connections-few : (N z : ℕ) → Ranges N z → connectionsIn z ≤ 1_280
+connections-few N z r = omega (arith, r .z-high)
+
+pub words-hold : (z : ℕ) (words : List ℕ) → length words ≡ wordsIn z → wordsLong z words ≡ true
 unfolding wordsLong
-words-hold z words e = eq-eqb (length words) (wordsPerConnection * z) e
+words-hold z words e = eq-eqb (length words) (wordsIn z) e
 
 pub lengths-hold : (N z : ℕ) (cells links calendar words : List ℕ) → length cells ≡ 53 * N → length links ≡ N
-    → length calendar ≡ 2 * N → length words ≡ wordsPerConnection * z
+    → length calendar ≡ 2 * N → length words ≡ wordsIn z
     → lengthsHold N z cells links calendar words ≡ true
 unfolding lengthsHold
 lengths-hold N z cells links calendar words e1 e2 e3 e4 =

@@ -1,6 +1,5 @@
 pub mod StepLaws
 pub mod AfterLaws
-pub mod SentLaws
 pub mod AcceptLaws
 pub mod ArriveLaws
 pub mod SendLaws

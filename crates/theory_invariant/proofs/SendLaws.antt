@@ -6,7 +6,7 @@ use mathlib.Core.List.{List, [], _∷_, _++_, tail, append-nil}
 use mathlib.Core.Option.{Option}
 use native.Mathlib.Numerals.{add-one}
 use native.Mathlib.Omega.{arith}
-use Rattle.meaning.specs.Numbers.{empty}
+use Rattle.meaning.specs.Numbers.{empty, connectionsIn}
 use Rattle.meaning.specs.State.{State, outputList, withRecord, recordWith, withLinks, withCalendar, withOutputList}
 use Rattle.meaning.specs.Words.{connectionAt}
 use Rattle.meaning.specs.Lists.{emptyList, entryAt, writeEntry, Grown, joinTail}
@@ -22,11 +22,11 @@ use Rattle.theory_memory.proofs.MoveLaws.{first-fits, first-bare, passed, first
 use Rattle.theory_invariant.specs.Invariant.{isOf, waits, Stage}
 use Rattle.theory_invariant.proofs.StepLaws.{Goes}
 
-module _ (now : ℕ) (op : ℕ → Option Opening) (free : List ℕ) where
+module _ (now kind : ℕ) (op : ℕ → Option Opening) (free : List ℕ) where
   -- after step 4: b is T + 1
   pub record Sent (N z : ℕ) (o : List Queued) (r : List (List Queued)) (w w′ : Work) : Type 0 where
     pub answer-kept : w′ .answer ≡ w .answer
-    pub stage : Stage N z (suc now) (suc now) (w′ .state .ctl .turn + 1) (w′ .state) op free o r
+    pub stage : Stage N z kind (suc now) (suc now) (w′ .state .ctl .turn + 1) (w′ .state) op free o r
 
   -- ── step 4 ──
   module _ (o : List Queued) where
@@ -43,7 +43,7 @@ module _ (now : ℕ) (op : ℕ → Option Opening) (free : List ℕ) where
       abbrev T : ℕ
       T = s .ctl .turn
 
-      moves : (r : List (List Queued)) → Stage N z (suc now) (suc now) T s op free o r
+      moves : (r : List (List Queued)) → Stage N z kind (suc now) (suc now) T s op free o r
           → Goes (step4 w) (Sent N z (o ++ first r) (turn (tail r)) w)
       unfolding step4 withOutputList withLinks withCalendar withRecord recordWith
       moves [] st = absurd (omega (arith, st .has .wide, st .ranges .N-low))
@@ -64,10 +64,12 @@ module _ (now : ℕ) (op : ℕ → Option Opening) (free : List ℕ) where
                 t-is = st .t-is;
                 turn-low = st .turn-low;
                 rotation-is = st .rotation-is;
+                kind-is = st .kind-is;
+                kind-fits = st .kind-fits;
                 has = rw (append-nil o, add-one T)
                     (passed low (st .turn-low) (st .has));
                 words-long = st .words-long;
-                table = λ v h1 h2. subst (λ (i : ℕ). ConnectionIs N z (suc now) v (connectionAt (s .words) v) i (op v)) (same v)
+                table = λ v h1 h2. subst (λ (i : ℕ). ConnectionIs N (connectionsIn z) (suc now) v (connectionAt (s .words) v) i (op v)) (same v)
                     (st .table v h1 h2);
               };
             };
@@ -96,9 +98,11 @@ module _ (now : ℕ) (op : ℕ → Option Opening) (free : List ℕ) where
                 t-is = st .t-is;
                 turn-low = st .turn-low;
                 rotation-is = st .rotation-is;
+                kind-is = st .kind-is;
+                kind-fits = st .kind-fits;
                 has = rw (add-one T) (transferred low (st .turn-low) (st .has));
                 words-long = st .words-long;
-                table = λ v h1 h2. subst (λ (i : ℕ). ConnectionIs N z (suc now) v (connectionAt (s .words) v) i (op v)) (same v)
+                table = λ v h1 h2. subst (λ (i : ℕ). ConnectionIs N (connectionsIn z) (suc now) v (connectionAt (s .words) v) i (op v)) (same v)
                     (st .table v h1 h2);
               };
             };
@@ -114,9 +118,9 @@ module _ (now : ℕ) (op : ℕ → Option Opening) (free : List ℕ) where
           same v = omega (arith, sum-append (isOf v) o (c ∷ q), turn-sums (isOf v) r)
 
     pub step4-goes : (N z : ℕ) (w : Work) (r : List (List Queued))
-        → Stage N z (suc now) (suc now) (w .state .ctl .turn) (w .state) op free o r
+        → Stage N z kind (suc now) (suc now) (w .state .ctl .turn) (w .state) op free o r
         → Goes (step4 w) (Sent N z (o ++ first r) (turn (tail r)) w)
     step4-goes N z w r st =
-        subst₂ (λ (n v : ℕ). Stage n v (suc now) (suc now) (w .state .ctl .turn) (w .state) op free o r
+        subst₂ (λ (n v : ℕ). Stage n v kind (suc now) (suc now) (w .state .ctl .turn) (w .state) op free o r
         → Goes (step4 w) (Sent n v (o ++ first r) (turn (tail r)) w))
         (st .n-is) (st .v-is) (moves w r) st

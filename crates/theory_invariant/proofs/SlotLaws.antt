@@ -3,7 +3,7 @@
 use Prim.Native.Nat.{ℕ, suc, _+_, _-_}
 use mathlib.Core.Path.{_≡_, refl, sym, ap, _∙_, subst, subst₂}
 use mathlib.Core.Bool.{true, false, _||_}
-use mathlib.Core.List.{List, _∷_, _++_, map, tail}
+use mathlib.Core.List.{List, [], _∷_, _++_, map, tail}
 use mathlib.Core.Option.{Option}
 use native.Mathlib.Omega.{arith}
 use lib.ListN.{length}
@@ -24,7 +24,7 @@ use Rattle.theory_queues.proofs.QueueLaws.{map-append, all-append, all-tail, al
 use Rattle.theory_queues.proofs.LineLaws.{move, leave}
 use Rattle.theory_queues.proofs.OrderLaws.{ofConnection-append}
 use Rattle.theory_memory.specs.Held.{Queued, dueOf}
-use Rattle.theory_invariant.specs.Invariant.{seenAs, cellLeft, cellIn, connectionIn, Sits, Stage, InTime, Delayed, Inv}
+use Rattle.theory_invariant.specs.Invariant.{seenAs, cellLeft, cellIn, connectionIn, Sits, Stage, InTime, Delayed, Named, Inv}
 use Rattle.theory_invariant.specs.Came.{onward, half, Came}
 use Rattle.theory_invariant.specs.Gone.{Departs, Gone}
 use Rattle.theory_invariant.proofs.StepLaws.{Goes, Ticked, step1-goes, step2-goes}
@@ -36,12 +36,17 @@ use Rattle.theory_invariant.proofs.LengthLaws.{ranges-hold, lengths-hol
 use Rattle.theory_invariant.proofs.EndLaws.{eventOf, Final, final, departs-seen, opened-after, slots-after, in-time-one}
 
 -- what a slot leaves
-pub record Ran (N z : ℕ) (h : List Event) (cell : List ℕ) (w : Work) : Type 0 where
-  pub inv : Inv N z (eventOf cell w ∷ h) (w .state)
+pub record Ran (N z kind : ℕ) (h : List Event) (cell : List ℕ) (w : Work) : Type 0 where
+  pub inv : Inv N z kind (eventOf cell w ∷ h) (w .state)
   pub number : w .answer .number ≡ 0
-  pub says : judgedOf (w .answer .verdict) (w .answer .vci) (w .answer .d) ≡ judged z h cell
+  pub says : judgedOf (w .answer .verdict) (w .answer .vci) (w .answer .d) ≡ judged kind z h cell
 
-module _ (N z : ℕ) (h : List Event) (s : State) (i : Inv N z h s) where
+leaving-named : (kind z : ℕ) (f : ℕ → Option Opening) (n : ℕ) (o : List Queued) → All (Sits kind z f) o
+    → All (λ p. Named kind z (p .cell)) (leaving n o)
+leaving-named kind z f n [] a = tt
+leaving-named kind z f n (c ∷ o) a = ((a .0 .0, a .0 .1), tt)
+
+module _ (N z kind : ℕ) (h : List Event) (s : State) (i : Inv N z kind h s) where
   abbrev now : ℕ
   now = served h
 
@@ -59,15 +64,15 @@ module _ (N z : ℕ) (h : List Event) (s : State) (i : Inv N z h s) where
 
   module _ (cell : List ℕ) where
     -- from the arrival and the departure to the invariant after the slot
-    module _ (w3 w4 w5 : Work) (came : Came N z now cell op (i .out) (i .cal) w3) (kept : w4 .answer ≡ w3 .answer) where
+    module _ (w3 w4 w5 : Work) (came : Came N z kind now cell op (i .out) (i .cal) w3) (kept : w4 .answer ≡ w3 .answer) where
       abbrev o1 : List Queued
       o1 = i .out ++ first (came .r)
 
       abbrev op′ : ℕ → Option Opening
       op′ v = onward now cell (came .verdict) (came .vci) op v
 
-      module _ (gone : Gone N z now (λ v. op′ v) o1 (turn (tail (came .r))) w4 w5)
-          (moded : Moded (s .ctl .raw) (s .ctl .mode) w5) where
+      module _ (gone : Gone N z kind now (λ v. op′ v) o1 (turn (tail (came .r))) w4 w5)
+          (moded : Moded (s .ctl .raw) (s .ctl .mode) (s .ctl .kind) w5) where
         departs : Departs N o1 (half (came .verdict) (came .vci) (came .D)) w5
         departs = subst (λ (a : Answer). Departs N o1 a w5) (kept ∙ came .says) (gone .departs)
 
@@ -92,25 +97,25 @@ module _ (N z : ℕ) (h : List Event) (s : State) (i : Inv N z h s) where
         line-moved : Moved dueOf (N - 1) now (tail (came .r)) o1
         line-moved = move dueOf (N - 1) now (came .r) (i .out) (came .arrived)
 
-        inv-after : Inv N z h′ (w5 .state)
+        inv-after : Inv N z kind h′ (w5 .state)
         inv-after =
             record {
               free = gone .free;
               out = tail o1;
               cal = tail (came .r);
               left = i .left ++ leaving now o1;
-              stage = subst₂ (λ (k : ℕ) (f : ℕ → Option Opening). Stage N z k k (w5 .state .ctl .turn + 1) (w5 .state) f
+              stage = subst₂ (λ (k : ℕ) (f : ℕ → Option Opening). Stage N z kind k k (w5 .state .ctl .turn + 1) (w5 .state) f
                   (gone .free) (tail o1) (turn (tail (came .r)))) (sym slots-are) (sym openings-are) (gone .stage);
               raw-low = omega (arith, moded .raw-is, i .raw-low);
               mode-low = omega (arith, moded .mode-is, i .mode-low);
               good = subst (λ (k : ℕ). Good dueOf (N - 1) k (tail (came .r)) (tail o1)) (sym slots-are)
                   (leave dueOf (N - 1) now (tail (came .r)) o1 line-moved);
-              sits-out = subst (λ (f : ℕ → Option Opening). All (Sits z f) (tail o1)) (sym openings-are)
-                  (all-tail (Sits z (λ v. op′ v)) o1
-                  (all-append (Sits z (λ v. op′ v)) (i .out) (first (came .r)) (came .sits-out)
-                  (alls-first (Sits z (λ v. op′ v)) (came .r) (came .sits-cal))));
-              sits-cal = subst (λ (f : ℕ → Option Opening). Alls (Sits z f) (tail (came .r))) (sym openings-are)
-                  (alls-tail (Sits z (λ v. op′ v)) (came .r) (came .sits-cal));
+              sits-out = subst (λ (f : ℕ → Option Opening). All (Sits kind z f) (tail o1)) (sym openings-are)
+                  (all-tail (Sits kind z (λ v. op′ v)) o1
+                  (all-append (Sits kind z (λ v. op′ v)) (i .out) (first (came .r)) (came .sits-out)
+                  (alls-first (Sits kind z (λ v. op′ v)) (came .r) (came .sits-cal))));
+              sits-cal = subst (λ (f : ℕ → Option Opening). Alls (Sits kind z f) (tail (came .r))) (sym openings-are)
+                  (alls-tail (Sits kind z (λ v. op′ v)) (came .r) (came .sits-cal));
               seen = departs-seen N (i .stage .ranges .N-high) h cell w5 (came .verdict) (came .vci) (came .D) o1 departs
                   ∙ ap (λ l. l ++ map seenAs (leaving now o1)) (i .seen)
                   ∙ sym (map-append seenAs (i .left) (leaving now o1));
@@ -123,13 +128,19 @@ module _ (N z : ℕ) (h : List Event) (s : State) (i : Inv N z h s) where
                   ∙ order-kept now v (i .left) (i .out) (i .cal) (came .r) (came .new) (came .order v);
               delays = rw cells-are
                   (all-append (Delayed N) (cellsIn h) (map cellIn (came .new)) (i .delays) (came .delays));
+              named = rw cells-are
+                  (all-append (Named kind z) (cellsIn h) (map cellIn (came .new)) (i .named) (came .named));
+              named-left = all-append (λ p. Named kind z (p .cell)) (i .left) (leaving now o1) (i .named-left)
+                  (leaving-named kind z (λ v. op′ v) now o1
+                  (all-append (Sits kind z (λ v. op′ v)) (i .out) (first (came .r)) (came .sits-out)
+                  (alls-first (Sits kind z (λ v. op′ v)) (came .r) (came .sits-cal))));
               left-rise = subst (λ (k : ℕ). Rising (λ p. p .slot) 0 k (i .left ++ leaving now o1)) (sym slots-are)
                   (left-rises now (i .left) o1 (i .left-rise));
               cells-rise = subst₂ (λ (k : ℕ) (l : List Cell). Rising (λ c. c .arrival) 0 k l) (sym slots-are)
                   (sym cells-are) (came .rises (cellsIn h) (i .cells-rise));
             }
 
-        ran-all : Ran N z h cell w5
+        ran-all : Ran N z kind h cell w5
         ran-all =
             record {
               inv = inv-after;
@@ -139,7 +150,7 @@ module _ (N z : ℕ) (h : List Event) (s : State) (i : Inv N z h s) where
 
     -- the five steps, one after the other
     pub five-steps : length cell =? 0 || length cell =? 53 ≡ true
-        → Goes (fiveSteps cell (workOf s (bareAnswer 0))) (Ran N z h cell)
+        → Goes (fiveSteps cell (workOf s (bareAnswer 0))) (Ran N z kind h cell)
     unfolding fiveSteps
     five-steps fits =
         record {
@@ -151,46 +162,46 @@ module _ (N z : ℕ) (h : List Event) (s : State) (i : Inv N z h s) where
         w0 : Work
         w0 = workOf s (bareAnswer 0)
 
-        g1 : Goes (step1 w0) (Ticked op (i .free) (i .out) (turn (i .cal)) now N z now w0)
-        g1 = step1-goes op (i .free) (i .out) (turn (i .cal)) now N z w0 (i .stage)
+        g1 : Goes (step1 w0) (Ticked kind op (i .free) (i .out) (turn (i .cal)) now N z now w0)
+        g1 = step1-goes kind op (i .free) (i .out) (turn (i .cal)) now N z w0 (i .stage)
 
-        g2 : Goes (step2 (g1 .work)) (Ticked op (i .free) (i .out) (turn (i .cal)) now N z (suc now) (g1 .work))
-        g2 = step2-goes op (i .free) (i .out) (turn (i .cal)) now N z (g1 .work) (g1 .holds .stage)
+        g2 : Goes (step2 (g1 .work)) (Ticked kind op (i .free) (i .out) (turn (i .cal)) now N z (suc now) (g1 .work))
+        g2 = step2-goes kind op (i .free) (i .out) (turn (i .cal)) now N z (g1 .work) (g1 .holds .stage)
 
-        g3 : Goes (step3 cell (g2 .work)) (Came N z now cell op (i .out) (i .cal))
+        g3 : Goes (step3 cell (g2 .work)) (Came N z kind now cell op (i .out) (i .cal))
         g3 =
-            step3-goes now cell op (i .free) (i .out) (i .cal) N z (g2 .work) (g2 .holds .stage) (i .good) (i .sits-out)
+            step3-goes now cell op (i .free) (i .out) (i .cal) N z kind (g2 .work) (g2 .holds .stage) (i .good) (i .sits-out)
             (i .sits-cal) (g2 .holds .answer-kept ∙ g1 .holds .answer-kept) fits
 
-        c : Came N z now cell op (i .out) (i .cal) (g3 .work)
+        c : Came N z kind now cell op (i .out) (i .cal) (g3 .work)
         c = g3 .holds
 
         op3 : ℕ → Option Opening
         op3 v = onward now cell (c .verdict) (c .vci) op v
 
-        g4 : Goes (step4 (g3 .work)) (Sent now op3 (c .free) N z (i .out ++ first (c .r)) (turn (tail (c .r))) (g3 .work))
-        g4 = step4-goes now op3 (c .free) (i .out) N z (g3 .work) (c .r) (c .stage)
+        g4 : Goes (step4 (g3 .work)) (Sent now kind op3 (c .free) N z (i .out ++ first (c .r)) (turn (tail (c .r))) (g3 .work))
+        g4 = step4-goes now kind op3 (c .free) (i .out) N z (g3 .work) (c .r) (c .stage)
 
         mv : Moved dueOf (N - 1) now (tail (c .r)) (i .out ++ first (c .r))
         mv = move dueOf (N - 1) now (c .r) (i .out) (c .arrived)
 
-        g5 : Goes (step5 (g4 .work)) (Gone N z now op3 (i .out ++ first (c .r)) (turn (tail (c .r))) (g4 .work))
-        g5 = step5-goes now op3 (c .free) (turn (tail (c .r))) N z (g4 .work) (i .out ++ first (c .r)) (g4 .holds .stage)
-            (all-append (Sits z op3) (i .out) (first (c .r)) (c .sits-out) (alls-first (Sits z op3) (c .r) (c .sits-cal)))
+        g5 : Goes (step5 (g4 .work)) (Gone N z kind now op3 (i .out ++ first (c .r)) (turn (tail (c .r))) (g4 .work))
+        g5 = step5-goes now op3 (c .free) (turn (tail (c .r))) N z kind (g4 .work) (i .out ++ first (c .r)) (g4 .holds .stage)
+            (all-append (Sits kind z op3) (i .out) (first (c .r)) (c .sits-out) (alls-first (Sits kind z op3) (c .r) (c .sits-cal)))
             (omega (arith, turn-sums one (tail (c .r)), mv .room, i .stage .ranges .N-low))
 
         through : fiveSteps cell w0 ≡ next (g5 .work)
         through = rw (g1 .goes, g2 .goes, g3 .goes, g4 .goes, g5 .goes)
 
-        moded : Moded (s .ctl .raw) (s .ctl .mode) (g5 .work)
+        moded : Moded (s .ctl .raw) (s .ctl .mode) (s .ctl .kind) (g5 .work)
         moded =
-            subst (AllOut (Moded (s .ctl .raw) (s .ctl .mode))) through
-            (steps-moded (s .ctl .raw) (s .ctl .mode) cell w0 (record { raw-is = refl; mode-is = refl; done = refl }))
+            subst (AllOut (Moded (s .ctl .raw) (s .ctl .mode) (s .ctl .kind))) through
+            (steps-moded (s .ctl .raw) (s .ctl .mode) (s .ctl .kind) cell w0 (record { raw-is = refl; mode-is = refl; kind-is = refl; done = refl }))
 
     -- a slot that is served, and one that is refused, with 9
-    pub unchecked-served : length cell =? 0 || length cell =? 53 ≡ true → Ran N z h cell (uncheckedSlot s cell)
+    pub unchecked-served : length cell =? 0 || length cell =? 53 ≡ true → Ran N z kind h cell (uncheckedSlot s cell)
     unfolding uncheckedSlot finish
-    unchecked-served fits = subst (Ran N z h cell) (sym is) (five-steps fits .holds)
+    unchecked-served fits = subst (Ran N z kind h cell) (sym is) (five-steps fits .holds)
       where
         is : uncheckedSlot s cell ≡ five-steps fits .work
         is = rw (ranges-at, lengths-at, fits, five-steps fits .goes)

@@ -1,5 +1,5 @@
 -- What step 3 leaves, whatever arrived: the answer's verdict is the leak rules', the calendar has the cell that was let in, if
--- there is one, behind all cells of its VC. A proof device.
+-- there is one, behind all cells of its connection. A proof device.
 use Prim.Native.Nat.{ℕ, suc, _-_}
 use mathlib.Core.Path.{_≡_}
 use mathlib.Core.Bool.{_&&_}
@@ -8,7 +8,7 @@ use mathlib.Core.Option.{Option}
 use Rattle.meaning.specs.declared.Answer.{Answer}
 use Rattle.meaning.specs.Plain.{if_then_else_, _=?_}
 use Rattle.meaning.specs.Numbers.{empty, letsIn}
-use Rattle.meaning.specs.Header.{headerAt}
+use Rattle.meaning.specs.Header.{clpIn}
 use Rattle.meaning.specs.Arrival.{sentAs}
 use Rattle.meaning.specs.Work.{Work, answerOf}
 use Rattle.meaning_runs.specs.Leak.{Opening, afterCell}
@@ -16,9 +16,9 @@ use Rattle.meaning_runs.specs.Seen.{Cell, cellUnder, ofConnection}
 use Rattle.meaning_runs.specs.Judged.{judgedOf, judgedBy}
 use Rattle.theory_queues.specs.Queue.{All, Alls, flat, Rising, Arrived}
 use Rattle.theory_memory.specs.Held.{Queued, dueOf, vciOf}
-use Rattle.theory_invariant.specs.Invariant.{cellIn, Sits, Stage, Delayed}
+use Rattle.theory_invariant.specs.Invariant.{cellIn, Sits, Stage, Delayed, Named}
 
--- the openings after a slot with this verdict on a cell of this VC, with this CLP
+-- the openings after a slot with this verdict on a cell of this connection, with this CLP
 abbrev pub after : ℕ → ℕ → ℕ → ℕ → (ℕ → Option Opening) → ℕ → Option Opening
 after now clp verdict vci openings v =
     if letsIn verdict && vci =? v then afterCell now clp verdict (openings v) else openings v
@@ -34,25 +34,26 @@ noted now a octets openings =
 
 -- the openings after a slot in which this cell came
 abbrev pub onward : ℕ → List ℕ → ℕ → ℕ → (ℕ → Option Opening) → ℕ → Option Opening
-onward now cell verdict vci openings v = after now (headerAt cell 0 .clp) verdict vci openings v
+onward now cell verdict vci openings v = after now (clpIn cell) verdict vci openings v
 
-pub record Came (N z now : ℕ) (cell : List ℕ) (openings : ℕ → Option Opening) (out : List Queued) (cal : List (List Queued))
+pub record Came (N z kind now : ℕ) (cell : List ℕ) (openings : ℕ → Option Opening) (out : List Queued) (cal : List (List Queued))
     (w : Work) : Type 0 where
   pub verdict : ℕ
   pub vci : ℕ
   pub D : ℕ
   pub says : w .answer ≡ half verdict vci D
-  pub judges : judgedBy z now openings cell ≡ judgedOf verdict vci D
+  pub judges : judgedBy kind z now openings cell ≡ judgedOf verdict vci D
   pub free : List ℕ
   pub new : List Queued
   pub r : List (List Queued)
-  pub stage : Stage N z (suc now) (suc now) (w .state .ctl .turn) (w .state) (λ v. onward now cell verdict vci openings v) free
+  pub stage : Stage N z kind (suc now) (suc now) (w .state .ctl .turn) (w .state) (λ v. onward now cell verdict vci openings v) free
       out r
   pub arrived : Arrived dueOf (N - 1) now r out
-  pub sits-out : All (Sits z (λ v. onward now cell verdict vci openings v)) out
-  pub sits-cal : Alls (Sits z (λ v. onward now cell verdict vci openings v)) r
+  pub sits-out : All (Sits kind z (λ v. onward now cell verdict vci openings v)) out
+  pub sits-cal : Alls (Sits kind z (λ v. onward now cell verdict vci openings v)) r
   pub order : (v : ℕ) → ofConnection vciOf v (flat r) ≡ ofConnection vciOf v (flat cal) ++ ofConnection vciOf v new
   pub notes : noted now (half verdict vci D) cell openings ≡ map cellIn new
   pub delays : All (Delayed N) (map cellIn new)
+  pub named : All (Named kind z) (map cellIn new)
   pub rises : (l : List Cell) → Rising (λ c. c .arrival) 0 now l
       → Rising (λ c. c .arrival) 0 (suc now) (l ++ map cellIn new)

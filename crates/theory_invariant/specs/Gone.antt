@@ -21,8 +21,8 @@ Departs N (c ∷ o) a w′ =
     × (x < N)
     × (lineCell (w′ .state .cells) idle x ≡ c .cell .octets)
 
-pub record Gone (N z now : ℕ) (openings : ℕ → Option Opening) (o : List Queued) (r : List (List Queued))
+pub record Gone (N z kind now : ℕ) (openings : ℕ → Option Opening) (o : List Queued) (r : List (List Queued))
     (w w′ : Work) : Type 0 where
   pub free : List ℕ
-  pub stage : Stage N z (suc now) (suc now) (w′ .state .ctl .turn + 1) (w′ .state) openings free (tail o) r
+  pub stage : Stage N z kind (suc now) (suc now) (w′ .state .ctl .turn + 1) (w′ .state) openings free (tail o) r
   pub departs : Departs N o (w .answer) w′

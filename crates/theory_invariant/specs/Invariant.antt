@@ -3,19 +3,19 @@
 -- of the calendar holds at most as many cells as it has entries. So no test of refusal 3 fails, and a space is free.
 --
 --   Left           == an accepted cell that left, and the slot in which it did
---   waits v o r    == how many cells of the VC v are queued
---   Sits           == a queued cell's header names its VC, whose next cell is due at least F after it
---   Stage          == the record and memories, at a stage of a slot: k slots begun, VCs as after j slots
---   Inv N z h s    == after the events h the state is s
-use Prim.Native.Nat.{ℕ, _+_, _-_, _*_, _/_, _%_, _≤_, _<_}
+--   waits v o r    == how many cells of the connection v are queued
+--   Sits           == a queued cell's header names its connection, whose next cell is due at least F after it
+--   Stage          == the record and memories, at a stage of a slot: k slots begun, connections as after j slots
+--   Inv N z kind h s  == after the events h the state is s, on a line of this kind
+use Prim.Native.Nat.{ℕ, _+_, _-_, _/_, _%_, _≤_, _<_}
 use mathlib.Core.Path.{_≡_}
-use mathlib.Core.Bool.{true}
+use mathlib.Core.Bool.{true, false}
 use mathlib.Core.List.{List, _++_, map}
 use mathlib.Core.Option.{Option, none, some}
 use lib.ListN.{length}
-use Rattle.meaning.specs.Numbers.{wordsPerConnection}
+use Rattle.meaning.specs.Numbers.{connectionsIn, unused, kindFits, wordsIn}
 use Rattle.meaning.specs.State.{State, freeList, outputList}
-use Rattle.meaning.specs.Header.{headerAt, namesConnection}
+use Rattle.meaning.specs.Header.{headerAt, connection, namesConnection}
 use Rattle.meaning.specs.Words.{connectionAt}
 use Rattle.meaning_runs.specs.Run.{Event, served}
 use Rattle.meaning_runs.specs.Leak.{Opening, parts, openingOf}
@@ -51,10 +51,10 @@ abbrev pub Under : Option Opening → Cell → Type 0
 Under none c = ⊥
 Under (some o) c = (c .due ≡ c .time / parts o) × (c .time + o .F ≤ earliest o) × (parts o ≤ o .F)
 
-abbrev pub Sits : ℕ → (ℕ → Option Opening) → Queued → Type 0
-Sits z openings c =
-    (namesConnection z (headerAt (c .cell .octets) 0) ≡ true)
-    × (headerAt (c .cell .octets) 0 .vci ≡ vciOf c)
+abbrev pub Sits : ℕ → ℕ → (ℕ → Option Opening) → Queued → Type 0
+Sits kind z openings c =
+    (namesConnection z (headerAt kind (c .cell .octets) 0) ≡ true)
+    × (connection z (headerAt kind (c .cell .octets) 0) ≡ vciOf c)
     × Under (openings (vciOf c)) (c .cell)
 
 pub record Ranges (N z : ℕ) : Type 0 where
@@ -64,17 +64,21 @@ pub record Ranges (N z : ℕ) : Type 0 where
   pub z-high : z ≤ 1_024
 
 -- b: the entry of the first queue of r, before it is taken modulo N
-pub record Stage (N z k j b : ℕ) (s : State) (openings : ℕ → Option Opening) (free : List ℕ) (o : List Queued)
+pub record Stage (N z kind k j b : ℕ) (s : State) (openings : ℕ → Option Opening) (free : List ℕ) (o : List Queued)
     (r : List (List Queued)) : Type 0 where
   pub ranges : Ranges N z
   pub n-is : s .ctl .n ≡ N
   pub v-is : s .ctl .v ≡ z
   pub t-is : s .ctl .t ≡ clock k
   pub turn-low : s .ctl .turn < N
-  pub rotation-is : s .ctl .rotation ≡ (k + (z - 1)) % z
+  -- document 02 (vi): "rotation goes over all, from V + 255 at setup"
+  pub rotation-is : s .ctl .rotation ≡ (k + (connectionsIn z - 1)) % connectionsIn z
+  -- 0 or 1, and it stays
+  pub kind-is : s .ctl .kind ≡ kind
+  pub kind-fits : kindFits kind ≡ true
   pub has : Has N b (s .cells) (s .links) (s .calendar) (freeList s) (outputList s) free o r
-  pub words-long : length (s .words) ≡ wordsPerConnection * z
-  pub table : (v : ℕ) → 1 ≤ v → v < z → ConnectionIs N z j v (connectionAt (s .words) v) (waits v o r) (openings v)
+  pub words-long : length (s .words) ≡ wordsIn z
+  pub table : (v : ℕ) → unused z v ≡ false → v < connectionsIn z → ConnectionIs N (connectionsIn z) j v (connectionAt (s .words) v) (waits v o r) (openings v)
 
 -- not before its due slot, and at most w slots after it
 abbrev pub InTime : ℕ → Left → Type 0
@@ -84,25 +88,34 @@ InTime w p = (p .cell .due ≤ p .slot) × (p .slot ≤ p .cell .due + w)
 abbrev pub Delayed : ℕ → Cell → Type 0
 Delayed N c = (c .due ≡ c .arrival + c .D) × (c .D < N)
 
-pub record Inv (N z : ℕ) (h : List Event) (s : State) : Type 0 where
+-- its header names the connection whose number was answered
+abbrev pub Named : ℕ → ℕ → Cell → Type 0
+Named kind z c =
+    (namesConnection z (headerAt kind (c .octets) 0) ≡ true)
+    × (connection z (headerAt kind (c .octets) 0) ≡ c .vci)
+
+pub record Inv (N z kind : ℕ) (h : List Event) (s : State) : Type 0 where
   -- the Free List; the Output List; the calendar from the next slot on; what left, in order
   pub free : List ℕ
   pub out : List Queued
   pub cal : List (List Queued)
   pub left : List Left
-  pub stage : Stage N z (served h) (served h) (s .ctl .turn + 1) s (λ v. openingOf v h) free out (turn cal)
+  pub stage : Stage N z kind (served h) (served h) (s .ctl .turn + 1) s (λ v. openingOf v h) free out (turn cal)
   -- document 02 (i): raw and mode are each 0 or 1
   pub raw-low : s .ctl .raw ≤ 1
   pub mode-low : s .ctl .mode ≤ 1
   pub good : Good dueOf (N - 1) (served h) cal out
-  pub sits-out : All (Sits z (λ v. openingOf v h)) out
-  pub sits-cal : Alls (Sits z (λ v. openingOf v h)) cal
+  pub sits-out : All (Sits kind z (λ v. openingOf v h)) out
+  pub sits-cal : Alls (Sits kind z (λ v. openingOf v h)) cal
   -- what the answers and line cells said of departures is what left, in time
   pub seen : departuresIn h ≡ map seenAs left
   pub in-time : All (InTime (N - 1)) left
-  -- of each VC: the accepted cells, in order, are those that left, and then those that wait, in the order they leave in
+  -- of each connection: the accepted cells, in order, are those that left, and then those that wait, in the order they leave in
   pub order : (v : ℕ) → ofConnection connectionIn v (cellsIn h) ≡ ofConnection connectionIn v (map cellLeft left ++ map cellIn (out ++ flat cal))
   pub delays : All (Delayed N) (cellsIn h)
+  -- each accepted cell's header, and each departed one's, names its connection
+  pub named : All (Named kind z) (cellsIn h)
+  pub named-left : All (λ p. Named kind z (p .cell)) left
   -- both in order of their slots
   pub left-rise : Rising (λ p. p .slot) 0 (served h) left
   pub cells-rise : Rising (λ c. c .arrival) 0 (served h) (cellsIn h)

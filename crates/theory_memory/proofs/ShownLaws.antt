@@ -13,11 +13,10 @@ use Rattle.meaning.specs.Header.{headerAt}
 use Rattle.meaning.specs.Line.{cellsAllowed, linePart, octetsOf, lineCell}
 use Rattle.theory_memory.specs.Held.{octetsIn}
 
-pub header-in : (cells : List ℕ) (x : ℕ) → headerAt cells (cellStart x) ≡ headerAt (octetsIn cells x) 0
+pub header-in : (kind : ℕ) (cells : List ℕ) (x : ℕ) → headerAt kind cells (cellStart x) ≡ headerAt kind (octetsIn cells x) 0
 unfolding headerAt
-header-in cells x =
-    sym (rw (at 0 (omega arith), at 1 (omega arith), at 2 (omega arith), at 3 (omega arith), at 4 (omega arith), nought)
-    refl)
+header-in kind cells x =
+    sym (rw (at 0 (omega arith), at 1 (omega arith), at 2 (omega arith), at 3 (omega arith), nought) refl)
   where
     at : (k : ℕ) → k < 53 → getD (octetsIn cells x) k 0 ≡ getD cells (53 * x + k) 0
     at k h = getD-take 53 (drop (53 * x) cells) k 0 h ∙ getD-drop (53 * x) cells k 0

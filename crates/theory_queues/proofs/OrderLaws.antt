@@ -1,4 +1,4 @@
--- One VC's cells keep their order: a cell due after all of its VC joins behind them, whichever queue it goes to.
+-- One connection's cells keep their order: a cell due after all of its connection joins behind them, whichever queue it goes to.
 use Prim.Native.Nat.{ℕ, zero, suc, _+_, _≤_, _<_}
 use mathlib.Core.Path.{_≡_, refl, sym, ap, _∙_}
 use mathlib.Core.List.{List, [], _∷_, _++_, map, append-assoc, append-nil}

@@ -1,4 +1,4 @@
--- Lists along which a number grows: cells by arrival slot, departures by slot. One VC's part of such a list is one too.
+-- Lists along which a number grows: cells by arrival slot, departures by slot. One connection's part of such a list is one too.
 use Prim.Native.Nat.{ℕ, zero, suc, _≤_, _<_}
 use mathlib.Core.Path.{_≡_}
 use mathlib.Core.List.{List, [], _∷_, _++_}

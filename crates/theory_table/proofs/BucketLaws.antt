@@ -1,4 +1,4 @@
--- A bucket by its own leak rule, said once and cited for both buckets of a VC: S at the last update is what the rule leaves, so
+-- A bucket by its own leak rule, said once and cited for both buckets of a connection: S at the last update is what the rule leaves, so
 -- a fall leaves it so, it is excess exactly when the rule does not accept, and a fill moves the rule on by one cell.
 use Prim.Native.Nat.{ℕ, zero, suc, _+_, _-_, _*_, _^_, _≤_, _<_}
 use mathlib.Core.Path.{_≡_, refl, sym, ap, _∙_}

@@ -32,7 +32,7 @@ wrapped W t last h hl hd =
 pub clock-next : (now : ℕ) → clock (suc now) ≡ now % slotNumbers
 clock-next now = ap (λ (k : ℕ). k % slotNumbers) (omega (arith, slots-many)) ∙ add-mod-right now slotNumbers
 
-pub elapsed-is : (now seen : ℕ) → seen ≤ suc now → suc now ≤ seen + 1_025
+pub elapsed-is : (now seen : ℕ) → seen ≤ suc now → suc now ≤ seen + 1_281
     → elapsed (now % slotNumbers) (clock seen) ≡ suc now - seen
 unfolding elapsed
 elapsed-is now seen past near =
@@ -53,24 +53,24 @@ count-next M now t p e =
 pub count-now : (M now : ℕ) → 0 < M → now % M ≡ (suc now + (M - 1)) % M
 count-now M now p = sym (add-mod-right now M) ∙ ap (λ (k : ℕ). k % M) (omega arith)
 
--- a multiple of z that is reached from now by z - v: now is at v
-visited : (z v now q : ℕ) → v < z → now + (z - v) ≡ q * z → now % z ≡ v
-visited z v now zero hv e = absurd (omega (arith, zero-mul z))
-visited z v now (suc k) hv e =
-    ap (λ (n : ℕ). n % z) (omega (arith, suc-mul k z)) ∙ add-mul-mod-self-right v k z ∙ mod-eq-of-lt hv
+-- a multiple of R that is reached from now by R - v: now is at v
+visited : (R v now q : ℕ) → v < R → now + (R - v) ≡ q * R → now % R ≡ v
+visited R v now zero hv e = absurd (omega (arith, zero-mul R))
+visited R v now (suc k) hv e =
+    ap (λ (n : ℕ). n % R) (omega (arith, suc-mul k R)) ∙ add-mul-mod-self-right v k R ∙ mod-eq-of-lt hv
 
 -- a slot in which rotation does not name v
-pub gap-suc : (z v now : ℕ) → v < z → (now % z ≡ v → ⊥) → gap z v (suc now) ≡ suc (gap z v now)
-gap-suc z v now hv ne = ap (λ (k : ℕ). k % z) (suc-add now (z - suc v)) ∙ suc-mod n z ∙ go (decLt (suc (n % z)) z)
+pub gap-suc : (R v now : ℕ) → v < R → (now % R ≡ v → ⊥) → gap R v (suc now) ≡ suc (gap R v now)
+gap-suc R v now hv ne = ap (λ (k : ℕ). k % R) (suc-add now (R - suc v)) ∙ suc-mod n R ∙ go (decLt (suc (n % R)) R)
   where
     n : ℕ
-    n = now + (z - suc v)
+    n = now + (R - suc v)
 
-    go : Dec (suc (n % z) < z) → suc (n % z) % z ≡ suc (n % z)
+    go : Dec (suc (n % R) < R) → suc (n % R) % R ≡ suc (n % R)
     go (yes p) = mod-eq-of-lt p
     go (no p) =
-        absurd (ne (visited z v now (suc (n / z)) hv
-        (omega (arith, div-add-mod' n z, mod-lt n {m = z} (omega arith), suc-mul (n / z) z))))
+        absurd (ne (visited R v now (suc (n / R)) hv
+        (omega (arith, div-add-mod' n R, mod-lt n {m = R} (omega arith), suc-mul (n / R) R))))
 
-pub gap-lt : (z v now : ℕ) → v < z → gap z v now < z
-gap-lt z v now hv = mod-lt (now + (z - suc v)) (omega arith)
+pub gap-lt : (R v now : ℕ) → v < R → gap R v now < R
+gap-lt R v now hv = mod-lt (now + (R - suc v)) (omega arith)

@@ -1,4 +1,4 @@
--- A VC's words through a run: a slot that passes it by, being brought up to date, a cell let in, a cell that leaves, an opening.
+-- A connection's words through a run: a slot that passes it by, being brought up to date, a cell let in, a cell that leaves, an opening.
 -- Each bucket's S at the last update is what its exact leak rule leaves (BucketLaws), so verdict and D are the rules' own.
 use Prim.Native.Nat.{ℕ, zero, suc, _+_, _-_, _*_, _%_, _^_, _≤_, _<_}
 use mathlib.Core.Path.{_≡_, refl, ap, _∙_}
@@ -18,10 +18,10 @@ use Rattle.theory_table.proofs.ClockLaws.{clock-next, elapsed-is, gap-s
 use Rattle.theory_table.proofs.LeakLaws.{due-slot, div-mono, rules-are, rules-any, second-C-low, second-any}
 use Rattle.theory_table.proofs.BucketLaws.{one-less, falls, falls-low, level-fresh, leak-le, fills, fills-low}
 
-module _ (N z : ℕ) (few : z ≤ 1_024) where
+module _ (N R : ℕ) (few : R ≤ 1_280) where
   -- a slot that does not name it
-  pub pass : (now v : ℕ) (vc : Connection) (q : ℕ) (o : Option Opening) → v < z → (now % z ≡ v → ⊥) → ConnectionIs N z now v vc q o
-      → ConnectionIs N z (suc now) v vc q o
+  pub pass : (now v : ℕ) (vc : Connection) (q : ℕ) (o : Option Opening) → v < R → (now % R ≡ v → ⊥) → ConnectionIs N R now v vc q o
+      → ConnectionIs N R (suc now) v vc q o
   pass now v vc q none hv ne k = k
   pass now v vc q (some o) hv ne k =
       record {
@@ -30,7 +30,7 @@ module _ (N z : ℕ) (few : z ≤ 1_024) where
         unused = k .unused;
         unused-second = k .unused-second;
         past = omega (arith, k .past);
-        near = omega (arith, k .near, gap-suc z v now hv ne);
+        near = omega (arith, k .near, gap-suc R v now hv ne);
         rules = k .rules;
         rules-second = k .rules-second;
         full = k .full;
@@ -38,12 +38,12 @@ module _ (N z : ℕ) (few : z ≤ 1_024) where
       }
 
   -- the tests of refusal 3
-  pub word-fits : (now v : ℕ) (vc : Connection) (q : ℕ) (o : Option Opening) → ConnectionIs N z now v vc q o → openWordFits vc ≡ true
+  pub word-fits : (now v : ℕ) (vc : Connection) (q : ℕ) (o : Option Opening) → ConnectionIs N R now v vc q o → openWordFits vc ≡ true
   unfolding openWordFits
   word-fits now v vc q none k = le-leb (vc .opened) 1 (omega (arith, k))
   word-fits now v vc q (some o) k = rw (k .is)
 
-  pub buckets-fit : (now v : ℕ) (vc : Connection) (q : ℕ) (o : Opening) (c : OpenConnection N z now v vc q o)
+  pub buckets-fit : (now v : ℕ) (vc : Connection) (q : ℕ) (o : Opening) (c : OpenConnection N R now v vc q o)
       → bucketsFit N (stored o (c .seen) q) ≡ true
   unfolding bucketsFit bucketFits secondFits
   buckets-fit now v vc q o c =
@@ -54,27 +54,27 @@ module _ (N z : ℕ) (few : z ≤ 1_024) where
         le-leb (levelSecond o (c .seen)) (o .second .C) (c .full-second),
       )
 
-  pub connection-fits : (now v : ℕ) (vc : Connection) (q : ℕ) (o : Option Opening) → q ≤ N → ConnectionIs N z now v vc q o → connectionFits N vc ≡ true
+  pub connection-fits : (now v : ℕ) (vc : Connection) (q : ℕ) (o : Option Opening) → q ≤ N → ConnectionIs N R now v vc q o → connectionFits N vc ≡ true
   unfolding connectionFits openWordFits
   connection-fits now v vc q none low k = rw (eq-eqb (vc .opened) 0 k)
   connection-fits now v vc q (some o) low k = rw (k .is) (rw (buckets-fit now v vc q o k, le-leb q N low) refl)
 
   -- brought up to date in the slot `now`: both buckets fall by the same slots
-  pub up-to-date : (now k v : ℕ) (vc : Connection) (q : ℕ) (o : Opening) → v < z → now ≤ k → k ≤ suc now → OpenConnection N z k v vc q o
+  pub up-to-date : (now k v : ℕ) (vc : Connection) (q : ℕ) (o : Opening) → v < R → now ≤ k → k ≤ suc now → OpenConnection N R k v vc q o
       → upToDate N (now % slotNumbers) vc ≡ next (stored o (suc now) q)
   unfolding upToDate fallenTo
   up-to-date now k v vc q o hv k0 k1 c =
       rw (
         c .is,
         buckets-fit k v vc q o c,
-        elapsed-is now (c .seen) (omega (arith, c .past)) (omega (arith, c .near, c .past, gap-lt z v k hv)),
+        elapsed-is now (c .seen) (omega (arith, c .past)) (omega (arith, c .near, c .past, gap-lt R v k hv)),
         falls (o .m) (o .F) (o .C) (o .previous) now (c .seen) (c .unused) (omega (arith, c .past)),
         falls (o .second .m) (o .second .F) (o .second .C) (o .sustained) now (c .seen) (c .unused-second) (omega (arith, c .past)),
         clock-next now,
       )
 
   -- S as close works it out between two slots: what is left of the peak bucket at the last slot served
-  pub debt-is : (now v : ℕ) (vc : Connection) (q : ℕ) (o : Opening) → v < z → OpenConnection N z now v vc q o
+  pub debt-is : (now v : ℕ) (vc : Connection) (q : ℕ) (o : Opening) → v < R → OpenConnection N R now v vc q o
       → debt (clock now) vc ≡ level o now
   unfolding debt fall
   debt-is zero v vc q o hv c =
@@ -88,12 +88,12 @@ module _ (N z : ℕ) (few : z ≤ 1_024) where
       rw (
         c .is,
         clock-next now,
-        elapsed-is now (c .seen) (c .past) (omega (arith, c .near, gap-lt z v (suc now) hv)),
+        elapsed-is now (c .seen) (c .past) (omega (arith, c .near, gap-lt R v (suc now) hv)),
       )
       (ap (λ (b : Bucket). b .S) (falls (o .m) (o .F) (o .C) (o .previous) now (c .seen) (c .unused) (c .past)))
 
-  pub now-open : (now k v : ℕ) (vc : Connection) (q : ℕ) (o : Opening) → now ≤ k → k ≤ suc now → OpenConnection N z k v vc q o
-      → OpenConnection N z (suc now) v (stored o (suc now) q) q o
+  pub now-open : (now k v : ℕ) (vc : Connection) (q : ℕ) (o : Opening) → now ≤ k → k ≤ suc now → OpenConnection N R k v vc q o
+      → OpenConnection N R (suc now) v (stored o (suc now) q) q o
   now-open now k v vc q o k0 k1 c =
       record {
         seen = suc now;
@@ -160,8 +160,8 @@ module _ (N z : ℕ) (few : z ≤ 1_024) where
       more = omega arith
 
   pub filled-open : (o : Opening) (now k v q clp verdict : ℕ) (vc : Connection) → leakAccepts o now ≡ true
-      → (clp =? 0 && verdict =? accepted ≡ true → sustains o now ≡ true) → k ≤ suc now → OpenConnection N z k v vc q o
-      → OpenConnection N z (suc now) v (stored (moved now clp verdict o) (suc now) (suc q)) (suc q) (moved now clp verdict o)
+      → (clp =? 0 && verdict =? accepted ≡ true → sustains o now ≡ true) → k ≤ suc now → OpenConnection N R k v vc q o
+      → OpenConnection N R (suc now) v (stored (moved now clp verdict o) (suc now) (suc q)) (suc q) (moved now clp verdict o)
   unfolding leakAccepts sustains dueTime
   filled-open o now k v q clp verdict vc e e2 k1 c =
       record {
@@ -189,8 +189,8 @@ module _ (N z : ℕ) (few : z ≤ 1_024) where
           (c .full-second)
 
   -- a cell leaves
-  pub left-open : (now v : ℕ) (vc : Connection) (q : ℕ) (o : Opening) → OpenConnection N z now v vc (suc q) o
-      → OpenConnection N z now v (withWaiting vc (vc .waiting - 1)) q o
+  pub left-open : (now v : ℕ) (vc : Connection) (q : ℕ) (o : Opening) → OpenConnection N R now v vc (suc q) o
+      → OpenConnection N R now v (withWaiting vc (vc .waiting - 1)) q o
   left-open now v vc q o c =
       record {
         seen = c .seen;
@@ -208,7 +208,7 @@ module _ (N z : ℕ) (few : z ≤ 1_024) where
   -- an opening
   pub opened-open : (now v m F C : ℕ) (x : Second) → obeysRules N (bucketOf m F C 0) ≡ true
       → secondObeys (bucketOf (x .m) (x .F) (x .C) 0) (x .tag) ≡ true
-      → OpenConnection N z now v (openedConnection (clock now) (bucketOf m F C 0) x) 0 (newOpening m F C x)
+      → OpenConnection N R now v (openedConnection (clock now) (bucketOf m F C 0) x) 0 (newOpening m F C x)
   unfolding openedConnection
   opened-open now v m F C x r r2 =
       record {

@@ -1,12 +1,12 @@
--- What an opening makes of a VC's words. A proof device.
+-- What an opening makes of a connection's words. A proof device.
 --
 --   earliestAfter F p    == where p is the last due time, if any, the next cell is due at this time at the earliest
 --   levelAfter m F p k   == S of a bucket with this m and F, k slots being served: what its own leak rule leaves of it. Said once
---                           for any bucket, and cited for both of a VC
+--                           for any bucket, and cited for both of a connection
 --   bucketAfter m F C p k == such a bucket
---   stored o k q         == the VC's words, where it was last brought up to date when k slots were served, and q cells wait
---   gap z v now          == how many of the `now` slots were served since rotation last named v
---   ConnectionIs                 == the words vc of the VC v are those of its opening, if it has one; now slots were served
+--   stored o k q         == the connection's words, where it was last brought up to date when k slots were served, and q cells wait
+--   gap R v now          == how many of the `now` slots were served since rotation, which goes over R connections, last named v
+--   ConnectionIs                 == the words vc of the connection v are those of its opening, if it has one; now slots were served
 use Prim.Native.Nat.{ℕ, suc, _+_, _-_, _*_, _%_, _^_, _≤_}
 use mathlib.Core.Path.{_≡_}
 use mathlib.Core.Bool.{true}
@@ -57,21 +57,21 @@ stored o k q =
     }
 
 abbrev pub gap : ℕ → ℕ → ℕ → ℕ
-gap z v now = (now + (z - suc v)) % z
+gap R v now = (now + (R - suc v)) % R
 
-pub record OpenConnection (N z now v : ℕ) (vc : Connection) (q : ℕ) (o : Opening) : Type 0 where
+pub record OpenConnection (N R now v : ℕ) (vc : Connection) (q : ℕ) (o : Opening) : Type 0 where
   pub seen : ℕ
   pub is : vc ≡ stored o seen q
   pub unused : seen ≡ 0 → earliest o ≡ 0
   pub unused-second : seen ≡ 0 → earliestSecond o ≡ 0
   pub past : seen ≤ now
-  -- rotation: "no VC is ever more than V slots behind"
-  pub near : now ≤ seen + gap z v now
+  -- rotation: "no VC is ever more than V slots behind", of a connection V + 256
+  pub near : now ≤ seen + gap R v now
   pub rules : obeysRules N (bucketOf (o .m) (o .F) (o .C) 0) ≡ true
   pub rules-second : secondObeys (bucketOf (o .second .m) (o .second .F) (o .second .C) 0) (o .second .tag) ≡ true
   pub full : level o seen ≤ o .C
   pub full-second : levelSecond o seen ≤ o .second .C
 
 abbrev pub ConnectionIs : ℕ → ℕ → ℕ → ℕ → Connection → ℕ → Option Opening → Type 0
-ConnectionIs N z now v vc q none = vc .opened ≡ 0
-ConnectionIs N z now v vc q (some o) = OpenConnection N z now v vc q o
+ConnectionIs N R now v vc q none = vc .opened ≡ 0
+ConnectionIs N R now v vc q (some o) = OpenConnection N R now v vc q o

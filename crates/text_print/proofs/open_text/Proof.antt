@@ -1,4 +1,4 @@
--- `text_print::open_text` puts the line of a VO: its mark, then four numbers.
+-- `text_print::open_text` puts the line of an opening: its mark, then four numbers.
 use borrow.Author.Needs.{needs}
 use native.Mathlib.Omega.{arith}
 use Rattle.list_lines.proofs.Puts.{put-is, put-then}
@@ -7,7 +7,7 @@ use Rattle.text_print.proofs.open_text.Statement.{statement}
 use Rattle.text_print.proofs.open_text.Tie as tie
 
 returns : tie.Need-returns
-returns c = (λ trace. put-is (open-words trace _ _ _ _) (put-then (put-then (put-then (put-then (c .before .before .before .before .before .before .before .before .before .before .before .before .before .before .before .before .before .before .mark .ensures) (c .before .before .before .before .before .before .before .before .before .before .before .before .before .before .number .ensures .0)) (c .before .before .before .before .before .before .before .before .before .before .number2 .ensures .0)) (c .before .before .before .before .before .before .number3 .ensures .0)) (c .before .before .number4 .ensures .0)), omega (arith, c .before .before .before .before .before .before .before .before .before .before .before .before .before .before .before .before .before .before .mark .ensures .next, c .before .before .before .before .before .before .before .before .before .before .before .before .before .before .number .ensures .1, c .before .before .before .before .before .before .before .before .before .before .number2 .ensures .1, c .before .before .before .before .before .before .number3 .ensures .1, c .before .before .number4 .ensures .1))
+returns c = (put-is (open-words _ _ _ _ _) (put-then (put-then (put-then (put-then (c .before .before .before .before .before .before .before .before .before .before .before .before .before .before .before .before .before .before .mark .ensures) (c .before .before .before .before .before .before .before .before .before .before .before .before .before .before .number .ensures .0)) (c .before .before .before .before .before .before .before .before .before .before .number2 .ensures .0)) (c .before .before .before .before .before .before .number3 .ensures .0)) (c .before .before .number4 .ensures .0)), omega (arith, c .before .before .before .before .before .before .before .before .before .before .before .before .before .before .before .before .before .before .mark .ensures .next, c .before .before .before .before .before .before .before .before .before .before .before .before .before .before .number .ensures .1, c .before .before .before .before .before .before .before .before .before .before .number2 .ensures .1, c .before .before .before .before .before .before .number3 .ensures .1, c .before .before .number4 .ensures .1))
 
 pub open-text-spec : {M : Type 1} → statement M
 open-text-spec =

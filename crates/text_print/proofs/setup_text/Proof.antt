@@ -1,4 +1,4 @@
--- `text_print::setup_text` puts the line of a GM or GR: its mark, then two numbers.
+-- `text_print::setup_text` puts the line of a GM, GR or GN: its mark, then two numbers.
 use borrow.Author.Needs.{needs}
 use native.Mathlib.Omega.{arith}
 use Rattle.list_lines.proofs.Puts.{put-is, put-then}

@@ -1,4 +1,4 @@
--- `text_record::write_setup`: a GM or GR is written at place 0 alone, and where its 6 octets fit.
+-- `text_record::write_setup`: a GM, GR or GN is written at place 0 alone, and where its 6 octets fit.
 use borrow.Author.Needs.{needs}
 use native.Mathlib.Omega.{arith}
 use Rattle.text_record.proofs.Cases.{setup-first, setup-later, setup-long, setup-octets, refused, too-short, written}
