@@ -478,7 +478,7 @@ clurimoon_burst_end clurimoon_burst(clurimoon_record record,
  * the later of its arrival and TAT, and TAT becomes its due time plus F; of a
  * nonconforming one TAT stays. The arrival is stored for both.
  *
- * On a VC that clurimoon_open opened before the first slot with this m, F and C, so
+ * On a VC or path that was opened before the first slot with this m, F and C and
  * without a second bucket, in a policer with this N, and that nobody closes: called
  * for each of its cells, with the slot that it arrives in, the verdict is that of
  * clurimoon_slot, and of a conforming cell D is due / L, rounded down, less the

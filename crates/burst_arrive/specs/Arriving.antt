@@ -2,8 +2,8 @@
 -- never that something else is refused: each test that fails leaves the likely way, and the slot is served as the call has it.
 -- k is the record in the slot, its clock moved.
 --
---   Judges k words vci D S == an open VC without a second bucket accepts a cell
---   Arrives k words cell.. == the VC that the cell names accepts it
+--   Judges k words vci D S == an open connection without a second bucket accepts a cell
+--   Arrives k words cell.. == the connection that the cell names accepts it
 --   Seats k .. p           == the cell has its space, its entry and the Free List without it
 --   Spotted k .. p         == all of these
 use Prim.Native.Nat.{ℕ, _+_, _*_, _≤_, _<_}
@@ -44,7 +44,7 @@ pub record Seats (k : Record) (links calendar : List ℕ) (p : Spot) : Type 0 wh
   pub tail-low : k .freetail < k .n
   pub entry-fits : endsFit (k .n) (endsOf (p .head) (p .tail)) ≡ true
 
--- an open VC without a second bucket that accepts a cell with this D, its S being S before the cell
+-- an open connection without a second bucket that accepts a cell with this D, its S being S before the cell
 pub record Judges (k : Record) (words : List ℕ) (vci D S : ℕ) : Type 0 where
   pub judged : judgedAs true accepted vci D (S + getD words (fPlace vci) 0) (getD words (waitingPlace vci) 0 + 1) 0
       ≡ judgedPeak (k .n) vci (withS (connectionAt words vci .bucket) S) (connectionAt words vci .waiting)
@@ -55,15 +55,15 @@ pub record Judges (k : Record) (words : List ℕ) (vci D S : ℕ) : Type 0 where
   pub near : D < k .n
   pub waiting-high : getD words (waitingPlace vci) 0 < k .n
 
--- the same of the VC that a cell names
+-- the same of the connection that a cell names
 pub record Arrives (k : Record) (words cell : List ℕ) (vci D S : ℕ) : Type 0 where
   pub judged : judgedAs true accepted vci D (S + getD words (fPlace vci) 0) (getD words (waitingPlace vci) 0 + 1) 0
-      ≡ judgedOf (k .n) (k .v) (k .t) words cell
+      ≡ judgedOf (k .n) (k .v) (k .kind) (k .t) words cell
   pub is-accepted : Accepted k (judgedAs true accepted vci D (S + getD words (fPlace vci) 0) (getD words (waitingPlace vci) 0 + 1) 0) cell words
   pub at-connection : Judges k words vci D S
 
 pub record Spotted (k : Record) (links calendar words cell : List ℕ) (p : Spot) : Type 0 where
-  pub judged : judgedAt words p ≡ judgedOf (k .n) (k .v) (k .t) words cell
+  pub judged : judgedAt words p ≡ judgedOf (k .n) (k .v) (k .kind) (k .t) words cell
   pub is-accepted : Accepted k (judgedAt words p) cell words
   pub at-connection : Judges k words (p .vci) (p .d) (p .s)
   pub seats : Seats k links calendar p

@@ -1,4 +1,4 @@
-// Step 3 on a likely way: slot i's cell, where its VC accepts it, and its seat. A test that fails leaves the likely way with
+// Step 3 on a likely way: slot i's cell, where its connection accepts it, and its seat. A test that fails leaves the likely way with
 // everything as it came, and the slot is then served as the call has it: so the order of the tests is free, and nothing here
 // refuses.
 ghost use mathlib.Core.Path.{_≡_};
@@ -16,7 +16,7 @@ use meaning::AT_M;
 use meaning::AT_WAITING;
 use meaning::WORDS_PER_CONNECTION;
 
-// An arrival: ok where its VC is open and in range and the cell is accepted; its VC, D, and S before the cell.
+// An arrival: ok where its connection is open and in range and the cell is accepted; the connection, D, and S before the cell.
 pub struct Judgement {
     pub ok: bool,
     pub vci: usize,
@@ -24,8 +24,8 @@ pub struct Judgement {
     pub s: u32,
 }
 
-// An accepted cell: its space x and the Free List's head after it; D, its VC and that VC's S before the cell; its entry e and
-// that entry's head and tail.
+// An accepted cell: its space x and the Free List's head after it; D, its connection and that one's S before the cell; its
+// entry e and that entry's head and tail.
 pub struct Spot {
     pub ok: bool,
     pub x: usize,
@@ -49,7 +49,7 @@ fn not_likely() -> Judgement
     }
 }
 
-// An open VC's own part of it.
+// An open connection's own part of it.
 fn judge_open(w: Way, words: &[u32], u: usize) -> Judgement
     requires { ⌜ (w .n ≤ mostN) × (HasConnection u (now words)) ⌝ }
     ensures { λ a. ⌜ (a .ok ≡ true → Judges (slotRecord w) (now (words .entry)) (a .vci) (a .d) (a .s) × (a .vci ≡ u)) ⌝ }
@@ -74,16 +74,14 @@ fn judge_open(w: Way, words: &[u32], u: usize) -> Judgement
     }
 }
 
-// Slot i's arrival.
+// Slot i's arrival: at a VC or at a path, by the number that its header gives.
 fn arrived(w: Way, words: &[u32], arrivals: &[u8], i: usize) -> Judgement
     requires { ⌜ (w .n ≤ mostN) × (w .v ≤ mostV) × (length (now words) ≡ wordsIn (w .v)) × (cellStart i + octets ≤ length (now arrivals)) ⌝ }
     ensures { λ a. ⌜ (a .ok ≡ true → Arrives (slotRecord w) (now (words .entry)) (take 53 (drop (53 * i) (now (arrivals .entry)))) (a .vci) (a .d) (a .s)) ⌝ }
 {
-    let u = leaf_header::name_at(arrivals, 53 * i) as usize;
+    let name = leaf_header::name_at(arrivals, 53 * i, w.kind);
+    let u = leaf_header::number_for(w.v as u16, name) as usize;
     if u == 0 {
-        return not_likely();
-    }
-    if u >= w.v {
         return not_likely();
     }
     if words[WORDS_PER_CONNECTION * u] != 1 {

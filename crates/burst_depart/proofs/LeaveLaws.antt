@@ -1,4 +1,4 @@
--- What departs on a likely way: what is left of its list and the VC that was found give what the slot's definition says, in
+-- What departs on a likely way: what is left of its list and the connection that was found give what the slot's definition says, in
 -- memory as it is and once a cell has been accepted.
 use Prim.Native.Nat.{ℕ, _≤_, _<_}
 use mathlib.Core.Path.{_≡_, refl, sym, _∙_, ap, subst}
@@ -16,11 +16,11 @@ use Rattle.meaning.specs.State.{Ends}
 use Rattle.meaning.specs.Header.{headerAt}
 use Rattle.meaning.specs.Lists.{endsFit}
 use Rattle.meaning.proofs.ListsLaws.{fit-marked, fit-empty}
-use Rattle.leaf_header.specs.Name.{nameOf}
+use Rattle.leaf_header.specs.Name.{numbered}
 use Rattle.mem_lists.specs.declared.Off.{Off}
 use Rattle.mem_lists.specs.Spaces.{endsOf, linked, offAs, offOf}
-use Rattle.mem_lists.specs.Leaver.{mayGo, namedConnection, leaverOf, offFrom, leaverAfter, offAfter}
-use Rattle.mem_lists.proofs.LeaverLaws.{leaver-named}
+use Rattle.mem_lists.specs.Leaver.{mayGo, goesAs, leaverOf, offFrom, leaverAfter, offAfter}
+use Rattle.mem_lists.proofs.LeaverLaws.{leaver-is}
 use Rattle.mem_lists.proofs.LinkLaws.{linked-off, linked-own, linked-other, linked-length}
 use Rattle.mem_lists.proofs.OffLaws.{off-is, from-same}
 use Rattle.slot_plan.specs.Plan.{joinedLinks, joinedHead}
@@ -39,19 +39,19 @@ module _ (N : ℕ) (links : List ℕ) (x tail next tail′ : ℕ) (l : Left N li
       go true e = let o = l .one (eqb-true x tail e) in simp (ne-eqb u 0 ne, e, o .0, o .1)
       go false e = let m = l .more (eqb-false x tail e) in simp (ne-eqb u 0 ne, e, lt-ltb next N (m .1), m .2)
 
-  pub left-off : (z : ℕ) (cells words : List ℕ) (u : ℕ) → leaverOf N z cells words x ≡ u → u ≢ 0
-      → offAs true x u (endsOf next tail′) ≡ offOf N z cells links words x tail
-  left-off z cells words u is ne =
+  pub left-off : (z kind : ℕ) (cells words : List ℕ) (u : ℕ) → leaverOf N z kind cells words x ≡ u → u ≢ 0
+      → offAs true x u (endsOf next tail′) ≡ offOf N z kind cells links words x tail
+  left-off z kind cells words u is ne =
       (left-from u ne ∙ ap (λ (g : ℕ). offFrom N g x next tail) (sym is))
-      ∙ off-is N z cells links words x tail next (λ far. l .more far .0)
+      ∙ off-is N z kind cells links words x tail next (λ far. l .more far .0)
 
   -- the same once a cell has been accepted
-  pub left-after : (z : ℕ) (cells words : List ℕ) (own s u : ℕ) → leaverAfter N z cells words own s x ≡ u → u ≢ 0
-      → offAs true x u (endsOf next tail′) ≡ offAfter N z cells links words own s x tail
+  pub left-after : (z kind : ℕ) (cells words : List ℕ) (own s u : ℕ) → leaverAfter N z kind cells words own s x ≡ u → u ≢ 0
+      → offAs true x u (endsOf next tail′) ≡ offAfter N z kind cells links words own s x tail
   unfolding offAfter
-  left-after z cells words own s u is ne =
+  left-after z kind cells words own s u is ne =
       (left-from u ne ∙ ap (λ (g : ℕ). offFrom N g x next tail) (sym is))
-      ∙ from-same N (leaverAfter N z cells words own s x) x next (getD links x 0) tail (λ far. l .more far .0)
+      ∙ from-same N (leaverAfter N z kind cells words own s x) x next (getD links x 0) tail (λ far. l .more far .0)
 
   -- other links, but this one
   pub left-links : (links′ : List ℕ) → getD links′ x 0 ≡ getD links x 0 → Left N links′ x tail next tail′
@@ -65,37 +65,35 @@ module _ (N : ℕ) (links : List ℕ) (x tail next tail′ : ℕ) (l : Left N li
       go true e = let o = l .one (eqb-true x tail e) in rw (o .0, o .1) (fit-empty N)
       go false e = let m = l .more (eqb-false x tail e) in rw (m .2) (fit-marked N next tail (m .1) low)
 
--- ---- the VC that was found, once a cell of VC own stands in another space
-named-is : (N z : ℕ) (words : List ℕ) (name : ℕ) → namedConnection N z words name ≢ 0 → namedConnection N z words name ≡ name
-unfolding namedConnection
-named-is N z words name = go (name =? 0) (name <? z) (mayGo N words name)
+-- ---- the connection that was found, once a cell of the connection own stands in another space
+goes-is : (N : ℕ) (words : List ℕ) (c : ℕ) → goesAs N words c ≢ 0 → goesAs N words c ≡ c
+unfolding goesAs
+goes-is N words c = go (c =? 0) (mayGo N words c)
   where
-    go : (a b c : Bool) → (if a then 0 else if b then (if c then name else 0) else 0) ≢ 0
-        → (if a then 0 else if b then (if c then name else 0) else 0) ≡ name
-    go true b c ne = absurd (ne refl)
-    go false true true ne = refl
-    go false true false ne = absurd (ne refl)
-    go false false c ne = absurd (ne refl)
+    go : (a b : Bool) → (if a then 0 else if b then c else 0) ≢ 0 → (if a then 0 else if b then c else 0) ≡ c
+    go true b ne = absurd (ne refl)
+    go false true ne = refl
+    go false false ne = absurd (ne refl)
 
-module _ (N z own s : ℕ) (cells words : List ℕ) (x : ℕ) where
-  abbrev name : ℕ
-  name = nameOf (headerAt cells (cellStart x))
+module _ (N z kind own s : ℕ) (cells words : List ℕ) (x : ℕ) where
+  abbrev number : ℕ
+  number = numbered kind z (headerAt kind cells (cellStart x))
 
-  leaver-then : z ≤ 65536 → x ≢ s → (u : ℕ) → leaverOf N z cells words x ≡ u → u ≢ 0 → leaverAfter N z cells words own s x ≡ u
+  leaver-then : x ≢ s → (u : ℕ) → leaverOf N z kind cells words x ≡ u → u ≢ 0 → leaverAfter N z kind cells words own s x ≡ u
   unfolding leaverAfter
-  leaver-then few ne u is ok = go (name =? own) refl
+  leaver-then ne u is ok = go (number =? own) refl
     where
-      seen : namedConnection N z words name ≡ u
-      seen = leaver-named N z cells words x few ∙ is
+      seen : goesAs N words number ≡ u
+      seen = leaver-is N z kind cells words x ∙ is
 
-      go : (b : Bool) → name =? own ≡ b → leaverAfter N z cells words own s x ≡ u
+      go : (b : Bool) → number =? own ≡ b → leaverAfter N z kind cells words own s x ≡ u
       go true e =
           rw (ne-eqb x s ne, e)
-          (sym (eqb-true name own e) ∙ (sym (named-is N z words name (λ q. ok (sym seen ∙ q))) ∙ seen))
+          (sym (eqb-true number own e) ∙ (sym (goes-is N words number (λ q. ok (sym seen ∙ q))) ∙ seen))
       go false e = rw (ne-eqb x s ne, e) seen
 
   -- the cell itself
-  pub leaver-own : x ≡ s → leaverAfter N z cells words own s x ≡ own
+  pub leaver-own : x ≡ s → leaverAfter N z kind cells words own s x ≡ own
   unfolding leaverAfter
   leaver-own e = rw (eq-eqb x s e) refl
 
@@ -123,7 +121,7 @@ link-then joins i y named s h l x low ne = outer joins refl
 
 -- ---- what departs, in memory as it is and as it then is
 module _ (k : Record) (cells links words : List ℕ) (joins : Bool) (entry : Ends) (x next tail′ u : ℕ)
-    (is : leaverOf (k .n) (k .v) cells words x ≡ u) (ok : u ≢ 0)
+    (is : leaverOf (k .n) (k .v) (k .kind) cells words x ≡ u) (ok : u ≢ 0)
     (head : x ≡ joinedHead k entry)
     (l : Left (k .n) (linked joins (k .outtail) (entry .head) links) x (entry .tail) next tail′)
   where
@@ -132,10 +130,10 @@ module _ (k : Record) (cells links words : List ℕ) (joins : Bool) (entry : End
 
     pub off-here : OffHere k cells links words joins entry (offAs true x u (endsOf next tail′))
     off-here =
-        left-off (k .n) joined x (entry .tail) next tail′ l (k .v) cells words u is ok
-        ∙ ap (λ (y : ℕ). offOf (k .n) (k .v) cells joined words y (entry .tail)) head
+        left-off (k .n) joined x (entry .tail) next tail′ l (k .v) (k .kind) cells words u is ok
+        ∙ ap (λ (y : ℕ). offOf (k .n) (k .v) (k .kind) cells joined words y (entry .tail)) head
 
-    module _ (p : Spot) (few : k .v ≤ 1024) (low : x < length links) (far : x ≢ p .x) where
+    module _ (p : Spot) (low : x < length links) (far : x ≢ p .x) where
       abbrev stored : List ℕ
       stored = linked joins (k .outtail) (entry .head) (linked (not (p .head =? empty)) (p .x) (p .head) links)
 
@@ -144,10 +142,10 @@ module _ (k : Record) (cells links words : List ℕ) (joins : Bool) (entry : End
           left-after (k .n) stored x (entry .tail) next tail′
           (left-links (k .n) joined x (entry .tail) next tail′ l stored
           (link-then joins (k .outtail) (entry .head) (not (p .head =? empty)) (p .x) (p .head) links x low far))
-          (k .v) cells words (p .vci) (p .x) u (leaver-then (k .n) (k .v) (p .vci) (p .x) cells words x (omega arith) far u is ok) ok
-          ∙ ap (λ (y : ℕ). offAfter (k .n) (k .v) cells stored words (p .vci) (p .x) y (entry .tail)) head
+          (k .v) (k .kind) cells words (p .vci) (p .x) u (leaver-then (k .n) (k .v) (k .kind) (p .vci) (p .x) cells words x far u is ok) ok
+          ∙ ap (λ (y : ℕ). offAfter (k .n) (k .v) (k .kind) cells stored words (p .vci) (p .x) y (entry .tail)) head
 
--- ---- a plan with its VC
+-- ---- a plan with its connection
 module _ (k : Record) (links : List ℕ) (entry : Ends) (o : Leave) (u : ℕ) (Is : Bool → Ends → Off → Type 0)
     (plan : Planned k links entry o) (some : o .none ≡ false)
     (off : (joins : Bool) (e : Ends) → o .space ≡ joinedHead k e
@@ -206,13 +204,13 @@ plan-low k links entry o plan some = go (ℕ-discrete (entry .head) empty)
     go (yes e) = plan .unmarked e .space-low some
     go (no ne) = plan .marked ne .space-low
 
--- ---- the plan with the VC that was found, as the code hands it back
+-- ---- the plan with the connection that was found, as the code hands it back
 some-vci : (u : ℕ) → not (u =? 0) ≡ true → u ≢ 0
 some-vci u e = eqb-false u 0 (not-true (u =? 0) e)
 
 module _ (k : Record) (cells links words : List ℕ) (entry : Ends) (o : Leave) (u : ℕ) (r : Leave)
     (plan : Planned k links entry o) (some : o .none ≡ false)
-    (is : leaverOf (k .n) (k .v) cells words (o .space) ≡ u) (e : r ≡ leaveWith o u) (ok : r .ok ≡ true)
+    (is : leaverOf (k .n) (k .v) (k .kind) cells words (o .space) ≡ u) (e : r ≡ leaveWith o u) (ok : r .ok ≡ true)
   where
     is-vci : u ≢ 0
     is-vci = some-vci u (sym (ap (λ (q : Leave). q .ok) e) ∙ ok)
@@ -223,9 +221,9 @@ module _ (k : Record) (cells links words : List ℕ) (entry : Ends) (o : Leave) 
         (plan-leaves k links entry o u (OffHere k cells links words) plan some
         (λ joins f head l. off-here k cells links words joins f (o .space) (o .next) (o .tail) u is is-vci head l))
 
-    pub later-leaves : (p : Spot) → k .v ≤ 1024 → o .space < length links → o .space ≢ p .x
+    pub later-leaves : (p : Spot) → o .space < length links → o .space ≢ p .x
         → Leaves k entry r (OffThen k p cells links words)
-    later-leaves p few low far =
+    later-leaves p low far =
         subst (λ (q : Leave). Leaves k entry q (OffThen k p cells links words)) (sym e)
         (plan-leaves k links entry o u (OffThen k p cells links words) plan some
-        (λ joins f head l. off-then k cells links words joins f (o .space) (o .next) (o .tail) u is is-vci head l p few low far))
+        (λ joins f head l. off-then k cells links words joins f (o .space) (o .next) (o .tail) u is is-vci head l p low far))

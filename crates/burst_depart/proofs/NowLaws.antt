@@ -32,7 +32,7 @@ fit-none : (N h t : ℕ) → N ≤ 1024 → endsFit N (endsOf h t) ≡ true → 
 fit-none N h t few f e = eqb-true t empty (pair-empty N h t (omega arith) e ∙ f)
 
 module _ (k : Record) (p : Spot) (cells links words : List ℕ)
-    (n-high : k .n ≤ 1024) (v-high : k .v ≤ 1024) (long : length links ≡ k .n)
+    (n-high : k .n ≤ 1024) (long : length links ≡ k .n)
     (fits : endsFit (k .n) (endsOf (p .head) (p .tail)) ≡ true) (x-low : p .x < k .n)
     (one : 1 ≤ p .vci)
   where
@@ -115,8 +115,8 @@ module _ (k : Record) (p : Spot) (cells links words : List ℕ)
         let stored = linked joins (k .outtail) (entry .head) (linked (not (p .head =? empty)) (p .x) (p .head) links) in
         left-after (k .n) stored (p .x) (entry .tail) (p .head) (p .tail)
         (left-own joins (k .outtail) (entry .head) (ap not (eq-eqb (k .outhead) empty q)) ok)
-        (k .v) cells words (p .vci) (p .x) (p .vci) (leaver-own (k .n) (k .v) (p .vci) (p .x) cells words (p .x) refl) (λ z. omega arith)
-        ∙ ap (λ (y : ℕ). offAfter (k .n) (k .v) cells stored words (p .vci) (p .x) y (entry .tail)) (sym head-is ∙ joined-alone k entry q)
+        (k .v) (k .kind) cells words (p .vci) (p .x) (p .vci) (leaver-own (k .n) (k .v) (k .kind) (p .vci) (p .x) cells words (p .x) refl) (λ z. omega arith)
+        ∙ ap (λ (y : ℕ). offAfter (k .n) (k .v) (k .kind) cells stored words (p .vci) (p .x) y (entry .tail)) (sym head-is ∙ joined-alone k entry q)
 
     pub alone-leaves : k .outhead ≡ empty → not (p .tail =? p .x) ≡ true → Leaves k entry alone (OffThen k p cells links words)
     alone-leaves q ok =
@@ -135,7 +135,7 @@ module _ (k : Record) (p : Spot) (cells links words : List ℕ)
     module _ (some : k .outhead ≢ empty) (output : endsFit (k .n) (endsOf (k .outhead) (k .outtail)) ≡ true) (far : k .outhead ≢ p .x)
         (t next tail′ u : ℕ) (is-tail : t ≡ entry .tail)
         (l : Left (k .n) (set links (k .outtail) (p .x)) (k .outhead) t next tail′)
-        (is : leaverOf (k .n) (k .v) cells words (k .outhead) ≡ u)
+        (is : leaverOf (k .n) (k .v) (k .kind) cells words (k .outhead) ≡ u)
       where
         abbrev behind : Leave
         behind =
@@ -177,7 +177,7 @@ module _ (k : Record) (p : Spot) (cells links words : List ℕ)
 
         pub behind-leaves : not (u =? 0) ≡ true → Leaves k entry behind (OffThen k p cells links words)
         behind-leaves ok =
-            later-leaves k cells links words entry behind u behind planned refl is refl ok p v-high (omega (arith, long, out-low)) far
+            later-leaves k cells links words entry behind u behind planned refl is refl ok p (omega (arith, long, out-low)) far
 
 -- ---- entry T once a cell has joined entry (T+D) modulo N
 module _ (N T D : ℕ) (low : T < N) where

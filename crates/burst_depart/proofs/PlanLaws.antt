@@ -1,4 +1,4 @@
--- The tests that find what departs: the VC that a header names, a link once another is written, and the Output List once entry
+-- The tests that find what departs: the connection that a header names, a link once another is written, and the Output List once entry
 -- T has joined it.
 use Prim.Native.Nat.{ℕ, _≤_, _<_}
 use mathlib.Core.Path.{_≡_, refl, sym, subst}
@@ -6,34 +6,30 @@ use mathlib.Core.Logic.{_≢_}
 use mathlib.Core.Bool.{true, false}
 use mathlib.Core.List.{List}
 use native.Mathlib.Omega.{arith}
-use borrow.Author.Tests.{lt-ltb, le-ltb, eq-eqb, ne-eqb}
+use borrow.Author.Tests.{eq-eqb, ne-eqb}
 use lib.ListN.{length, getD, set}
 use lib.Seq.{getD-set-same}
 use Rattle.meaning.specs.declared.Record.{Record}
 use Rattle.meaning.specs.Numbers.{empty}
 use Rattle.meaning.specs.State.{Ends}
 use Rattle.mem_lists.specs.Spaces.{linked}
-use Rattle.mem_lists.specs.Leaver.{mayGo, namedConnection}
+use Rattle.mem_lists.specs.Leaver.{mayGo, goesAs}
 use Rattle.slot_plan.specs.Plan.{joinedLinks, joinedHead}
 use Rattle.burst_depart.specs.Leaving.{Left}
 
--- ---- the VC that a number names, one test after the other
-module _ (N z : ℕ) (words : List ℕ) (name : ℕ) where
-  pub named-zero : name ≡ 0 → 0 ≡ namedConnection N z words name
-  unfolding namedConnection
-  named-zero e = simp (eq-eqb name 0 e)
+-- ---- the connection of this number, one test after the other
+module _ (N : ℕ) (words : List ℕ) (c : ℕ) where
+  pub goes-zero : c ≡ 0 → 0 ≡ goesAs N words c
+  unfolding goesAs
+  goes-zero e = simp (eq-eqb c 0 e)
 
-  pub named-past : name ≢ 0 → z ≤ name → 0 ≡ namedConnection N z words name
-  unfolding namedConnection
-  named-past ne past = simp (ne-eqb name 0 ne, le-ltb name z past)
+  pub goes-stays : c ≢ 0 → mayGo N words c ≡ false → 0 ≡ goesAs N words c
+  unfolding goesAs
+  goes-stays ne e = simp (ne-eqb c 0 ne, e)
 
-  pub named-stays : name ≢ 0 → name < z → mayGo N words name ≡ false → 0 ≡ namedConnection N z words name
-  unfolding namedConnection
-  named-stays ne below e = simp (ne-eqb name 0 ne, lt-ltb name z below, e)
-
-  pub named-goes : name ≢ 0 → name < z → mayGo N words name ≡ true → name ≡ namedConnection N z words name
-  unfolding namedConnection
-  named-goes ne below e = simp (ne-eqb name 0 ne, lt-ltb name z below, e)
+  pub goes-goes : c ≢ 0 → mayGo N words c ≡ true → c ≡ goesAs N words c
+  unfolding goesAs
+  goes-goes ne e = simp (ne-eqb c 0 ne, e)
 
 -- ---- a link once it is written
 pub link-own : (l : List ℕ) (i y x : ℕ) → x ≡ i → x < length l → y ≡ getD (set l i y) x 0

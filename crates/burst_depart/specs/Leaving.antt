@@ -3,7 +3,7 @@
 -- slot, its clock moved.
 --
 --   Left N links x tail .. == what is left of a list from x to tail once x has gone
---   Planned k links ..     == what departs, but for its VC
+--   Planned k links ..     == what departs, but for its connection
 --   Leaves k entry o Is    == what departs, Is being what "departs" means in memory as it then is
 use Prim.Native.Nat.{ℕ, _*_, _≤_, _<_}
 use mathlib.Core.Path.{_≡_}
@@ -32,7 +32,7 @@ pub record Left (N : ℕ) (links : List ℕ) (x tail next tail′ : ℕ) : Type 
   pub one : x ≡ tail → (next ≡ empty) × (tail′ ≡ empty)
   pub more : x ≢ tail → (next ≡ getD links x 0) × (next < N) × (tail′ ≡ tail)
 
--- steps 4 and 5 but for the departing VC
+-- steps 4 and 5 but for the departing connection
 pub record PlannedUnmarked (k : Record) (links : List ℕ) (o : Leave) : Type 0 where
   pub none : o .none ≡ true → k .outhead ≡ empty
   pub some : o .none ≡ false → (k .outhead ≢ empty) × (o .space ≡ k .outhead) × Left (k .n) links (o .space) (k .outtail) (o .next) (o .tail)
@@ -91,7 +91,7 @@ pub record Leaves (k : Record) (entry : Ends) (o : Leave) (Is : Bool → Ends �
 -- where no cell is accepted: memory is as it is, but for the chain of entry T that has joined the Output List, where joins
 abbrev pub OffHere : Record → List ℕ → List ℕ → List ℕ → Bool → Ends → Off → Type 0
 OffHere k cells links words joins entry o =
-    o ≡ offOf (k .n) (k .v) cells (linked joins (k .outtail) (entry .head) links) words (joinedHead k entry) (entry .tail)
+    o ≡ offOf (k .n) (k .v) (k .kind) cells (linked joins (k .outtail) (entry .head) links) words (joinedHead k entry) (entry .tail)
 
 -- entry T once a cell has its seat
 abbrev pub entryThen : Record → Spot → List ℕ → Ends

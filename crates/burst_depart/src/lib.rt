@@ -5,7 +5,7 @@ ghost use mathlib.Core.Path.{_≡_};
 ghost use mathlib.Core.Bool.{true, false};
 ghost use Prim.Native.Nat.{_+_, _*_, _≤_, _<_};
 ghost use lib.ListN.{length, set};
-ghost use Rattle.meaning.specs.Numbers.{mostN, mostV, octets, cellStart, perEntry, wordsIn};
+ghost use Rattle.meaning.specs.Numbers.{mostN, mostV, octets, cellStart, perEntry, connectionsIn, wordsIn};
 ghost use Rattle.meaning.specs.Lists.{endsFit, entryAt, writeEntry};
 ghost use Rattle.meaning.specs.Lent.{here};
 ghost use Rattle.mem_lists.specs.Spaces.{endsOf};
@@ -20,7 +20,7 @@ use burst_way::Way;
 use meaning::AT_WAITING;
 use meaning::WORDS_PER_CONNECTION;
 
-// What departs: nothing, or the space and its VC, and what is left of the Output List; whether entry T is marked, whether its
+// What departs: nothing, or the space and its connection, and what is left of the Output List; whether entry T is marked, whether its
 // chain follows the old tail, and the chain's head then.
 pub struct Leave {
     pub ok: bool,
@@ -34,16 +34,14 @@ pub struct Leave {
     pub head: usize,
 }
 
-// The VC whose cell is in space x, if that cell may depart, else 0.
-fn seen(n: usize, v: usize, cells: &[u8], words: &[u32], x: usize) -> usize
+// The connection whose cell is in space x, if that cell may depart, else 0.
+fn seen(n: usize, v: usize, kind: u16, cells: &[u8], words: &[u32], x: usize) -> usize
     requires { ⌜ (n ≤ mostN) × (v ≤ mostV) × (cellStart x + octets ≤ length (now cells)) × (length (now words) ≡ wordsIn v) ⌝ }
-    ensures { λ r. ⌜ r ≡ leaverOf n v (now (cells .entry)) (now (words .entry)) x ⌝ }
+    ensures { λ r. ⌜ r ≡ leaverOf n v kind (now (cells .entry)) (now (words .entry)) x ⌝ }
 {
-    let u = leaf_header::name_at(cells, 53 * x) as usize;
+    let name = leaf_header::name_at(cells, 53 * x, kind);
+    let u = leaf_header::number_for(v as u16, name) as usize;
     if u == 0 {
-        return 0;
-    }
-    if u >= v {
         return 0;
     }
     let b = WORDS_PER_CONNECTION * u;
@@ -122,7 +120,7 @@ fn stuck() -> Leave
     }
 }
 
-// Steps 4 and 5 but for the departing VC, where entry T is not marked.
+// Steps 4 and 5 but for the departing connection, where entry T is not marked.
 fn plan_unmarked(w: Way, links: &[u16]) -> Leave
     requires { ⌜ (w .n ≤ mostN) × (length (now links) ≡ w .n) × (endsFit (w .n) (endsOf (w .outhead) (w .outtail)) ≡ true) ⌝ }
     ensures { λ o. ⌜ (o .ok ≡ true → PlannedUnmarked (slotRecord w) (now (links .entry)) o) ⌝ }
@@ -187,7 +185,7 @@ fn plan_marked(w: Way, links: &[u16], head: usize, tail: usize) -> Leave
     }
 }
 
-// Steps 4 and 5 but for the departing VC.
+// Steps 4 and 5 but for the departing connection.
 fn plan(w: Way, links: &[u16], calendar: &[u16]) -> Leave
     requires { ⌜ MayRead w links calendar ⌝ }
     ensures { λ o. ⌜ (o .ok ≡ true → Planned (slotRecord w) (now (links .entry)) (entryAt (now (calendar .entry)) (w .turn)) o) ⌝ }
@@ -209,7 +207,7 @@ fn plan(w: Way, links: &[u16], calendar: &[u16]) -> Leave
     plan_marked(w, links, head, tail)
 }
 
-// The same plan with the departing VC; 0 is none, and leaves the likely way.
+// The same plan with the departing connection; 0 is none, and leaves the likely way.
 fn with_vci(o: Leave, vci: usize) -> Leave
     ensures { λ r. ⌜ r ≡ leaveWith o vci ⌝ }
 {
@@ -239,7 +237,7 @@ pub fn off_quiet(w: Way, cells: &[u8], links: &[u16], calendar: &[u16], words: &
     if o.none {
         return o;
     }
-    let u = seen(w.n, w.v, cells, words, o.space);
+    let u = seen(w.n, w.v, w.kind, cells, words, o.space);
     with_vci(o, u)
 }
 
@@ -248,7 +246,7 @@ fn off_now(w: Way, p: Spot, cells: &[u8], links: &[u16], words: &[u32]) -> Leave
     requires { ⌜ (w .n ≤ mostN) × (w .v ≤ mostV) × (length (now cells) ≡ octets * w .n) × (length (now links) ≡ w .n)
         × (length (now words) ≡ wordsIn (w .v)) ⌝ }
     requires { ⌜ (endsFit (w .n) (endsOf (w .outhead) (w .outtail)) ≡ true) × (endsFit (w .n) (endsOf (p .head) (p .tail)) ≡ true)
-        × (p .x < w .n) × (1 ≤ p .vci) × (p .vci < w .v) ⌝ }
+        × (p .x < w .n) × (1 ≤ p .vci) × (p .vci < connectionsIn (w .v)) ⌝ }
     ensures { λ o. ⌜ (o .ok ≡ true → Leaves (slotRecord w) (seatEnds (seatAt (slotRecord w) p)) o (OffThenIn w p cells links words)) ⌝ }
 {
     if w.outhead == 65535 {
@@ -272,7 +270,7 @@ fn off_now(w: Way, p: Spot, cells: &[u8], links: &[u16], words: &[u32]) -> Leave
     if !r.ok {
         return stuck();
     }
-    let u = seen(w.n, w.v, cells, words, w.outhead);
+    let u = seen(w.n, w.v, w.kind, cells, words, w.outhead);
     Leave {
         ok: u != 0,
         none: false,
@@ -289,7 +287,7 @@ fn off_now(w: Way, p: Spot, cells: &[u8], links: &[u16], words: &[u32]) -> Leave
 // The cell has D above 0 and joined another entry than T; it does not depart in this slot.
 fn off_later(w: Way, p: Spot, cells: &[u8], links: &[u16], calendar: &[u16], words: &[u32]) -> Leave
     requires { ⌜ Sized (here (slotRecord w) cells links calendar words) ⌝ }
-    requires { ⌜ (endsFit (w .n) (endsOf (w .outhead) (w .outtail)) ≡ true) × (1 ≤ p .vci) × (p .vci < w .v) ⌝ }
+    requires { ⌜ (endsFit (w .n) (endsOf (w .outhead) (w .outtail)) ≡ true) × (1 ≤ p .vci) × (p .vci < connectionsIn (w .v)) ⌝ }
     ensures { λ o. ⌜ (o .ok ≡ true → Leaves (slotRecord w) (entryAt (now (calendar .entry)) (w .turn)) o (OffThenIn w p cells links words)) ⌝ }
 {
     let o = plan(w, links, calendar);
@@ -302,7 +300,7 @@ fn off_later(w: Way, p: Spot, cells: &[u8], links: &[u16], calendar: &[u16], wor
     if o.space == p.x {
         return stuck();
     }
-    let u = seen(w.n, w.v, cells, words, o.space);
+    let u = seen(w.n, w.v, w.kind, cells, words, o.space);
     with_vci(o, u)
 }
 
@@ -318,7 +316,7 @@ pub fn off_accept(
     requires { ⌜ Sized (here (slotRecord w) cells links calendar words) ⌝ }
     requires { ⌜ endsFit (w .n) (endsOf (w .outhead) (w .outtail)) ≡ true ⌝ }
     requires { ⌜ Seats (slotRecord w) (now links) (now calendar) p ⌝ }
-    requires { ⌜ (p .d < w .n) × (1 ≤ p .vci) × (p .vci < w .v) ⌝ }
+    requires { ⌜ (p .d < w .n) × (1 ≤ p .vci) × (p .vci < connectionsIn (w .v)) ⌝ }
     ensures { λ o. ⌜ (o .ok ≡ true → Leaves (slotRecord w) (entryThen (slotRecord w) p (now (calendar .entry))) o (OffThenIn w p cells links words)) ⌝ }
 {
     if p.d == 0 {

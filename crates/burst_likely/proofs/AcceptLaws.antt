@@ -10,7 +10,7 @@ use Rattle.meaning.specs.declared.Record.{Record}
 use Rattle.meaning.specs.declared.Answer.{Answer}
 use Rattle.meaning.specs.declared.Served.{Served}
 use Rattle.meaning.specs.Plain.{if_then_else_, _=?_, next, _andThen_}
-use Rattle.meaning.specs.Numbers.{empty, letsIn, fPlace, waitingPlace}
+use Rattle.meaning.specs.Numbers.{connectionsIn, empty, letsIn, fPlace, waitingPlace}
 use Rattle.meaning.specs.State.{Ends, recordWith, writeCell}
 use Rattle.meaning.specs.Lists.{emptyList, endsFit, entryAt, writeEntry}
 use Rattle.meaning.specs.Line.{cellsAllowed}
@@ -41,13 +41,13 @@ use Rattle.burst_likely.proofs.StoreLaws.{stored-long, sent-is}
 use Rattle.burst_likely.proofs.EitherLaws.{allowed-long, linked-same, ends-with}
 
 module _ (w : Way) (p : Spot) (cell cells links calendar words : List ℕ) (ready : Ready w cells links calendar words)
-    (brought : broughtOf (w .n) (w .t) words (w .rotation) .ok ≡ true)
+    (brought : broughtOf (w .n) (w .v) (w .t) words (w .rotation) .ok ≡ true)
     (spot : Spotted (slotRecord w) links calendar words cell p) where
   abbrev k : Record
   k = slotRecord w
 
   abbrev b : Fall
-  b = broughtOf (w .n) (w .t) words (w .rotation)
+  b = broughtOf (w .n) (w .v) (w .t) words (w .rotation)
 
   abbrev j : Judged
   j = judgedAt words p
@@ -163,10 +163,10 @@ module _ (w : Way) (p : Spot) (cell cells links calendar words : List ℕ) (read
           go false m = output-goes m
 
       -- what the writes need
-      pub leave-shows : (o .vci < w .v) × (1 ≤ getD words₃ (waitingPlace (o .vci)) 0)
+      pub leave-shows : (o .vci < connectionsIn (w .v)) × (1 ≤ getD words₃ (waitingPlace (o .vci)) 0)
       leave-shows = go (o .marked) refl
         where
-          go : (m : Bool) → o .marked ≡ m → (o .vci < w .v) × (1 ≤ getD words₃ (waitingPlace (o .vci)) 0)
+          go : (m : Bool) → o .marked ≡ m → (o .vci < connectionsIn (w .v)) × (1 ≤ getD words₃ (waitingPlace (o .vci)) 0)
           go true m =
               accept-shows k b j a cell cells links calendar words (ready .sized) (spot .is-accepted) is-seated (not (w .outhead =? empty)) entry (offAt o) (goes .marked m .3) refl
           go false m =

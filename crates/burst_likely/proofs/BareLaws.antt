@@ -11,7 +11,7 @@ use lib.ListN.{length, getD, set, take, drop}
 use Rattle.meaning.specs.declared.Record.{Record}
 use Rattle.meaning.specs.declared.Served.{Served}
 use Rattle.meaning.specs.Plain.{if_then_else_, _=?_, next, _andThen_}
-use Rattle.meaning.specs.Numbers.{empty, nothing, excess, letsIn, sPlace, lastPlace, waitingPlace}
+use Rattle.meaning.specs.Numbers.{connectionsIn, empty, nothing, excess, letsIn, sPlace, lastPlace, waitingPlace}
 use Rattle.meaning.specs.State.{Ends, stateOf, recordWith, writeCell}
 use Rattle.meaning.specs.Lists.{emptyList, endsFit, entryAt, writeEntry}
 use Rattle.meaning.specs.Work.{Work, workOf, answerOf}
@@ -20,8 +20,7 @@ use Rattle.meaning.specs.Line.{cellsAllowed}
 use Rattle.meaning.proofs.ListsLaws.{fit-head, fit-tail, fit-marked}
 use Rattle.slot_arrive.specs.declared.Fall.{Fall}
 use Rattle.slot_arrive.specs.declared.Judged.{Judged}
-use Rattle.slot_arrive.specs.Arrival.{broughtOf, judgedAs, fallen, oneLess}
-use Rattle.slot_arrive.proofs.JudgedLaws.{judged-absent}
+use Rattle.slot_arrive.specs.Arrival.{broughtOf, judgedAs, judgedOf, fallen, oneLess}
 use Rattle.mem_lists.specs.declared.Off.{Off}
 use Rattle.mem_lists.specs.Spaces.{endsOf, linked, offOf}
 use Rattle.slot_plan.specs.Plan.{withEnds, freeEnds, outputEnds, freed, rotated, quietWork, joinedLinks, joinedHead}
@@ -47,12 +46,12 @@ use Rattle.burst_likely.proofs.EitherLaws.{allowed-long, linked-same}
 pub below-long : (N long x : ℕ) → long ≡ 53 * N → x < N → x < long / 53
 below-long N long x e low = omega (arith, e, low)
 
--- the departing VC
-pub off-facts : (N z : ℕ) (cells links words : List ℕ) (x tail : ℕ) (o : Off) → o ≡ offOf N z cells links words x tail
+-- the departing connection
+pub off-facts : (N z kind : ℕ) (cells links words : List ℕ) (x tail : ℕ) (o : Off) → o ≡ offOf N z kind cells links words x tail
     → o .ok ≡ true
-    → (o .vci < z) × (1 ≤ getD words (waitingPlace (o .vci)) 0)
-off-facts N z cells links words x tail o is ok =
-    rw is (off-shows N z cells links words x tail (ap (λ (y : Off). y .ok) (sym is) ∙ ok))
+    → (o .vci < connectionsIn z) × (1 ≤ getD words (waitingPlace (o .vci)) 0)
+off-facts N z kind cells links words x tail o is ok =
+    rw is (off-shows N z kind cells links words x tail (ap (λ (y : Off). y .ok) (sym is) ∙ ok))
 
 module _ (w : Way) (r : Turn) (cells links calendar words departures answers : List ℕ) (i : ℕ)
     (ready : Ready w cells links calendar words) (turned : Turned (slotRecord w) words r) (lent : HandedTo departures answers i) where
@@ -60,7 +59,7 @@ module _ (w : Way) (r : Turn) (cells links calendar words departures answers : L
   k = slotRecord w
 
   abbrev b : Fall
-  b = broughtOf (k .n) (k .t) words (k .rotation)
+  b = broughtOf (k .n) (k .v) (k .t) words (k .rotation)
 
   abbrev j : Judged
   j = judgedAs true nothing 0 0 0 0 0
@@ -74,10 +73,14 @@ module _ (w : Way) (r : Turn) (cells links calendar words departures answers : L
   abbrev work : Work
   work = quietWork k j cells links calendar (rotated k b words)
 
+  absent : j ≡ judgedOf (k .n) (k .v) (k .kind) (k .t) words []
+  unfolding judgedOf
+  absent = refl
+
   bare-is : from2 k [] cells links calendar words ≡ (step4 work andThen step5)
   unfolding letsIn
   bare-is =
-      arriving-quiet k [] cells links calendar words b refl j (judged-absent (k .n) (k .v) (k .t) words [] refl)
+      arriving-quiet k [] cells links calendar words b refl j absent
       (let s = ready .sized in omega (arith, s .words-long, s .rotation-low))
       (turned .brought)
       refl
@@ -132,18 +135,18 @@ module _ (w : Way) (r : Turn) (cells links calendar words departures answers : L
     linking = linked (o .follows) (w .outtail) (o .head) links
 
     unmarked-off : OffHere k cells links words false (endsOf 0 (k .outtail)) (offAt o) → k .outhead ≢ empty
-        → offAt o ≡ offOf (k .n) (k .v) cells links words (k .outhead) (k .outtail)
+        → offAt o ≡ offOf (k .n) (k .v) (k .kind) cells links words (k .outhead) (k .outtail)
     unfolding linked joinedHead
     unmarked-off is ne =
-        is ∙ ap (λ (x : ℕ). offOf (k .n) (k .v) cells links words x (k .outtail)) (simp (ne-eqb (k .outhead) empty ne))
+        is ∙ ap (λ (x : ℕ). offOf (k .n) (k .v) (k .kind) cells links words x (k .outtail)) (simp (ne-eqb (k .outhead) empty ne))
 
-    -- its VC has a cell waiting
-    pub off-low : (o .vci < w .v) × (1 ≤ getD words (waitingPlace (o .vci)) 0)
+    -- its connection has a cell waiting
+    pub off-low : (o .vci < connectionsIn (w .v)) × (1 ≤ getD words (waitingPlace (o .vci)) 0)
     off-low = go (o .marked) refl
       where
-        go : (m : Bool) → o .marked ≡ m → (o .vci < w .v) × (1 ≤ getD words (waitingPlace (o .vci)) 0)
-        go true e = off-facts (k .n) (k .v) cells _ words _ _ (offAt o) (goes .marked e .3) refl
-        go false e = off-facts (k .n) (k .v) cells _ words _ _ (offAt o) (goes .unmarked e .3) refl
+        go : (m : Bool) → o .marked ≡ m → (o .vci < connectionsIn (w .v)) × (1 ≤ getD words (waitingPlace (o .vci)) 0)
+        go true e = off-facts (k .n) (k .v) (k .kind) cells _ words _ _ (offAt o) (goes .marked e .3) refl
+        go false e = off-facts (k .n) (k .v) (k .kind) cells _ words _ _ (offAt o) (goes .unmarked e .3) refl
 
     pub less-waits : 1 ≤ getD turning (waitingPlace (o .vci)) 0
     less-waits = rw (waiting-kept words (w .rotation) (r .s) (r .last) (o .vci)) (off-low .1)

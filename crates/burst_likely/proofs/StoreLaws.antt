@@ -1,4 +1,4 @@
--- An accepted cell over plain lists: the words of its VC as they stand once step 2 has written, and what its judgement says
+-- An accepted cell over plain lists: the words of its connection as they stand once step 2 has written, and what its judgement says
 -- of them.
 use Prim.Native.Nat.{ℕ, _+_, _*_, _≤_, _<_}
 use mathlib.Core.Path.{_≡_, refl, sym, _∙_, ap}
@@ -38,7 +38,7 @@ pub sent-is : (cells : List ℕ) (x : ℕ) (cell : List ℕ) → writeCell cells
 unfolding sentAs
 sent-is cells x cell = refl
 
--- ---- its VC: F of any VC, once S and last of one are written
+-- ---- its connection: F of any one, once S and last of one are written
 pub full-kept : (words : List ℕ) (r S t vci : ℕ)
     → getD (set (set words (sPlace r) S) (lastPlace r) t) (fPlace vci) 0 ≡ getD words (fPlace vci) 0
 full-kept words r S t vci =
@@ -102,7 +102,7 @@ module _ (k : Record) (links calendar words cell : List ℕ) (small : k .n ≤ 1
 
   pub fill-writes : (words₁ words₂ : List ℕ) → words₁ ≡ turning
       → words₂ ≡ filled (p .vci) (p .s + getD words₁ (fPlace (p .vci)) 0) 0 (k .t) (getD words₁ (waitingPlace (p .vci)) 0 + 1) words₁
-      → words₂ ≡ filled (p .vci) (p .s + getD words (fPlace (p .vci)) 0) 0 (k .t) (getD words (waitingPlace (p .vci)) 0 + 1) (rotated k (broughtOf (k .n) (k .t) words (k .rotation)) words)
+      → words₂ ≡ filled (p .vci) (p .s + getD words (fPlace (p .vci)) 0) 0 (k .t) (getD words (waitingPlace (p .vci)) 0 + 1) (rotated k (broughtOf (k .n) (k .v) (k .t) words (k .rotation)) words)
   fill-writes words₁ words₂ is written =
       written
       ∙ ap (λ (l : List ℕ). filled (p .vci) (p .s + getD l (fPlace (p .vci)) 0) 0 (k .t) (getD l (waitingPlace (p .vci)) 0 + 1) l) is

@@ -14,7 +14,7 @@ use Rattle.slot_arrive.specs.Arrival.{filled}
 use Rattle.mem_lists.specs.Spaces.{endsOf}
 use Rattle.burst_rotate.proofs.TurnLaws.{second-kept, zero-again}
 
--- waiting of any VC, once S and last of one are written
+-- waiting of any connection, once S and last of one are written
 pub waiting-kept : (words : List ℕ) (r S t vci : ℕ)
     → getD (set (set words (sPlace r) S) (lastPlace r) t) (waitingPlace vci) 0 ≡ getD words (waitingPlace vci) 0
 waiting-kept words r S t vci =

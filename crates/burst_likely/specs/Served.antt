@@ -12,7 +12,7 @@ use lib.ListN.{length, getD, take, drop}
 use Rattle.meaning.specs.declared.Record.{Record}
 use Rattle.meaning.specs.declared.Answer.{Answer}
 use Rattle.meaning.specs.Plain.{Out, next, _andThen_}
-use Rattle.meaning.specs.Numbers.{octets, cellStart, empty, fPlace, waitingPlace}
+use Rattle.meaning.specs.Numbers.{octets, cellStart, unused, connectionPlace, empty, fPlace, waitingPlace}
 use Rattle.meaning.specs.Line.{cellsAllowed}
 use Rattle.meaning.specs.State.{Ends, stateOf}
 use Rattle.meaning.specs.Lists.{endsFit}
@@ -37,7 +37,7 @@ pub record Ready (w : Way) (cells links calendar words : List ℕ) : Type 0 wher
   pub sized : Sized (stateOf (slotRecord w) cells links calendar words)
   pub free-fits : endsFit (w .n) (freeEnds (slotRecord w)) ≡ true
   pub output-fits : endsFit (w .n) (outputEnds (slotRecord w)) ≡ true
-  pub zero-closed : w .rotation ≡ 0 → getD words 0 0 ≡ 0
+  pub unused-closed : unused (w .v) (w .rotation) ≡ true → getD words (connectionPlace (w .rotation)) 0 ≡ 0
 
 -- slot i has its octets and its six numbers
 pub record HandedTo (departures answers : List ℕ) (i : ℕ) : Type 0 where
@@ -115,4 +115,4 @@ ServedOrLeft w cell g cells links calendar words departures answers i =
 abbrev pub wordsFilled : Way → Spot → List ℕ → List ℕ
 wordsFilled w p words =
     filled (p .vci) (p .s + getD words (fPlace (p .vci)) 0) 0 (w .t) (getD words (waitingPlace (p .vci)) 0 + 1)
-    (rotated (slotRecord w) (broughtOf (w .n) (w .t) words (w .rotation)) words)
+    (rotated (slotRecord w) (broughtOf (w .n) (w .v) (w .t) words (w .rotation)) words)

@@ -47,7 +47,7 @@ fn put_turn(words: &mut [u32], rotation: usize, s: u32, last: u32)
     words[b + AT_LAST] = last;
 }
 
-// The words of an accepted cell's VC: S grows by F, and one more waits. It has no second bucket, so that one's S is 0 and stays.
+// The words of an accepted cell's connection: S grows by F, and one more waits. It has no second bucket, so that one's S is 0 and stays.
 fn put_fill(words: &mut [u32], vci: usize, s: u32, t: u32)
     requires { ⌜ (HasConnection vci (now words)) × (s + getD (now words) (fPlace vci) 0 < 4294967296) × (getD (now words) (waitingPlace vci) 0 + 1 < 4294967296)
         × (getD (now words) (secondSPlace vci) 0 ≡ 0) ⌝ }
@@ -60,7 +60,7 @@ fn put_fill(words: &mut [u32], vci: usize, s: u32, t: u32)
     words[b + AT_WAITING] = words[b + AT_WAITING] + 1;
 }
 
-// Waiting of a VC falls by one.
+// Waiting of a connection falls by one.
 fn put_less(words: &mut [u32], vci: usize)
     requires { ⌜ (HasConnection vci (now words)) × (1 ≤ getD (now words) (waitingPlace vci) 0) ⌝ }
     ensures { λ r. ⌜ now (words .exit) ≡ oneLess vci (now (words .entry)) ⌝ }
@@ -431,8 +431,8 @@ fn arrive(
     )
 }
 
-// Slot i of a burst on a likely way, its cell having so many octets. Idle cells, cells of no open VC and excess cells are left
-// to the long way, as is a size that is neither 0 nor 53.
+// Slot i of a burst on a likely way, its cell having so many octets. Idle cells, cells of no open connection and excess cells
+// are left to the long way, as is a size that is neither 0 nor 53.
 pub fn slot(
     w: Way,
     cells: &mut [u8],

@@ -1,4 +1,4 @@
--- An open VC's bucket, as the likely way tests it: F is at least L where F/L is not 0, and C at least F where C-F on 32 bits
+-- An open connection's bucket, as the likely way tests it: F is at least L where F/L is not 0, and C at least F where C-F on 32 bits
 -- is below N×L.
 use Prim.Native.Nat.{ℕ, _+_, _-_, _*_, _/_, _%_, _^_, _≤_, _<_}
 use mathlib.Core.Path.{_≡_}

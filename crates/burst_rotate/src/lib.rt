@@ -1,11 +1,11 @@
-// Step 2 on a likely way: rotation's VC, and how full an open VC's bucket is, which step 3 asks too. A test that fails leaves
+// Step 2 on a likely way: rotation's connection, and how full an open one's bucket is, which step 3 asks too. A test that fails leaves
 // the likely way with everything as it came, and the slot is then served as the call has it: so the order of the tests is
 // free, and nothing here refuses.
 ghost use mathlib.Core.Path.{_≡_};
 ghost use mathlib.Core.Bool.{true, false};
 ghost use Prim.Native.Nat.{_+_, _*_, _≤_};
 ghost use lib.ListN.{length, getD};
-ghost use Rattle.meaning.specs.Numbers.{mostN};
+ghost use Rattle.meaning.specs.Numbers.{mostN, connectionPlace, unused};
 ghost use Rattle.meaning.specs.State.{HasConnection};
 ghost use Rattle.meaning.specs.Words.{connectionAt};
 ghost use Rattle.mem_words.specs.Connections.{hasNone};
@@ -24,14 +24,14 @@ use meaning::AT_SECOND_S;
 use meaning::AT_TAG;
 use meaning::WORDS_PER_CONNECTION;
 
-// An open VC's bucket: ok where its words but waiting are in range and it has no second bucket; S as it has fallen, and C-F.
+// An open connection's bucket: ok where its words but waiting are in range and it has no second bucket; S as it has fallen, and C-F.
 pub struct Bucketed {
     pub ok: bool,
     pub s: u32,
     pub room: u32,
 }
 
-// What step 2 writes to rotation's VC.
+// What step 2 writes to rotation's connection.
 pub struct Turn {
     pub ok: bool,
     pub s: u32,
@@ -48,7 +48,7 @@ fn unmet() -> Bucketed
     }
 }
 
-// Whether a VC has no second bucket, told as `mem_words::none_second` tells it. One that has is left to the long way.
+// Whether a connection has no second bucket, told as `mem_words::none_second` tells it. One that has is left to the long way.
 fn single(words: &[u32], vci: usize) -> bool
     requires { ⌜ HasConnection vci (now words) ⌝ }
     ensures { λ r. ⌜ r ≡ hasNone (connectionAt (now (words .entry)) vci) ⌝ }
@@ -97,9 +97,9 @@ pub fn met(n: usize, words: &[u32], vci: usize, t: u32) -> Bucketed
     }
 }
 
-// Step 2. VC 0 is never open: its words are not read there, so the caller knows that its open word is 0.
+// Step 2. Records 0 and V are no connection's: their words are not read there, so the caller knows that the open word is 0.
 pub fn turned(w: Way, words: &[u32]) -> Turn
-    requires { ⌜ (w .n ≤ mostN) × (HasConnection (w .rotation) (now words)) × (w .rotation ≡ 0 → getD (now words) 0 0 ≡ 0) ⌝ }
+    requires { ⌜ (w .n ≤ mostN) × (HasConnection (w .rotation) (now words)) × (unused (w .v) (w .rotation) ≡ true → getD (now words) (connectionPlace (w .rotation)) 0 ≡ 0) ⌝ }
     ensures { λ r. ⌜ (r .ok ≡ true → Turned (slotRecord w) (now (words .entry)) r) ⌝ }
 {
     let b = WORDS_PER_CONNECTION * w.rotation;

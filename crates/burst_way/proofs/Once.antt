@@ -19,6 +19,7 @@ wayAt r =
       outtail = r .outtail;
       raw = r .raw;
       mode = r .mode;
+      kind = r .kind;
     }
 
 pub way-once : (r : Record) (a b : Way) → slotRecord a ≡ clocked r → slotRecord b ≡ clocked r → a ≡ b

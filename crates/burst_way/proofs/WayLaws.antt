@@ -8,7 +8,7 @@ use native.Mathlib.Nat.{mod-eq-of-lt, mod-self}
 use borrow.Author.Tests.{eqb-true, eqb-false, eq-eqb, ne-eqb}
 use Rattle.meaning.specs.declared.Record.{Record}
 use Rattle.meaning.specs.Plain.{if_then_else_, _=?_}
-use Rattle.meaning.specs.Numbers.{slotNumbers}
+use Rattle.meaning.specs.Numbers.{connectionsIn, slotNumbers}
 use Rattle.slot_plan.specs.Plan.{clocked}
 use Rattle.meaning.specs.State.{recordWith}
 use Rattle.burst_way.specs.declared.Way.{Way}
@@ -62,6 +62,7 @@ at w t turn rotation =
       outtail = w .outtail;
       raw = w .raw;
       mode = w .mode;
+      kind = w .kind;
     }
 
 same-clock : (w : Way) (t t′ turn turn′ rotation rotation′ : ℕ) → t ≡ t′ → turn ≡ turn′ → rotation ≡ rotation′
@@ -69,10 +70,10 @@ same-clock : (w : Way) (t t′ turn turn′ rotation rotation′ : ℕ) → t �
 same-clock w t t′ turn turn′ rotation rotation′ p q r = rw (p, q, r)
 
 -- the slot to come
-pub last-clocked : (w : Way) → w .t < 4294967296 → w .turn < w .n → w .rotation < w .v → clocked (lastRecord w) ≡ slotRecord w
+pub last-clocked : (w : Way) → w .t < 4294967296 → w .turn < w .n → w .rotation < connectionsIn (w .v) → clocked (lastRecord w) ≡ slotRecord w
 unfolding clocked recordWith lastRecord slotNumbers
 last-clocked w t turn rotation =
-    same-clock w _ _ _ _ _ _ (t-back-more (w .t) t) (back-more (w .turn) (w .n) turn) (back-more (w .rotation) (w .v) rotation)
+    same-clock w _ _ _ _ _ _ (t-back-more (w .t) t) (back-more (w .turn) (w .n) turn) (back-more (w .rotation) (connectionsIn (w .v)) rotation)
 
 -- the slot that is over
 next-back : (x n : ℕ) → oneBack (x + 1) n ≡ x
@@ -81,7 +82,7 @@ next-back x n = simp (ne-eqb (x + 1) 0 (λ q. omega arith)) (omega arith)
 pub stepped-last : (w : Way) → w .t < 4294967296 → lastRecord (steppedWay w) ≡ slotRecord w
 unfolding lastRecord slotNumbers
 stepped-last w t =
-    same-clock w _ _ _ _ _ _ (t-more-back (w .t) t) (next-back (w .turn) (w .n)) (next-back (w .rotation) (w .v))
+    same-clock w _ _ _ _ _ _ (t-more-back (w .t) t) (next-back (w .turn) (w .n)) (next-back (w .rotation) (connectionsIn (w .v)))
 
 -- stepping round
 round-back : (x n : ℕ) → 1 ≤ n → oneBack (if x =? n then 0 else x) n ≡ oneBack x n
@@ -93,22 +94,22 @@ round-back x n low = go (x =? n) refl
         sym (simp (ne-eqb x 0 (λ q. omega (arith, z))) (omega (arith, z)))
     go false e = refl
 
-pub rounded-last : (w : Way) → 1 ≤ w .n → 1 ≤ w .v → lastRecord (roundedWay w) ≡ lastRecord w
+pub rounded-last : (w : Way) → 1 ≤ w .n → lastRecord (roundedWay w) ≡ lastRecord w
 unfolding lastRecord slotNumbers
-rounded-last w n v =
-    same-clock w _ _ _ _ _ _ refl (round-back (w .turn) (w .n) n) (round-back (w .rotation) (w .v) v)
+rounded-last w n =
+    same-clock w _ _ _ _ _ _ refl (round-back (w .turn) (w .n) n) (round-back (w .rotation) (connectionsIn (w .v)) (omega arith))
 
 -- a record's way leads back to it
-pub way-last : (w : Way) (t turn rotation : ℕ) → w .t ≡ (t + 1) % 4294967296 → w .turn ≡ (turn + 1) % w .n → w .rotation ≡ (rotation + 1) % w .v
+pub way-last : (w : Way) (t turn rotation : ℕ) → w .t ≡ (t + 1) % 4294967296 → w .turn ≡ (turn + 1) % w .n → w .rotation ≡ (rotation + 1) % connectionsIn (w .v)
     → t < 4294967296
     → turn < w .n
-    → rotation < w .v
+    → rotation < connectionsIn (w .v)
     → lastRecord w ≡ at w t turn rotation
 unfolding lastRecord slotNumbers
 way-last w t turn rotation p q r low₁ low₂ low₃ =
     same-clock w _ _ _ _ _ _ (ap (λ (x : ℕ). (x + 4294967295) % 4294967296) p ∙ t-more-back t low₁)
     (ap (λ (x : ℕ). oneBack x (w .n)) q ∙ more-back turn (w .n) low₂)
-    (ap (λ (x : ℕ). oneBack x (w .v)) r ∙ more-back rotation (w .v) low₃)
+    (ap (λ (x : ℕ). oneBack x (connectionsIn (w .v))) r ∙ more-back rotation (connectionsIn (w .v)) low₃)
 
 -- one less on the clock that wraps, as the subtraction gives it
 pub t-back : (r t : ℕ) → r < 4294967296 → (r + 1) % 4294967296 ≡ t → r ≡ (t + 4294967295) % 4294967296

@@ -5,7 +5,7 @@
 use Prim.Native.Nat.{ℕ, _+_, _-_, _%_, _≤_}
 use Rattle.meaning.specs.declared.Record.{Record}
 use Rattle.meaning.specs.Plain.{if_then_else_, _=?_}
-use Rattle.meaning.specs.Numbers.{mostN, mostV, slotNumbers, empty}
+use Rattle.meaning.specs.Numbers.{mostN, mostV, connectionsIn, slotNumbers, empty}
 use Rattle.burst_way.specs.declared.Way.{Way}
 
 abbrev pub wayWith : Way → ℕ → ℕ → ℕ → ℕ → ℕ → ℕ → ℕ → Way
@@ -22,6 +22,7 @@ wayWith w t turn rotation freehead freetail outhead outtail =
       outtail = outtail;
       raw = w .raw;
       mode = w .mode;
+      kind = w .kind;
     }
 
 abbrev recordAt : Way → ℕ → ℕ → ℕ → Record
@@ -38,6 +39,7 @@ recordAt w t turn rotation =
       outtail = w .outtail;
       raw = w .raw;
       mode = w .mode;
+      kind = w .kind;
     }
 
 abbrev pub slotRecord : Way → Record
@@ -49,9 +51,9 @@ oneBack x n = if x =? 0 then n - 1 else x - 1
 
 unfoldable pub lastRecord : Way → Record
 lastRecord w =
-    recordAt w ((w .t + (slotNumbers - 1)) % slotNumbers) (oneBack (w .turn) (w .n)) (oneBack (w .rotation) (w .v))
+    recordAt w ((w .t + (slotNumbers - 1)) % slotNumbers) (oneBack (w .turn) (w .n)) (oneBack (w .rotation) (connectionsIn (w .v)))
 
--- a slot is over; T and rotation may then stand at N and V
+-- a slot is over; T and rotation may then stand at N and V + 256
 abbrev pub steppedWay : Way → Way
 steppedWay w =
     wayWith w ((w .t + 1) % slotNumbers) (w .turn + 1) (w .rotation + 1) (w .freehead) (w .freetail) (w .outhead) (w .outtail)
@@ -59,16 +61,15 @@ steppedWay w =
 -- T and rotation step round
 abbrev pub roundedWay : Way → Way
 roundedWay w =
-    wayWith w (w .t) (if w .turn =? w .n then 0 else w .turn) (if w .rotation =? w .v then 0 else w .rotation) (w .freehead) (w .freetail) (w .outhead) (w .outtail)
+    wayWith w (w .t) (if w .turn =? w .n then 0 else w .turn) (if w .rotation =? connectionsIn (w .v) then 0 else w .rotation) (w .freehead) (w .freetail) (w .outhead) (w .outtail)
 
 -- what fits into a record's narrower numbers
 pub record Fits (w : Way) : Type 0 where
   pub n-low : 1 ≤ w .n
   pub n-high : w .n ≤ mostN
-  pub v-low : 1 ≤ w .v
   pub v-high : w .v ≤ mostV
   pub turn-low : w .turn ≤ w .n
-  pub rotation-low : w .rotation ≤ w .v
+  pub rotation-low : w .rotation ≤ connectionsIn (w .v)
   pub freehead-low : w .freehead ≤ empty
   pub freetail-low : w .freetail ≤ empty
   pub outhead-low : w .outhead ≤ empty

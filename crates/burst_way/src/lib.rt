@@ -3,9 +3,10 @@
 ghost use mathlib.Core.Path.{_≡_};
 ghost use Prim.Native.Nat.{_+_, _%_, _≤_, _<_};
 ghost use Rattle.meaning.specs.Plain.{if_then_else_, _=?_};
-ghost use Rattle.meaning.specs.Numbers.{mostN, mostV};
+ghost use Rattle.meaning.specs.Numbers.{mostN, mostV, connectionsIn};
 ghost use Rattle.slot_plan.specs.Plan.{clocked};
 ghost use Rattle.burst_way.specs.Way.{wayWith, oneBack, slotRecord, lastRecord, steppedWay, roundedWay, Fits};
+use meaning::PATHS;
 use meaning::Record;
 
 // t, T and rotation are those of the slot to come.
@@ -21,6 +22,7 @@ pub struct Way {
     pub outtail: usize,
     pub raw: u16,
     pub mode: u16,
+    pub kind: u16,
 }
 
 // The same policer with another clock and other ends of its two lists: whatever else a way holds is kept here, in one place.
@@ -48,12 +50,21 @@ fn way_with(
         outtail: outtail,
         raw: w.raw,
         mode: w.mode,
+        kind: w.kind,
     }
+}
+
+// How many connections there are, the two that are none counted: rotation goes over all.
+pub fn connections(v: usize) -> usize
+    requires { ⌜ v ≤ mostV ⌝ }
+    ensures { λ r. ⌜ r ≡ connectionsIn v ⌝ }
+{
+    v + (PATHS as usize)
 }
 
 // One more, modulo n, without a division.
 fn after(x: usize, n: usize) -> usize
-    requires { ⌜ (x < n) × (n ≤ mostN) ⌝ }
+    requires { ⌜ x < n ⌝ }
     ensures { λ r. ⌜ r ≡ (x + 1) % n ⌝ }
 {
     let y = x + 1;
@@ -71,14 +82,15 @@ fn one_back(x: usize, n: usize) -> usize
 
 // A record's way: n is its N in a wide number.
 pub fn way_of(r: Record, n: usize) -> Way
-    requires { ⌜ (n ≡ r .n) × (r .n ≤ mostN) × (r .v ≤ mostV) × (r .turn < r .n) × (r .rotation < r .v) ⌝ }
+    requires { ⌜ (n ≡ r .n) × (r .n ≤ mostN) × (r .v ≤ mostV) × (r .turn < r .n) × (r .rotation < connectionsIn (r .v)) ⌝ }
     ensures slot { λ w. ⌜ slotRecord w ≡ clocked r ⌝ }
     ensures last { λ w. ⌜ lastRecord w ≡ r ⌝ }
 {
     let v = r.v as usize;
     let t = std::num::wrapping_add_u32(r.t, 1);
     let turn = after(r.turn as usize, n);
-    let rotation = after(r.rotation as usize, v);
+    let all = connections(v);
+    let rotation = after(r.rotation as usize, all);
     Way {
         n: n,
         v: v,
@@ -91,6 +103,7 @@ pub fn way_of(r: Record, n: usize) -> Way
         outtail: r.outtail as usize,
         raw: r.raw,
         mode: r.mode,
+        kind: r.kind,
     }
 }
 
@@ -101,7 +114,8 @@ pub fn record_of(w: Way) -> Record
 {
     let t = std::num::wrapping_sub_u32(w.t, 1);
     let turn = one_back(w.turn, w.n);
-    let rotation = one_back(w.rotation, w.v);
+    let all = connections(w.v);
+    let rotation = one_back(w.rotation, all);
     Record {
         n: w.n as u16,
         v: w.v as u16,
@@ -114,12 +128,13 @@ pub fn record_of(w: Way) -> Record
         outtail: w.outtail as u16,
         raw: w.raw,
         mode: w.mode,
+        kind: w.kind,
     }
 }
 
-// A slot is over. T and rotation may stand at N and V: a run ends there.
+// A slot is over. T and rotation may stand at N and V + 256: a run ends there.
 pub fn stepped(w: Way) -> Way
-    requires { ⌜ (w .turn < w .n) × (w .rotation < w .v) × (w .n ≤ mostN) × (w .v ≤ mostV) ⌝ }
+    requires { ⌜ (w .turn < w .n) × (w .rotation < connectionsIn (w .v)) × (w .n ≤ mostN) × (w .v ≤ mostV) ⌝ }
     ensures { λ s. ⌜ s ≡ steppedWay w ⌝ }
 {
     let t = std::num::wrapping_add_u32(w.t, 1);
@@ -144,12 +159,14 @@ fn round(x: usize, n: usize) -> usize
     if x == n { 0 } else { x }
 }
 
-// T and rotation step round where they stand at N and V.
+// T and rotation step round where they stand at N and V + 256.
 pub fn rounded(w: Way) -> Way
+    requires { ⌜ w .v ≤ mostV ⌝ }
     ensures { λ r. ⌜ r ≡ roundedWay w ⌝ }
 {
     let turn = round(w.turn, w.n);
-    let rotation = round(w.rotation, w.v);
+    let all = connections(w.v);
+    let rotation = round(w.rotation, all);
     way_with(
         w,
         w.t,

@@ -2,16 +2,16 @@
 -- 9: it is served, or refused with 3.
 use Prim.Native.Nat.{ℕ, _+_, _*_, _%_, _≤_, _<_}
 use mathlib.Core.Path.{_≡_, refl, _∙_}
-use mathlib.Core.Bool.{Bool, true, false, not, _&&_, _||_}
+use mathlib.Core.Bool.{Bool, true, false, not, _&&_}
 use mathlib.Core.List.{List}
 use native.Mathlib.Omega.{arith}
 use borrow.Author.Tests.{eqb-false, not-true}
 use lib.ListN.{length, set, length-set}
 use Rattle.meaning.specs.Plain.{if_then_else_, _<?_, _≤?_, _=?_, refused, _andThen_}
-use Rattle.meaning.specs.Numbers.{cellStart, empty, excess, unknown, wordsPerConnection}
+use Rattle.meaning.specs.Numbers.{cellStart, connectionsIn, unused, kindFits, empty, excess, unknown, wordsIn}
 use Rattle.meaning.specs.State.{Ends, freeList, outputList, withRecord, withCells, withLinks, withCalendar, withWords}
 use Rattle.meaning.specs.State.{recordWith, withClock, withFreeList, withOutputList}
-use Rattle.meaning.specs.Header.{headerAt, noUserCell, namesConnection, namesOpen}
+use Rattle.meaning.specs.Header.{headerAt, clpIn, noUserCell, connection, namesConnection, namesOpen}
 use Rattle.meaning.specs.Bucket.{delay}
 use Rattle.meaning.specs.Words.{Connection, connectionAt, openWordFits, upToDate}
 use Rattle.meaning.specs.Lists.{isEmpty, endsFit, entryAt, Taken, takeHead, Grown, joinHead, joinTail, addTail}
@@ -51,10 +51,6 @@ tail-links links e more = go (isEmpty e)
     go true = refl
     go false = length-set links (e .tail) (more .head)
 
-neither : (a b : Bool) → a || b ≡ false → a ≡ false
-neither true b e = e
-neither false b e = refl
-
 module _ (N z : ℕ) where
   pub record Long (w : Work) : Type 0 where
     pub n-is : w .state .ctl .n ≡ N
@@ -62,13 +58,13 @@ module _ (N z : ℕ) where
     pub cells-long : length (w .state .cells) ≡ 53 * N
     pub links-long : length (w .state .links) ≡ N
     pub calendar-long : length (w .state .calendar) ≡ 2 * N
-    pub words-long : length (w .state .words) ≡ wordsPerConnection * z
+    pub words-long : length (w .state .words) ≡ wordsIn z
 
   step1-long : (w : Work) → Long w → AllOut Long (step1 w)
   unfolding step1 withClock withRecord recordWith
   step1-long w h =
       let c = w .state .ctl in
-      needs-all Long (c .turn <? c .n && c .rotation <? c .v) _
+      needs-all Long (c .turn <? c .n && c .rotation <? connectionsIn (c .v)) _
       (λ _. record { n-is = h .n-is; v-is = h .v-is; cells-long = h .cells-long; links-long = h .links-long; calendar-long = h .calendar-long; words-long = h .words-long })
 
   step2-long : (w : Work) → Long w → AllOut Long (step2 w)
@@ -76,7 +72,7 @@ module _ (N z : ℕ) where
   step2-long w h =
       let s = w .state in
       let vc = connectionAt (s .words) (s .ctl .rotation) in
-      if-all Long (s .ctl .rotation =? 0) _ _ (λ _. h)
+      if-all Long (unused (s .ctl .v) (s .ctl .rotation)) _ _ (λ _. h)
       (λ _. needs-all Long (openWordFits vc) _
       (λ _. if-all Long (vc .opened =? 0) _ _ (λ _. h)
       (λ _. any-all Long (upToDate (s .ctl .n) (s .ctl .t) vc) _
@@ -86,7 +82,7 @@ module _ (N z : ℕ) where
   unfolding judge accept place withWords withCells withLinks withCalendar withFreeList withRecord recordWith
   judge-long cell v w h c vc =
       let s = w .state in
-      let verdict = verdictOn (headerAt cell 0 .clp) vc in
+      let verdict = verdictOn (clpIn cell) vc in
       if-all Long (verdict =? excess) _ _
       (λ _. record { n-is = h .n-is; v-is = h .v-is; cells-long = h .cells-long; links-long = h .links-long; calendar-long = h .calendar-long; words-long = write-length (s .words) v _ ∙ h .words-long })
       (λ _. needs-all Long (vc .waiting <? s .ctl .n) _
@@ -110,16 +106,19 @@ module _ (N z : ℕ) where
   unfolding step3
   step3-long cell c w h =
       let s = w .state in
-      let a = headerAt cell 0 in
-      let vc = connectionAt (s .words) (a .vci) in
-      if-all Long (length cell =? 0 || noUserCell a) _ _ (λ _. h)
-      (λ e. if-all Long (not (namesConnection (s .ctl .v) a)) _ _ (λ _. same)
+      let a = headerAt (s .ctl .kind) cell 0 in
+      let at = connection (s .ctl .v) a in
+      let vc = connectionAt (s .words) at in
+      if-all Long (length cell =? 0) _ _ (λ _. h)
+      (λ e. needs-all Long (kindFits (s .ctl .kind)) _
+      (λ _. if-all Long (noUserCell a) _ _ (λ _. h)
+      (λ _. if-all Long (not (namesConnection (s .ctl .v) a)) _ _ (λ _. same)
       (λ _. needs-all Long (openWordFits vc) _
       (λ _. if-all Long (vc .opened =? 0) _ _ (λ _. same)
       (λ _. any-all Long (upToDate (s .ctl .n) (s .ctl .t) vc) _
-      (judge-long cell (a .vci) w h (c (eqb-false (length cell) 0 (neither (length cell =? 0) (noUserCell a) e))))))))
+      (judge-long cell at w h (c (eqb-false (length cell) 0 e)))))))))
     where
-      same : Long (withArrival w unknown (headerAt cell 0 .vci) 0)
+      same : Long (withArrival w unknown (headerAt (w .state .ctl .kind) cell 0 .vci) 0)
       same = record { n-is = h .n-is; v-is = h .v-is; cells-long = h .cells-long; links-long = h .links-long; calendar-long = h .calendar-long; words-long = h .words-long }
 
   step4-long : (w : Work) → Long w → AllOut Long (step4 w)
@@ -144,9 +143,9 @@ module _ (N z : ℕ) where
       let s = w .state in
       if-all Long (isEmpty (outputList s)) _ _ (λ _. h)
       (λ _. any-all Long (takeHead (s .ctl .n) (s .links) (outputList s)) _
-      (λ taken. let a = headerAt (s .cells) (cellStart (taken .space)) in
-      let vc = connectionAt (s .words) (a .vci) in
-      needs-all Long (namesOpen (s .ctl .v) (s .words) a) _
+      (λ taken. let a = headerAt (s .ctl .kind) (s .cells) (cellStart (taken .space)) in
+      let vc = connectionAt (s .words) (connection (s .ctl .v) a) in
+      needs-all Long (kindFits (s .ctl .kind) && namesOpen (s .ctl .v) (s .words) a) _
       (λ _. needs-all Long (1 ≤? vc .waiting && vc .waiting ≤? s .ctl .n) _
       (λ _. needs-all Long (endsFit (s .ctl .n) (freeList s)) _
       (λ _. record {
@@ -155,7 +154,7 @@ module _ (N z : ℕ) where
         cells-long = h .cells-long;
         links-long = tail-links (s .links) (freeList s) (record { head = taken .space; tail = taken .space }) ∙ h .links-long;
         calendar-long = h .calendar-long;
-        words-long = write-length (s .words) (a .vci) _ ∙ h .words-long;
+        words-long = write-length (s .words) (connection (s .ctl .v) a) _ ∙ h .words-long;
       })))))
 
   pub five-long : (cell : List ℕ) → ((length cell ≡ 0 → ⊥) → length cell ≡ 53) → (w : Work) → Long w → AllOut Long (fiveSteps cell w)

@@ -12,11 +12,12 @@ use lib.ListN.{length, getD, drop, length-drop}
 use lib.Seq.{length-take-le}
 use Rattle.meaning.specs.declared.Record.{Record}
 use Rattle.meaning.specs.Plain.{if_then_else_, _<?_, _≤?_, _=?_, Out, next}
-use Rattle.meaning.specs.Numbers.{rangesHold, slotNumbers, wordsPerConnection}
+use Rattle.meaning.specs.Numbers.{rangesHold, connectionsIn, unused, slotNumbers, wordsIn}
 use Rattle.meaning.specs.State.{State, Ends, stateOf, recordWith, lengthsHold, wordsLong}
 use Rattle.meaning.specs.Work.{Work, workOf}
 use Rattle.meaning.specs.Slot.{uncheckedSlot, slot, finish}
 use Rattle.meaning.proofs.CheckedLaws.{not-raw}
+use Rattle.meaning.proofs.NamesLaws.{used-is}
 use Rattle.meaning.specs.Lists.{endsFit}
 use Rattle.slot_plan.proofs.Found.{no}
 use Rattle.slot_plan.specs.Plan.{clocked, withEnds, freeEnds, outputEnds}
@@ -64,7 +65,7 @@ shape-none r cells links calendar words cell z long =
       eq-eqb (length cells) (53 * r .n) (z .cells-long),
       eq-eqb (length links) (r .n) (z .links-long),
       eq-eqb (length calendar) (2 * r .n) (z .calendar-long),
-      eq-eqb (length words) (wordsPerConnection * r .v) (z .words-long),
+      eq-eqb (length words) (wordsIn (r .v)) (z .words-long),
       lengths long,
     )
   where
@@ -82,7 +83,7 @@ module _ (arrivals : List ℕ) (size : ℕ) (w : Way) (cells links calendar word
   abbrev cell : List ℕ
   cell = cellLent arrivals i size
 
-  module _ (z : Shaped (slotRecord w) cells links calendar words) (t-low : w .t < 4294967296) (turn : w .turn < w .n) (rotation : w .rotation < w .v) (raw : w .raw ≡ 0) (room : 53 * i + 53 ≤ length arrivals) (fits : (size ≡ 0) ⊎ (size ≡ 53)) where
+  module _ (z : Shaped (slotRecord w) cells links calendar words) (t-low : w .t < 4294967296) (turn : w .turn < w .n) (rotation : w .rotation < connectionsIn (w .v)) (raw : w .raw ≡ 0) (room : 53 * i + 53 ≤ length arrivals) (fits : (size ≡ 0) ⊎ (size ≡ 53)) where
     shaped : Shaped r cells links calendar words
     unfolding lastRecord
     shaped = record { n-low = z .n-low; n-high = z .n-high; v-low = z .v-low; v-high = z .v-high; cells-long = z .cells-long; links-long = z .links-long; calendar-long = z .calendar-long; words-long = z .words-long }
@@ -99,11 +100,11 @@ module _ (arrivals : List ℕ) (size : ℕ) (w : Way) (cells links calendar word
         go true e = omega arith
         go false e = omega arith
 
-    before-rotation : r .rotation < r .v
+    before-rotation : r .rotation < connectionsIn (r .v)
     unfolding lastRecord
     before-rotation = go (w .rotation =? 0) refl
       where
-        go : (b : Bool) → (w .rotation =? 0) ≡ b → (if b then w .v - 1 else w .rotation - 1) < w .v
+        go : (b : Bool) → (w .rotation =? 0) ≡ b → (if b then connectionsIn (w .v) - 1 else w .rotation - 1) < connectionsIn (w .v)
         go true e = omega arith
         go false e = omega arith
 
@@ -161,7 +162,7 @@ module _ (arrivals sizes : List ℕ) (stop i : ℕ) (w : Way) (cells links calen
   unfolding withEnds recordWith
   output-same = same Ends outputEnds
 
-  pub before-step : (w′ .turn < w′ .n) × (w′ .rotation < w′ .v) × (w′ .n ≤ 1024) × (w′ .v ≤ 1024)
+  pub before-step : (w′ .turn < w′ .n) × (w′ .rotation < connectionsIn (w′ .v)) × (w′ .n ≤ 1024) × (w′ .v ≤ 1024)
   before-step =
       (omega (arith, turn-same, n-same, room .turn-room), omega (arith, rotation-same, v-same, room .rotation-room), omega (arith, n-same, held .shaped .n-high), omega (arith, v-same, held .shaped .v-high))
 
@@ -189,12 +190,19 @@ module _ (arrivals sizes : List ℕ) (stop i : ℕ) (w : Way) (cells links calen
         not-raw = raw-same ∙ held .not-raw;
       }
 
+  -- record V is the first of its run, as record 0 is
+  used-next : 0 < stop - (i + 1) → unused (w′ .v) (w′ .rotation + 1) ≡ false
+  used-next k =
+      used-is (w′ .v) (w′ .rotation + 1) (λ e. omega (arith, e))
+      (λ e. let part = room .part-room (omega (arith, e, rotation-same, v-same)) in omega (arith, e, rotation-same, v-same, part, k))
+
   pub next-room : Room (steppedWay w′) words′ (stop - (i + 1))
   next-room =
       record {
         turn-room = omega (arith, turn-same, n-same, room .turn-room);
         rotation-room = omega (arith, rotation-same, v-same, room .rotation-room);
-        zero-closed = λ k e. absurd (omega (arith, e));
+        part-room = λ low′. let part = room .part-room (omega (arith, low′, rotation-same, v-same)) in omega (arith, rotation-same, v-same, part);
+        unused-closed = λ k e. no (sym (used-next k) ∙ e);
       }
 
   pub next-rest : slots arrivals (drop (i + 1) sizes) (wayStretch (steppedWay w′) cells′ links′ calendar′ words′ departures′ answers′ (i + 1))
@@ -240,9 +248,9 @@ round-low x n most low = go (x =? n) refl
     go false e = let ne = eqb-false x n e in omega (arith, ne)
 
 module _ (w : Way) (cells links calendar words : List ℕ) (h : Held w cells links calendar words) where
-  pub rounded-low : (roundedWay w .turn < w .n) × (roundedWay w .rotation < w .v)
+  pub rounded-low : (roundedWay w .turn < w .n) × (roundedWay w .rotation < connectionsIn (w .v))
   rounded-low =
-      (round-low (w .turn) (w .n) (h .turn-most) (h .shaped .n-low), round-low (w .rotation) (w .v) (h .rotation-most) (omega (arith, h .shaped .v-low)))
+      (round-low (w .turn) (w .n) (h .turn-most) (h .shaped .n-low), round-low (w .rotation) (connectionsIn (w .v)) (h .rotation-most) (omega arith))
 
   pub rounded-held : Held (roundedWay w) cells links calendar words
   rounded-held =
@@ -262,7 +270,7 @@ module _ (w : Way) (cells links calendar words : List ℕ) (h : Held w cells lin
       ≡ slots arrivals (drop i sizes) (wayStretch w cells links calendar words departures answers i)
   rounded-rest arrivals sizes departures answers i =
       ap (λ (r : Record). slots arrivals (drop i sizes) (stretchOf (stateOf r cells links calendar words) departures answers 0 i))
-      (rounded-last w (h .shaped .n-low) (omega (arith, h .shaped .v-low)))
+      (rounded-last w (h .shaped .n-low))
 
 -- how far the runs have come: where they began (₀), and where they are
 pub record Going (arrivals sizes : List ℕ) (begin : ℕ) (cells₀ links₀ calendar₀ words₀ departures₀ answers₀ : List ℕ) (f₀ : Far) (cells links calendar words departures answers : List ℕ) (f : Far) : Type 0 where
@@ -289,7 +297,7 @@ module _ (r : Record) (cells links calendar words : List ℕ) (z : Shaped r cell
   of : (A : Type 0) (f : Record → A) → f (slotRecord w) ≡ f (clocked r)
   of A f = ap f e
 
-  pub way-low : (w .turn < w .n) × (w .rotation < w .v)
+  pub way-low : (w .turn < w .n) × (w .rotation < connectionsIn (w .v))
   unfolding clocked recordWith
   way-low =
       let n = of ℕ (λ x. x .n) in
@@ -297,7 +305,7 @@ module _ (r : Record) (cells links calendar words : List ℕ) (z : Shaped r cell
       let turn = of ℕ (λ x. x .turn) in
       let rotation = of ℕ (λ x. x .rotation) in
       let a : (r .turn + 1) % r .n < r .n = mod-lt (r .turn + 1) (omega (arith, z .n-low)) in
-      let b : (r .rotation + 1) % r .v < r .v = mod-lt (r .rotation + 1) (omega (arith, z .v-low)) in
+      let b : (r .rotation + 1) % connectionsIn (r .v) < connectionsIn (r .v) = mod-lt (r .rotation + 1) (omega arith) in
       (omega (arith, n, turn, a), omega (arith, v, rotation, b))
 
   pub way-held : Held w cells links calendar words
@@ -350,7 +358,6 @@ module _ (w : Way) (cells links calendar words : List ℕ) (h : Held w cells lin
       record {
         n-low = z .n-low;
         n-high = z .n-high;
-        v-low = omega (arith, z .v-low);
         v-high = z .v-high;
         turn-low = h .turn-most;
         rotation-low = h .rotation-most;
@@ -375,7 +382,7 @@ fit-shaped s f =
     let v2 = both-true (1 ≤? N && N ≤? 1024 && 2 ≤? z) (z ≤? 1024) (f .ranges) in
     let v1 = both-true (1 ≤? N && N ≤? 1024) (2 ≤? z) (v2 .0) in
     let n2 = both-true (1 ≤? N) (N ≤? 1024) (v1 .0) in
-    let w = both-true (length (s .cells) =? 53 * N && length (s .links) =? N && length (s .calendar) =? 2 * N) (length (s .words) =? wordsPerConnection * z) (f .lengths) in
+    let w = both-true (length (s .cells) =? 53 * N && length (s .links) =? N && length (s .calendar) =? 2 * N) (length (s .words) =? wordsIn z) (f .lengths) in
     let c = both-true (length (s .cells) =? 53 * N && length (s .links) =? N) (length (s .calendar) =? 2 * N) (w .0) in
     let l = both-true (length (s .cells) =? 53 * N) (length (s .links) =? N) (c .0) in
     record {

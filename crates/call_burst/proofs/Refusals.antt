@@ -10,7 +10,7 @@ use native.Mathlib.Decide.{ℕ-discrete}
 use borrow.Author.Tests.{eq-eqb, ne-eqb, eqb-true}
 use lib.ListN.{length}
 use Rattle.meaning.specs.Plain.{if_then_else_, _=?_}
-use Rattle.meaning.specs.Numbers.{rangesHold, octets, perEntry, wordsPerConnection}
+use Rattle.meaning.specs.Numbers.{rangesHold, octets, perEntry, wordsIn}
 use Rattle.meaning.specs.State.{State}
 use Rattle.leaf_refusal.specs.Order.{refuseOf, firstOf}
 use Rattle.leaf_refusal.proofs.Two.{two-given, two-none}
@@ -45,7 +45,7 @@ unfolding lengthsFit
 lent-all N z cells links calendar words arrivals sizes departures answers e =
     let a = length arrivals =? octets * length sizes in
     let d = length departures =? octets * length sizes in
-    let four = cells =? octets * N && links =? N && calendar =? perEntry * N && words =? wordsPerConnection * z in
+    let four = cells =? octets * N && links =? N && calendar =? perEntry * N && words =? wordsIn z in
     let p = both-true (four && a && d) (length answers =? answerLong * length sizes) e in
     let q = both-true (four && a) d (p .0) in
     record {

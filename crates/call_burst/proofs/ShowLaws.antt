@@ -8,7 +8,7 @@ use native.Mathlib.Omega.{arith}
 use borrow.Author.Tests.{eqb-true, leb-true}
 use lib.ListN.{length}
 use Rattle.meaning.specs.Plain.{_≤?_, _=?_}
-use Rattle.meaning.specs.Numbers.{rangesHold, octets, perEntry, wordsPerConnection, empty, mostN, leastV, mostV}
+use Rattle.meaning.specs.Numbers.{rangesHold, octets, perEntry, empty, mostN, leastV, mostV}
 use Rattle.meaning.specs.State.{State, lengthsHold, wordsLong}
 use Rattle.meaning.specs.Work.{Work}
 use Rattle.burst_out.specs.Handout.{Shows}

@@ -9,7 +9,7 @@ use native.Mathlib.Omega.{arith}
 use borrow.Author.Tests.{eq-eqb, ne-eqb, eqb-true}
 use lib.ListN.{length, length-take, length-drop}
 use Rattle.meaning.specs.Plain.{if_then_else_, _=?_, Out, refused, next}
-use Rattle.meaning.specs.Numbers.{rangesHold, octets, wordsPerConnection}
+use Rattle.meaning.specs.Numbers.{rangesHold, octets, wordsIn}
 use Rattle.meaning.specs.State.{State, wordsLong, lengthsHold, withRecord, recordInMode, withMode}
 use Rattle.meaning.specs.Work.{Work, workOf, bareAnswer}
 use Rattle.meaning.specs.Slot.{finish, uncheckedSlot, slot}
@@ -36,7 +36,7 @@ lengths-plain : (s : State) → lengthsHold (s .ctl .n) (s .ctl .v) (s .cells) (
 unfolding lengthsHold wordsLong
 lengths-plain s e =
     let N = s .ctl .n in
-    let w = both-true (length (s .cells) =? 53 * N && length (s .links) =? N && length (s .calendar) =? 2 * N) (length (s .words) =? wordsPerConnection * s .ctl .v) e in
+    let w = both-true (length (s .cells) =? 53 * N && length (s .links) =? N && length (s .calendar) =? 2 * N) (length (s .words) =? wordsIn (s .ctl .v)) e in
     let c = both-true (length (s .cells) =? 53 * N && length (s .links) =? N) (length (s .calendar) =? 2 * N) (w .0) in
     let l = both-true (length (s .cells) =? 53 * N) (length (s .links) =? N) (c .0) in
     record {
@@ -186,7 +186,7 @@ pub fit-burst : (s : State) (a d n : ℕ) (sizes : ℕ) → rangesHold (s .ctl .
 unfolding lengthsFit lengthsHold wordsLong
 fit-burst s a d n sizes r e =
     let N = s .ctl .n in
-    let four = length (s .cells) =? 53 * N && length (s .links) =? N && length (s .calendar) =? 2 * N && length (s .words) =? wordsPerConnection * s .ctl .v in
+    let four = length (s .cells) =? 53 * N && length (s .links) =? N && length (s .calendar) =? 2 * N && length (s .words) =? wordsIn (s .ctl .v) in
     let x = both-true (four && a =? 53 * sizes && d =? 53 * sizes) (n =? 6 * sizes) e in
     let y = both-true (four && a =? 53 * sizes) (d =? 53 * sizes) (x .0) in
     let m = both-true four (a =? 53 * sizes) (y .0) in

@@ -5,7 +5,7 @@ use mathlib.Core.Bool.{Bool, not, _&&_, _||_}
 use mathlib.Core.List.{List, [], _∷_}
 use lib.ListN.{length, getD, take, drop}
 use Rattle.meaning.specs.Plain.{if_then_else_, _=?_}
-use Rattle.meaning.specs.Numbers.{rangesHold, octets, perEntry, wordsPerConnection, cellStart}
+use Rattle.meaning.specs.Numbers.{rangesHold, octets, perEntry, wordsIn, cellStart}
 use Rattle.meaning.specs.State.{State}
 use Rattle.meaning.specs.Work.{Work}
 use Rattle.meaning.specs.Slot.{slot}
@@ -62,7 +62,7 @@ slots arrivals (size ∷ sizes) b =
 -- buffers of these lengths, for N, V and so many sizes: the four memories, arrivals, departures and answers
 unfoldable pub lengthsFit : ℕ → ℕ → ℕ → ℕ → ℕ → ℕ → ℕ → ℕ → ℕ → ℕ → Bool
 lengthsFit N z cells links calendar words arrivals sizes departures answers =
-    cells =? octets * N && links =? N && calendar =? perEntry * N && words =? wordsPerConnection * z
+    cells =? octets * N && links =? N && calendar =? perEntry * N && words =? wordsIn z
     && arrivals =? octets * sizes && departures =? octets * sizes && answers =? answerLong * sizes
 
 -- "Refusals, in this order: 1; 2 if one of the four memories, or arrivals, departures or answers for so many sizes, has

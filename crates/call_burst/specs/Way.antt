@@ -2,15 +2,16 @@
 --
 --   Shaped r ..       == refusals 1 and 2 are not given
 --   Tries r           == the likely ways may be tried from this record on
---   Held w ..         == what every slot keeps; T and rotation may stand at N and V, where a run has ended
---   Room w words k    == a run of k slots: neither T nor rotation steps round before it ends, and VC 0 is not open
+--   Held w ..         == what every slot keeps; T and rotation may stand at N and V + 256, where a run has ended
+--   Room w words k    == a run of k slots: neither T nor rotation steps round before it ends, nor does rotation come from the VCs to
+--                        the paths; and a record that is no connection's, its first at most, is not open
 use Prim.Native.Nat.{ℕ, _+_, _-_, _*_, _≤_, _<_}
 use mathlib.Core.Path.{_≡_}
 use mathlib.Core.Bool.{true}
 use mathlib.Core.List.{List}
 use lib.ListN.{length, getD, drop}
 use Rattle.meaning.specs.declared.Record.{Record}
-use Rattle.meaning.specs.Numbers.{mostN, leastV, mostV, octets, perEntry, wordsIn, slotNumbers}
+use Rattle.meaning.specs.Numbers.{mostN, leastV, mostV, octets, perEntry, connectionPlace, connectionsIn, unused, wordsIn, slotNumbers}
 use Rattle.meaning.specs.State.{State, stateOf}
 use Rattle.meaning.specs.Lent.{Slice, Lent}
 use Rattle.meaning.specs.Lists.{endsFit}
@@ -32,7 +33,7 @@ pub record Shaped (r : Record) (cells links calendar words : List ℕ) : Type 0 
 pub record Tries (r : Record) : Type 0 where
   pub not-raw : r .raw ≡ 0
   pub turn-low : r .turn < r .n
-  pub rotation-low : r .rotation < r .v
+  pub rotation-low : r .rotation < connectionsIn (r .v)
   pub free-fits : endsFit (r .n) (freeEnds r) ≡ true
   pub output-fits : endsFit (r .n) (outputEnds r) ≡ true
 
@@ -40,15 +41,16 @@ pub record Held (w : Way) (cells links calendar words : List ℕ) : Type 0 where
   pub shaped : Shaped (slotRecord w) cells links calendar words
   pub t-low : w .t < slotNumbers
   pub turn-most : w .turn ≤ w .n
-  pub rotation-most : w .rotation ≤ w .v
+  pub rotation-most : w .rotation ≤ connectionsIn (w .v)
   pub free-fits : endsFit (w .n) (freeEnds (slotRecord w)) ≡ true
   pub output-fits : endsFit (w .n) (outputEnds (slotRecord w)) ≡ true
   pub not-raw : w .raw ≡ 0
 
 pub record Room (w : Way) (words : List ℕ) (k : ℕ) : Type 0 where
   pub turn-room : w .turn + k ≤ w .n
-  pub rotation-room : w .rotation + k ≤ w .v
-  pub zero-closed : 0 < k → w .rotation ≡ 0 → getD words 0 0 ≡ 0
+  pub rotation-room : w .rotation + k ≤ connectionsIn (w .v)
+  pub part-room : w .rotation < w .v → w .rotation + k ≤ w .v
+  pub unused-closed : 0 < k → unused (w .v) (w .rotation) ≡ true → getD words (connectionPlace (w .rotation)) 0 ≡ 0
 
 -- how far a burst has come, before slot i
 abbrev pub wayStretch : Way → List ℕ → List ℕ → List ℕ → List ℕ → List ℕ → List ℕ → ℕ → Stretch

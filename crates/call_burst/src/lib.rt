@@ -5,7 +5,7 @@ ghost use mathlib.Core.Bool.{true};
 ghost use Prim.Native.Nat.{_+_, _-_, _*_, _≤_, _<_};
 ghost use lib.ListN.{length, drop};
 ghost use Rattle.meaning.specs.Plain.{_=?_};
-ghost use Rattle.meaning.specs.Numbers.{wordsIn};
+ghost use Rattle.meaning.specs.Numbers.{mostN, mostV, connectionsIn, unused, wordsIn};
 ghost use Rattle.meaning.specs.Promises.{slotPromise};
 ghost use Rattle.meaning.specs.Lent.{before, after, servedAfter};
 ghost use Rattle.burst_way.specs.Way.{lastRecord};
@@ -18,8 +18,10 @@ use leaf_refusal::lengths_hold;
 use leaf_refusal::ranges_hold;
 use leaf_refusal::refuse;
 use meaning::Answer;
+use meaning::PATHS;
 use meaning::Record;
 use meaning::Served;
+use meaning::WORDS_PER_CONNECTION;
 use mem_lists::pair;
 
 // What a burst gives back: the record, the number that ended it (0 for none), and how many slots were served.
@@ -66,12 +68,14 @@ fn copied(r: Record) -> Record
         outtail: r.outtail,
         raw: r.raw,
         mode: r.mode,
+        kind: r.kind,
     }
 }
 
-// What a slot gave back, field by field. N, V and raw are those before it, so what was tested of them holds for all slots.
+// What a slot gave back, field by field. N, V, raw and the line kind are those before it, so what was tested of them holds for all
+// slots.
 fn copied_back(ctl: Record, s: Served) -> Served
-    requires { ⌜ (s .ctl .n ≡ ctl .n) × (s .ctl .v ≡ ctl .v) × (s .ctl .raw ≡ ctl .raw) ⌝ }
+    requires { ⌜ (s .ctl .n ≡ ctl .n) × (s .ctl .v ≡ ctl .v) × (s .ctl .raw ≡ ctl .raw) × (s .ctl .kind ≡ ctl .kind) ⌝ }
     ensures { λ k. ⌜ k ≡ s ⌝ }
 {
     let a = s.answer;
@@ -89,6 +93,7 @@ fn copied_back(ctl: Record, s: Served) -> Served
             outtail: r.outtail,
             raw: ctl.raw,
             mode: r.mode,
+            kind: ctl.kind,
         },
         answer: Answer {
             number: a.number,
@@ -170,7 +175,7 @@ fn turn(
 
 // Whether a likely way may be tried: the policer is not raw, T and rotation are in range, and so are both lists' ends.
 fn may_try(r: Record) -> bool
-    requires { ⌜ r .n ≤ 1024 ⌝ }
+    requires { ⌜ (r .n ≤ mostN) × (r .v ≤ mostV) ⌝ }
     ensures { λ b. ⌜ (b ≡ true → Tries r) ⌝ }
 {
     if r.raw != 0 {
@@ -179,7 +184,7 @@ fn may_try(r: Record) -> bool
     if r.turn >= r.n {
         return false;
     }
-    if r.rotation >= r.v {
+    if r.rotation >= r.v + PATHS {
         return false;
     }
     if !pair(r.n, r.freehead, r.freetail) {
@@ -194,18 +199,40 @@ fn least(a: usize, b: usize) -> usize
     if a < b { a } else { b }
 }
 
-// Where a run from slot i ends: with the burst, or where T or rotation steps round. VC 0 is not read in rotation's turn, so a
-// run begins with it only where its open word is 0, as that of a closed VC.
+// "its words are not read": records 0 and V are no connection's.
+fn no_connection(v: usize, c: usize) -> bool
+    ensures { λ r. ⌜ r ≡ unused v c ⌝ }
+{
+    if c == 0 {
+        return true;
+    }
+    c == v
+}
+
+// Where rotation leaves the VCs, at V, or the paths, at V + 256. So record V too is the first of its run.
+fn part_end(w: Way) -> usize
+    requires { ⌜ (w .v ≤ mostV) × (w .rotation < connectionsIn (w .v)) ⌝ }
+    ensures { λ r. ⌜ (w .rotation < r) × (r ≤ connectionsIn (w .v)) × (w .rotation < w .v → r ≤ w .v) ⌝ }
+{
+    if w.rotation < w.v {
+        return w.v;
+    }
+    burst_way::connections(w.v)
+}
+
+// Where a run from slot i ends: with the burst, or where T steps round, or where rotation leaves its part. Records 0 and V are
+// not read in rotation's turn, so a run begins with one only where its open word is 0, as that of a closed connection.
 fn run_end(w: Way, words: &[u32], i: usize, long: usize) -> usize
-    requires { ⌜ (w .turn < w .n) × (w .rotation < w .v) × (wordsIn (w .v) ≡ length (now words)) × (i ≤ long) ⌝ }
+    requires { ⌜ (w .turn < w .n) × (w .rotation < connectionsIn (w .v)) × (w .v ≤ mostV) × (wordsIn (w .v) ≡ length (now words)) × (i ≤ long) ⌝ }
     ensures { λ r. ⌜ (i ≤ r) × (r ≤ long) × Room w (now (words .entry)) (r - i) ⌝ }
 {
-    let round = least(w.n - w.turn, w.v - w.rotation);
+    let part = part_end(w);
+    let round = least(w.n - w.turn, part - w.rotation);
     let lot = least(long - i, round);
-    if w.rotation != 0 {
+    if !no_connection(w.v, w.rotation) {
         return i + lot;
     }
-    if words[0] != 0 {
+    if words[WORDS_PER_CONNECTION * w.rotation] != 0 {
         return i;
     }
     i + lot
@@ -288,7 +315,7 @@ fn advance(
 ) -> Far
     requires { ⌜ BurstLent (now arrivals) (now sizes) (now departures) (now answers) ⌝ }
     requires { ⌜ HeldIn from cells links calendar words ⌝ }
-    requires { ⌜ (begin ≤ length (now sizes)) × (from .turn < from .n) × (from .rotation < from .v) ⌝ }
+    requires { ⌜ (begin ≤ length (now sizes)) × (from .turn < from .n) × (from .rotation < connectionsIn (from .v)) ⌝ }
     ensures held { λ f. ⌜ HeldAfter (f .way) cells links calendar words ⌝ }
     ensures far { λ f. ⌜ (begin ≤ f .i) × (f .i ≤ length (now (sizes .entry))) ⌝ }
     ensures rest { λ f. ⌜ slotsFrom arrivals sizes (f .i) (stretchAfter (after (lastRecord (f .way)) cells links calendar words) departures answers 0 (f .i))

@@ -9,10 +9,11 @@ use borrow.Author.Tests.{eqb-false, ltb-true}
 use lib.ListN.{length}
 use Rattle.meaning.specs.declared.Answer.{Answer}
 use Rattle.meaning.specs.Plain.{if_then_else_, _<?_, _≤?_, _=?_, Out, refused, next, needs, _andThen_}
-use Rattle.meaning.specs.Numbers.{excess, letsIn}
+use Rattle.meaning.specs.Numbers.{connectionsIn, unused, kindFits, excess, letsIn}
 use Rattle.meaning.specs.State.{State, freeList, withRecord, withCells, withLinks, withCalendar, withWords, recordWith, withClock, withFreeList, writeCell}
 use Rattle.meaning.specs.Bucket.{isExcess, delay, fill, elapsed}
-use Rattle.meaning.specs.Header.{Header, headerAt, noUserCell, namesConnection}
+use Rattle.meaning.specs.Header.{headerAt, clpIn, noUserCell, namesConnection, connection}
+use Rattle.meaning.proofs.NamesLaws.{names-low}
 use Rattle.meaning.specs.Words.{Connection, connectionAt, writeConnection, withWaiting, withBuckets, fallenTo, upToDate, openWordFits, bucketsFit}
 use Rattle.meaning.specs.Lists.{isEmpty, Taken, takeHead, entryAt, writeEntry, joinHead, endsFit}
 use Rattle.meaning.specs.Work.{Work, withState, withConnection, withArrival}
@@ -21,16 +22,16 @@ use Rattle.meaning.specs.Slot.{step1, step2, step3}
 use Rattle.list_meaning.specs.Listing.{isAccepted}
 use Rattle.list_counts.proofs.Balance.{Holds, holds-then, holds-if, holds-needs, both, not-not, one, Words, Quiet, Fresh, write-words, write-same}
 
-module _ (z base : ℕ) where
+module _ (all base : ℕ) where
   -- ---- steps 1 and 2
 
-  pub step1-even : (w : Work) → Fresh z base w → Holds (Fresh z base) (step1 w)
+  pub step1-even : (w : Work) → Fresh all base w → Holds (Fresh all base) (step1 w)
   unfolding step1 withClock withRecord recordWith
   step1-even w f =
-      holds-needs (Fresh z base) (w .state .ctl .turn <? w .state .ctl .n && w .state .ctl .rotation <? w .state .ctl .v) _
+      holds-needs (Fresh all base) (w .state .ctl .turn <? w .state .ctl .n && w .state .ctl .rotation <? connectionsIn (w .state .ctl .v)) _
       (λ _. record { v-is = f .v-is; words = f .words; bare = f .bare })
 
-  -- brought up to date, a VC keeps its open and its waiting word
+  -- brought up to date, a connection keeps its open and its waiting word
   abbrev Kept : Connection → Connection → Type 0
   Kept vc now = (now .opened ≡ vc .opened) × (now .waiting ≡ vc .waiting)
 
@@ -41,27 +42,27 @@ module _ (z base : ℕ) where
       let kept : Kept vc now = (refl, refl) in
       holds-needs (Kept vc) (bucketsFit N vc) (next now) (λ _. kept)
 
-  pub step2-even : (w : Work) → Fresh z base w → Holds (Fresh z base) (step2 w)
+  pub step2-even : (w : Work) → Fresh all base w → Holds (Fresh all base) (step2 w)
   unfolding step2 withWords
   step2-even w f =
       let s = w .state in
       let vci = s .ctl .rotation in
       let vc = connectionAt (s .words) vci in
-      holds-if (Holds (Fresh z base)) (vci =? 0) (next w) _ (λ _. f)
-      (λ _. holds-needs (Fresh z base) (openWordFits vc) _
-      (λ _. holds-if (Holds (Fresh z base)) (vc .opened =? 0) (next w) _ (λ _. f)
-      (λ _. holds-then (Kept vc) (Fresh z base) (upToDate (s .ctl .n) (s .ctl .t) vc) _ (date-kept (s .ctl .n) (s .ctl .t) vc)
-      (λ now k. record { v-is = f .v-is; words = write-same z base (s .words) base vci now (f .words) (k .0) (k .1); bare = f .bare }))))
+      holds-if (Holds (Fresh all base)) (unused (s .ctl .v) vci) (next w) _ (λ _. f)
+      (λ _. holds-needs (Fresh all base) (openWordFits vc) _
+      (λ _. holds-if (Holds (Fresh all base)) (vc .opened =? 0) (next w) _ (λ _. f)
+      (λ _. holds-then (Kept vc) (Fresh all base) (upToDate (s .ctl .n) (s .ctl .t) vc) _ (date-kept (s .ctl .n) (s .ctl .t) vc)
+      (λ now k. record { v-is = f .v-is; words = write-same all base (s .words) base vci now (f .words) (k .0) (k .1); bare = f .bare }))))
 
   -- ---- step 3
 
-  quiet : (w : Work) → Fresh z base w → Quiet z base w
+  quiet : (w : Work) → Fresh all base w → Quiet all base w
   unfolding letsIn
   quiet w f =
       let a : isAccepted (w .answer) ≡ false = ap (λ (x : Answer). isAccepted x) (f .bare) in
       record {
         v-is = f .v-is;
-        words = subst (Words z base (w .state .words)) (sym (ap (λ (b : Bool). base + one b) a ∙ nothing-more)) (f .words);
+        words = subst (Words all base (w .state .words)) (sym (ap (λ (b : Bool). base + one b) a ∙ nothing-more)) (f .words);
         unsent = ap (λ (x : Answer). x .space) (f .bare);
         number = ap (λ (x : Answer). x .number) (f .bare);
       }
@@ -70,13 +71,13 @@ module _ (z base : ℕ) where
       nothing-more = omega arith
 
   -- an arrival that is not let in
-  not-accepted : (w : Work) (words′ : List ℕ) (verdict vci : ℕ) → Fresh z base w → Words z base words′ base → letsIn verdict ≡ false
-      → Quiet z base (withArrival (withState w (withWords (w .state) words′)) verdict vci 0)
+  not-accepted : (w : Work) (words′ : List ℕ) (verdict vci : ℕ) → Fresh all base w → Words all base words′ base → letsIn verdict ≡ false
+      → Quiet all base (withArrival (withState w (withWords (w .state) words′)) verdict vci 0)
   unfolding withWords
   not-accepted w words′ verdict vci f l e =
       record {
         v-is = f .v-is;
-        words = subst (Words z base words′) (sym (ap (λ (b : Bool). base + one b) e ∙ nothing-more)) l;
+        words = subst (Words all base words′) (sym (ap (λ (b : Bool). base + one b) e ∙ nothing-more)) l;
         unsent = ap (λ (x : Answer). x .space) (f .bare);
         number = ap (λ (x : Answer). x .number) (f .bare);
       }
@@ -84,11 +85,11 @@ module _ (z base : ℕ) where
       nothing-more : base + 0 ≡ base
       nothing-more = omega arith
 
-  unknown-quiet : (w : Work) (verdict vci : ℕ) → Fresh z base w → letsIn verdict ≡ false → Quiet z base (withArrival w verdict vci 0)
+  unknown-quiet : (w : Work) (verdict vci : ℕ) → Fresh all base w → letsIn verdict ≡ false → Quiet all base (withArrival w verdict vci 0)
   unfolding withWords
   unknown-quiet w verdict vci f e = not-accepted w (w .state .words) verdict vci f (f .words) e
 
-  place-quiet : (cell : List ℕ) (D : ℕ) (w : Work) (t : Taken) → Quiet z base w → Holds (Quiet z base) (place cell D w t)
+  place-quiet : (cell : List ℕ) (D : ℕ) (w : Work) (t : Taken) → Quiet all base w → Holds (Quiet all base) (place cell D w t)
   unfolding place withCells withLinks withCalendar withFreeList withRecord recordWith
   place-quiet cell D w t q =
       let s = w .state in
@@ -97,31 +98,31 @@ module _ (z base : ℕ) where
       let grown = joinHead (s .links) entry (t .space) in
       let s3 = withLinks (withCells (withFreeList s (t .left)) (writeCell (s .cells) (t .space) cell)) (grown .links) in
       let s4 : State = withCalendar s3 (writeEntry (s .calendar) e (grown .ends)) in
-      let q′ : Quiet z base (withState w s4) = record { v-is = q .v-is; words = q .words; unsent = q .unsent; number = q .number } in
-      holds-needs (Quiet z base) (endsFit (s .ctl .n) entry) (next (withState w s4)) (λ _. q′)
+      let q′ : Quiet all base (withState w s4) = record { v-is = q .v-is; words = q .words; unsent = q .unsent; number = q .number } in
+      holds-needs (Quiet all base) (endsFit (s .ctl .n) entry) (next (withState w s4)) (λ _. q′)
 
-  accept-quiet : (cell : List ℕ) (verdict vci : ℕ) (w : Work) (vc : Connection) → Fresh z base w → vci < z → Kept (connectionAt (w .state .words) vci) vc
-      → vc .opened ≢ 0 → letsIn verdict ≡ true → Holds (Quiet z base) (accept cell verdict vci w vc)
+  accept-quiet : (cell : List ℕ) (verdict vci : ℕ) (w : Work) (vc : Connection) → Fresh all base w → vci < all → Kept (connectionAt (w .state .words) vci) vc
+      → vc .opened ≢ 0 → letsIn verdict ≡ true → Holds (Quiet all base) (accept cell verdict vci w vc)
   unfolding accept withWords
   accept-quiet cell verdict vci w vc f low k o in′ =
-      let second = secondAfter (headerAt cell 0 .clp) verdict (vc .second) in
+      let second = secondAfter (clpIn cell) verdict (vc .second) in
       let filled = withWaiting (withBuckets vc (fill (vc .bucket)) second) (vc .waiting + 1) in
       let s = w .state in
       let N = s .ctl .n in
       let D = delay (vc .bucket) in
       let w1 : Work = withArrival (withConnection w vci filled) verdict vci D in
-      let q : Quiet z base w1 =
+      let q : Quiet all base w1 =
       record {
         v-is = f .v-is;
-        words = subst (Words z base (writeConnection (s .words) vci filled)) (sym (ap (λ (b : Bool). base + one b) in′))
-            (write-words z base (s .words) base vci (base + 1) filled (f .words) low o (omega (arith, k .1)));
+        words = subst (Words all base (writeConnection (s .words) vci filled)) (sym (ap (λ (b : Bool). base + one b) in′))
+            (write-words all base (s .words) base vci (base + 1) filled (f .words) low o (omega (arith, k .1)));
         unsent = ap (λ (x : Answer). x .space) (f .bare);
         number = ap (λ (x : Answer). x .number) (f .bare);
       } in
       let rest = takeHead N (s .links) (freeList s) andThen place (sentAs verdict cell) D w1 in
-      holds-needs (Quiet z base) (vc .waiting <? N) (needs (endsFit N (freeList s) && not (isEmpty (freeList s))) rest)
-      (λ _. holds-needs (Quiet z base) (endsFit N (freeList s) && not (isEmpty (freeList s))) rest
-      (λ _. holds-then (λ (t : Taken). 0 ≤ 0) (Quiet z base) (takeHead N (s .links) (freeList s)) (place (sentAs verdict cell) D w1) (taken (takeHead N (s .links) (freeList s)))
+      holds-needs (Quiet all base) (vc .waiting <? N) (needs (endsFit N (freeList s) && not (isEmpty (freeList s))) rest)
+      (λ _. holds-needs (Quiet all base) (endsFit N (freeList s) && not (isEmpty (freeList s))) rest
+      (λ _. holds-then (λ (t : Taken). 0 ≤ 0) (Quiet all base) (takeHead N (s .links) (freeList s)) (place (sentAs verdict cell) D w1) (taken (takeHead N (s .links) (freeList s)))
       (λ t _. place-quiet (sentAs verdict cell) D w1 t q)))
     where
       taken : (x : Out Taken) → Holds (λ (t : Taken). 0 ≤ 0) x
@@ -140,30 +141,29 @@ module _ (z base : ℕ) where
       go false true false e = refl
       go false false c e = refl
 
-  judge-quiet : (cell : List ℕ) (vci : ℕ) (w : Work) (vc : Connection) → Fresh z base w → vci < z → Kept (connectionAt (w .state .words) vci) vc
-      → vc .opened ≢ 0 → Holds (Quiet z base) (judge cell vci w vc)
+  judge-quiet : (cell : List ℕ) (vci : ℕ) (w : Work) (vc : Connection) → Fresh all base w → vci < all → Kept (connectionAt (w .state .words) vci) vc
+      → vc .opened ≢ 0 → Holds (Quiet all base) (judge cell vci w vc)
   unfolding judge letsIn
   judge-quiet cell vci w vc f low k o =
-      let verdict = verdictOn (headerAt cell 0 .clp) vc in
-      holds-if (Holds (Quiet z base)) (verdict =? excess) _ _
-      (λ _. not-accepted w (writeConnection (w .state .words) vci vc) 2 vci f (write-same z base (w .state .words) base vci vc (f .words) (k .0) (k .1)) refl)
-      (λ e. accept-quiet cell verdict vci w vc f low k o (lets-in (headerAt cell 0 .clp) vc e))
+      let verdict = verdictOn (clpIn cell) vc in
+      holds-if (Holds (Quiet all base)) (verdict =? excess) _ _
+      (λ _. not-accepted w (writeConnection (w .state .words) vci vc) 2 vci f (write-same all base (w .state .words) base vci vc (f .words) (k .0) (k .1)) refl)
+      (λ e. accept-quiet cell verdict vci w vc f low k o (lets-in (clpIn cell) vc e))
 
-  pub names-low : (v : ℕ) (h : Header) → namesConnection v h ≡ true → h .vci < v
-  unfolding namesConnection
-  names-low v h e = ltb-true (h .vci) v (both (h .vpi =? 0 && 1 ≤? h .vci) (h .vci <? v) e .1)
-
-  pub step3-even : (cell : List ℕ) (w : Work) → Fresh z base w → Holds (Quiet z base) (step3 cell w)
+  pub step3-even : (cell : List ℕ) (w : Work) → Fresh all base w → Holds (Quiet all base) (step3 cell w)
   unfolding step3 letsIn
   step3-even cell w f =
       let s = w .state in
-      let h = headerAt cell 0 in
-      let vc = connectionAt (s .words) (h .vci) in
-      holds-if (Holds (Quiet z base)) (length cell =? 0 || noUserCell h) (next w) _ (λ _. quiet w f)
-      (λ _. holds-if (Holds (Quiet z base)) (not (namesConnection (s .ctl .v) h)) _ _ (λ _. unknown-quiet w 3 (h .vci) f refl)
-      (λ n. holds-needs (Quiet z base) (openWordFits vc) _
-      (λ _. holds-if (Holds (Quiet z base)) (vc .opened =? 0) _ _ (λ _. unknown-quiet w 3 (h .vci) f refl)
-      (λ o. holds-then (Kept vc) (Quiet z base) (upToDate (s .ctl .n) (s .ctl .t) vc) _ (date-kept (s .ctl .n) (s .ctl .t) vc)
-      (λ now k. judge-quiet cell (h .vci) w now f
-      (subst (λ (x : ℕ). h .vci < x) (f .v-is) (names-low (s .ctl .v) h (not-not (namesConnection (s .ctl .v) h) n)))
-      k (λ q. eqb-false _ _ o (sym (k .0) ∙ q)))))))
+      let h = headerAt (s .ctl .kind) cell 0 in
+      let c = connection (s .ctl .v) h in
+      let conn = connectionAt (s .words) c in
+      holds-if (Holds (Quiet all base)) (length cell =? 0) (next w) _ (λ _. quiet w f)
+      (λ _. holds-needs (Quiet all base) (kindFits (s .ctl .kind)) _
+      (λ _. holds-if (Holds (Quiet all base)) (noUserCell h) (next w) _ (λ _. quiet w f)
+      (λ _. holds-if (Holds (Quiet all base)) (not (namesConnection (s .ctl .v) h)) _ _ (λ _. unknown-quiet w 3 (h .vci) f refl)
+      (λ n. holds-needs (Quiet all base) (openWordFits conn) _
+      (λ _. holds-if (Holds (Quiet all base)) (conn .opened =? 0) _ _ (λ _. unknown-quiet w 3 (h .vci) f refl)
+      (λ o. holds-then (Kept conn) (Quiet all base) (upToDate (s .ctl .n) (s .ctl .t) conn) _ (date-kept (s .ctl .n) (s .ctl .t) conn)
+      (λ now k. judge-quiet cell c w now f
+      (subst (λ (x : ℕ). c < x) (f .v-is) (names-low (s .ctl .v) h (not-not (namesConnection (s .ctl .v) h) n)))
+      k (λ q. eqb-false _ _ o (sym (k .0) ∙ q)))))))))

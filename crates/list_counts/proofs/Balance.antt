@@ -1,4 +1,4 @@
--- What waits, followed through a slot: words of which so many cells wait, and what a write of one VC does to them.
+-- What waits, followed through a slot: words of which so many cells wait, and what a write of one connection does to them.
 use Prim.Native.Nat.{ℕ, _+_, _-_, _*_, _≤_, _<_}
 use mathlib.Core.Path.{_≡_, refl, sym, ap, _∙_}
 use mathlib.Core.Bool.{Bool, true, false, not, _&&_}
@@ -9,7 +9,7 @@ use borrow.Author.Tests.{ltb-true, ltb-false}
 use lib.Dec.{eqb, ltb}
 use lib.ListN.{length}
 use Rattle.meaning.specs.Plain.{if_then_else_, Out, refused, next, needs, _andThen_}
-use Rattle.meaning.specs.Numbers.{empty, wordsPerConnection}
+use Rattle.meaning.specs.Numbers.{empty, wordsPerConnection, connectionsIn}
 use Rattle.meaning.specs.Words.{Connection, connectionAt, writeConnection}
 use Rattle.meaning.specs.Work.{Work, bareAnswer}
 use Rattle.meaning.proofs.WordsLaws.{write-length, write-read, write-read-other}
@@ -48,43 +48,43 @@ not-not false e = sym e
 abbrev pub one : Bool → ℕ
 one b = if b then 1 else 0
 
-module _ (z base : ℕ) where
-  -- no closed VC has a cell waiting
+module _ (all base : ℕ) where
+  -- no closed connection has a cell waiting
   abbrev pub Closed : List ℕ → Type 0
-  Closed words = (vci : ℕ) → vci < z → connectionAt words vci .opened ≡ 0 → connectionAt words vci .waiting ≡ 0
+  Closed words = (c : ℕ) → c < all → connectionAt words c .opened ≡ 0 → connectionAt words c .waiting ≡ 0
 
-  -- words of VCs below z, of which so many cells wait
+  -- words of so many connections, of which so many cells wait
   pub record Words (words : List ℕ) (many : ℕ) : Type 0 where
-    pub long : length words ≡ wordsPerConnection * z
-    pub sum : sumWaiting z words ≡ many
+    pub long : length words ≡ wordsPerConnection * all
+    pub sum : sumWaiting all words ≡ many
     pub closed : Closed words
 
   -- before the departure: what the arrival added
   pub record Quiet (w : Work) : Type 0 where
-    pub v-is : w .state .ctl .v ≡ z
+    pub v-is : connectionsIn (w .state .ctl .v) ≡ all
     pub words : Words (w .state .words) (base + one (isAccepted (w .answer)))
     pub unsent : w .answer .space ≡ empty
     pub number : w .answer .number ≡ 0
 
   pub record Fresh (w : Work) : Type 0 where
-    pub v-is : w .state .ctl .v ≡ z
+    pub v-is : connectionsIn (w .state .ctl .v) ≡ all
     pub words : Words (w .state .words) base
     pub bare : w .answer ≡ bareAnswer 0
 
   pub record Done (w : Work) : Type 0 where
-    pub v-is : w .state .ctl .v ≡ z
+    pub v-is : connectionsIn (w .state .ctl .v) ≡ all
     pub closed : Closed (w .state .words)
-    pub even : sumWaiting z (w .state .words) + one (hasSent (w .answer)) ≡ base + one (isAccepted (w .answer))
+    pub even : sumWaiting all (w .state .words) + one (hasSent (w .answer)) ≡ base + one (isAccepted (w .answer))
     pub number : w .answer .number ≡ 0
 
-  -- a write of one VC's words: of an open VC below z, with a waiting word that is known
-  pub write-words : (l : List ℕ) (many v k : ℕ) (vc : Connection) → Words l many → v < z → vc .opened ≢ 0
+  -- a write of one connection's words: of an open one below all, with a waiting word that is known
+  pub write-words : (l : List ℕ) (many v k : ℕ) (vc : Connection) → Words l many → v < all → vc .opened ≢ 0
       → k + connectionAt l v .waiting ≡ many + vc .waiting → Words (writeConnection l v vc) k
   write-words l many v k vc w low open-word e =
       let inside : wordsPerConnection * v + wordsPerConnection ≤ length l = omega (arith, w .long, low) in
       record {
         long = write-length l v vc ∙ w .long;
-        sum = omega (arith, e, w .sum, sum-after l v vc inside z low);
+        sum = omega (arith, e, w .sum, sum-after l v vc inside all low);
         closed = λ u h o.
             ⊎-elim
             (λ (q : u ≡ v). absurd (open-word (sym (ap (λ (x : Connection). x .opened) (ap (connectionAt (writeConnection l v vc)) q ∙ write-read l v vc inside)) ∙ o)))
@@ -94,16 +94,16 @@ module _ (z base : ℕ) where
             (same-or-not u v (eqb u v) refl);
       }
 
-  -- a write that keeps the open and the waiting word, of any VC
+  -- a write that keeps the open and the waiting word, of any connection
   pub write-same : (l : List ℕ) (many v : ℕ) (vc : Connection) → Words l many → vc .opened ≡ connectionAt l v .opened → vc .waiting ≡ connectionAt l v .waiting
       → Words (writeConnection l v vc) many
   write-same l many v vc w eo ew =
       record {
         long = write-length l v vc ∙ w .long;
         sum = ⊎-elim
-            (λ (low : v < z). omega (arith, ew, w .sum, sum-after l v vc (omega (arith, w .long)) z low))
-            (λ (high : z ≤ v). omega (arith, w .sum, sum-before l v vc z high))
-            (sided v z (ltb v z) refl);
+            (λ (low : v < all). omega (arith, ew, w .sum, sum-after l v vc (omega (arith, w .long)) all low))
+            (λ (high : all ≤ v). omega (arith, w .sum, sum-before l v vc all high))
+            (sided v all (ltb v all) refl);
         closed = λ u h o.
             ⊎-elim
             (λ (q : u ≡ v).

@@ -11,24 +11,26 @@ use lib.ListN.{length, replicate, getD}
 use Rattle.meaning.specs.declared.Answer.{Answer}
 use Rattle.meaning.specs.declared.Record.{Record}
 use Rattle.meaning.specs.Plain.{if_then_else_, _<?_, _≤?_, _=?_}
-use Rattle.meaning.specs.Numbers.{rangesHold, slotNumbers, wordsPerConnection, waitingPlace}
+use Rattle.meaning.specs.Numbers.{rangesHold, slotNumbers, wordsPerConnection, wordsIn, connectionsIn, kindFits, waitingPlace}
 use Rattle.meaning.specs.State.{State, stateOf, withWords, wordsLong, lengthsHold}
 use Rattle.meaning.specs.Bucket.{bucketOf, obeysRules}
 use Rattle.meaning.specs.Words.{Connection, connectionAt, writeConnection, openedConnection, closedConnection, openWordFits, bucketsFit, connectionFits, secondObeys, Second, debt}
+use Rattle.meaning.specs.Header.{Name, named, numberIn}
 use Rattle.meaning.proofs.WordsLaws.{write-read, write-read-other}
-use Rattle.meaning.specs.Calls.{SetUp, setUpOf, zeros, freshRecord, freshState, setup, Called, calledOf, sharedRefusal, openCall, closeCall}
+use Rattle.meaning.proofs.NamesLaws.{number-low}
+use Rattle.meaning.specs.Calls.{Options, optionsOf, kindNumber, kindOf, SetUp, setUpOf, zeros, freshRecord, freshState, setup, Called, calledOf, sharedRefusal, openCall, closeCall}
 use Rattle.list_lines.specs.Lines.{stopLine}
 use Rattle.list_meaning.specs.Trace.{Call, setUp, openConnection, closeConnection, serve, Calls, finished, stopped, call, callsOf}
 use Rattle.list_meaning.specs.Listing.{manyOf, isAccepted, hasSent, recount, lessModulo, endOf, lineOf, stateAfter, answersAfter, endsRun, linesOf, lentFor, listingOf}
-use Rattle.list_counts.specs.Waiting.{sumWaiting, Balanced, Point, endAt, endOfInput}
+use Rattle.list_counts.specs.Waiting.{recordsOf, sumWaiting, Balanced, Point, endAt, endOfInput}
 use Rattle.list_counts.proofs.Sums.{same-or-not, sum-after}
 use Rattle.list_counts.proofs.Balance.{both, not-not}
-use Rattle.list_counts.proofs.Served.{slot-balanced}
+use Rattle.list_counts.proofs.Served.{records-all, ranges-some, slot-balanced}
 
 -- ---- the printed number
 
 pub waiting-word : (s : State) (h : List Answer) → Balanced s h
-    → lessModulo (recount h .accepted) (recount h .sent) ≡ sumWaiting (s .ctl .v) (s .words) % slotNumbers
+    → lessModulo (recount h .accepted) (recount h .sent) ≡ sumWaiting (recordsOf (s .ctl .v)) (s .words) % slotNumbers
 unfolding lessModulo recount slotNumbers
 waiting-word s h b = omega (arith, b .even)
 
@@ -39,44 +41,50 @@ getD-replicate-zero zero i = refl
 getD-replicate-zero (suc k) zero = refl
 getD-replicate-zero (suc k) (suc i) = getD-replicate-zero k i
 
--- words of which one VC's are written, where as much waits as before
-module _ (s : State) (h : List Answer) (vci : ℕ) (vc : Connection) (b : Balanced s h) (long : length (s .words) ≡ wordsPerConnection * s .ctl .v)
-    (low : vci < s .ctl .v) (same : vc .waiting ≡ connectionAt (s .words) vci .waiting) (fit : vc .opened ≡ 0 → vc .waiting ≡ 0) where
-  written-balanced : Balanced (withWords s (writeConnection (s .words) vci vc)) h
+-- words of which one connection's are written, where as much waits as before
+module _ (s : State) (h : List Answer) (c : ℕ) (conn : Connection) (b : Balanced s h)
+    (inside : wordsPerConnection * c + wordsPerConnection ≤ length (s .words)) (low : c < recordsOf (s .ctl .v))
+    (same : conn .waiting ≡ connectionAt (s .words) c .waiting) (fit : conn .opened ≡ 0 → conn .waiting ≡ 0) where
+  written-balanced : Balanced (withWords s (writeConnection (s .words) c conn)) h
   unfolding withWords
   written-balanced =
-      let inside : wordsPerConnection * vci + wordsPerConnection ≤ length (s .words) = omega (arith, long, low) in
       record {
-        even = omega (arith, b .even, same, sum-after (s .words) vci vc inside (s .ctl .v) low);
+        even = omega (arith, b .even, same, sum-after (s .words) c conn inside (recordsOf (s .ctl .v)) low);
         closed = λ u l o.
             ⊎-elim
-            (λ (q : u ≡ vci).
-            let r : connectionAt (writeConnection (s .words) vci vc) u ≡ vc = ap (connectionAt (writeConnection (s .words) vci vc)) q ∙ write-read (s .words) vci vc inside in
+            (λ (q : u ≡ c).
+            let r : connectionAt (writeConnection (s .words) c conn) u ≡ conn = ap (connectionAt (writeConnection (s .words) c conn)) q ∙ write-read (s .words) c conn inside in
             ap (λ (x : Connection). x .waiting) r ∙ fit (sym (ap (λ (x : Connection). x .opened) r) ∙ o))
-            (λ (q : u ≢ vci).
-            let r = write-read-other (s .words) vci vc u q in
+            (λ (q : u ≢ c).
+            let r = write-read-other (s .words) c conn u q in
             ap (λ (x : Connection). x .waiting) r ∙ b .closed u l (sym (ap (λ (x : Connection). x .opened) r) ∙ o))
-            (same-or-not u vci (eqb u vci) refl);
+            (same-or-not u c (eqb u c) refl);
       }
 
--- what is known where neither 1, 2, 4 nor 3 is given
-pub record Passed (r : Record) (words : List ℕ) (vci : ℕ) : Type 0 where
-  pub long : length words ≡ wordsPerConnection * r .v
-  pub low : vci < r .v
-  pub fits : connectionFits (r .n) (connectionAt words vci) ≡ true
+-- what is known of connection c where neither 1, 2, 4 nor 3 is given
+pub record Passed (r : Record) (words : List ℕ) (c : ℕ) : Type 0 where
+  pub inside : wordsPerConnection * c + wordsPerConnection ≤ length words
+  pub low : c < recordsOf (r .v)
+  pub fits : connectionFits (r .n) (connectionAt words c) ≡ true
 
 refusal-zero : (b : Bool) (k x : ℕ) → 0 < k → (if not b then k else x) ≡ 0 → (b ≡ true) × (x ≡ 0)
 refusal-zero true k x p e = (refl, e)
 refusal-zero false k x p e = absurd (omega arith)
 
-passed : (r : Record) (words : List ℕ) (vci : ℕ) → sharedRefusal r words vci ≡ 0 → Passed r words vci
+passed : (r : Record) (words : List ℕ) (name : Name) → sharedRefusal r words name ≡ 0 → Passed r words (numberIn (r .v) name)
 unfolding sharedRefusal wordsLong
-passed r words vci e =
+passed r words name e =
     let a = refusal-zero (rangesHold (r .n) (r .v)) 1 _ (omega arith) e in
-    let b = refusal-zero (length words =? wordsPerConnection * r .v) 2 _ (omega arith) (a .1) in
-    let c = refusal-zero (1 ≤? vci && vci <? r .v) 4 _ (omega arith) (b .1) in
-    let d = refusal-zero (connectionFits (r .n) (connectionAt words vci)) 3 0 (omega arith) (c .1) in
-    record { long = eqb-true _ _ (b .0); low = ltb-true _ _ (both (1 ≤? vci) (vci <? r .v) (c .0) .1); fits = d .0 }
+    let b = refusal-zero (length words =? wordsIn (r .v)) 2 _ (omega arith) (a .1) in
+    let c = refusal-zero (named (r .v) name) 4 _ (omega arith) (b .1) in
+    let d = refusal-zero (connectionFits (r .n) (connectionAt words (numberIn (r .v) name))) 3 0 (omega arith) (c .1) in
+    let l : numberIn (r .v) name < connectionsIn (r .v) = number-low (r .v) name (c .0) in
+    let long : length words ≡ wordsIn (r .v) = eqb-true _ _ (b .0) in
+    record {
+      inside = omega (arith, l, long);
+      low = subst (λ (k : ℕ). numberIn (r .v) name < k) (sym (records-all (r .v) (ranges-some (r .n) (r .v) (a .0)))) l;
+      fits = d .0;
+    }
 
 choose-called : (P : Called → Type 0) (b : Bool) (x y : Called) → (b ≡ true → P x) → (b ≡ false → P y) → P (if b then x else y)
 choose-called P true x y p q = p refl
@@ -101,85 +109,91 @@ zero-opened N vc f o = go (vc .opened =? 0) refl
         let n : vc .opened ≢ 1 = eqb-false _ _ o in
         omega (arith, l, n)
 
-open-balanced : (s : State) (h : List Answer) (vci m F C : ℕ) (x : Second) → Balanced s h
-    → Balanced (withWords s (openCall (s .ctl) (s .words) vci m F C x .words)) h
+open-balanced : (s : State) (h : List Answer) (name : Name) (m F C : ℕ) (x : Second) → Balanced s h
+    → Balanced (withWords s (openCall (s .ctl) (s .words) name m F C x .words)) h
 unfolding openCall openedConnection
-open-balanced s h vci m F C x b =
+open-balanced s h name m F C x b =
     let r = s .ctl in
-    let k = sharedRefusal r (s .words) vci in
+    let c = numberIn (r .v) name in
+    let k = sharedRefusal r (s .words) name in
     let P : Called → Type 0 = λ k. Balanced (withWords s (k .words)) h in
     let kept = kept-balanced s h b in
     choose-called P (not (k =? 0)) _ _ (λ _. kept) (λ e.
-    let p = passed r (s .words) vci (eqb-true k 0 (not-not (k =? 0) e)) in
-    choose-called P (connectionAt (s .words) vci .opened =? 1) _ _ (λ _. kept) (λ o.
+    let p = passed r (s .words) name (eqb-true k 0 (not-not (k =? 0) e)) in
+    choose-called P (connectionAt (s .words) c .opened =? 1) _ _ (λ _. kept) (λ o.
     choose-called P (not (obeysRules (r .n) (bucketOf m F C 0))) _ _ (λ _. kept) (λ _.
     choose-called P (not (secondObeys (bucketOf (x .m) (x .F) (x .C) 0) (x .tag))) _ _ (λ _. kept) (λ _.
-    let z = zero-opened (r .n) (connectionAt (s .words) vci) (p .fits) o in
-    written-balanced s h vci (openedConnection (r .t) (bucketOf m F C 0) x) b (p .long) (p .low) (opened-none r ∙ sym (b .closed vci (p .low) z)) (λ _. opened-none r)))))
+    let z = zero-opened (r .n) (connectionAt (s .words) c) (p .fits) o in
+    written-balanced s h c (openedConnection (r .t) (bucketOf m F C 0) x) b (p .inside) (p .low) (opened-none r ∙ sym (b .closed c (p .low) z)) (λ _. opened-none r)))))
   where
     opened-none : (r : Record) → openedConnection (r .t) (bucketOf m F C 0) x .waiting ≡ 0
     opened-none r = refl
 
-close-balanced : (s : State) (h : List Answer) (vci : ℕ) → Balanced s h
-    → Balanced (withWords s (closeCall (s .ctl) (s .words) vci .words)) h
+close-balanced : (s : State) (h : List Answer) (name : Name) → Balanced s h
+    → Balanced (withWords s (closeCall (s .ctl) (s .words) name .words)) h
 unfolding closeCall closedConnection
-close-balanced s h vci b =
+close-balanced s h name b =
     let r = s .ctl in
-    let k = sharedRefusal r (s .words) vci in
+    let c = numberIn (r .v) name in
+    let k = sharedRefusal r (s .words) name in
     let P : Called → Type 0 = λ x. Balanced (withWords s (x .words)) h in
     let kept = kept-balanced s h b in
     choose-called P (not (k =? 0)) _ _ (λ _. kept) (λ e.
-    let p = passed r (s .words) vci (eqb-true k 0 (not-not (k =? 0) e)) in
-    choose-called P (connectionAt (s .words) vci .opened =? 0) _ _ (λ _. kept) (λ _.
-    let none = connectionAt (s .words) vci .waiting =? 0 in
-    let paid = debt (r .t) (connectionAt (s .words) vci) =? 0 in
+    let p = passed r (s .words) name (eqb-true k 0 (not-not (k =? 0) e)) in
+    choose-called P (connectionAt (s .words) c .opened =? 0) _ _ (λ _. kept) (λ _.
+    let none = connectionAt (s .words) c .waiting =? 0 in
+    let paid = debt (r .t) (connectionAt (s .words) c) =? 0 in
     choose-called P (not (none && paid)) _ _ (λ _. kept) (λ w.
-    written-balanced s h vci closedConnection b (p .long) (p .low) (sym (eqb-true _ 0 (both none paid (not-not (none && paid) w) .0))) (λ _. refl))))
+    written-balanced s h c closedConnection b (p .inside) (p .low) (sym (eqb-true _ 0 (both none paid (not-not (none && paid) w) .0))) (λ _. refl))))
 
--- no VC, no cell: a record of zeros
+-- no connection, no cell: a record of zeros
 zeros-balanced : (cells links calendar words : List ℕ) → Balanced (stateOf zeros cells links calendar words) []
-unfolding zeros sumWaiting manyOf
-zeros-balanced cells links calendar words = record { even = refl; closed = λ vci l o. absurd (omega arith) }
+unfolding zeros recordsOf sumWaiting manyOf
+zeros-balanced cells links calendar words = record { even = refl; closed = λ c l o. absurd (omega arith) }
 
-cleared-connection : (k vci : ℕ) → connectionAt (replicate k 0) vci .waiting ≡ 0
+cleared-connection : (k c : ℕ) → connectionAt (replicate k 0) c .waiting ≡ 0
 unfolding connectionAt
-cleared-connection k vci = getD-replicate-zero k (waitingPlace vci)
+cleared-connection k c = getD-replicate-zero k (waitingPlace c)
 
-cleared-sum : (k z : ℕ) → sumWaiting z (replicate k 0) ≡ 0
+cleared-sum : (k n : ℕ) → sumWaiting n (replicate k 0) ≡ 0
 unfolding sumWaiting
 cleared-sum k zero = refl
-cleared-sum k (suc z) = omega (arith, cleared-sum k z, cleared-connection k z)
+cleared-sum k (suc n) = omega (arith, cleared-sum k n, cleared-connection k n)
 
-fresh-balanced : (N z : ℕ) (raw : Bool) → Balanced (freshState N z raw) []
+fresh-balanced : (N z : ℕ) (o : Options) → Balanced (freshState N z o) []
 unfolding freshState freshRecord manyOf
-fresh-balanced N z raw = record { even = omega (arith, cleared-sum (wordsPerConnection * z) z); closed = λ vci l o. cleared-connection (wordsPerConnection * z) vci }
+fresh-balanced N z o =
+    record { even = omega (arith, cleared-sum (wordsIn z) (recordsOf z)); closed = λ c l k. cleared-connection (wordsIn z) c }
 
 choose-set-up : (P : SetUp → Type 0) (b : Bool) (x y : SetUp) → P x → P y → P (if b then x else y)
 choose-set-up P true x y p q = p
 choose-set-up P false x y p q = q
 
-pub setup-balanced : (N z : ℕ) (raw : Bool) (cells links calendar words : List ℕ) → Balanced (setup N z raw cells links calendar words .state) []
+pub setup-balanced : (N z : ℕ) (raw : Bool) (kind : ℕ) (cells links calendar words : List ℕ)
+    → Balanced (setup N z raw kind cells links calendar words .state) []
 unfolding setup
-setup-balanced N z raw cells links calendar words =
+setup-balanced N z raw kind cells links calendar words =
     let P : SetUp → Type 0 = λ x. Balanced (x .state) [] in
     choose-set-up P (not (rangesHold N z)) _ _ (zeros-balanced cells links calendar words)
-    (choose-set-up P (not (lengthsHold N z cells links calendar words)) _ _ (zeros-balanced cells links calendar words) (fresh-balanced N z raw))
+    (choose-set-up P (not (kindFits kind)) _ _ (zeros-balanced cells links calendar words)
+    (choose-set-up P (not (lengthsHold N z cells links calendar words)) _ _ (zeros-balanced cells links calendar words)
+    (fresh-balanced N z (optionsOf raw (kindOf kind)))))
 
 -- ---- every listing
 
 pub call-balanced : (s : State) (h : List Answer) (c : Call) → Balanced s h → Balanced (stateAfter s c) (answersAfter s h c)
 unfolding stateAfter answersAfter
-call-balanced s h (setUp N z raw) b = setup-balanced N z raw (s .cells) (s .links) (s .calendar) (s .words)
-call-balanced s h (openConnection vci m F C x) b = open-balanced s h vci m F C x b
-call-balanced s h (closeConnection vci) b = close-balanced s h vci b
+call-balanced s h (setUp N z o) b = setup-balanced N z (o .raw) (kindNumber (o .kind)) (s .cells) (s .links) (s .calendar) (s .words)
+call-balanced s h (openConnection name m F C x) b = open-balanced s h name m F C x b
+call-balanced s h (closeConnection name) b = close-balanced s h name b
 call-balanced s h (serve cell) b = slot-balanced s cell h b
 
 -- a run that ends with a call ends with a refused setup: no slot was served
 ends-balanced : (s : State) (h : List Answer) (c : Call) → Balanced s h → endsRun s c ≡ true → Balanced (stateAfter s c) []
 unfolding endsRun stateAfter
-ends-balanced s h (setUp N z raw) b e = setup-balanced N z raw (s .cells) (s .links) (s .calendar) (s .words)
-ends-balanced s h (openConnection vci m F C x) b e = absurd (let z : _≡_ {A = ℕ} 0 1 = cc in omega arith)
-ends-balanced s h (closeConnection vci) b e = absurd (let z : _≡_ {A = ℕ} 0 1 = cc in omega arith)
+ends-balanced s h (setUp N z o) b e = setup-balanced N z (o .raw) (kindNumber (o .kind)) (s .cells) (s .links) (s .calendar) (s .words)
+ends-balanced s h (openConnection name m F C x) b e = absurd (let z : _≡_ {A = ℕ} 0 1 = cc in omega arith)
+ends-balanced s h (closeConnection name) b e = absurd (let z : _≡_ {A = ℕ} 0 1 = cc in omega arith)
 ends-balanced s h (serve cell) b e = absurd (let z : _≡_ {A = ℕ} 0 1 = cc in omega arith)
 
 -- the listing's last line is the end line over the answers at its end, and there the balance holds
@@ -207,9 +221,9 @@ lent-balanced : (cs : Calls) → Balanced (lentFor cs) []
 unfolding lentFor
 lent-balanced finished = zeros-balanced [] [] [] []
 lent-balanced (stopped place) = zeros-balanced [] [] [] []
-lent-balanced (call (setUp N z raw) rest) = zeros-balanced _ _ _ _
-lent-balanced (call (openConnection vci m F C x) rest) = zeros-balanced [] [] [] []
-lent-balanced (call (closeConnection vci) rest) = zeros-balanced [] [] [] []
+lent-balanced (call (setUp N z o) rest) = zeros-balanced _ _ _ _
+lent-balanced (call (openConnection name m F C x) rest) = zeros-balanced [] [] [] []
+lent-balanced (call (closeConnection name) rest) = zeros-balanced [] [] [] []
 lent-balanced (call (serve cell) rest) = zeros-balanced [] [] [] []
 
 -- THE END LINE of every input's listing
@@ -217,8 +231,8 @@ pub record EndLine (input : List ℕ) : Type 0 where
   pub before : List ℕ
   pub last : listingOf input ≡ before ++ endOf (recount (endOfInput input .answers))
   -- "waiting": the sum of the waiting words, which is accepted less sent
-  pub sum : sumWaiting (endOfInput input .state .ctl .v) (endOfInput input .state .words) + manyOf hasSent (endOfInput input .answers) ≡ manyOf isAccepted (endOfInput input .answers)
-  pub word : lessModulo (recount (endOfInput input .answers) .accepted) (recount (endOfInput input .answers) .sent) ≡ sumWaiting (endOfInput input .state .ctl .v) (endOfInput input .state .words) % slotNumbers
+  pub sum : sumWaiting (recordsOf (endOfInput input .state .ctl .v)) (endOfInput input .state .words) + manyOf hasSent (endOfInput input .answers) ≡ manyOf isAccepted (endOfInput input .answers)
+  pub word : lessModulo (recount (endOfInput input .answers) .accepted) (recount (endOfInput input .answers) .sent) ≡ sumWaiting (recordsOf (endOfInput input .state .ctl .v)) (endOfInput input .state .words) % slotNumbers
 
 pub end-line : (input : List ℕ) → EndLine input
 unfolding listingOf endOfInput

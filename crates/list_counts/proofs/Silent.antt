@@ -6,9 +6,9 @@ use mathlib.Core.Bool.{Bool, true, false, _&&_}
 use mathlib.Core.List.{[]}
 use native.Mathlib.Omega.{arith}
 use Rattle.meaning.specs.Plain.{if_then_else_, _<?_, _≤?_, _=?_, Out, refused, next, needs, _andThen_}
-use Rattle.meaning.specs.Numbers.{nothing, letsIn, cellStart}
+use Rattle.meaning.specs.Numbers.{nothing, letsIn, cellStart, connectionsIn, unused, kindFits}
 use Rattle.meaning.specs.State.{State, freeList, outputList, withLinks, withCalendar, withFreeList, withOutputList}
-use Rattle.meaning.specs.Header.{headerAt, namesOpen}
+use Rattle.meaning.specs.Header.{headerAt, namesOpen, connection}
 use Rattle.meaning.specs.Words.{Connection, connectionAt, withWaiting, openWordFits, upToDate}
 use Rattle.meaning.specs.Lists.{emptyList, isEmpty, Taken, takeHead, entryAt, writeEntry, joinTail, addTail, endsFit}
 use Rattle.meaning.specs.Work.{Work, withState, withConnection, withDeparture}
@@ -26,7 +26,7 @@ any (next a) = omega arith
 step1-silent : (w : Work) → Silent w → Holds Silent (step1 w)
 unfolding step1
 step1-silent w h =
-    holds-needs Silent (w .state .ctl .turn <? w .state .ctl .n && w .state .ctl .rotation <? w .state .ctl .v) _ (λ _. h)
+    holds-needs Silent (w .state .ctl .turn <? w .state .ctl .n && w .state .ctl .rotation <? connectionsIn (w .state .ctl .v)) _ (λ _. h)
 
 step2-silent : (w : Work) → Silent w → Holds Silent (step2 w)
 unfolding step2
@@ -34,7 +34,7 @@ step2-silent w h =
     let s = w .state in
     let vci = s .ctl .rotation in
     let vc = connectionAt (s .words) vci in
-    holds-if (Holds Silent) (vci =? 0) (next w) _ (λ _. h)
+    holds-if (Holds Silent) (unused (s .ctl .v) vci) (next w) _ (λ _. h)
     (λ _. holds-needs Silent (openWordFits vc) _
     (λ _. holds-if (Holds Silent) (vc .opened =? 0) (next w) _ (λ _. h)
     (λ _. holds-then (λ (now : Connection). 0 ≤ 0) Silent (upToDate (s .ctl .n) (s .ctl .t) vc) _ (any (upToDate (s .ctl .n) (s .ctl .t) vc)) (λ now _. h))))
@@ -58,14 +58,15 @@ depart-silent : (w : Work) (t : Taken) → Silent w → Holds Silent (depart w t
 unfolding depart
 depart-silent w t q =
     let s = w .state in
-    let h = headerAt (s .cells) (cellStart (t .space)) in
-    let vc = connectionAt (s .words) (h .vci) in
+    let h = headerAt (s .ctl .kind) (s .cells) (cellStart (t .space)) in
+    let c = connection (s .ctl .v) h in
+    let conn = connectionAt (s .words) c in
     let grown = addTail (s .links) (freeList s) (t .space) in
     let s2 : State = withLinks (withFreeList (withOutputList s (t .left)) (grown .ends)) (grown .links) in
-    let w2 : Work = withDeparture (withConnection (withState w s2) (h .vci) (withWaiting vc (vc .waiting - 1))) (t .space) (h .vci) in
-    let waits = 1 ≤? vc .waiting && vc .waiting ≤? s .ctl .n in
+    let w2 : Work = withDeparture (withConnection (withState w s2) c (withWaiting conn (conn .waiting - 1))) (t .space) c in
+    let waits = 1 ≤? conn .waiting && conn .waiting ≤? s .ctl .n in
     let fits = endsFit (s .ctl .n) (freeList s) in
-    holds-needs Silent (namesOpen (s .ctl .v) (s .words) h) (needs waits (needs fits (next w2)))
+    holds-needs Silent (kindFits (s .ctl .kind) && namesOpen (s .ctl .v) (s .words) h) (needs waits (needs fits (next w2)))
     (λ _. holds-needs Silent waits (needs fits (next w2)) (λ _. holds-needs Silent fits (next w2) (λ _. q)))
 
 step5-silent : (w : Work) → Silent w → Holds Silent (step5 w)
@@ -86,8 +87,8 @@ five-silent w h =
     step5-silent
 
 -- a dropped cell that is told stays out of the balance
-module _ (z base : ℕ) where
-  told-done : (w : Work) → Done z base w → Silent w → Done z base (told true w)
+module _ (all base : ℕ) where
+  told-done : (w : Work) → Done all base w → Silent w → Done all base (told true w)
   unfolding letsIn
   told-done w d e =
       record {
@@ -97,8 +98,8 @@ module _ (z base : ℕ) where
         number = d .number;
       }
 
-  pub told-holds : (drop : Bool) (x : Out Work) → Holds (Done z base) x → (drop ≡ true → Holds Silent x)
-      → Holds (Done z base) (x andThen λ w. next (told drop w))
+  pub told-holds : (drop : Bool) (x : Out Work) → Holds (Done all base) x → (drop ≡ true → Holds Silent x)
+      → Holds (Done all base) (x andThen λ w. next (told drop w))
   told-holds drop refused d s = omega arith
   told-holds true (next w) d s = told-done w d (s refl)
   told-holds false (next w) d s = d

@@ -1,4 +1,4 @@
--- The sum of the waiting words after a write of one VC's words.
+-- The sum of the waiting words after a write of one connection's words.
 use Prim.Native.Nat.{ℕ, zero, suc, _+_, _*_, _≤_, _<_}
 use mathlib.Core.Path.{_≡_, refl, sym, ap, _∙_}
 use mathlib.Core.Bool.{Bool, true, false}
@@ -18,7 +18,7 @@ same-or-not u v true e = inl (eqb-true u v e)
 same-or-not u v false e = inr (eqb-false u v e)
 
 module _ (words : List ℕ) (v : ℕ) (vc : Connection) where
-  -- VCs before v keep their words
+  -- connections before v keep their words
   pub sum-before : (k : ℕ) → k ≤ v → sumWaiting k (writeConnection words v vc) ≡ sumWaiting k words
   unfolding sumWaiting
   sum-before zero h = refl
@@ -43,7 +43,7 @@ module _ (words : List ℕ) (v : ℕ) (vc : Connection) where
         omega (arith, w, sum-after k l))
         (same-or-not k v (eqb k v) refl)
 
--- what one VC has waiting is part of the sum
+-- what one connection has waiting is part of the sum
 pub sum-part : (words : List ℕ) (v k : ℕ) → v < k → connectionAt words v .waiting ≤ sumWaiting k words
 unfolding sumWaiting
 sum-part words v zero h = absurd (omega arith)

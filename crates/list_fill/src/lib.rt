@@ -12,7 +12,6 @@ use list_meaning::Tally;
 use list_whole::Filled;
 use list_whole::Run;
 use list_whole::Sizes;
-use meaning::Record;
 use trace_record::Event;
 use trace_record::Found;
 
@@ -137,19 +136,7 @@ pub fn fill(
 pub fn start() -> Run
     ensures { λ r. ⌜ r ≡ startRun ⌝ }
 {
-    let ctl = Record {
-        n: 0,
-        v: 0,
-        t: 0,
-        turn: 0,
-        rotation: 0,
-        freehead: 0,
-        freetail: 0,
-        outhead: 0,
-        outtail: 0,
-        raw: 0,
-        mode: 0,
-    };
+    let ctl = meaning::no_record();
     let tally = Tally {
         accepted: 0,
         excess: 0,
@@ -172,7 +159,7 @@ fn sizes_at(found: Found) -> Sizes
     let Found::Read { event, next: _ } = found else {
         return Sizes { n: 0, v: 0 };
     };
-    let Event::Setup { n, v, raw: _ } = event else {
+    let Event::Setup { n, v, head: _ } = event else {
         return Sizes { n: 0, v: 0 };
     };
     if leaf_refusal::ranges_hold(n, v) {

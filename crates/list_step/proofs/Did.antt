@@ -10,8 +10,9 @@ use Rattle.meaning.specs.declared.Fresh.{Fresh}
 use Rattle.meaning.specs.declared.Served.{Served}
 use Rattle.meaning.specs.Plain.{if_then_else_, _=?_}
 use Rattle.meaning.specs.State.{State, stateOf, withWords}
+use Rattle.meaning.specs.Header.{Name, numberIn}
 use Rattle.meaning.specs.Words.{Second}
-use Rattle.meaning.specs.Calls.{SetUp, setUpOf, zeros, Called, calledOf}
+use Rattle.meaning.specs.Calls.{Options, kindNumber, SetUp, setUpOf, zeros, Called, calledOf}
 use Rattle.meaning.specs.Work.{Work, workOf}
 use Rattle.meaning.specs.Slot.{slot}
 use Rattle.meaning.specs.Promises.{setupPromise, openPromise, closePromise, slotPromise}
@@ -61,35 +62,42 @@ module _ (run run′ : Run) (next : ℕ) (cells links calendar words words′ ou
       ∙ ap (λ (b : Bool). worldOf (onward (run .ctl) next 0 b (run .tally)) cells links calendar words′) going
       ∙ ap (λ (k : Called). worldOf (onward (run .ctl) next 0 false (run .tally)) cells links calendar (k .words)) e
 
-  pub open-did : (vci m F C : ℕ) (x : Second) → openPromise (run .ctl) words vci m F C x number words′
-      → Put out used (openLine vci number) out′ used′
-      → Did (called (worldOf run cells links calendar words) (openConnection vci m F C x) next 0) room out used
+  -- c is the connection's number, as its line shows it
+  pub open-did : (name : Name) (c m F C : ℕ) (x : Second) → c ≡ numberIn (run .ctl .v) name
+      → openPromise (run .ctl) words name m F C x number words′
+      → Put out used (openLine c number) out′ used′
+      → Did (called (worldOf run cells links calendar words) (openConnection name m F C x) next 0) room out used
       (worldOf run′ cells links calendar words′) out′ used′
   unfolding called lineOf stateAfter endsRun tallyAfter
-  open-did vci m F C x e p =
+  open-did name c m F C x is e p =
       record {
         world = reworded e;
-        put = put-is (append-nil _ ∙ sym (ap (λ (k : Called). openLine vci (k .number)) e)) p;
+        put = put-is (append-nil _ ∙ sym (ap (λ (n : ℕ). openLine n number) is ∙ ap (λ (k : Called). openLine (numberIn (run .ctl .v) name) (k .number)) e)) p;
         few = omega arith;
       }
 
-  pub close-did : (vci : ℕ) → closePromise (run .ctl) words vci number words′
-      → Put out used (closeLine vci number) out′ used′
-      → Did (called (worldOf run cells links calendar words) (closeConnection vci) next 0) room out used
+  pub close-did : (name : Name) (c : ℕ) → c ≡ numberIn (run .ctl .v) name
+      → closePromise (run .ctl) words name number words′
+      → Put out used (closeLine c number) out′ used′
+      → Did (called (worldOf run cells links calendar words) (closeConnection name) next 0) room out used
       (worldOf run′ cells links calendar words′) out′ used′
   unfolding called lineOf stateAfter endsRun tallyAfter
-  close-did vci e p =
+  close-did name c is e p =
       record {
         world = reworded e;
-        put = put-is (append-nil _ ∙ sym (ap (λ (k : Called). closeLine vci (k .number)) e)) p;
+        put = put-is (append-nil _ ∙ sym (ap (λ (n : ℕ). closeLine n number) is ∙ ap (λ (k : Called). closeLine (numberIn (run .ctl .v) name) (k .number)) e)) p;
         few = omega arith;
       }
 
 -- ---- setup
 
-module _ (run : Run) (N z : ℕ) (raw : Bool) (next : ℕ) (cells links calendar words out : List ℕ) (used : ℕ)
-    (r : Fresh) (cells′ links′ calendar′ words′ : List ℕ)
-    (e : setupPromise N z raw (stateOf zeros cells links calendar words) (setUpOf (r .number) (stateOf (r .ctl) cells′ links′ calendar′ words′))) where
+-- set up with what o chooses
+module _ (run : Run) (N z : ℕ) (o : Options) (raw : Bool) (kind next : ℕ) (cells links calendar words out : List ℕ) (used : ℕ)
+    (r : Fresh) (cells′ links′ calendar′ words′ : List ℕ) (is-raw : raw ≡ o .raw) (is-kind : kind ≡ kindNumber (o .kind))
+    (given : setupPromise N z raw kind (stateOf zeros cells links calendar words) (setUpOf (r .number) (stateOf (r .ctl) cells′ links′ calendar′ words′))) where
+  e : setupPromise N z (o .raw) (kindNumber (o .kind)) (stateOf zeros cells links calendar words) (setUpOf (r .number) (stateOf (r .ctl) cells′ links′ calendar′ words′))
+  e = rw (← is-raw, ← is-kind) given
+
   setupText : SetUp → List ℕ
   setupText x = setupLine N z (x .number) ++ (if not (x .number =? 0) then endOf noTally else [])
 
@@ -98,7 +106,7 @@ module _ (run : Run) (N z : ℕ) (raw : Bool) (next : ℕ) (cells links calendar
 
   pub setup-did : (out′ : List ℕ) (used′ : ℕ) → r .number ≡ 0
       → Put out used (setupLine N z (r .number)) out′ used′ → used′ ≤ used + 64
-      → Did (called (worldOf run cells links calendar words) (setUp N z raw) next 0) room out used
+      → Did (called (worldOf run cells links calendar words) (setUp N z o) next 0) room out used
       (worldOf (onward (r .ctl) next 0 false noTally) cells′ links′ calendar′ words′) out′ used′
   unfolding called lineOf stateAfter endsRun tallyAfter setupText setupWorld
   setup-did out′ used′ q p f =
@@ -114,7 +122,7 @@ module _ (run : Run) (N z : ℕ) (raw : Bool) (next : ℕ) (cells links calendar
   pub setup-ends : (out″ : List ℕ) (line : ℕ) (out′ : List ℕ) (used′ : ℕ) → (r .number ≡ 0 → ⊥)
       → Put out used (setupLine N z (r .number)) out″ line → line ≤ used + 64
       → Put out″ line (endOf noTally) out′ used′ → used′ ≤ line + 80
-      → Did (called (worldOf run cells links calendar words) (setUp N z raw) next 0) room out used
+      → Did (called (worldOf run cells links calendar words) (setUp N z o) next 0) room out used
       (worldOf (onward (r .ctl) next 0 true noTally) cells′ links′ calendar′ words′) out′ used′
   unfolding called lineOf stateAfter endsRun tallyAfter setupText setupWorld
   setup-ends out″ line out′ used′ q p f p2 f2 =

@@ -11,11 +11,11 @@ use Rattle.meaning.specs.Plain.{if_then_else_}
 use Rattle.meaning.specs.Numbers.{octets}
 use Rattle.list_lines.specs.Lines.{stopLine}
 use Rattle.trace_record.specs.declared.Event.{Event}
-use Rattle.trace_record.specs.declared.Event.the-variants.{Setup, Open, Close, Cell, Pause, Sustain}
+use Rattle.trace_record.specs.declared.Event.the-variants.{Setup, Open, Close, Cell, Pause, Sustain, OpenPath, ClosePath}
 use Rattle.trace_record.specs.declared.Found.{Found}
 use Rattle.trace_record.proofs.Found.{the-type}
 use Rattle.trace_record.specs.declared.Found.the-variants.{Read, End, Unreadable}
-use Rattle.trace_record.specs.Trace.{TraceRecord, GM, VO, VX, CA, SL, VS, Stands, event, finish, refusal, recordOf, saidOf, standsAt}
+use Rattle.trace_record.specs.Trace.{TraceRecord, GM, VO, VX, CA, SL, VS, PO, PX, Stands, event, finish, refusal, recordOf, saidOf, standsAt}
 use Rattle.trace_record.specs.Fits.{Fits, stands-fits}
 use Rattle.list_lines.proofs.Puts.{put-is, put-none, put-once}
 use Rattle.list_whole.specs.declared.Run.{Run}

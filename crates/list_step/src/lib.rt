@@ -6,8 +6,10 @@ ghost use Prim.Native.Nat.{_+_, _≤_};
 ghost use lib.ListN.{length};
 ghost use Rattle.list_lines.specs.Put.{Put};
 ghost use Rattle.list_lines.specs.Lines.{stopLine};
-ghost use Rattle.meaning.specs.Words.{secondOf};
-ghost use Rattle.trace_record.specs.Trace.{recordOf};
+ghost use Rattle.meaning.specs.Header.{byVci, byVpi};
+ghost use Rattle.meaning.specs.Words.{secondOf, noSecond};
+ghost use Rattle.meaning.specs.Calls.{kindNumber};
+ghost use Rattle.trace_record.specs.Trace.{headOptions, recordOf};
 ghost use Rattle.list_meaning.specs.Trace.{setUp, openConnection, closeConnection, limit};
 ghost use Rattle.list_meaning.specs.Trace.{serve as Trace·serve};
 ghost use Rattle.list_meaning.specs.Listing.{endOf};
@@ -23,6 +25,7 @@ use meaning::Answer;
 use meaning::Record;
 use trace_record::Event;
 use trace_record::Found;
+use trace_record::Head;
 
 fn counted_if(n: u32, on: bool) -> u32
     ensures { λ r. ⌜ r ≡ countedIf on n ⌝ }
@@ -88,11 +91,33 @@ fn end_tally(out: &mut [u8], at: usize, t: Tally) -> usize
     list_lines::end_line(out, at, t.accepted, t.excess, t.unknown, t.sent, waiting)
 }
 
-// A setup, raw or not, with its line; a refused one ends the run.
+// What a trace's head chooses at setup: whether its cells come raw.
+fn is_raw(head: Head) -> bool
+    ensures { λ r. ⌜ r ≡ headOptions head .raw ⌝ }
+{
+    match head {
+        Head::Gm => false,
+        Head::Gr => true,
+        Head::Gn => false,
+    }
+}
+
+// The line kind that it chooses: 0 UNI, 1 NNI.
+fn line_kind(head: Head) -> u16
+    ensures { λ r. ⌜ r ≡ kindNumber (headOptions head .kind) ⌝ }
+{
+    match head {
+        Head::Gm => 0,
+        Head::Gr => 0,
+        Head::Gn => 1,
+    }
+}
+
+// A setup as the trace's head has it, with its line; a refused one ends the run.
 fn set_up(
     n: u16,
     v: u16,
-    raw: bool,
+    head: Head,
     next: u32,
     cells: &mut [u8],
     links: &mut [u16],
@@ -102,9 +127,11 @@ fn set_up(
     used: usize,
 ) -> Filled
     requires { ⌜ used + room ≤ length (now out) ⌝ }
-    ensures { λ r. ⌜ ((run : declared·Run) → DidLent (called (worldBefore run cells links calendar words) (setUp n v raw) next 0) room cells links calendar words out used r) ⌝ }
+    ensures { λ r. ⌜ ((run : declared·Run) → DidLent (called (worldBefore run cells links calendar words) (setUp n v (headOptions head)) next 0) room cells links calendar words out used r) ⌝ }
 {
-    let fresh = call_setup::setup(n, v, raw, cells, links, calendar, words);
+    let raw = is_raw(head);
+    let kind = line_kind(head);
+    let fresh = call_setup::setup(n, v, raw, kind, cells, links, calendar, words);
     let ctl = fresh.ctl;
     let line = list_lines::setup_line(out, used, n, v, fresh.number);
     let tally = Tally {
@@ -153,7 +180,7 @@ fn moved(run: Run, at: u32, left: u16) -> Run
     }
 }
 
-// An opening with its line; the second bucket's m, F and C and the flag are 0 where there is none.
+// A VC's opening with its line; the second bucket's m, F and C and the flag are 0 where there is none.
 fn open_connection(
     run: Run,
     vci: u16,
@@ -170,10 +197,10 @@ fn open_connection(
     used: usize,
 ) -> Filled
     requires { ⌜ (used + room ≤ length (now out)) × (run .done ≡ false) ⌝ }
-    ensures { λ r. ⌜ DidWords (λ (w : World). called w (openConnection vci m f c (secondOf m2 f2 c2 tag)) next 0) room run words out used r ⌝ }
+    ensures { λ r. ⌜ DidWords (λ (w : World). called w (openConnection (byVci vci) m f c (secondOf m2 f2 c2 tag)) next 0) room run words out used r ⌝ }
 {
     let answer = call_connection::open_sustained(run.ctl, words, vci, m, f, c, m2, f2, c2, tag);
-    let line = list_lines::open_line(out, used, vci, answer);
+    let line = list_lines::open_line(out, used, vci as u32, answer);
     let next_run = moved(run, next, 0);
     Filled {
         run: next_run,
@@ -181,7 +208,39 @@ fn open_connection(
     }
 }
 
-// A closing with its line.
+// The number that a path is listed with, V + VPI, also where it names none.
+fn path_number(v: u16, vpi: u16) -> u32
+    ensures { λ r. ⌜ r ≡ v + vpi ⌝ }
+{
+    v as u32 + vpi as u32
+}
+
+// A path's opening with its line. No mark opens one with a second bucket.
+fn open_path(
+    run: Run,
+    vpi: u16,
+    m: u8,
+    f: u32,
+    c: u32,
+    next: u32,
+    words: &mut [u32],
+    out: &mut [u8],
+    used: usize,
+) -> Filled
+    requires { ⌜ (used + room ≤ length (now out)) × (run .done ≡ false) ⌝ }
+    ensures { λ r. ⌜ DidWords (λ (w : World). called w (openConnection (byVpi vpi) m f c noSecond) next 0) room run words out used r ⌝ }
+{
+    let number = path_number(run.ctl.v, vpi);
+    let answer = call_connection::open_path(run.ctl, words, vpi, m, f, c, 0, 0, 0, 0);
+    let line = list_lines::open_line(out, used, number, answer);
+    let next_run = moved(run, next, 0);
+    Filled {
+        run: next_run,
+        used: line,
+    }
+}
+
+// A VC's closing with its line.
 fn close_connection(
     run: Run,
     vci: u16,
@@ -191,10 +250,32 @@ fn close_connection(
     used: usize,
 ) -> Filled
     requires { ⌜ (used + room ≤ length (now out)) × (run .done ≡ false) ⌝ }
-    ensures { λ r. ⌜ DidWords (λ (w : World). called w (closeConnection vci) next 0) room run words out used r ⌝ }
+    ensures { λ r. ⌜ DidWords (λ (w : World). called w (closeConnection (byVci vci)) next 0) room run words out used r ⌝ }
 {
     let answer = call_connection::close(run.ctl, words, vci);
-    let line = list_lines::close_line(out, used, vci, answer);
+    let line = list_lines::close_line(out, used, vci as u32, answer);
+    let next_run = moved(run, next, 0);
+    Filled {
+        run: next_run,
+        used: line,
+    }
+}
+
+// A path's closing with its line.
+fn close_path(
+    run: Run,
+    vpi: u16,
+    next: u32,
+    words: &mut [u32],
+    out: &mut [u8],
+    used: usize,
+) -> Filled
+    requires { ⌜ (used + room ≤ length (now out)) × (run .done ≡ false) ⌝ }
+    ensures { λ r. ⌜ DidWords (λ (w : World). called w (closeConnection (byVpi vpi)) next 0) room run words out used r ⌝ }
+{
+    let number = path_number(run.ctl.v, vpi);
+    let answer = call_connection::close_path(run.ctl, words, vpi);
+    let line = list_lines::close_line(out, used, number, answer);
     let next_run = moved(run, next, 0);
     Filled {
         run: next_run,
@@ -260,8 +341,8 @@ fn happen(
     ensures { λ r. ⌜ DidLent (recordStep (now (trace .entry)) (worldBefore run cells links calendar words) (recordOf event) next) room cells links calendar words out used r ⌝ }
 {
     match event {
-        Event::Setup { n, v, raw } => {
-            set_up(n, v, raw, next, cells, links, calendar, words, out, used)
+        Event::Setup { n, v, head } => {
+            set_up(n, v, head, next, cells, links, calendar, words, out, used)
         }
         Event::Open { vci, m, f, c } => open_connection(
             run,
@@ -311,6 +392,8 @@ fn happen(
             c2,
             tag,
         } => { open_connection(run, vci, m, f, c, m2, f2, c2, tag, next, words, out, used) }
+        Event::OpenPath { vpi, m, f, c } => { open_path(run, vpi, m, f, c, next, words, out, used) }
+        Event::ClosePath { vpi } => close_path(run, vpi, next, words, out, used),
     }
 }
 

@@ -31,8 +31,8 @@ recount-none = refl
 pub tally-recount : (s : State) (t : Tally) (h : List Answer) (c : Call) → t ≡ recount h
     → tallyAfter s t c ≡ recount (answersAfter s h c)
 unfolding tallyAfter answersAfter
-tally-recount s t h (setUp N z raw) e = recount-none
-tally-recount s t h (openConnection vci m F C x) e = e
-tally-recount s t h (closeConnection vci) e = e
+tally-recount s t h (setUp N z o) e = recount-none
+tally-recount s t h (openConnection name m F C x) e = e
+tally-recount s t h (closeConnection name) e = e
 tally-recount s t h (serve cell) e =
     ap (λ (x : Tally). counted x (slot s cell .answer)) e ∙ counted-recount (slot s cell .answer) h

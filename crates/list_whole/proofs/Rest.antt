@@ -10,9 +10,10 @@ use lib.ListN.{length}
 use Rattle.meaning.specs.declared.Answer.{Answer}
 use Rattle.meaning.specs.Plain.{if_then_else_}
 use Rattle.meaning.specs.State.{State}
+use Rattle.meaning.specs.Header.{byVci, byVpi}
 use Rattle.meaning.specs.Words.{noSecond}
 use Rattle.list_lines.specs.Lines.{stopLine}
-use Rattle.trace_record.specs.Trace.{TraceRecord, GM, VO, VX, CA, SL, VS, Stands, event, finish, refusal, standsAt}
+use Rattle.trace_record.specs.Trace.{TraceRecord, GM, VO, VX, CA, SL, VS, PO, PX, headOptions, Stands, event, finish, refusal, standsAt}
 use Rattle.trace_record.specs.Fits.{Fits, stands-fits}
 use Rattle.list_meaning.specs.declared.Tally.{Tally}
 use Rattle.list_meaning.specs.Trace.{Call, setUp, openConnection, closeConnection, serve, Calls, finished, stopped, call, pauses, cellOf, recordCalls, callsAt, callsFrom}
@@ -88,10 +89,12 @@ module _ (more : Bool) (trace : List ℕ) where
     record-left : (r : TraceRecord) (next k : ℕ) → length trace - next < k
         → Left more trace (recordStep trace w r next) (linesOf (w .state) h (recordCalls trace r (callsFrom k more trace next)))
     unfolding recordStep recordCalls pauses paused
-    record-left (GM N z raw) next k n = called-left w h (setUp N z raw) next 0 k n counts
-    record-left (VO vci m F C) next k n = called-left w h (openConnection vci m F C noSecond) next 0 k n counts
-    record-left (VS vci m F C x) next k n = called-left w h (openConnection vci m F C x) next 0 k n counts
-    record-left (VX vci) next k n = called-left w h (closeConnection vci) next 0 k n counts
+    record-left (GM N z head) next k n = called-left w h (setUp N z (headOptions head)) next 0 k n counts
+    record-left (VO vci m F C) next k n = called-left w h (openConnection (byVci vci) m F C noSecond) next 0 k n counts
+    record-left (VS vci m F C x) next k n = called-left w h (openConnection (byVci vci) m F C x) next 0 k n counts
+    record-left (PO vpi m F C) next k n = called-left w h (openConnection (byVpi vpi) m F C noSecond) next 0 k n counts
+    record-left (VX vci) next k n = called-left w h (closeConnection (byVci vci)) next 0 k n counts
+    record-left (PX vpi) next k n = called-left w h (closeConnection (byVpi vpi)) next 0 k n counts
     record-left (CA start) next k n = called-left w h (serve (cellOf trace start)) next 0 k n counts
     record-left (SL count) next k n =
         record {

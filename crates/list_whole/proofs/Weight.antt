@@ -8,7 +8,7 @@ use native.Mathlib.Omega.{arith}
 use lib.Dec.{ltb}
 use lib.ListN.{length}
 use Rattle.meaning.specs.Plain.{if_then_else_}
-use Rattle.trace_record.specs.Trace.{TraceRecord, GM, VO, VX, CA, SL, VS, Stands, event, finish, refusal, standsAt}
+use Rattle.trace_record.specs.Trace.{TraceRecord, GM, VO, VX, CA, SL, VS, PO, PX, Stands, event, finish, refusal, standsAt}
 use Rattle.trace_record.specs.Fits.{Fits, stands-fits}
 use Rattle.list_meaning.specs.Trace.{serve}
 use Rattle.list_whole.specs.Run.{World, called, paused, ended, recordStep, standsStep, step, after}
@@ -52,12 +52,14 @@ module _ (more : Bool) (trace : List ℕ) where
   record-onward : (w : World) (r : TraceRecord) (next : ℕ) → (w .at < next) × (next ≤ length trace)
       → Onward (length trace) w (recordStep trace w r next .world)
   unfolding recordStep called paused
-  record-onward w (GM N z raw) next h = inr (inl h)
+  record-onward w (GM N z head) next h = inr (inl h)
   record-onward w (VO vci m F C) next h = inr (inl h)
   record-onward w (VX vci) next h = inr (inl h)
   record-onward w (CA start) next h = inr (inl h)
   record-onward w (SL count) next h = inr (inl h)
   record-onward w (VS vci m F C x) next h = inr (inl h)
+  record-onward w (PO vpi m F C) next h = inr (inl h)
+  record-onward w (PX vpi) next h = inr (inl h)
 
   stands-onward : (w : World) (s : Stands) → Fits trace (w .at) s → Onward (length trace) w (standsStep more trace w s .world)
   unfolding standsStep ended

@@ -10,13 +10,13 @@ use lib.Dec.{ltb}
 use lib.ListN.{length, take, replicate, length-take, length-replicate}
 use Rattle.meaning.specs.declared.Answer.{Answer}
 use Rattle.meaning.specs.Plain.{if_then_else_, _=?_}
-use Rattle.meaning.specs.Numbers.{rangesHold, octets, perEntry, wordsPerConnection}
+use Rattle.meaning.specs.Numbers.{rangesHold, kindFits, octets, perEntry, wordsIn}
 use Rattle.meaning.specs.State.{State, stateOf, lengthsHold, wordsLong}
-use Rattle.meaning.specs.Calls.{SetUp, setUpOf, zeros, setup, freshState}
+use Rattle.meaning.specs.Calls.{Kind, UNI, NNI, kindNumber, kindOf, Options, SetUp, setUpOf, zeros, setup, freshState}
 use Rattle.list_lines.specs.Lines.{setupLine}
 use Rattle.list_lines.specs.Put.{Put}
 use Rattle.list_lines.proofs.Puts.{put-front, put-once}
-use Rattle.trace_record.specs.Trace.{TraceRecord, GM, VO, VX, CA, SL, VS, Stands, event, finish, refusal, standsAt}
+use Rattle.trace_record.specs.Trace.{TraceRecord, GM, VO, VX, CA, SL, VS, PO, PX, headOptions, Stands, event, finish, refusal, standsAt}
 use Rattle.trace_record.specs.Fits.{Fits, stands-fits}
 use Rattle.list_whole.specs.declared.Run.{Run}
 use Rattle.list_whole.specs.declared.Sizes.{Sizes}
@@ -39,71 +39,87 @@ unfolding lengthsHold wordsLong
 lent-holds N z cells links calendar words s =
     simp (eq-eqb _ _ (s .cells-long), eq-eqb _ _ (s .links-long), eq-eqb _ _ (s .calendar-long), eq-eqb _ _ (s .words-long))
 
--- setup on any memory of the right sizes
-setup-fresh : (N z : ℕ) (raw : Bool) (cells links calendar words : List ℕ) → rangesHold N z ≡ true
-    → lengthsHold N z cells links calendar words ≡ true
-    → setup N z raw cells links calendar words ≡ setUpOf 0 (freshState N z raw)
-unfolding setup
-setup-fresh N z raw cells links calendar words r l = simp (r, l)
+-- setup as a trace's head has it
+setupAs : (N z : ℕ) → Options → (cells links calendar words : List ℕ) → SetUp
+setupAs N z o cells links calendar words = setup N z (o .raw) (kindNumber (o .kind)) cells links calendar words
 
-setup-ranges : (N z : ℕ) (raw : Bool) (cells links calendar words : List ℕ) → rangesHold N z ≡ false
-    → setup N z raw cells links calendar words ≡ setUpOf 1 (stateOf zeros cells links calendar words)
-unfolding setup
-setup-ranges N z raw cells links calendar words r = simp r
+-- the number of a line kind is that of a line kind, and of no other
+kind-fits : (k : Kind) → kindFits (kindNumber k) ≡ true
+unfolding kindFits
+kind-fits UNI = refl
+kind-fits NNI = refl
+
+kind-again : (k : Kind) → kindOf (kindNumber k) ≡ k
+kind-again UNI = refl
+kind-again NNI = refl
+
+-- setup on any memory of the right sizes
+setup-fresh : (N z : ℕ) (o : Options) (cells links calendar words : List ℕ) → rangesHold N z ≡ true
+    → lengthsHold N z cells links calendar words ≡ true
+    → setupAs N z o cells links calendar words ≡ setUpOf 0 (freshState N z o)
+unfolding setup setupAs
+setup-fresh N z o cells links calendar words r l = simp (r, l, kind-fits (o .kind), kind-again (o .kind))
+
+setup-ranges : (N z : ℕ) (o : Options) (cells links calendar words : List ℕ) → rangesHold N z ≡ false
+    → setupAs N z o cells links calendar words ≡ setUpOf 1 (stateOf zeros cells links calendar words)
+unfolding setup setupAs
+setup-ranges N z o cells links calendar words r = simp r
 
 -- the lines of a setup and of what follows, by what setup gives back
 setupLines : (N z : ℕ) → Calls → SetUp → List ℕ
 setupLines N z rest x =
     setupLine N z (x .number) ++ (if not (x .number =? 0) then endOf (recount []) else linesOf (x .state) [] rest)
 
-lines-setup : (s : State) (N z : ℕ) (raw : Bool) (rest : Calls)
-    → linesOf s [] (call (setUp N z raw) rest) ≡ setupLines N z rest (setup N z raw (s .cells) (s .links) (s .calendar) (s .words))
-unfolding linesOf lineOf endsRun stateAfter answersAfter setupLines
-lines-setup s N z raw rest = refl
+lines-setup : (s : State) (N z : ℕ) (o : Options) (rest : Calls)
+    → linesOf s [] (call (setUp N z o) rest) ≡ setupLines N z rest (setupAs N z o (s .cells) (s .links) (s .calendar) (s .words))
+unfolding linesOf lineOf endsRun stateAfter answersAfter setupLines setupAs
+lines-setup s N z o rest = refl
 
 refused-lines : (N z : ℕ) (rest : Calls) (a b : State) → setupLines N z rest (setUpOf 1 a) ≡ setupLines N z rest (setUpOf 1 b)
 unfolding setupLines
 refused-lines N z rest a b = refl
 
 module _ (cells links calendar words : List ℕ) where
-  setup-lines : (N z : ℕ) (raw : Bool) (rest : Calls) (b : Bool) → rangesHold N z ≡ b
+  setup-lines : (N z : ℕ) (o : Options) (rest : Calls) (b : Bool) → rangesHold N z ≡ b
       → LentFor (if b then record { n = N; v = z } else record { n = 0; v = 0 }) (worldOf startRun cells links calendar words)
-      → linesOf (stateOf zeros cells links calendar words) [] (call (setUp N z raw) rest) ≡ linesOf (lentFor (call (setUp N z raw) rest)) [] (call (setUp N z raw) rest)
+      → linesOf (stateOf zeros cells links calendar words) [] (call (setUp N z o) rest) ≡ linesOf (lentFor (call (setUp N z o) rest)) [] (call (setUp N z o) rest)
   unfolding lentFor
-  setup-lines N z raw rest true r s =
+  setup-lines N z o rest true r s =
       let c : List ℕ = replicate (octets * N) 0 in
       let l : List ℕ = replicate N 0 in
       let k : List ℕ = replicate (perEntry * N) 0 in
-      let w : List ℕ = replicate (wordsPerConnection * z) 0 in
+      let w : List ℕ = replicate (wordsIn z) 0 in
       let h : LentFor (record { n = N; v = z }) (worldOf startRun c l k w) =
       record {
         cells-long = length-replicate {A = ℕ} (octets * N) 0;
         links-long = length-replicate {A = ℕ} N 0;
         calendar-long = length-replicate {A = ℕ} (perEntry * N) 0;
-        words-long = length-replicate {A = ℕ} (wordsPerConnection * z) 0;
+        words-long = length-replicate {A = ℕ} (wordsIn z) 0;
       } in
-      lines-setup (stateOf zeros cells links calendar words) N z raw rest
-      ∙ ap (setupLines N z rest) (setup-fresh N z raw cells links calendar words r (lent-holds N z cells links calendar words s) ∙ sym (setup-fresh N z raw c l k w r (lent-holds N z c l k w h)))
-      ∙ sym (lines-setup (stateOf zeros c l k w) N z raw rest)
-  setup-lines N z raw rest false r s =
+      lines-setup (stateOf zeros cells links calendar words) N z o rest
+      ∙ ap (setupLines N z rest) (setup-fresh N z o cells links calendar words r (lent-holds N z cells links calendar words s) ∙ sym (setup-fresh N z o c l k w r (lent-holds N z c l k w h)))
+      ∙ sym (lines-setup (stateOf zeros c l k w) N z o rest)
+  setup-lines N z o rest false r s =
       let c : List ℕ = replicate (octets * N) 0 in
       let l : List ℕ = replicate N 0 in
       let k : List ℕ = replicate (perEntry * N) 0 in
-      let w : List ℕ = replicate (wordsPerConnection * z) 0 in
-      lines-setup (stateOf zeros cells links calendar words) N z raw rest
-      ∙ ap (setupLines N z rest) (setup-ranges N z raw cells links calendar words r)
+      let w : List ℕ = replicate (wordsIn z) 0 in
+      lines-setup (stateOf zeros cells links calendar words) N z o rest
+      ∙ ap (setupLines N z rest) (setup-ranges N z o cells links calendar words r)
       ∙ refused-lines N z rest (stateOf zeros cells links calendar words) (stateOf zeros c l k w)
-      ∙ sym (ap (setupLines N z rest) (setup-ranges N z raw c l k w r))
-      ∙ sym (lines-setup (stateOf zeros c l k w) N z raw rest)
+      ∙ sym (ap (setupLines N z rest) (setup-ranges N z o c l k w r))
+      ∙ sym (lines-setup (stateOf zeros c l k w) N z o rest)
 
   stands-lines : (more : Bool) (trace : List ℕ) (go : ℕ → Calls) (s : Stands) → Fits trace 0 s
       → LentFor (sizesAt s) (worldOf startRun cells links calendar words)
       → linesOf (stateOf zeros cells links calendar words) [] (callsAt more trace go 0 s) ≡ linesOf (lentFor (callsAt more trace go 0 s)) [] (callsAt more trace go 0 s)
   unfolding callsAt recordCalls sizesAt linesOf
-  stands-lines more trace go (event (GM N z raw) next) f s = setup-lines N z raw (go next) (rangesHold N z) refl s
+  stands-lines more trace go (event (GM N z head) next) f s = setup-lines N z (headOptions head) (go next) (rangesHold N z) refl s
   stands-lines more trace go (event (VO vci m F C) next) f s = absurd (omega (arith, f .2))
   stands-lines more trace go (event (VS vci m F C x) next) f s = absurd (omega (arith, f .2))
   stands-lines more trace go (event (VX vci) next) f s = absurd (omega (arith, f .2))
+  stands-lines more trace go (event (PO vpi m F C) next) f s = absurd (omega (arith, f .2))
+  stands-lines more trace go (event (PX vpi) next) f s = absurd (omega (arith, f .2))
   stands-lines more trace go (event (CA start) next) f s = absurd (omega (arith, f .2 .0))
   stands-lines more trace go (event (SL count) next) f s = absurd (omega (arith, f .2 .0))
   stands-lines more trace go finish f s = absurd (omega (arith, f .0))

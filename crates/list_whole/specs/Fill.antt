@@ -8,9 +8,9 @@ use mathlib.Core.Logic.{_⊎_}
 use lib.ListN.{length, take}
 use Rattle.list_lines.specs.Put.{Put}
 use Rattle.meaning.specs.Plain.{if_then_else_}
-use Rattle.meaning.specs.Numbers.{octets, perEntry, wordsPerConnection, rangesHold}
+use Rattle.meaning.specs.Numbers.{octets, perEntry, wordsIn, rangesHold}
 use Rattle.meaning.specs.Calls.{zeros}
-use Rattle.trace_record.specs.Trace.{TraceRecord, GM, VO, VX, CA, SL, VS, Stands, event, finish, refusal, standsAt}
+use Rattle.trace_record.specs.Trace.{TraceRecord, GM, VO, VX, CA, SL, VS, PO, PX, Stands, event, finish, refusal, standsAt}
 use Rattle.list_whole.specs.declared.Run.{Run}
 use Rattle.list_whole.specs.declared.Sizes.{Sizes}
 use Rattle.list_meaning.specs.Trace.{limit, goesOn}
@@ -61,12 +61,14 @@ pub data Fills (input : List ℕ) (w : World) (out : List ℕ) : ℕ → List �
 
 -- a cell that a record names lies within the trace
 abbrev pub CellWithin : List ℕ → TraceRecord → Type 0
-CellWithin trace (GM N z raw) = 0 ≤ 0
+CellWithin trace (GM N z head) = 0 ≤ 0
 CellWithin trace (VO vci m F C) = 0 ≤ 0
 CellWithin trace (VX vci) = 0 ≤ 0
 CellWithin trace (CA start) = start + octets ≤ length trace
 CellWithin trace (SL count) = 0 ≤ 0
 CellWithin trace (VS vci m F C x) = 0 ≤ 0
+CellWithin trace (PO vpi m F C) = 0 ≤ 0
+CellWithin trace (PX vpi) = 0 ≤ 0
 
 -- where a run begins: no record is set up, nothing is read or counted
 unfoldable pub startRun : Run
@@ -74,12 +76,14 @@ startRun = record { ctl = zeros; at = 0; left = 0; done = false; tally = noTally
 
 -- N and V for which memory is to be lent: those of the first record, where they are in their ranges
 unfoldable pub sizesAt : Stands → Sizes
-sizesAt (event (GM N z raw) next) = if rangesHold N z then record { n = N; v = z } else record { n = 0; v = 0 }
+sizesAt (event (GM N z head) next) = if rangesHold N z then record { n = N; v = z } else record { n = 0; v = 0 }
 sizesAt (event (VO vci m F C) next) = record { n = 0; v = 0 }
 sizesAt (event (VX vci) next) = record { n = 0; v = 0 }
 sizesAt (event (CA start) next) = record { n = 0; v = 0 }
 sizesAt (event (SL count) next) = record { n = 0; v = 0 }
 sizesAt (event (VS vci m F C x) next) = record { n = 0; v = 0 }
+sizesAt (event (PO vpi m F C) next) = record { n = 0; v = 0 }
+sizesAt (event (PX vpi) next) = record { n = 0; v = 0 }
 sizesAt finish = record { n = 0; v = 0 }
 sizesAt (refusal number place) = record { n = 0; v = 0 }
 
@@ -87,9 +91,9 @@ unfoldable pub sizesOf : List ℕ → Sizes
 sizesOf input = sizesAt (standsAt (take limit input) 0)
 
 -- "Lent memory: 53 × N octets of cells; N links of 16 bits; 2 × N calendar numbers of 16 bits; 7 × V words", of which
--- document 02 (iv) made 12 × V
+-- document 02 made 12 × (V + 256)
 pub record LentFor (n : Sizes) (w : World) : Type 0 where
   pub cells-long : length (w .state .cells) ≡ octets * n .n
   pub links-long : length (w .state .links) ≡ n .n
   pub calendar-long : length (w .state .calendar) ≡ perEntry * n .n
-  pub words-long : length (w .state .words) ≡ wordsPerConnection * n .v
+  pub words-long : length (w .state .words) ≡ wordsIn (n .v)

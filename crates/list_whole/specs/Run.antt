@@ -13,10 +13,11 @@ use Rattle.meaning.specs.declared.Answer.{Answer}
 use Rattle.meaning.specs.Plain.{if_then_else_, _<?_}
 use Rattle.meaning.specs.Numbers.{slotNumbers}
 use Rattle.meaning.specs.State.{State, stateOf}
+use Rattle.meaning.specs.Header.{byVci, byVpi}
 use Rattle.meaning.specs.Words.{noSecond}
 use Rattle.meaning.specs.Slot.{slot}
 use Rattle.list_lines.specs.Lines.{stopLine}
-use Rattle.trace_record.specs.Trace.{TraceRecord, GM, VO, VX, CA, SL, VS, Stands, event, finish, refusal, standsAt}
+use Rattle.trace_record.specs.Trace.{TraceRecord, GM, VO, VX, CA, SL, VS, PO, PX, headOptions, Stands, event, finish, refusal, standsAt}
 use Rattle.list_meaning.specs.declared.Tally.{Tally}
 use Rattle.list_whole.specs.declared.Run.{Run}
 use Rattle.list_meaning.specs.Trace.{Call, setUp, openConnection, closeConnection, serve, cellOf}
@@ -60,9 +61,9 @@ abbrev pub noTally : Tally
 noTally = record { accepted = 0; excess = 0; unknown = 0; sent = 0 }
 
 unfoldable pub tallyAfter : State → Tally → Call → Tally
-tallyAfter s t (setUp N z raw) = noTally
-tallyAfter s t (openConnection vci m F C x) = t
-tallyAfter s t (closeConnection vci) = t
+tallyAfter s t (setUp N z o) = noTally
+tallyAfter s t (openConnection name m F C x) = t
+tallyAfter s t (closeConnection name) = t
 tallyAfter s t (serve cell) = counted t (slot s cell .answer)
 
 pub record Step : Type 0 where
@@ -100,12 +101,14 @@ ended w before =
     }
 
 unfoldable pub recordStep : List ℕ → World → TraceRecord → ℕ → Step
-recordStep trace w (GM N z raw) next = called w (setUp N z raw) next 0
-recordStep trace w (VO vci m F C) next = called w (openConnection vci m F C noSecond) next 0
-recordStep trace w (VX vci) next = called w (closeConnection vci) next 0
+recordStep trace w (GM N z head) next = called w (setUp N z (headOptions head)) next 0
+recordStep trace w (VO vci m F C) next = called w (openConnection (byVci vci) m F C noSecond) next 0
+recordStep trace w (VX vci) next = called w (closeConnection (byVci vci)) next 0
 recordStep trace w (CA start) next = called w (serve (cellOf trace start)) next 0
 recordStep trace w (SL count) next = paused w next count
-recordStep trace w (VS vci m F C x) next = called w (openConnection vci m F C x) next 0
+recordStep trace w (VS vci m F C x) next = called w (openConnection (byVci vci) m F C x) next 0
+recordStep trace w (PO vpi m F C) next = called w (openConnection (byVpi vpi) m F C noSecond) next 0
+recordStep trace w (PX vpi) next = called w (closeConnection (byVpi vpi)) next 0
 
 -- "A record that can't be read ends the run there", with its place on the stop line; so does the trace's end, with a stop
 -- line at that place where the input goes on

@@ -6,7 +6,7 @@ use mathlib.Core.List.{List, _++_}
 use lib.ListN.{length, take, drop}
 use native.Mathlib.Omega.{arith}
 use lib.Seq.{take-at, drop-at, length-take-le}
-use Rattle.meaning.specs.Numbers.{mostN, mostV, octets, perEntry, wordsPerConnection}
+use Rattle.meaning.specs.Numbers.{mostN, mostV, octets, perEntry, wordsIn}
 use Rattle.list_whole.specs.declared.Run.{Run}
 use Rattle.list_whole.specs.declared.Sizes.{Sizes}
 use Rattle.list_whole.specs.Run.{World, worldOf}
@@ -20,14 +20,14 @@ front-long z w m a =
       cells-long = length-take-le (octets * z .n) (w .state .cells) (omega (arith, m .0, a .cells-long));
       links-long = length-take-le (z .n) (w .state .links) (omega (arith, m .0, a .links-long));
       calendar-long = length-take-le (perEntry * z .n) (w .state .calendar) (omega (arith, m .0, a .calendar-long));
-      words-long = length-take-le (wordsPerConnection * z .v) (w .state .words) (omega (arith, m .1, a .words-long));
+      words-long = length-take-le (wordsIn (z .v)) (w .state .words) (omega (arith, m .1, a .words-long));
     }
 
 module _ (input out out′ : List ℕ) (answer : Bool) (z : Sizes) (cells links calendar words c l k w : List ℕ) where
   -- the memories with the parts c, l, k and w in front
   abbrev rejoined : Left
   rejoined run =
-      worldOf run (c ++ drop (octets * z .n) cells) (l ++ drop (z .n) links) (k ++ drop (perEntry * z .n) calendar) (w ++ drop (wordsPerConnection * z .v) words)
+      worldOf run (c ++ drop (octets * z .n) cells) (l ++ drop (z .n) links) (k ++ drop (perEntry * z .n) calendar) (w ++ drop (wordsIn (z .v)) words)
 
   module _ (long : LentFor z (worldOf startRun c l k w)) where
     front-is : Handed input (frontOf z (worldOf startRun cells links calendar words)) out (λ (run : Run). worldOf run c l k w) out′ answer
@@ -36,15 +36,15 @@ module _ (input out out′ : List ℕ) (answer : Bool) (z : Sizes) (cells links 
         let w₀ = frontOf z (worldOf startRun cells links calendar words) in
         let l′ = l ++ drop (z .n) links in
         let k′ = k ++ drop (perEntry * z .n) calendar in
-        let w′ = w ++ drop (wordsPerConnection * z .v) words in
-        subst (λ (x : List ℕ). Handed input w₀ out (λ (run : Run). worldOf run x (take (z .n) l′) (take (perEntry * z .n) k′) (take (wordsPerConnection * z .v) w′)) out′ answer)
+        let w′ = w ++ drop (wordsIn (z .v)) words in
+        subst (λ (x : List ℕ). Handed input w₀ out (λ (run : Run). worldOf run x (take (z .n) l′) (take (perEntry * z .n) k′) (take (wordsIn (z .v)) w′)) out′ answer)
         (sym (take-at c (drop (octets * z .n) cells) (octets * z .n) (long .cells-long)))
-        (subst (λ (x : List ℕ). Handed input w₀ out (λ (run : Run). worldOf run c x (take (perEntry * z .n) k′) (take (wordsPerConnection * z .v) w′)) out′ answer)
+        (subst (λ (x : List ℕ). Handed input w₀ out (λ (run : Run). worldOf run c x (take (perEntry * z .n) k′) (take (wordsIn (z .v)) w′)) out′ answer)
         (sym (take-at l (drop (z .n) links) (z .n) (long .links-long)))
-        (subst (λ (x : List ℕ). Handed input w₀ out (λ (run : Run). worldOf run c l x (take (wordsPerConnection * z .v) w′)) out′ answer)
+        (subst (λ (x : List ℕ). Handed input w₀ out (λ (run : Run). worldOf run c l x (take (wordsIn (z .v)) w′)) out′ answer)
         (sym (take-at k (drop (perEntry * z .n) calendar) (perEntry * z .n) (long .calendar-long)))
         (subst (λ (x : List ℕ). Handed input w₀ out (λ (run : Run). worldOf run c l k x) out′ answer)
-        (sym (take-at w (drop (wordsPerConnection * z .v) words) (wordsPerConnection * z .v) (long .words-long))) h)))
+        (sym (take-at w (drop (wordsIn (z .v)) words) (wordsIn (z .v)) (long .words-long))) h)))
 
     behind-is : behindOf z (rejoined startRun) ≡ behindOf z (worldOf startRun cells links calendar words)
     behind-is =
@@ -52,7 +52,7 @@ module _ (input out out′ : List ℕ) (answer : Bool) (z : Sizes) (cells links 
           drop-at c (drop (octets * z .n) cells) (octets * z .n) (long .cells-long),
           drop-at l (drop (z .n) links) (z .n) (long .links-long),
           drop-at k (drop (perEntry * z .n) calendar) (perEntry * z .n) (long .calendar-long),
-          drop-at w (drop (wordsPerConnection * z .v) words) (wordsPerConnection * z .v) (long .words-long),
+          drop-at w (drop (wordsIn (z .v)) words) (wordsIn (z .v)) (long .words-long),
         )
 
     pub lent-listed : z ≡ sizesOf input

@@ -9,7 +9,7 @@ use mathlib.Core.Path.{_≡_}
 use mathlib.Core.Bool.{Bool, true}
 use mathlib.Core.List.{List, [], _++_}
 use lib.ListN.{length, take, drop}
-use Rattle.meaning.specs.Numbers.{mostN, mostV, octets, perEntry, wordsPerConnection}
+use Rattle.meaning.specs.Numbers.{mostN, mostV, octets, perEntry, wordsIn}
 use Rattle.meaning.specs.State.{State, stateOf}
 use Rattle.list_meaning.specs.Listing.{listingOf}
 use Rattle.list_whole.specs.declared.Run.{Run}
@@ -41,7 +41,7 @@ frontOf z w =
           (take (octets * z .n) (w .state .cells))
           (take (z .n) (w .state .links))
           (take (perEntry * z .n) (w .state .calendar))
-          (take (wordsPerConnection * z .v) (w .state .words));
+          (take (wordsIn (z .v)) (w .state .words));
       at = w .at;
       left = w .left;
       done = w .done;
@@ -54,14 +54,14 @@ behindOf z w =
     (drop (octets * z .n) (w .state .cells))
     (drop (z .n) (w .state .links))
     (drop (perEntry * z .n) (w .state .calendar))
-    (drop (wordsPerConnection * z .v) (w .state .words))
+    (drop (wordsIn (z .v)) (w .state .words))
 
 -- long enough for every N and V
 pub record Ample (w : World) : Type 0 where
   pub cells-long : octets * mostN ≤ length (w .state .cells)
   pub links-long : mostN ≤ length (w .state .links)
   pub calendar-long : perEntry * mostN ≤ length (w .state .calendar)
-  pub words-long : wordsPerConnection * mostV ≤ length (w .state .words)
+  pub words-long : wordsIn mostV ≤ length (w .state .words)
 
 -- the same, out of memories of which only the front is used
 pub record Listed (input : List ℕ) (w : World) (out : List ℕ) (left : Left) (out′ : List ℕ) (answer : Bool) : Type 0 where

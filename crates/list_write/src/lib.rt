@@ -7,6 +7,7 @@ ghost use Rattle.list_write.specs.Listed.{Handed, Ample, Listed};
 ghost use Rattle.list_whole.specs.declared.Run.{Run};
 ghost use Rattle.list_whole.specs.Lent.{worldHere, worldBefore, worldAfter};
 ghost use Rattle.list_whole.specs.Fill.{room, LentFor, startRun, sizesOf};
+use meaning::PATHS;
 use meaning::WORDS_PER_CONNECTION;
 
 // Fills the buffer and writes it out, until the listing is whole, or until a write fails.
@@ -54,7 +55,7 @@ fn lend(
     let v = sizes.v as usize;
     let octets = 53 * n;
     let ends = 2 * n;
-    let many = WORDS_PER_CONNECTION * v;
+    let many = WORDS_PER_CONNECTION * (v + PATHS as usize);
     hand_over(
         fd,
         input,
@@ -74,7 +75,7 @@ pub fn list(
     cells: &mut [u8; 54272],
     links: &mut [u16; 1024],
     calendar: &mut [u16; 2048],
-    words: &mut [u32; 12288],
+    words: &mut [u32; 15360],
     out: &mut [u8; 65536],
 ) -> bool
     ensures { λ r. ⌜ Listed (now (input .entry)) (worldBefore startRun cells links calendar words) (now (out .entry)) (λ (run : Run). worldAfter run cells links calendar words) (now (out .exit)) r ⌝ }

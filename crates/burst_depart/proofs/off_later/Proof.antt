@@ -56,7 +56,6 @@ returns-4 c =
     (c .with-vci .ensures)
     ok
     (a .p)
-    (from .pre .0 .v-high)
     (low-in _ (a .w .n) _ (plan-low k (a .links .now) entry o plan (c .before .before .before .before .before .if2 .left)) (from .pre .0 .links-long))
     (c .before .before .if3 .left)
 

@@ -19,7 +19,7 @@ returns c =
     let from = c .before .before .before .before .before .before in
     let a = from .args in
     let k = slotRecord (a .w) in
-    λ ok. alone-leaves k (a .p) (a .cells .now) (a .links .now) (a .words .now) (from .pre .0 .0) (from .pre .0 .1) (from .pre .0 .3) (from .pre .1 .1) (from .pre .1 .2) (from .pre .1 .3) (c .before .if1 .taken) ok
+    λ ok. alone-leaves k (a .p) (a .cells .now) (a .links .now) (a .words .now) (from .pre .0 .0) (from .pre .0 .3) (from .pre .1 .1) (from .pre .1 .2) (from .pre .1 .3) (c .before .if1 .taken) ok
 
 returns-2 : tie.Need-returns-2
 returns-2 c =
@@ -58,12 +58,12 @@ returns-4 c =
     let r = c .before .before .before .rest-joined .result in
     let joined = set (a .links .now) (w .outtail) (a .p .x) in
     λ ok.
-    behind-leaves k (a .p) (a .cells .now) (a .links .now) (a .words .now) (from .pre .0 .0) (from .pre .0 .1) (from .pre .0 .3) (from .pre .1 .1) (from .pre .1 .2) (from .pre .1 .3)
+    behind-leaves k (a .p) (a .cells .now) (a .links .now) (a .words .now) (from .pre .0 .0) (from .pre .0 .3) (from .pre .1 .1) (from .pre .1 .2) (from .pre .1 .3)
     (c .before .before .before .before .before .before .before .before .before .if1 .left)
     (from .pre .1 .0)
     (c .before .before .before .before .before .before .if2 .left)
     t (r .next) (r .tail) (c .seen .result)
-    (tail-is k (a .p) (a .cells .now) (a .links .now) (a .words .now) (from .pre .0 .0) (from .pre .0 .1) (from .pre .0 .3) (from .pre .1 .1) (from .pre .1 .2) (from .pre .1 .3) t
+    (tail-is k (a .p) (a .cells .now) (a .links .now) (a .words .now) (from .pre .0 .0) (from .pre .0 .3) (from .pre .1 .1) (from .pre .1 .2) (from .pre .1 .3) t
     (⊎-elim (λ v. inl (v .0 .taken, v .1)) (λ v. inr (v .0 .left, v .1)) (c .before .before .before .before .if3 .came)))
     (left-count (length (a .links .now)) (w .n) joined (w .outhead) t (r .next) (r .tail) (from .pre .0 .3)
     (c .before .before .before .rest-joined .ensures (not-false _ (c .before .if4 .left))))

@@ -1,4 +1,4 @@
--- `burst_depart::off_quiet` meets its contract: the plan, and the VC that the header of its space names.
+-- `burst_depart::off_quiet` meets its contract: the plan, and the connection that the header of its space names.
 use Rattle.burst_depart.proofs.LeaveLaws.{plan-none, plan-low, quiet-leaves}
 use Rattle.burst_depart.specs.Leaving.{OffHere}
 use Rattle.burst_way.specs.Way.{slotRecord}

@@ -1,65 +1,75 @@
--- `burst_depart::seen` meets its contract: the tests are those of the definition, of the header's number and the VC's words.
-use Rattle.mem_lists.proofs.LeaverLaws.{leaver-named, go-counts, go-none, go-closed}
-use Rattle.mem_lists.specs.Leaver.{namedConnection}
-use Rattle.burst_depart.proofs.PlanLaws.{named-zero, named-past, named-stays, named-goes}
+-- `burst_depart::seen` meets its contract: the tests are those of the definition, of the header's number and that connection's words.
+use Rattle.leaf_header.proofs.NameLaws.{numbered-is}
+use Rattle.mem_lists.proofs.LeaverLaws.{leaver-is, go-counts, go-none, go-closed}
+use Rattle.mem_lists.specs.Leaver.{goesAs, leaverOf}
+use Rattle.burst_depart.proofs.PlanLaws.{goes-zero, goes-stays, goes-goes}
 use borrow.Author.Tests.{le-leb, lt-leb}
-use native.Mathlib.Omega.{arith}
-use mathlib.Core.Path.{sym, _∙_, ap}
+use Prim.Native.Nat.{_*_}
+use mathlib.Core.Path.{_≡_, sym, _∙_, ap}
 use borrow.Author.Needs.{needs}
 use Rattle.burst_depart.proofs.seen.Statement.{statement}
 use Rattle.burst_depart.proofs.seen.Tie as tie
 
+abbrev start-of : tie.After-number-for → tie.Start
+start-of c = c .before .before .before .before
+
+-- the number that was found decides
+goes : (c : tie.After-number-for)
+    → goesAs (start-of c .args .n) (start-of c .args .words .now) (c .number-for .result)
+    ≡ leaverOf (start-of c .args .n) (start-of c .args .v) (start-of c .args .kind) (start-of c .args .cells .now) (start-of c .args .words .now) (start-of c .args .x)
+goes c =
+    let a = start-of c .args in
+    let name = c .before .name-at in
+    ap (goesAs (a .n) (a .words .now))
+    (c .number-for .ensures .0 ∙ numbered-is (a .kind) (a .v) (start-of c .pre .1) (a .cells .now) (53 * a .x) (name .result) (name .ensures .0) (name .ensures .1))
+    ∙ leaver-is (a .n) (a .v) (a .kind) (a .cells .now) (a .words .now) (a .x)
+
 returns : tie.Need-returns
 returns c =
-    let a = c .before .before .before .before .args in
-    let name = c .before .name-at .ensures .0 in
-    (named-zero (a .n) (a .v) (a .words .now) (c .before .name-at .result) (c .if1 .taken)
-    ∙ ap (namedConnection (a .n) (a .v) (a .words .now)) name)
-    ∙ leaver-named (a .n) (a .v) (a .cells .now) (a .words .now) (a .x) (omega (arith, c .before .before .before .before .pre))
+    let at = c .before in
+    let a = start-of at .args in
+    goes-zero (a .n) (a .words .now) (at .number-for .result) (c .if1 .taken) ∙ goes at
 
 returns-2 : tie.Need-returns-2
 returns-2 c =
-    let a = c .before .before .before .before .before .args in
-    let name = c .before .before .name-at .ensures .0 in
-    (named-past (a .n) (a .v) (a .words .now) (c .before .before .name-at .result) (c .before .if1 .left) (c .if2 .taken)
-    ∙ ap (namedConnection (a .n) (a .v) (a .words .now)) name)
-    ∙ leaver-named (a .n) (a .v) (a .cells .now) (a .words .now) (a .x) (omega (arith, c .before .before .before .before .before .pre))
+    let at1 = c .before .before in
+    let at = at1 .before in
+    let a = start-of at .args in
+    let u = at .number-for .result in
+    goes-stays (a .n) (a .words .now) u (at1 .if1 .left) (sym (go-closed (a .n) (a .words .now) u (c .if2 .taken))) ∙ goes at
 
 returns-3 : tie.Need-returns-3
 returns-3 c =
-    let a = c .before .before .before .before .before .before .before .args in
-    let name = c .before .before .before .before .name-at .ensures .0 in
-    (named-stays (a .n) (a .v) (a .words .now) (c .before .before .before .before .name-at .result) (c .before .before .before .if1 .left) (c .before .before .if2 .left)
-    (sym (go-closed (a .n) (a .words .now) (c .before .before .before .before .name-at .result) (c .if3 .taken)))
-    ∙ ap (namedConnection (a .n) (a .v) (a .words .now)) name)
-    ∙ leaver-named (a .n) (a .v) (a .cells .now) (a .words .now) (a .x) (omega (arith, c .before .before .before .before .before .before .before .pre))
+    let at2 = c .before .before in
+    let at1 = at2 .before .before in
+    let at = at1 .before in
+    let a = start-of at .args in
+    let u = at .number-for .result in
+    goes-stays (a .n) (a .words .now) u (at1 .if1 .left) (sym (go-none (a .n) (a .words .now) u (at2 .if2 .left) (c .if3 .taken))) ∙ goes at
 
 returns-4 : tie.Need-returns-4
 returns-4 c =
-    let a = c .before .before .before .before .before .before .before .before .before .args in
-    let name = c .before .before .before .before .before .before .name-at .ensures .0 in
-    (named-stays (a .n) (a .v) (a .words .now) (c .before .before .before .before .before .before .name-at .result) (c .before .before .before .before .before .if1 .left) (c .before .before .before .before .if2 .left)
-    (sym (go-none (a .n) (a .words .now) (c .before .before .before .before .before .before .name-at .result) (c .before .before .if3 .left) (c .if4 .taken)))
-    ∙ ap (namedConnection (a .n) (a .v) (a .words .now)) name)
-    ∙ leaver-named (a .n) (a .v) (a .cells .now) (a .words .now) (a .x) (omega (arith, c .before .before .before .before .before .before .before .before .before .pre))
+    let at3 = c .before in
+    let at2 = at3 .before .before in
+    let at1 = at2 .before .before in
+    let at = at1 .before in
+    let a = start-of at .args in
+    let u = at .number-for .result in
+    goes-stays (a .n) (a .words .now) u (at1 .if1 .left)
+    (sym (go-counts (a .n) (a .words .now) u (at2 .if2 .left) (at3 .if3 .left)) ∙ lt-leb _ _ (c .if4 .taken))
+    ∙ goes at
 
 returns-5 : tie.Need-returns-5
 returns-5 c =
-    let a = c .before .before .before .before .before .before .before .before .before .before .args in
-    let name = c .before .before .before .before .before .before .before .name-at .ensures .0 in
-    (named-stays (a .n) (a .v) (a .words .now) (c .before .before .before .before .before .before .before .name-at .result) (c .before .before .before .before .before .before .if1 .left) (c .before .before .before .before .before .if2 .left)
-    (sym (go-counts (a .n) (a .words .now) (c .before .before .before .before .before .before .before .name-at .result) (c .before .before .before .if3 .left) (c .before .if4 .left)) ∙ lt-leb _ _ (c .if5 .taken))
-    ∙ ap (namedConnection (a .n) (a .v) (a .words .now)) name)
-    ∙ leaver-named (a .n) (a .v) (a .cells .now) (a .words .now) (a .x) (omega (arith, c .before .before .before .before .before .before .before .before .before .before .pre))
-
-returns-6 : tie.Need-returns-6
-returns-6 c =
-    let a = c .before .before .before .before .before .before .before .before .before .before .args in
-    let name = c .before .before .before .before .before .before .before .name-at .ensures .0 in
-    (named-goes (a .n) (a .v) (a .words .now) (c .before .before .before .before .before .before .before .name-at .result) (c .before .before .before .before .before .before .if1 .left) (c .before .before .before .before .before .if2 .left)
-    (sym (go-counts (a .n) (a .words .now) (c .before .before .before .before .before .before .before .name-at .result) (c .before .before .before .if3 .left) (c .before .if4 .left)) ∙ le-leb _ _ (c .if5 .left))
-    ∙ ap (namedConnection (a .n) (a .v) (a .words .now)) name)
-    ∙ leaver-named (a .n) (a .v) (a .cells .now) (a .words .now) (a .x) (omega (arith, c .before .before .before .before .before .before .before .before .before .before .pre))
+    let at3 = c .before in
+    let at2 = at3 .before .before in
+    let at1 = at2 .before .before in
+    let at = at1 .before in
+    let a = start-of at .args in
+    let u = at .number-for .result in
+    goes-goes (a .n) (a .words .now) u (at1 .if1 .left)
+    (sym (go-counts (a .n) (a .words .now) u (at2 .if2 .left) (at3 .if3 .left)) ∙ le-leb _ _ (c .if4 .left))
+    ∙ goes at
 
 pub seen-spec : {M : Type 1} → statement M
 seen-spec =
@@ -68,16 +78,17 @@ seen-spec =
     (λ c. search needs)
     (λ c κs. search needs)
     (λ c. search needs)
+    (λ c κs. search needs)
+    (λ c. search needs)
     returns
+    (λ c. search needs)
+    (λ c. search needs)
+    (λ c. search needs)
     returns-2
     (λ c. search needs)
     (λ c. search needs)
     (λ c. search needs)
     returns-3
     (λ c. search needs)
-    (λ c. search needs)
-    (λ c. search needs)
     returns-4
-    (λ c. search needs)
-    returns-5
-    returns-6)
+    returns-5)

@@ -2,6 +2,7 @@
 use Prim.Native.Nat.{_*_, _<_}
 use native.Mathlib.Omega.{arith}
 use denote.Ref.{now}
+use Rattle.meaning.specs.Numbers.{connectionsIn}
 use lib.ListN.{take, drop}
 use Rattle.burst_likely.proofs.AcceptLaws.{none-done}
 use borrow.Author.Needs.{needs}
@@ -19,7 +20,7 @@ cast-t22 c =
     let start = c .before .before .before .before .before .before .before .before .before .before .before .before .before .before .before .before .before .before .before .before .before in
     let a = start .args in
     let pre = start .pre in
-    let low : a .p .vci < a .w .v = pre .1 .1 .0 .is-accepted .vci-high in
+    let low : a .p .vci < connectionsIn (a .w .v) = pre .1 .1 .0 .is-accepted .vci-high in
     let most = pre .0 .sized .v-high in
     omega (arith, low, most)
 

@@ -1,4 +1,4 @@
--- `burst_rotate::turned` meets its contract: a closed VC is written as it was, and an open one falls.
+-- `burst_rotate::turned` meets its contract: a closed connection is written as it was, and an open one falls.
 use Rattle.slot_plan.proofs.Found.{no}
 use Rattle.burst_way.specs.Way.{slotRecord}
 use Rattle.burst_rotate.proofs.TurnLaws.{turned-open, turned-closed}

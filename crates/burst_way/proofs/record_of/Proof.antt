@@ -11,13 +11,15 @@ returns : tie.Need-returns
 unfolding lastRecord slotNumbers
 returns c =
     let at-back2 = c .before .before .before .before .before .before in
-    let at-back = at-back2 .before in
-    rw (at-back2 .one-back2 .ensures .0, at-back .one-back .ensures .0, t-back (at-back .before .wrapping-sub-u32 .result) (at-back .before .before .args .w .t) (omega arith) (at-back .before .wrapping-sub-u32 .ensures))
+    let at-all = at-back2 .before in
+    let at-back = at-all .before in
+    rw (at-back2 .one-back2 .ensures .0, at-all .connections .ensures, at-back .one-back .ensures .0, t-back (at-back .before .wrapping-sub-u32 .result) (at-back .before .before .args .w .t) (omega arith) (at-back .before .wrapping-sub-u32 .ensures))
 
 pub record-of-spec : {M : Type 1} → statement M
 record-of-spec =
     tie.close
     (tie.spec
+    (λ c κs. search needs)
     (λ c κs. search needs)
     (λ c κs. search needs)
     (λ c κs. search needs)

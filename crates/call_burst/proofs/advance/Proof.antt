@@ -25,14 +25,14 @@ loop-holds c =
     record { low = omega arith; most = pre .1 .1 .0; held = pre .1 .0; cells-kept = refl; links-kept = refl; calendar-kept = refl; words-kept = refl; departures-kept = refl; answers-kept = refl; rest = refl }
 
 rounded-requires : tie.Need-rounded-requires Inv-loop μ-loop
-rounded-requires c κs = search needs
+rounded-requires c κs = c .before .loop .inv .held .shaped .v-high
 
 run-end-requires : tie.Need-run-end-requires Inv-loop μ-loop
 run-end-requires c κs =
     let at = c .before .before .before .loop in
     let h = at .inv .held in
     let low = rounded-low (at .f .way) (at .cells) (at .links) (at .calendar) (at .words) h in
-    rw (c .before .rounded .ensures) (low .0, low .1, sym (h .shaped .words-long), at .inv .most)
+    rw (c .before .rounded .ensures) (low .0, low .1, h .shaped .v-high, sym (h .shaped .words-long), at .inv .most)
 
 same-length : tie.Need-same-length Inv-loop μ-loop
 same-length c = omega (arith, c .before .before .before .before .before .loop .inv .cells-kept)

@@ -21,8 +21,8 @@ returns-4 c = λ e. no e
 returns-5 : tie.Need-returns-5
 returns-5 c =
     λ e. record {
-      not-raw = c .before .before .before .before .before .before .before .if1 .left;
-      turn-low = c .before .before .before .before .before .if2 .left;
+      not-raw = c .before .before .before .before .before .before .before .before .if1 .left;
+      turn-low = c .before .before .before .before .before .before .if2 .left;
       rotation-low = c .before .before .before .if3 .left;
       free-fits = sym (c .before .before .pair .ensures) ∙ not-false _ (c .before .if4 .left);
       output-fits = sym (c .pair2 .ensures) ∙ e;
@@ -31,4 +31,4 @@ returns-5 c =
 pub may-try-spec : {M : Type 1} → statement M
 may-try-spec =
     tie.close
-    (tie.spec returns returns-2 returns-3 (λ c κs. search needs) returns-4 (λ c κs. search needs) returns-5)
+    (tie.spec returns returns-2 (λ c. search needs) returns-3 (λ c κs. search needs) returns-4 (λ c κs. search needs) returns-5)

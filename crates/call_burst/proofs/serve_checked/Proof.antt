@@ -28,7 +28,7 @@ copied-back-requires c κs =
     let at-copied = at-call .before .before .before .before .before in
     let a = at-copied .before .before .before .before .before .before .args in
     let h = given (a .ctl) (now (a .cells)) (now (a .links)) (now (a .calendar)) (now (a .words)) (now (a .cell)) _ (at-copied .copied .ensures) _ (at-call .as-called .ensures) in
-    (h .n-is, h .v-is, h .raw-is)
+    (h .n-is, h .v-is, h .raw-is, h .kind-is)
 
 returns : tie.Need-returns
 returns c =

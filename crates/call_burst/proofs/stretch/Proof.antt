@@ -40,7 +40,7 @@ slot-requires c κs =
         sized = record { n-low = z .n-low; n-high = z .n-high; v-low = z .v-low; v-high = z .v-high; cells-long = z .cells-long; links-long = z .links-long; calendar-long = z .calendar-long; words-long = z .words-long; turn-low = omega (arith, inv .room .turn-room); rotation-low = omega (arith, inv .room .rotation-room) };
         free-fits = h .free-fits;
         output-fits = h .output-fits;
-        zero-closed = inv .room .zero-closed (omega arith);
+        unused-closed = inv .room .unused-closed (omega arith);
       },
       (
         omega (arith, lent .arrivals-long, pre .1 .1 .1),

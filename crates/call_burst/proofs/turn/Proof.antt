@@ -40,6 +40,9 @@ show-requires c κs =
 put-answer-requires : tie.Need-put-answer-requires
 put-answer-requires c κs = omega (arith, c .before .before .before .before .before .before .before .before .before .before .before .before .before .before .before .before .before .before .before .before .before .before .before .before .before .before .before .before .before .before .before .before .before .pre .answer)
 
+same-length-5 : tie.Need-same-length-5
+same-length-5 c = omega (arith, c .before .before .before .before .before .before .before .before .before .before .before .before .before .before .before .before .before .before .before .before .before .cells .given)
+
 returns-3 : tie.Need-returns-3
 returns-3 c =
     let a = c .before .before .before .before .before .before .before .before .before .before .before .before .before .before .before .before .before .before .before .before .before .before .before .before .before .before .before .before .before .before .before .before .before .before .before .before .before .args in
@@ -71,7 +74,7 @@ turn-spec =
     show-requires
     put-answer-requires
     (λ c κs. search needs)
-    (λ c. search needs)
+    same-length-5
     (λ c. search needs)
     (λ c. search needs)
     (λ c. search needs)

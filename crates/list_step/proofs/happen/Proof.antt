@@ -38,6 +38,14 @@ returns-6 : tie.Need-returns-6
 unfolding recordStep
 returns-6 c = rw (c .before .before .before .before .before .before .before .before .event6 .given .1) (c .before .before .before .before .open-connection2 .ensures _ _ _)
 
+returns-7 : tie.Need-returns-7
+unfolding recordStep
+returns-7 c = rw (c .before .before .before .before .before .before .before .before .event7 .given .1) (c .before .before .before .before .open-path .ensures _ _ _)
+
+returns-8 : tie.Need-returns-8
+unfolding recordStep
+returns-8 c = rw (c .before .before .before .before .before .before .before .before .event8 .given .1) (c .before .before .before .before .close-path .ensures _ _ _)
+
 pub happen-spec : {M : Type 1} → statement M
 happen-spec =
     tie.close
@@ -53,6 +61,10 @@ happen-spec =
     (λ c. search needs)
     (λ c. search needs)
     part-serve-end
+    (λ c κs. search needs)
+    (λ c. search needs)
+    (λ c κs. search needs)
+    (λ c. search needs)
     (λ c κs. search needs)
     (λ c. search needs)
     (λ c κs. search needs)
@@ -79,4 +91,10 @@ happen-spec =
     returns-5
     (λ c. search needs)
     (λ c. search needs)
-    returns-6)
+    returns-6
+    (λ c. search needs)
+    (λ c. search needs)
+    returns-7
+    (λ c. search needs)
+    (λ c. search needs)
+    returns-8)

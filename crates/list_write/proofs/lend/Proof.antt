@@ -74,6 +74,8 @@ lend-spec =
     (λ c. search needs)
     (λ c. search needs)
     (λ c. search needs)
+    (λ c. search needs)
+    (λ c. search needs)
     slice-aggregate-hand-over
     (λ c. search needs)
     slice-aggregate-hand-over-2
