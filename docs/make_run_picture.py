@@ -1,6 +1,7 @@
 #!/usr/bin/env python3
-"""The numbers of PLANNERS.md: the picture of the eight slots, the delays at usual line rates, and the worked example; of the
-burst behind the policer a picture, two tables and a worked example; of a second bucket a worked example and a picture.
+"""The numbers of PLANNERS.md: the picture of the eight slots, the delays at usual line rates, m, F and C of some peaks, and the
+worked example; of the burst behind the policer a picture, two tables and a worked example; of a second bucket a worked example
+and a picture.
 
 Computed from due times and queues alone, by the few lines below, not by the library.
   python3 docs/make_run_picture.py           print the blocks
@@ -100,6 +101,20 @@ def example():
             f"on the line at most {most + 75} slots, {at_most((most + 75) * micros)} µs, after arrival, where N = 76",
         ]
     )
+
+
+def chosen():
+    """m, F and C by the rule, for some peaks in kb/s and tolerances in microseconds on OC-3c: the largest m whose F is allowed."""
+    rows = ["| peak | tolerance | one cell in | m | F | C | largest D | N for it alone |", "|---|---|---|---|---|---|---|---|"]
+    line = 149_760
+    for peak, micros in ((149_760, 0), (50_000, 20), (8_000, 60), (2_048, 250), (384, 500), (64, 1_000)):
+        m = max(m for m in range(16) if 2**m * line // peak <= 16_777_216)
+        f = 2**m * line // peak
+        c = f + (2**m * micros * line + 423_999) // 424_000
+        most = (c - f) >> m
+        name = f"{peak / 1000:g} Mb/s" if peak >= 1_000 else f"{peak} kb/s"
+        rows.append(f"| {name} | {micros:,} µs | {line / peak:.6g} slots | {m} | {f:,} | {c:,} | {most} | {most + 1} |")
+    return "\n".join(rows)
 
 
 def burst(spaces, f, parts, w):
@@ -218,7 +233,7 @@ def sustained_picture():
 
 
 def main():
-    blocks = [f"```\n{picture()}\n```", delays(76), f"```\n{example()}\n```"]
+    blocks = [f"```\n{picture()}\n```", delays(76), chosen(), f"```\n{example()}\n```"]
     blocks += [f"```\n{burst_picture()}\n```", burst_table(), f"```\n{burst_example()}\n```", buffer_table()]
     blocks += [f"```\n{sustained_example()}\n```", f"```\n{sustained_picture()}\n```"]
     if "--check" not in sys.argv[1:]:

@@ -14,6 +14,7 @@ enum { N = 5, V = 64, PATH = 9, VC = 41, SLOTS = 10 };
 static uint8_t cells[CLURIMOON_CELLS(N)];
 static uint16_t links[CLURIMOON_LINKS(N)], calendar[CLURIMOON_CALENDAR(N)];
 static uint32_t vcs[CLURIMOON_VCS(V)];
+static uint64_t bits[CLURIMOON_BITS];
 
 /* At the NNI there is no GFC: twelve bits of VPI, then the VCI. */
 static void put_header(uint8_t *cell, unsigned vpi, unsigned vci) {
@@ -41,15 +42,15 @@ int main(void) {
   static const unsigned vpi[SLOTS] = {PATH, PATH, PATH, PATH, PATH, 0, PATH + 256, PATH + 1, 0, PATH};
   static const unsigned vci[SLOTS] = {100, 0, VC, 100, 65535, VC, 100, 100, V + PATH, 5};
 
-  clurimoon_set set = clurimoon_setup(N, V, false, CLURIMOON_NNI, cells, sizeof cells, links, CLURIMOON_LINKS(N),
-                                      calendar, CLURIMOON_CALENDAR(N), vcs, CLURIMOON_VCS(V));
+  clurimoon_set set = clurimoon_setup(N, V, false, CLURIMOON_NNI, 1, 1, cells, sizeof cells, links, CLURIMOON_LINKS(N),
+                                      calendar, CLURIMOON_CALENDAR(N), vcs, CLURIMOON_VCS(V), bits, CLURIMOON_BITS);
   if (set.number != CLURIMOON_DONE) return 1;
   clurimoon_record record = set.record;
 
   /* L = 2^2: the path has a cell in 2.5 slots and a tolerance of 4 slots, the VC a cell in every slot. A second bucket
      would stand where the four zeros are, as for a VC. */
-  if (clurimoon_open_path(record, vcs, CLURIMOON_VCS(V), PATH, 2, 10, 26, 0, 0, 0, 0) != CLURIMOON_DONE) return 1;
-  if (clurimoon_open(record, vcs, CLURIMOON_VCS(V), VC, 2, 4, 4) != CLURIMOON_DONE) return 1;
+  if (clurimoon_open_path(record, vcs, CLURIMOON_VCS(V), CLURIMOON_OWNER_SECOND, PATH, 2, 10, 26, 0, 0, 0, 0) != CLURIMOON_DONE) return 1;
+  if (clurimoon_open(record, vcs, CLURIMOON_VCS(V), CLURIMOON_OWNER_SECOND, VC, 2, 4, 4) != CLURIMOON_DONE) return 1;
 
   /* VCI 41 on the path is not VC 41. VPI 265 is no path, VPI 10 is closed, and VCI 73 is no VC of 64: unknown, each with
      its VCI as read. */
@@ -57,17 +58,18 @@ int main(void) {
     uint8_t cell[CLURIMOON_CELL] = {0};
     put_header(cell, vpi[k], vci[k]);
     clurimoon_served served = clurimoon_slot(record, cells, sizeof cells, links, CLURIMOON_LINKS(N), calendar,
-                                             CLURIMOON_CALENDAR(N), vcs, CLURIMOON_VCS(V), cell, sizeof cell);
+                                             CLURIMOON_CALENDAR(N), vcs, CLURIMOON_VCS(V),
+                                             bits, CLURIMOON_BITS, cell, sizeof cell);
     if (served.answer.number != CLURIMOON_DONE) return 1;
     record = served.record;
     print_slot(record.t, served.answer);
   }
 
   /* A path is closed as a VC is: not while a cell of it waits, and not before its debt is paid. */
-  const uint16_t closed = clurimoon_close_path(record, vcs, CLURIMOON_VCS(V), PATH);
+  const uint16_t closed = clurimoon_close_path(record, vcs, CLURIMOON_VCS(V), CLURIMOON_OWNER_SECOND, PATH);
   printf("close %u %u\n", (unsigned)CLURIMOON_PATH_NUMBER(V, PATH), (unsigned)closed);
   return clurimoon_audit(record, cells, sizeof cells, links, CLURIMOON_LINKS(N), calendar, CLURIMOON_CALENDAR(N), vcs,
-                         CLURIMOON_VCS(V))
+                         CLURIMOON_VCS(V), bits, CLURIMOON_BITS)
              ? 0
              : 1;
 }

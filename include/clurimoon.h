@@ -4,8 +4,10 @@
  * A policer has N cell spaces and polices connections: VCs named by their VCI, 1
  * to V-1, at VPI 0, and whole paths named by their VPI, 1 to 255, of which all
  * cells share one bucket, whatever their VCI. A connection has a number: a VC its
- * VCI, a path V + VPI. The caller lends all memory and keeps the control record:
- * the library has no memory of its own, allocates nothing and keeps no pointer.
+ * VCI, a path V + VPI. Two operators may share a policer: each connection is one's
+ * alone, by two numbers that are fixed at setup. The caller lends all memory and
+ * keeps the control record: the library has no memory of its own, allocates nothing
+ * and keeps no pointer.
  *
  * Every call answers for every argument and every content of the lent memory.
  * A refused call leaves everything as it came. What each call does is said over
@@ -15,7 +17,7 @@
  *  - a pointer is followed by the length of what it points to, in elements;
  *  - lent buffers don't overlap one another, and the arriving cell does not lie
  *    in the cell memory;
- *  - links, calendar and answers are aligned to 2 octets, VC words to 4;
+ *  - links, calendar and answers are aligned to 2 octets, VC words to 4, bits to 8;
  *  - the pointer of a length of 0 is not followed and may be NULL.
  *
  * Widths: a value is judged as the parameter's type holds it. C cuts a wider
@@ -52,14 +54,20 @@
    CLURIMOON_F_MAX, whatever L is, and C from F to this. */
 #define CLURIMOON_C2_MAX 1073741824
 
-/* How much to lend, in elements: octets, 16-bit, 16-bit and 32-bit numbers. */
+/* How much to lend, in elements: octets, 16-bit, 16-bit, 32-bit and 64-bit numbers. */
 #define CLURIMOON_CELLS(n) ((size_t)53 * (size_t)(n))
 #define CLURIMOON_LINKS(n) ((size_t)(n))
 #define CLURIMOON_CALENDAR(n) ((size_t)2 * (size_t)(n))
 #define CLURIMOON_VCS(v) ((size_t)12 * ((size_t)(v) + CLURIMOON_PATHS))
+#define CLURIMOON_BITS ((size_t)32)
 
-/* The octets of all four memories together; the record is kept apart. */
-#define CLURIMOON_OCTETS(n, v) ((size_t)59 * (size_t)(n) + (size_t)48 * ((size_t)(v) + CLURIMOON_PATHS))
+/* Of the words of bits, where those of the calendar entries begin: words 0 to 15 have a
+   bit for each space, set where it is free, words 16 to 31 one for each calendar
+   entry, set where it is not empty. */
+#define CLURIMOON_ENTRY_BITS ((size_t)16)
+
+/* The octets of all five memories together; the record is kept apart. */
+#define CLURIMOON_OCTETS(n, v) ((size_t)59 * (size_t)(n) + (size_t)48 * ((size_t)(v) + CLURIMOON_PATHS) + (size_t)256)
 
 /* The number of a path in answers, and the place of its words: 12 * that number. */
 #define CLURIMOON_PATH_NUMBER(v, vpi) ((size_t)(v) + (size_t)(vpi))
@@ -69,22 +77,41 @@
 #define CLURIMOON_DEPARTURES(k) ((size_t)53 * (size_t)(k))
 #define CLURIMOON_ANSWERS(k) ((size_t)6 * (size_t)(k))
 
-/* Refusal numbers. 10 is the trace reader's; no call of this header gives it. */
+/* Refusal numbers. 10 is the trace reader's; no call of this header gives it.
+   clurimoon_text says each in words. */
 enum clurimoon_number {
-  CLURIMOON_DONE = 0,         /* done */
-  CLURIMOON_RANGE = 1,        /* N or V outside its range */
-  CLURIMOON_LENGTH = 2,       /* a lent buffer has another length than it must */
-  CLURIMOON_STORED = 3,       /* the call would read a stored number outside its range */
-  CLURIMOON_VCI = 4,          /* VCI outside 1 to V-1, or path number outside 1 to 255 */
-  CLURIMOON_ALREADY_OPEN = 5, /* open: already open */
-  CLURIMOON_RULES = 6,        /* open: m, F or C against the rules */
-  CLURIMOON_NOT_OPEN = 7,     /* close: not open */
-  CLURIMOON_WAITING = 8,      /* close: a cell of it waits, or it has a debt: not yet */
-  CLURIMOON_CELL_LENGTH = 9,  /* slot: cell length neither 0 nor 53 */
-  CLURIMOON_UNREADABLE = 10,  /* trace: record unreadable */
-  CLURIMOON_SECOND = 11,      /* open_sustained, open_path: second bucket against its limits */
-  CLURIMOON_NOT_AFTER = 12,   /* time: arrival not after the previous one, or outside the run */
-  CLURIMOON_KIND = 13         /* setup: line kind unknown */
+  CLURIMOON_DONE = 0,                 /* done */
+  CLURIMOON_REFUSED_RANGE = 1,        /* N or V outside its range; setup, open, close: a split outside its range */
+  CLURIMOON_REFUSED_LENGTH = 2,       /* a lent buffer has another length than it must */
+  CLURIMOON_REFUSED_STORED = 3,       /* the call would read a stored number outside its range */
+  CLURIMOON_REFUSED_VCI = 4,          /* VCI outside 1 to V-1, or path number outside 1 to 255 */
+  CLURIMOON_REFUSED_ALREADY_OPEN = 5, /* open: already open */
+  CLURIMOON_REFUSED_RULES = 6,        /* open: m, F or C against the rules */
+  CLURIMOON_REFUSED_NOT_OPEN = 7,     /* close: not open */
+  CLURIMOON_REFUSED_WAITING = 8,      /* close: a cell of it waits, or it has a debt: not yet */
+  CLURIMOON_REFUSED_CELL_LENGTH = 9,  /* slot: cell length neither 0 nor 53 */
+  CLURIMOON_REFUSED_UNREADABLE = 10,  /* trace: record unreadable */
+  CLURIMOON_REFUSED_SECOND = 11,      /* open_sustained, open_path: second bucket against its limits */
+  CLURIMOON_REFUSED_NOT_AFTER = 12,   /* time: arrival not after the previous one, or outside the run */
+  CLURIMOON_REFUSED_KIND = 13,        /* setup: line kind unknown */
+  CLURIMOON_REFUSED_NOT_OWNER = 16,   /* open, close: not this operator's connection */
+
+  /* The same by their names of before. Write those above: CLURIMOON_CELL is an
+     amount, 53, and CLURIMOON_CELL_LENGTH looks like one and is a refusal. */
+  CLURIMOON_RANGE = CLURIMOON_REFUSED_RANGE,
+  CLURIMOON_LENGTH = CLURIMOON_REFUSED_LENGTH,
+  CLURIMOON_STORED = CLURIMOON_REFUSED_STORED,
+  CLURIMOON_VCI = CLURIMOON_REFUSED_VCI,
+  CLURIMOON_ALREADY_OPEN = CLURIMOON_REFUSED_ALREADY_OPEN,
+  CLURIMOON_RULES = CLURIMOON_REFUSED_RULES,
+  CLURIMOON_NOT_OPEN = CLURIMOON_REFUSED_NOT_OPEN,
+  CLURIMOON_WAITING = CLURIMOON_REFUSED_WAITING,
+  CLURIMOON_CELL_LENGTH = CLURIMOON_REFUSED_CELL_LENGTH,
+  CLURIMOON_UNREADABLE = CLURIMOON_REFUSED_UNREADABLE,
+  CLURIMOON_SECOND = CLURIMOON_REFUSED_SECOND,
+  CLURIMOON_NOT_AFTER = CLURIMOON_REFUSED_NOT_AFTER,
+  CLURIMOON_KIND = CLURIMOON_REFUSED_KIND,
+  CLURIMOON_NOT_OWNER = CLURIMOON_REFUSED_NOT_OWNER
 };
 
 /* Line kinds: how a header is read. At the UNI octet 1 is GFC (high four bits),
@@ -93,6 +120,13 @@ enum clurimoon_number {
 enum clurimoon_line_kind {
   CLURIMOON_UNI = 0,
   CLURIMOON_NNI = 1
+};
+
+/* The operators, who open and close: the first has the VCs below the split VCI and the
+   paths below the split path number, the second has all others. */
+enum clurimoon_owner {
+  CLURIMOON_OWNER_FIRST = 0,
+  CLURIMOON_OWNER_SECOND = 1
 };
 
 /* Verdicts on what arrived. */
@@ -140,17 +174,19 @@ enum clurimoon_mode {
   CLURIMOON_DETECTION = 1   /* every error drops the cell */
 };
 
-/* The control record, 28 octets, of which the last two are unused and may hold
-   anything: compare records field by field. The caller keeps it, hands it in and
-   takes it back; it need not look inside. t is the last slot's number, modulo 2^32.
+/* The control record, 28 octets. The caller keeps it, hands it in and takes it
+   back; it need not look inside. t is the last slot's number, modulo 2^32. free is
+   the number of free spaces, which is the number of ones in words 0 to 15 of the
+   bits; it is read by a slot that takes a space or frees one.
    raw is 1 where headers are checked, and mode is then the check's mode; raw is read
    only by a slot that is lent a cell, mode only where raw is also 1. kind is the
    line kind; it is read where a header is read: by a slot whose cell left the check,
-   and by one in which a cell departs. */
+   and by one in which a cell departs. split_vci and split_path say which connections
+   are the first operator's; open and close read both, a slot neither. */
 typedef struct {
   uint16_t n, v;
   uint32_t t;
-  uint16_t T, rotation, free_head, free_tail, out_head, out_tail, raw, mode, kind;
+  uint16_t T, rotation, free, out_head, out_tail, raw, mode, kind, split_vci, split_path;
 } clurimoon_record;
 
 /* What a slot did: refusal number; verdict; VCI (0 for nothing and for a dropped
@@ -188,6 +224,12 @@ typedef struct {
   size_t done;
 } clurimoon_burst_end;
 
+/* How long until a cell leaves: refusal number; so many slots from now, 1 to N-1, or 1
+   where N is 1; 0 where none waits, and in a refusal. */
+typedef struct {
+  uint16_t number, slots;
+} clurimoon_wait;
+
 /* What the generator's engine keeps between two cells of one connection, 24
    octets: TAT, the theoretical arrival time of the next cell, in parts of 1/L slot;
    the previous cell's slot, which doesn't wrap; and whether a cell came yet. All
@@ -218,41 +260,52 @@ extern "C" {
  * that arrives has its header checked by octet 5 (clurimoon_slot says how); where
  * it is false, octet 5 is neither read nor changed. kind is the line kind, 0 for
  * the UNI and 1 for the NNI: it says how each header is read. Paths may be opened
- * at either.
+ * at either. VCs below split_vci and paths below split_path are the first operator's,
+ * all others the second's. Where one operator has the whole card, give 1 and 1 and be
+ * the second: then every connection is the second's.
  *
- * Refusals, in this order: 1 if n is not 1 to 1,024 or v not 2 to 1,024; 13 if
- * kind is neither 0 nor 1; 2 if the lengths are not 53 n octets of cells, n links,
- * 2 n calendar numbers and 12 (v + 256) VC words, whatever the kind is. A refusal
- * writes nothing and hands back a record of zeros.
+ * Refusals, in this order: 1 if n is not 1 to 1,024 or v not 2 to 1,024, or split_vci
+ * is not 1 to v-1, or split_path not 1 to 255; 13 if kind is neither 0 nor 1; 2 if the
+ * lengths are not 53 n octets of cells, n links, 2 n calendar numbers, 12 (v + 256) VC
+ * words, whatever the kind is, and 32 words of bits, whatever n is. A refusal writes
+ * nothing and hands back a record of zeros.
  *
- * Done: all four memories are cleared; spaces 0 to n-1 are chained into the Free
- * List in that order (link i is i+1, the last link stays 0); every calendar
- * number is 65,535; the Output List is empty. The record has t 2^32-1, T n-1 and
- * rotation v+255, so that the first slot is slot 0; raw is 1 or 0, the mode is 0,
- * correction, and kind is the one that was asked for. No VC and no path is open.
+ * Done: cells, links and VC words are 0; every calendar number is 65,535; the bits
+ * of spaces 0 to n-1 are set (space x has bit x % 64 of word x / 64) and no other,
+ * those of the calendar entries too (entry e has bit e % 64 of word 16 + e / 64); the
+ * Output List is empty. The record has t 2^32-1, T n-1 and rotation v+255, so
+ * that the first slot is slot 0; free is n; raw is 1 or 0, the mode is 0,
+ * correction; kind and both splits are those that were asked for. No VC and no path
+ * is open.
  */
 clurimoon_set clurimoon_setup(uint16_t n, uint16_t v, bool raw, uint16_t kind,
+                              uint16_t split_vci, uint16_t split_path,
                               uint8_t *cells, size_t cells_length,
                               uint16_t *links, size_t links_length,
                               uint16_t *calendar, size_t calendar_length,
-                              uint32_t *vcs, size_t vcs_length);
+                              uint32_t *vcs, size_t vcs_length,
+                              uint64_t *bits, size_t bits_length);
 
 /*
  * Opens VC vci with L = 2^m, fill F and capacity C: a peak rate of L/F cells a
- * slot, and a tolerance of (C-F)/L slots. It has no second bucket.
+ * slot, and a tolerance of (C-F)/L slots. It has no second bucket. owner is the
+ * operator who asks for it: 0 the first, 1 the second.
  *
- * Refusals, in this order: 1 if the record's N or V is outside its range; 2 if
- * the VC words are not 12 (V + 256); 4 if vci is not 1 to V-1; 3 if the VC's open word is
- * neither 0 nor 1, or it is open and its m, F and C break the rules, or S is
- * above C, or waiting above N, or the second bucket's m, F, C and flag are against
- * their limits, or its S is above its C; 5 if it is open; 6 unless m is at most
- * 15, F from L to 16,777,216, C at least F and floor((C-F)/L) at most N-1.
+ * Refusals, in this order: 1 if the record's N or V is outside its range, or its
+ * split_vci is not 1 to V-1 or its split_path not 1 to 255; 2 if the VC words are not
+ * 12 (V + 256); 4 if vci is not 1 to V-1; 16 if the VC is not the owner's: owner is 0
+ * and vci not below split_vci, or owner is 1 and vci below it, or owner is any other
+ * number; no word is read then; 3 if the VC's open word is neither 0 nor 1, or it is
+ * open and its m, F and C break the rules, or S is above C, or waiting above N, or the
+ * second bucket's m, F, C and flag are against their limits, or its S is above its C;
+ * 5 if it is open; 6 unless m is at most 15, F from L to 16,777,216, C at least F and
+ * floor((C-F)/L) at most N-1.
  *
  * Done: the VC's twelve words are 1, m, F, C, 0, the record's t, 0 and five times
  * 0. No other word changes. The record does not change and so isn't handed back.
  */
 uint16_t clurimoon_open(clurimoon_record record, uint32_t *vcs, size_t vcs_length,
-                        uint16_t vci, uint8_t m, uint32_t f, uint32_t c);
+                        uint16_t owner, uint16_t vci, uint8_t m, uint32_t f, uint32_t c);
 
 /*
  * Opens VC vci as clurimoon_open does, with a second bucket for its CLP 0 cells:
@@ -261,7 +314,7 @@ uint16_t clurimoon_open(clurimoon_record record, uint32_t *vcs, size_t vcs_lengt
  * rate are to be tagged, 0 where they are to be excess. m2, f2, c2 and tag all 0
  * are no second bucket: then it is clurimoon_open.
  *
- * Refusals, in this order: 1, 2, 4, 3, 5 and 6 as for clurimoon_open; 11 unless
+ * Refusals, in this order: 1, 2, 4, 16, 3, 5 and 6 as for clurimoon_open; 11 unless
  * m2, f2, c2 and tag are all 0, or m2 is at most 15, F2 from 1 to 16,777,216, C2
  * from F2 to 1,073,741,824 and tag 0 or 1. F2 may be below L2, and C2 has no rule
  * of N: the second bucket delays no cell.
@@ -270,7 +323,7 @@ uint16_t clurimoon_open(clurimoon_record record, uint32_t *vcs, size_t vcs_lengt
  * tag. No other word changes. The record does not change and so isn't handed back.
  */
 uint16_t clurimoon_open_sustained(clurimoon_record record,
-                                  uint32_t *vcs, size_t vcs_length,
+                                  uint32_t *vcs, size_t vcs_length, uint16_t owner,
                                   uint16_t vci, uint8_t m, uint32_t f, uint32_t c,
                                   uint8_t m2, uint32_t f2, uint32_t c2, uint8_t tag);
 
@@ -281,15 +334,16 @@ uint16_t clurimoon_open_sustained(clurimoon_record record,
  * open, each cell with that VPI is the path's, also one with VCI 0 or with the VCI
  * of an open VC: VCs are at VPI 0.
  *
- * Refusals, in this order: 1; 2; 4 if vpi is not 1 to 255; 3, 5, 6 and 11 as for
- * clurimoon_open_sustained, with the path's words in place of the VC's.
+ * Refusals, in this order: 1; 2; 4 if vpi is not 1 to 255; 16 if the path is not the
+ * owner's, by split_path; 3, 5, 6 and 11 as for clurimoon_open_sustained, with the
+ * path's words in place of the VC's.
  *
  * Done: the twelve words of number V + vpi are 1, m, F, C, 0, the record's t, 0,
  * m2, F2, C2, 0, tag. No other word changes. The record does not change and so
  * isn't handed back.
  */
 uint16_t clurimoon_open_path(clurimoon_record record,
-                             uint32_t *vcs, size_t vcs_length,
+                             uint32_t *vcs, size_t vcs_length, uint16_t owner,
                              uint16_t vpi, uint8_t m, uint32_t f, uint32_t c,
                              uint8_t m2, uint32_t f2, uint32_t c2, uint8_t tag);
 
@@ -299,7 +353,7 @@ uint16_t clurimoon_open_path(clurimoon_record record,
  * the last slot that was served: without it a VC closed and reopened at once could
  * send twice its peak.
  *
- * Refusals, in this order: 1, 2, 4 and 3 as for open, 3 on the words as they are
+ * Refusals, in this order: 1, 2, 4, 16 and 3 as for open, 3 on the words as they are
  * stored; 7 if it is not open; 8 if waiting is not 0, or S brought up to date is
  * not 0. A refusal writes nothing: neither S nor `last` moves.
  *
@@ -315,13 +369,13 @@ uint16_t clurimoon_open_path(clurimoon_record record,
  * leaves at most D + N-1 slots after its arrival.
  */
 uint16_t clurimoon_close(clurimoon_record record, uint32_t *vcs, size_t vcs_length,
-                         uint16_t vci);
+                         uint16_t owner, uint16_t vci);
 
 /*
  * Closes the path on VPI vpi, as clurimoon_close closes a VC: unless cells of it
  * wait or it has a debt.
  *
- * Refusals, in this order: 1; 2; 4 if vpi is not 1 to 255; 3, 7 and 8 as for
+ * Refusals, in this order: 1; 2; 4 if vpi is not 1 to 255; 16, 3, 7 and 8 as for
  * clurimoon_close, with the path's words in place of the VC's. A refusal writes
  * nothing.
  *
@@ -329,18 +383,26 @@ uint16_t clurimoon_close(clurimoon_record record, uint32_t *vcs, size_t vcs_leng
  * does not change and so isn't handed back.
  */
 uint16_t clurimoon_close_path(clurimoon_record record,
-                              uint32_t *vcs, size_t vcs_length, uint16_t vpi);
+                              uint32_t *vcs, size_t vcs_length, uint16_t owner,
+                              uint16_t vpi);
 
 /*
  * Serves one slot. `cell` is what arrived: 53 octets, or none (length 0).
  *
  * Refusals, in this order: 1 if the record's N or V is outside its range; 2 if
- * one of the four memories has another length than at setup; 9 if the cell's
+ * one of the five memories has another length than at setup; 9 if the cell's
  * length is neither 0 nor 53; 3 if the slot would read a stored number outside
  * its range, raw, mode and kind among them: raw is read when 53 octets are lent,
  * mode when raw is then 1, kind when the cell is not dropped and when one departs,
  * and each must be 0 or 1. A refusal writes nothing and hands the record back as it
  * came, its mode too.
+ *
+ * 3 covers the free spaces where the slot takes one, for a cell that is accepted or
+ * tagged, and where it frees one, when a cell departs: a bit at or above N, in any of
+ * words 0 to 15; a number `free` other than the ones in these words; none free
+ * for a cell; a freed space already free. Number and bits are read as earlier steps
+ * of the slot left them, and not at all in a slot that neither takes nor frees. No
+ * slot judges a bit of a calendar entry, whatever words 16 to 31 hold.
  *
  * The header check comes first, where raw is 1 and a cell is lent, idle and
  * unassigned cells too. Octet 5 must be the remainder of the first four octets
@@ -382,19 +444,23 @@ uint16_t clurimoon_close_path(clurimoon_record record,
  * Done: the clock, T and rotation grow by one, rotation over all V + 256 numbers;
  * the connection that rotation names, if open, is brought up to date (0 and V name
  * none); the arriving cell is judged and, if accepted or
- * tagged, stored in the head of the Free List and joined to the head of calendar
- * entry T+D; entry T goes to the end of the Output List; the head of the Output
- * List departs, and its space goes to the tail of the Free List. No octet and no
- * word changes but those that these steps name.
+ * tagged, stored in the lowest free space, whose bit is cleared while the number
+ * `free` falls by one, and joined to the head of calendar entry T+D, whose bit is set;
+ * entry T, where it is not empty, goes to the end of the Output List, and its bit is
+ * cleared; the head of the Output List departs, its space's bit is set, and the number
+ * grows by one. No octet and no word changes but those that
+ * these steps name.
  *
  * The departing cell stays in its space, `answer.space`, until a later slot
- * stores another there: show it with clurimoon_line before the next slot.
+ * stores another there, which may be the next: show it with clurimoon_line before
+ * the next slot.
  */
 clurimoon_served clurimoon_slot(clurimoon_record record,
                                 uint8_t *cells, size_t cells_length,
                                 uint16_t *links, size_t links_length,
                                 uint16_t *calendar, size_t calendar_length,
                                 uint32_t *vcs, size_t vcs_length,
+                                uint64_t *bits, size_t bits_length,
                                 const uint8_t *cell, size_t cell_length);
 
 /*
@@ -413,21 +479,54 @@ clurimoon_part clurimoon_line(const uint8_t *cells, size_t cells_length,
 /*
  * Says whether the state is sound; writes nothing.
  *
- * True exactly when lengths and ranges hold throughout, each space is in exactly
- * one of the Free List, the Output List and the time slot queues, each chain
- * ends at its tail, entry T is empty, each queued header, read by the line kind,
- * names an open VC or path, and the waiting of each of these is the number of its
- * queued cells; raw, mode and kind are among the ranges, each 0 or 1 whatever the
- * others are, and so are the words of a second bucket of an open VC or path. The
- * words of numbers 0 and V don't matter. It is true after every call since a setup
- * that answered 0, where each call got record and memories as the call before left
- * them.
+ * True exactly when lengths and ranges hold throughout, no bit of a space at or above
+ * N is set and the number `free` is the ones in words 0 to 15, the bit of a calendar
+ * entry is set exactly where the entry is below N and not empty, a space whose bit is
+ * set is in no chain and every other in exactly one of the Output List and the time
+ * slot queues, each chain ends at its tail, entry T is empty, each queued header, read
+ * by the line kind, names an open VC or path, and the waiting of each of these is the
+ * number of its queued cells; raw, mode and kind are among the ranges, each 0 or 1
+ * whatever the others are, and so are both splits and the words of a second bucket of
+ * an open VC or path. The words of numbers 0 and V don't matter, nor do links that no
+ * chain reads.
+ * It is true after every call since a setup that answered 0, where each call got
+ * record and memories as the call before left them.
  */
 bool clurimoon_audit(clurimoon_record record,
                      const uint8_t *cells, size_t cells_length,
                      const uint16_t *links, size_t links_length,
                      const uint16_t *calendar, size_t calendar_length,
-                     const uint32_t *vcs, size_t vcs_length);
+                     const uint32_t *vcs, size_t vcs_length,
+                     const uint64_t *bits, size_t bits_length);
+
+/*
+ * Says how many slots from now, if no cell arrives, the next cell leaves; writes
+ * nothing and moves nothing. It is lent the calendar and the bits alone.
+ *
+ * Refusals, in this order: 1 if the record's N or V is outside its range; 2 if the
+ * calendar is not 2 N numbers or the bits are not 32 words; 3 if T is not below N, or
+ * the Output List's head and tail are not both below N or both 65,535, or the calendar
+ * entry that the bits name is empty or has a head and tail that are not both below N.
+ * In a refusal slots is 0.
+ *
+ * Done: 1 where the Output List has a cell, and no bit is read then. Otherwise the
+ * bits of the calendar entries are looked at in ring order after T, below N: T+1 to
+ * N-1, then 0 to T-1. The bit of entry T is not looked at, nor are those at N and
+ * above. The first entry whose bit is set is the one that the bits name, and the answer
+ * is how many entries it stands after T, 1 to N-1; where no bit is set it is 0: none
+ * waits. No other entry of the calendar is read.
+ *
+ * Where the audit says yes, 3 is not given, and the answer is that of a walk over all
+ * entries. After calls since a setup that answered 0, where each call got record and
+ * memories as the call before left them: if it says k and the slots to come are lent
+ * no cell, the next k-1 send nothing and the k-th sends; if it says 0, none of them
+ * sends. A card may sleep until then, or until a cell arrives. It still owes the slots
+ * of that time: before a cell is handed in, and before an open or a close, serve them,
+ * each lent no cell, by clurimoon_slot or in one clurimoon_burst.
+ */
+clurimoon_wait clurimoon_next(clurimoon_record record,
+                              const uint16_t *calendar, size_t calendar_length,
+                              const uint64_t *bits, size_t bits_length);
 
 /*
  * Serves slot after slot in one call: `sizes` has an octet a slot, the length of
@@ -436,7 +535,7 @@ bool clurimoon_audit(clurimoon_record record,
  * the order of clurimoon_answer.
  *
  * Refusals, in this order: 1 if the record's N or V is outside its range; 2 if
- * one of the four memories has another length than at setup, or arrivals and
+ * one of the five memories has another length than at setup, or arrivals and
  * departures are not 53 times, answers not 6 times as long as sizes. Each leaves
  * everything as it came, with done 0.
  *
@@ -454,6 +553,7 @@ clurimoon_burst_end clurimoon_burst(clurimoon_record record,
                                     uint16_t *links, size_t links_length,
                                     uint16_t *calendar, size_t calendar_length,
                                     uint32_t *vcs, size_t vcs_length,
+                                    uint64_t *bits, size_t bits_length,
                                     const uint8_t *arrivals, size_t arrivals_length,
                                     const uint8_t *sizes, size_t sizes_length,
                                     uint8_t *departures, size_t departures_length,
@@ -486,6 +586,57 @@ clurimoon_burst_end clurimoon_burst(clurimoon_record record,
  */
 clurimoon_timed clurimoon_time(clurimoon_tat state, uint16_t n, uint8_t m,
                                uint32_t f, uint32_t c, uint64_t arrival);
+
+/*
+ * A refusal number in words, for a log. Never NULL.
+ */
+static inline const char *clurimoon_text(unsigned number) {
+  switch (number) {
+  case CLURIMOON_DONE: return "done";
+  case CLURIMOON_REFUSED_RANGE: return "N is not 1 to 1024, V not 2 to 1024, or a split is outside its range";
+  case CLURIMOON_REFUSED_LENGTH: return "a lent buffer has another length than it must";
+  case CLURIMOON_REFUSED_STORED: return "a stored number is outside its range: the memory was damaged";
+  case CLURIMOON_REFUSED_VCI: return "VCI is not 1 to V-1, or VPI of a path not 1 to 255";
+  case CLURIMOON_REFUSED_ALREADY_OPEN: return "already open";
+  case CLURIMOON_REFUSED_RULES: return "m, F or C against the rules";
+  case CLURIMOON_REFUSED_NOT_OPEN: return "not open";
+  case CLURIMOON_REFUSED_WAITING: return "not yet: a cell waits or there is a debt";
+  case CLURIMOON_REFUSED_CELL_LENGTH: return "a cell is neither 0 nor 53 octets long";
+  case CLURIMOON_REFUSED_UNREADABLE: return "a record of the trace can't be read";
+  case CLURIMOON_REFUSED_SECOND: return "m, F, C or flag of the second bucket outside its limits";
+  case CLURIMOON_REFUSED_NOT_AFTER: return "the arrival is not after the previous one, or outside the run";
+  case CLURIMOON_REFUSED_KIND: return "the line kind is neither UNI nor NNI";
+  case CLURIMOON_REFUSED_NOT_OWNER: return "not this operator's connection";
+  default: return "no number of this library";
+  }
+}
+
+/*
+ * Writes octets 1 to 4 of a cell: VPI, VCI, PTI and CLP, each cut to its 12, 16, 3
+ * and 1 bits. Octet 5 and the payload are left to the caller: a policer that is not
+ * raw doesn't look at octet 5, and for one that is clurimoon_put_hec writes it. At
+ * the UNI, with a VPI of up to 255, the GFC becomes 0.
+ */
+static inline void clurimoon_put_header(uint8_t *cell, unsigned vpi, unsigned vci, unsigned pti, unsigned clp) {
+  cell[0] = (uint8_t)(vpi >> 4 & 255u);
+  cell[1] = (uint8_t)((vpi & 15u) << 4 | (vci >> 12 & 15u));
+  cell[2] = (uint8_t)(vci >> 4 & 255u);
+  cell[3] = (uint8_t)((vci & 15u) << 4 | (pti & 7u) << 1 | (clp & 1u));
+}
+
+/*
+ * Writes octet 5 of a cell, by the first four: their remainder times x^8 by
+ * x^8 + x^2 + x + 1, with 01010101 added bit by bit (ITU-T I.432).
+ */
+static inline void clurimoon_put_hec(uint8_t *cell) {
+  unsigned rest = 0;
+  int octet, bit;
+  for (octet = 0; octet < 4; ++octet) {
+    rest ^= cell[octet];
+    for (bit = 0; bit < 8; ++bit) rest = (rest & 128u) != 0 ? (rest << 1 ^ 0x107u) : rest << 1;
+  }
+  cell[4] = (uint8_t)(rest ^ 0x55u);
+}
 
 #ifdef __cplusplus
 }

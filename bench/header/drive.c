@@ -22,6 +22,7 @@ enum { block = 64 };
 static uint8_t cells[CLURIMOON_CELLS(1024)], arrivals[53 * block], sizes[block], departures[53 * block];
 static uint16_t links[1024], calendar[2048], answers[6 * block];
 static uint32_t vcs[CLURIMOON_VCS(1024)];
+static uint64_t bits[CLURIMOON_BITS];
 static clurimoon_record record;
 static unsigned n, v, wrong, made;
 static unsigned long long state = 1992, sum;
@@ -59,7 +60,7 @@ static void prepare(void) {
   }
 }
 
-#define MEMORY cells, 53 * (size_t)n, links, n, calendar, 2 * (size_t)n, vcs, CLURIMOON_VCS(v)
+#define MEMORY cells, 53 * (size_t)n, links, n, calendar, 2 * (size_t)n, vcs, CLURIMOON_VCS(v), bits, CLURIMOON_BITS
 
 static void serve(void) {
   for (unsigned k = 0; k < block; ++k) {
@@ -129,11 +130,11 @@ int main(int count, char **arguments) {
   const char *kind = arguments[1];
   const bool raw = atoi(arguments[2]) != 0;
   wrong = (unsigned)atoi(arguments[3]), n = (unsigned)atoi(arguments[4]), v = (unsigned)atoi(arguments[5]);
-  const clurimoon_set set = clurimoon_setup((uint16_t)n, (uint16_t)v, raw, CLURIMOON_UNI, MEMORY);
+  const clurimoon_set set = clurimoon_setup((uint16_t)n, (uint16_t)v, raw, CLURIMOON_UNI, 1, 1, MEMORY);
   if (set.number != 0) return 1;
   record = set.record;
   for (unsigned vci = 1; vci < v; ++vci)
-    if (clurimoon_open(record, vcs, CLURIMOON_VCS(v), (uint16_t)vci, 4, 128, 128 + 16 * n - 1) != 0) return 1;
+    if (clurimoon_open(record, vcs, CLURIMOON_VCS(v), 1, (uint16_t)vci, 4, 128, 128 + 16 * n - 1) != 0) return 1;
   for (long done = 0; done < atol(arguments[6]); done += block) {
     prepare();
     if (strcmp(kind, "burst") == 0) serve_burst();
@@ -141,7 +142,7 @@ int main(int count, char **arguments) {
     else check_all(strcmp(kind, "table") == 0 ? check_by_table : check_by_shifts);
     add(answers, sizeof answers);
   }
-  add(cells, 53 * (size_t)n), add(links, 2 * (size_t)n), add(calendar, 4 * (size_t)n), add(vcs, 4 * CLURIMOON_VCS(v));
+  add(cells, 53 * (size_t)n), add(links, 2 * (size_t)n), add(calendar, 4 * (size_t)n), add(vcs, 4 * CLURIMOON_VCS(v)), add(bits, 8 * CLURIMOON_BITS);
   printf("%016llx\n", sum);
   return 0;
 }

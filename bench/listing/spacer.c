@@ -10,6 +10,7 @@ static uint8_t input[65537], out[65536];
 static uint8_t cells[53 * 1024];
 static uint16_t links[1024], calendar[2048];
 static uint32_t vcs[CLURIMOON_VCS(1024)];
+static uint64_t bits[CLURIMOON_BITS];
 static size_t used;
 
 static void flush(void) {
@@ -73,11 +74,11 @@ int main(void) {
   for (ssize_t got; long_ < sizeof input && (got = read(0, input + long_, sizeof input - long_)) > 0;) long_ += (size_t)got;
   uint32_t n = be16(input + 2), v = be16(input + 4), tally[5] = {0};
   clurimoon_record r = {.n = (uint16_t)n, .v = (uint16_t)v, .t = UINT32_MAX, .T = (uint16_t)(n - 1),
-                        .rotation = (uint16_t)(v + 255), .free_head = 0, .free_tail = (uint16_t)(n - 1),
+                        .rotation = (uint16_t)(v + 255), .free = (uint16_t)n,
                         .out_head = 65535, .out_tail = 65535, .kind = input[1] == 'N'};
-  const lent_memory lent = {cells, links, calendar, vcs, 53 * n, n, 2 * n, CLURIMOON_VCS(v)};
+  const lent_memory lent = {cells, links, calendar, vcs, bits, 53 * n, n, 2 * n, CLURIMOON_VCS(v), CLURIMOON_BITS};
   memset(calendar, 255, sizeof calendar);
-  for (uint32_t i = 0; i + 1 < n; i++) links[i] = (uint16_t)(i + 1);
+  for (uint32_t i = 0; i < n; i++) bits[i / 64] |= (uint64_t)1 << i % 64;
   text_line("setup ", (uint32_t[]){n, v, 0}, 3);
   for (size_t at = 6; at < long_;) {
     const uint8_t *p = input + at, *cell = p + 2;

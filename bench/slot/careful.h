@@ -8,6 +8,22 @@ static inline bool bad_pair(u32 head, u32 tail, u32 n) {
   return (head >= n || tail >= n) && (head & tail) != none;
 }
 
+/* The ones of a word on a processor that has no instruction for it, as the archive's must be. */
+inlined u32 ones_of(u64 word) {
+  word -= word >> 1 & 0x5555555555555555;
+  word = (word & 0x3333333333333333) + (word >> 2 & 0x3333333333333333);
+  return (u32)(((word + (word >> 4)) & 0x0f0f0f0f0f0f0f0f) * 0x0101010101010101 >> 56);
+}
+/* No bit at or above N, and the number is the ones: the words that N reaches are counted, the others tested at once. */
+static inline bool spaces_fit(const u64 *bits, u32 n, u32 free) {
+  u32 ones = 0, w = 0;
+  u64 above = 0;
+  for (; w < n / 64; ++w) ones += ones_of(bits[w]);
+  if (n % 64 != 0) ones += ones_of(bits[w]), above = bits[w] >> n % 64, ++w;
+  for (; w < CLURIMOON_ENTRY_BITS; ++w) above |= bits[w];
+  return above == 0 && ones == free;
+}
+
 /* Whether m, F, C, S or the flag of a second bucket is out of range, one that isn't all 0. */
 static inline bool bad_second(const u32 *vc) {
   const u32 f = vc[w_F2], c = vc[w_C2];
@@ -28,12 +44,12 @@ static inline bool bad_buckets(const u32 *vc, u32 n) {
 }
 
 /* False, and nothing is written, for refusal 3. N, V and all lengths are fit. */
-static bool careful(clurimoon_record *r, uint8_t *cells, u16 *links, u16 *calendar, u32 *vcs, const uint8_t *cell,
-                    size_t cell_length, clurimoon_answer *answer) {
+static bool careful(clurimoon_record *r, uint8_t *cells, u16 *links, u16 *calendar, u32 *vcs, u64 *bits,
+                    const uint8_t *cell, size_t cell_length, clurimoon_answer *answer) {
   const u32 n = r->n, v = r->v, t = r->t + 1, mask = mask_of(r->kind);
   if (unlikely(r->T >= n || r->rotation >= v + paths)) return false;
   const u32 T = r->T + 1u == n ? 0 : r->T + 1u, rotation = r->rotation + 1u == v + paths ? 0 : r->rotation + 1u;
-  u32 free_head = r->free_head, free_tail = r->free_tail, out_head = r->out_head, out_tail = r->out_tail;
+  u32 free = r->free, out_head = r->out_head, out_tail = r->out_tail;
   u32 verdict = CLURIMOON_NOTHING, d = 0, seen = 0, sent = 0;
 
   /* Step 2: the VC or path whose turn it is, and its S afterwards. */
@@ -68,14 +84,8 @@ static bool careful(clurimoon_record *r, uint8_t *cells, u16 *links, u16 *calend
         if (verdict != CLURIMOON_EXCESS) {
           d = met_s >> vc[w_m];
           met_s += vc[w_F];
-          if (vc[w_waiting] >= n || free_head >= n || free_tail >= n) return false;
-          x = free_head;
-          if (x == free_tail) {
-            free_head = free_tail = none;
-          } else {
-            free_head = links[x];
-            if (free_head >= n) return false;
-          }
+          if (vc[w_waiting] >= n || !spaces_fit(bits, n, free) || free == 0) return false;
+          x = lowest_free(bits), free -= 1;
           e = T + d >= n ? T + d - n : T + d;
           joined = calendar[2 * e], e_tail = calendar[2 * e + 1];
           if (bad_pair(joined, e_tail, n)) return false;
@@ -97,7 +107,7 @@ static bool careful(clurimoon_record *r, uint8_t *cells, u16 *links, u16 *calend
 
   /* Step 5: the link and the header are read as steps 3 and 4 left them. */
   const u32 y = out_head;
-  u32 *left = NULL, back = none;
+  u32 *left = NULL;
   if (y != none) {
     if (y == out_tail) {
       out_head = out_tail = none;
@@ -109,10 +119,9 @@ static bool careful(clurimoon_record *r, uint8_t *cells, u16 *links, u16 *calend
     if (r->kind > 1 || sent == 0) return false;
     left = vcs + words * sent;
     if (left[w_open] != 1 || left[w_waiting] + (x != none && left == met) - 1 >= n) return false;
-    if (bad_pair(free_head, free_tail, n)) return false;
-    if (free_head == none) free_head = y;
-    else back = free_tail;
-    free_tail = y;
+    /* after a taking the words fit, and the space that was taken is not free */
+    if ((x == none && !spaces_fit(bits, n, free)) || (y != x && is_free(bits, y))) return false;
+    free += 1;
   }
 
   /* All is fit: write, in the order of the steps. */
@@ -120,18 +129,17 @@ static bool careful(clurimoon_record *r, uint8_t *cells, u16 *links, u16 *calend
   if (met) met[w_S] = met_s, met[w_S2] = met_second, met[w_last] = t;
   if (x != none) {
     met[w_waiting] += 1;
+    take_space(bits, x);
     copy_cell(cells + 53 * x, cell);
     if (verdict == CLURIMOON_TAGGED) tag(cells + 53 * x, cell);
     if (joined != none) links[x] = (uint16_t)joined;
-    calendar[2 * e] = (uint16_t)x, calendar[2 * e + 1] = (uint16_t)e_tail;
+    calendar[2 * e] = (uint16_t)x, calendar[2 * e + 1] = (uint16_t)e_tail, mark(bits, e);
   }
-  if (head != none) calendar[2 * T] = calendar[2 * T + 1] = (uint16_t)none;
+  if (head != none) calendar[2 * T] = calendar[2 * T + 1] = (uint16_t)none, unmark(bits, T);
   if (follows != none) links[follows] = (uint16_t)head;
-  if (left) left[w_waiting] -= 1;
-  if (back != none) links[back] = (uint16_t)y;
+  if (left) left[w_waiting] -= 1, give_space(bits, y);
   r->t = t, r->T = (u16)T, r->rotation = (u16)rotation;
-  r->free_head = (u16)free_head, r->free_tail = (u16)free_tail;
-  r->out_head = (u16)out_head, r->out_tail = (u16)out_tail;
+  r->free = (u16)free, r->out_head = (u16)out_head, r->out_tail = (u16)out_tail;
   *answer = (clurimoon_answer){0, (u16)verdict, (u16)seen, (u16)d, (u16)y, (u16)sent};
   return true;
 }

@@ -1,10 +1,10 @@
 /* The slot path with every test of refusals 1, 2, 9 and 3 before any write. The likely ways through a slot are written
-   out, each with its tests first and its writes last. What is unfit or odd (the last free space, lists that share spaces)
+   out, each with its tests first and its writes last. What is unfit or odd (lists that share spaces, a space queued and free)
    leaves them before any write, and careful.h serves that slot or refuses it.
 
    Throughout, T is below N, rotation below V + 256 and the line kind 0 or 1; the Output List's head and tail are both below
-   N or both 65,535, and in a burst so are the Free List's: they are tested when the burst begins, and each slot keeps them
-   so. */
+   N or both 65,535. In a burst the words of free spaces fit as well: the ones are counted when it begins, and each slot keeps
+   them so; a slot by itself counts them where it takes a space or frees one. */
 #include "careful.h"
 
 /* What arrived, and what rotation names. */
@@ -15,7 +15,7 @@ typedef struct {
   u32 verdict, s, second; /* what its buckets hold afterwards, S without the cell's F */
   index_t name, d; /* the VCI as read, or the number of the connection met */
   u32 *met;        /* the VC or path brought up to date, or NULL */
-  index_t x, link; /* the space taken, and the Free List's next one */
+  index_t x;       /* the space taken */
   u32 e_pair;      /* what the entry held that it joins, and the entry, unless that is T */
   u16 *e;
   u32 *turn, turn_s, turn_second; /* rotation's VC or path if open, or what takes its place, and what its buckets hold */
@@ -53,7 +53,7 @@ inlined void write_arrival(policer *p, const plan *a, bool stays, u16 *answer) {
     return;
   }
   a->met[w_S] = a->s + a->met[w_F], a->met[w_last] = p->t, a->met[w_S2] = a->second;
-  if (stays) a->met[w_waiting] += 1;
+  if (stays) a->met[w_waiting] += 1, take_space(bits(p), a->x);
   copy_cell(cells(p) + 53 * a->x, a->cell);
   if (unlikely(a->verdict == CLURIMOON_TAGGED)) tag(cells(p) + 53 * a->x, a->cell);
   /* entry T is emptied again in step 4 */
@@ -61,6 +61,8 @@ inlined void write_arrival(policer *p, const plan *a, bool stays, u16 *answer) {
     links(p)[a->x] = (u16)a->e_pair;
     if (a->kind == later) a->e[0] = (u16)a->x;
   } else if (a->kind == later) put_pair(a->e, a->x * 0x10001);
+  /* set whatever it was, since no bit of an entry is tested; that of entry T is cleared again in step 4 */
+  if (a->kind == later) mark(bits(p), entry_at(calendar(p), a->e));
 }
 
 /* Tests the departing space's header and its connection's open word and waiting. Where that is the one whose cell was
@@ -80,8 +82,8 @@ inlined bool leave(policer *p, const plan *a, given to, index_t y, index_t next,
                    index_t head) {
   const bool accepted = a->kind >= later;
   if (accepted && unlikely(y == a->x)) return false;
-  const index_t free_first = free_head(p), free_last = free_tail(p);
-  if (p->record && !accepted && unlikely(bad_pair((u32)free_first, (u32)free_last, (u32)p->n))) return false;
+  if (p->record && !accepted && unlikely(!spaces_fit(bits(p), p->n, free_number(p)))) return false;
+  if (unlikely(is_free(bits(p), y))) return false;
   index_t sent;
   u32 *left = leaving(p, y, accepted ? a->met : NULL, &sent);
   if (unlikely(left == NULL)) return false;
@@ -89,12 +91,11 @@ inlined bool leave(policer *p, const plan *a, given to, index_t y, index_t next,
   write_arrival(p, a, true, to.answer);
   if (follows) links(p)[out_last] = (u16)head;
   if (marked) put_pair(p->entry, no_pair);
+  if (marked || a->kind == now) unmark(bits(p), entry_at(calendar(p), p->entry));
   left[w_waiting] -= 1;
   if (to.copied) copy_cell(to.departure, cells(p) + 53 * y);
-  if (accepted) set_free_head(p, a->link);
-  if (!accepted && unlikely(free_first == none)) set_free_head(p, y);
-  else links(p)[free_last] = (u16)y;
-  set_free_tail(p, y), set_out_head(p, next);
+  give_space(bits(p), y), set_out_head(p, next);
+  if (!accepted) set_free_number(p, free_number(p) + 1);
   if (marked || follows || tail == none) set_out_tail(p, tail);
   to.answer[4] = (u16)y, to.answer[5] = (u16)sent;
   return true;
@@ -102,16 +103,16 @@ inlined bool leave(policer *p, const plan *a, given to, index_t y, index_t next,
 
 /* An accepted cell with D 0 that meets an empty Output List leaves at once; what entry T held follows it. */
 inlined bool leave_at_once(policer *p, const plan *a, given to) {
-  const index_t head = a->e_pair & 0xffff, tail = a->e_pair >> 16, free_last = free_tail(p);
+  const index_t head = a->e_pair & 0xffff, tail = a->e_pair >> 16;
   if (a->e_pair != no_pair && unlikely(head >= p->n || tail >= p->n || tail == a->x)) return false;
   write_arrival(p, a, false, to.answer);
+  unmark(bits(p), entry_at(calendar(p), p->entry));
   if (to.copied) {
     copy_cell(to.departure, a->cell);
     if (unlikely(a->verdict == CLURIMOON_TAGGED)) tag(to.departure, a->cell);
   }
   if (a->e_pair != no_pair) put_pair(p->entry, no_pair), set_out_head(p, head), set_out_tail(p, tail);
-  links(p)[free_last] = (u16)a->x;
-  set_free_head(p, a->link), set_free_tail(p, a->x);
+  /* taken and freed: bits and number stay */
   to.answer[4] = (u16)a->x, to.answer[5] = (u16)a->name;
   return true;
 }
@@ -133,7 +134,7 @@ inlined bool finish(policer *p, plan *a, given to) {
   if (pair == no_pair) {
     if (first == none) {
       write_arrival(p, a, true, to.answer);
-      if (a->kind == later) set_free_head(p, a->link);
+      if (a->kind == later) set_free_number(p, free_number(p) - 1);
       put_pair(to.answer + 4, none);
       return true;
     }
@@ -179,12 +180,9 @@ inlined bool arrive(policer *p, plan *a, size_t size, given to) {
   } else a->verdict = CLURIMOON_ACCEPTED;
   a->d = a->s >> vc[w_m];
   if (unlikely(vc[w_waiting] >= p->n)) return false;
-  /* an empty Free List, or one of a single space, is left to `careful` */
-  a->x = free_head(p);
-  if (unlikely(a->x == free_tail(p))) return false;
-  if (p->record && (unlikely(a->x >= p->n) || unlikely(free_tail(p) >= p->n))) return false;
-  a->link = links(p)[a->x];
-  if (unlikely(a->link >= p->n)) return false;
+  if (p->record && unlikely(!spaces_fit(bits(p), p->n, free_number(p)))) return false;
+  if (unlikely(free_number(p) == 0)) return false;
+  a->x = lowest_free(bits(p));
   if (a->d == 0) {
     a->kind = now;
     return finish(p, a, to);
@@ -211,7 +209,8 @@ inlined bool serve(policer *p, const uint8_t *cell, size_t size, given to) {
 
 static u16 refusal_of(u32 n, u32 v, const lent_memory *lent) {
   if (n - 1 >= 1024 || v - 2 >= 1023) return 1;
-  if (lent->cells_length != 53 * n || lent->links_length != n || lent->calendar_length != 2 * n || lent->vcs_length != words * (v + paths))
+  if (lent->cells_length != 53 * n || lent->links_length != n || lent->calendar_length != 2 * n ||
+      lent->vcs_length != words * (v + paths) || lent->bits_length != CLURIMOON_BITS)
     return 2;
   return 0;
 }
@@ -222,7 +221,7 @@ static __attribute__((noinline, cold)) u16 odd_slot(clurimoon_record *r, const l
   const u16 number = refusal_of(r->n, r->v, lent);
   if (number != 0) return number;
   if (cell_length != 0 && cell_length != 53) return 9;
-  return careful(r, lent->cells, lent->links, lent->calendar, lent->vcs, cell, cell_length, answer) ? 0 : 3;
+  return careful(r, lent->cells, lent->links, lent->calendar, lent->vcs, lent->bits, cell, cell_length, answer) ? 0 : 3;
 }
 static __attribute__((noinline, cold)) void odd_answer(clurimoon_record *r, const lent_memory *lent, const uint8_t *cell,
                                                        size_t cell_length, clurimoon_answer *answer) {
@@ -236,7 +235,7 @@ exported void checking_slot(clurimoon_record *restrict r, const lent_memory *len
                .mask = mask_of(r->kind)};
   if (unlikely(p.n - 1 >= 1024) || unlikely(p.v - 2 >= 1023) || unlikely(lent->cells_length != 53 * p.n) ||
       unlikely(lent->links_length != p.n) || unlikely(lent->calendar_length != 2 * p.n) ||
-      unlikely(lent->vcs_length != words * (p.v + paths)) || unlikely(r->kind > 1))
+      unlikely(lent->vcs_length != words * (p.v + paths)) || unlikely(lent->bits_length != CLURIMOON_BITS) || unlikely(r->kind > 1))
     goto odd;
   /* one comparison for the range and for the step round */
   if (unlikely(p.T >= p.n)) {
@@ -275,11 +274,11 @@ exported burst_end checking_burst(clurimoon_record *restrict r, const lent_memor
   if (unlikely(number != 0)) return (burst_end){0, number};
   if (unlikely(b->arrivals_length != 53 * slots || b->departures_length != 53 * slots || b->answers_length != 6 * slots))
     return (burst_end){0, 2};
-  if (unlikely(r->T >= r->n || r->rotation >= r->v + paths || r->kind > 1 || bad_pair(r->free_head, r->free_tail, r->n) ||
+  if (unlikely(r->T >= r->n || r->rotation >= r->v + paths || r->kind > 1 || !spaces_fit(lent->bits, r->n, r->free) ||
                bad_pair(r->out_head, r->out_tail, r->n)))
     return odd_slots(r, lent, b, 0, slots);
   policer p = {.n = r->n, .v = r->v, .record = NULL, .mask = mask_of(r->kind), .kept_cells = lent->cells, .kept_links = lent->links,
-               .kept_calendar = lent->calendar, .kept_vcs = lent->vcs};
+               .kept_calendar = lent->calendar, .kept_vcs = lent->vcs, .kept_bits = lent->bits};
   take(&p, r);
   const uint8_t *cell = b->arrivals, *size = b->sizes, *const end = size + slots;
   given to = {b->answers, b->departures, true};

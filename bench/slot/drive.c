@@ -31,6 +31,7 @@ typedef struct {
   uint8_t cells[53 * 1024], *departures;
   uint16_t links[1024], calendar[2048], *answers;
   uint32_t vcs[CLURIMOON_VCS(1024)];
+  uint64_t bits[CLURIMOON_BITS];
 } policer;
 static policer policers[forms];
 static uint8_t *arrivals, *sizes;
@@ -47,19 +48,25 @@ static void *room(size_t octets) {
   return got;
 }
 
+/* C by rule 6: a tolerance of at most N-1 slots. The traffic is made for N 76, and below that more of it is excess. */
+static uint32_t capped(contract k) {
+  const uint32_t most = k.f + (uint32_t)((n << k.m) - 1);
+  return k.c < most ? k.c : most;
+}
+
 static void begin(policer *p) {
-  p->lent = (lent_memory){p->cells, p->links, p->calendar, p->vcs, 53 * n, n, 2 * n, CLURIMOON_VCS(v)};
+  p->lent = (lent_memory){p->cells, p->links, p->calendar, p->vcs, p->bits, 53 * n, n, 2 * n, CLURIMOON_VCS(v), CLURIMOON_BITS};
   const clurimoon_set set =
-      clurimoon_setup((uint16_t)n, (uint16_t)v, false, kind == with_path ? CLURIMOON_NNI : CLURIMOON_UNI, p->cells, 53 * n,
-                      p->links, n, p->calendar, 2 * n, p->vcs, CLURIMOON_VCS(v));
+      clurimoon_setup((uint16_t)n, (uint16_t)v, false, kind == with_path ? CLURIMOON_NNI : CLURIMOON_UNI, 1, 1, p->cells, 53 * n,
+                      p->links, n, p->calendar, 2 * n, p->vcs, CLURIMOON_VCS(v), p->bits, CLURIMOON_BITS);
   if (set.number != 0) fail("setup");
   p->record = set.record;
   const contract path = contract_of_path();
-  if (kind == with_path && clurimoon_open_path(p->record, p->vcs, CLURIMOON_VCS(v), the_path, path.m, path.f, path.c, 0, 0, 0, 0) != 0)
+  if (kind == with_path && clurimoon_open_path(p->record, p->vcs, CLURIMOON_VCS(v), 1, the_path, path.m, path.f, capped(path), 0, 0, 0, 0) != 0)
     fail("open_path");
   for (unsigned vci = 1; vci < v; ++vci) {
     const contract k = contract_of(vci, v, kind);
-    if (k.open && clurimoon_open_sustained(p->record, p->vcs, CLURIMOON_VCS(v), (uint16_t)vci, k.m, k.f, k.c, k.m2, k.f2, k.c2, k.tag) != 0)
+    if (k.open && clurimoon_open_sustained(p->record, p->vcs, CLURIMOON_VCS(v), 1, (uint16_t)vci, k.m, k.f, capped(k), k.m2, k.f2, k.c2, k.tag) != 0)
       fail("open");
   }
   p->departures = room(53 * slots), p->answers = room(6 * sizeof(uint16_t) * slots);
@@ -92,7 +99,7 @@ SLOTS_BY(by_checking_slot, checking_slot)
 BURSTS_BY(by_trusting_burst, trusting_burst)
 BURSTS_BY(by_checking_burst, checking_burst)
 
-#define MEMORY p->cells, 53 * n, p->links, n, p->calendar, 2 * n, p->vcs, CLURIMOON_VCS(v)
+#define MEMORY p->cells, 53 * n, p->links, n, p->calendar, 2 * n, p->vcs, CLURIMOON_VCS(v), p->bits, CLURIMOON_BITS
 static void by_clurimoon_slot(policer *p) {
   for (size_t k = 0; k < slots; ++k) {
     const clurimoon_served s = clurimoon_slot(p->record, MEMORY, arrivals + 53 * k, sizes[k]);
@@ -117,15 +124,15 @@ static void add(const void *data, size_t octets) {
   const uint8_t *octet = data;
   while (octets-- > 0) sum = (sum ^ *octet++) * 1099511628211u;
 }
-/* Over answers, departing cells, record and all memory. The record has unused octets at its end. */
+/* Over answers, departing cells, record and all memory. */
 static uint64_t sum_of(const policer *p) {
   const clurimoon_record *r = &p->record;
-  const uint32_t numbers[12] = {r->n,         r->v,        r->t,        r->T,   r->rotation, r->free_head,
-                                r->free_tail, r->out_head, r->out_tail, r->raw, r->mode,     r->kind};
+  const uint32_t numbers[13] = {r->n,   r->v,    r->t,    r->T,         r->rotation, r->free, r->out_head, r->out_tail,
+                                r->raw, r->mode, r->kind, r->split_vci, r->split_path};
   sum = 14695981039346656037u;
   add(p->answers, 12 * slots), add(p->departures, 53 * slots);
   add(numbers, sizeof numbers), add(p->cells, 53 * n), add(p->links, 2 * n), add(p->calendar, 4 * n);
-  add(p->vcs, 4 * CLURIMOON_VCS(v));
+  add(p->vcs, 4 * CLURIMOON_VCS(v)), add(p->bits, 8 * CLURIMOON_BITS);
   return sum;
 }
 

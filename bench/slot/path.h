@@ -59,6 +59,20 @@ inlined u32 fallen_second(const u32 *vc, u32 t) {
   return stored == 0 ? 0 : fallen_by(stored, t - vc[w_last], vc[w_m2]);
 }
 
+/* Free spaces: bit k of word w is space 64 w + k. The lowest one, where there is one. */
+inlined index_t lowest_free(const u64 *bits) {
+  index_t w = 0;
+  while (unlikely(bits[w] == 0)) ++w;
+  return 64 * w + (index_t)__builtin_ctzll(bits[w]);
+}
+inlined bool is_free(const u64 *bits, index_t x) { return bits[x / 64] >> x % 64 & 1; }
+inlined void take_space(u64 *bits, index_t x) { bits[x / 64] &= ~((u64)1 << x % 64); }
+inlined void give_space(u64 *bits, index_t x) { bits[x / 64] |= (u64)1 << x % 64; }
+/* Entries that are not empty: their bits stand behind those of the spaces. An entry's number is taken from its place. */
+inlined index_t entry_at(const u16 *calendar, const u16 *entry) { return (index_t)((size_t)((const char *)entry - (const char *)calendar) / 4); }
+inlined void mark(u64 *bits, index_t e) { bits[CLURIMOON_ENTRY_BITS + e / 64] |= (u64)1 << e % 64; }
+inlined void unmark(u64 *bits, index_t e) { bits[CLURIMOON_ENTRY_BITS + e / 64] &= ~((u64)1 << e % 64); }
+
 /* 53 octets: three moves of 16 and one of 8, which overlaps. */
 typedef u64 wide __attribute__((vector_size(16), aligned(1), may_alias));
 inlined void copy_cell(uint8_t *to, const uint8_t *from) {
@@ -103,7 +117,8 @@ typedef struct {
   uint8_t *kept_cells;
   u16 *kept_links, *kept_calendar;
   u32 *kept_vcs;
-  index_t kept_free_head, kept_free_tail, kept_out_head, kept_out_tail;
+  u64 *kept_bits;
+  index_t kept_free, kept_out_head, kept_out_tail;
 } policer;
 
 #define MEMORY(type, name)                                                                                             \
@@ -112,17 +127,18 @@ MEMORY(uint8_t, cells)
 MEMORY(u16, links)
 MEMORY(u16, calendar)
 MEMORY(u32, vcs)
+MEMORY(u64, bits)
 
-#define NUMBER(name)                                                                                                   \
-  inlined index_t name(const policer *p) { return p->record ? p->record->name : p->kept_##name; }                      \
+/* `free_number` is the record's `free`, whose name C has already. */
+#define NUMBER(name, field)                                                                                                   \
+  inlined index_t name(const policer *p) { return p->record ? p->record->field : p->kept_##field; }                    \
   inlined void set_##name(policer *p, index_t to) {                                                                    \
-    if (p->record) p->record->name = (u16)to;                                                                          \
-    else p->kept_##name = to;                                                                                          \
+    if (p->record) p->record->field = (u16)to;                                                                         \
+    else p->kept_##field = to;                                                                                         \
   }
-NUMBER(free_head)
-NUMBER(free_tail)
-NUMBER(out_head)
-NUMBER(out_tail)
+NUMBER(free_number, free)
+NUMBER(out_head, out_head)
+NUMBER(out_tail, out_tail)
 
 static const u32 closed[words]; /* stands for records 0 and V, which are never open and whose words are not read */
 
@@ -131,13 +147,11 @@ inlined index_t stepped(index_t number, index_t modulus) { return number + 1 == 
 inlined index_t stepped_back(index_t number, index_t modulus) { return (number == 0 ? modulus : number) - 1; }
 inlined void take(policer *p, const clurimoon_record *r) {
   p->t = r->t, p->T = stepped(r->T, p->n), p->rotation = stepped(r->rotation, p->v + paths);
-  p->kept_free_head = r->free_head, p->kept_free_tail = r->free_tail;
-  p->kept_out_head = r->out_head, p->kept_out_tail = r->out_tail;
+  p->kept_free = r->free, p->kept_out_head = r->out_head, p->kept_out_tail = r->out_tail;
 }
 inlined void give(const policer *p, clurimoon_record *r) {
   r->t = p->t, r->T = (u16)stepped_back(p->T, p->n), r->rotation = (u16)stepped_back(p->rotation, p->v + paths);
-  r->free_head = (u16)p->kept_free_head, r->free_tail = (u16)p->kept_free_tail;
-  r->out_head = (u16)p->kept_out_head, r->out_tail = (u16)p->kept_out_tail;
+  r->free = (u16)p->kept_free, r->out_head = (u16)p->kept_out_head, r->out_tail = (u16)p->kept_out_tail;
 }
 
 /* How many slots it is until T or rotation steps round, or rotation comes to V: within a run neither needs a test. */

@@ -1,15 +1,15 @@
 /* The slot path of document 01 for memory that is sound: no test of what is stored, no refusal. */
 #include "path.h"
 
-/* Takes x, the head of the Free List, and joins it to the head of the entry d slots from now. */
+/* Takes x, the lowest free space, and joins it to the head of the entry d slots from now. */
 inlined void store(policer *p, index_t x, index_t d) {
-  if (unlikely(x == free_tail(p))) set_free_head(p, none), set_free_tail(p, none);
-  else set_free_head(p, links(p)[x]);
+  take_space(bits(p), x), set_free_number(p, free_number(p) - 1);
   u16 *e = p->entry + 2 * d;
   if (e >= calendar(p) + 2 * p->n) e -= 2 * p->n;
   const u16 head = e[0];
   e[0] = (u16)x;
-  if (head == none) e[1] = (u16)x;
+  /* where the entry was not empty its bit is set already */
+  if (head == none) e[1] = (u16)x, mark(bits(p), entry_at(calendar(p), e));
   else links(p)[x] = head;
 }
 
@@ -39,7 +39,7 @@ inlined bool arrive(policer *p, const uint8_t *cell, given to) {
     vc[w_S] = s;
     return false;
   }
-  const index_t d = s >> vc[w_m], x = free_head(p);
+  const index_t d = s >> vc[w_m], x = lowest_free(bits(p));
   put_pair(to.answer, (tagged ? CLURIMOON_TAGGED : CLURIMOON_ACCEPTED) << 16), to.answer[3] = (u16)d;
   vc[w_S] = s + f;
   copy_cell(cells(p) + 53 * x, cell);
@@ -49,11 +49,8 @@ inlined bool arrive(policer *p, const uint8_t *cell, given to) {
       copy_cell(to.departure, cell);
       if (unlikely(tagged)) tag(to.departure, cell);
     }
+    /* taken and freed: bits and number stay */
     to.answer[4] = (u16)x, to.answer[5] = (u16)number;
-    const index_t tail = free_tail(p);
-    if (unlikely(x == tail)) return true;
-    set_free_head(p, links(p)[x]), set_free_tail(p, x);
-    links(p)[tail] = (u16)x;
     return true;
   }
   vc[w_waiting] += 1;
@@ -69,7 +66,7 @@ inlined void leave(policer *p, given to) {
     if (y == none) y = pair & 0xffff;
     else links(p)[out_tail(p)] = (u16)pair;
     tail = pair >> 16;
-    put_pair(p->entry, no_pair);
+    put_pair(p->entry, no_pair), unmark(bits(p), entry_at(calendar(p), p->entry));
     set_out_tail(p, tail);
   } else {
     if (y == none) {
@@ -84,9 +81,7 @@ inlined void leave(policer *p, given to) {
   const index_t sent = number_of(name_of(cell, p->mask), p->v);
   vcs(p)[words * sent + w_waiting] -= 1;
   if (to.copied) copy_cell(to.departure, cell);
-  if (unlikely(free_head(p) == none)) set_free_head(p, y);
-  else links(p)[free_tail(p)] = (u16)y;
-  set_free_tail(p, y);
+  give_space(bits(p), y), set_free_number(p, free_number(p) + 1);
   to.answer[4] = (u16)y, to.answer[5] = (u16)sent;
 }
 
@@ -117,7 +112,7 @@ exported void trusting_slot(clurimoon_record *restrict r, const lent_memory *len
 
 exported burst_end trusting_burst(clurimoon_record *restrict r, const lent_memory *lent, const lent_burst *b) {
   policer p = {.n = r->n, .v = r->v, .record = NULL, .mask = mask_of(r->kind), .kept_cells = lent->cells, .kept_links = lent->links,
-               .kept_calendar = lent->calendar, .kept_vcs = lent->vcs};
+               .kept_calendar = lent->calendar, .kept_vcs = lent->vcs, .kept_bits = lent->bits};
   take(&p, r);
   const uint8_t *cell = b->arrivals, *size = b->sizes, *const end = size + b->sizes_length;
   given to = {b->answers, b->departures, true};

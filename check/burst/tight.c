@@ -41,6 +41,7 @@ typedef struct {
   uint8_t cells[CLURIMOON_CELLS(MOST)];
   uint16_t links[CLURIMOON_LINKS(MOST)], calendar[CLURIMOON_CALENDAR(MOST)];
   uint32_t words[CLURIMOON_VCS(CLURIMOON_V_MAX)];
+  uint64_t bits[CLURIMOON_BITS];
 } policer;
 
 static unsigned long long runs, slots, windows, fewer, tagged, of_paths;
@@ -57,14 +58,14 @@ static void fail(const policer *p, const char *what) {
 static void set_up(policer *p, unsigned family, uint32_t n, uint32_t v) {
   clurimoon_set set;
   p->family = family, p->n = n, p->v = v, p->now = 0;
-  set = clurimoon_setup((uint16_t)n, (uint16_t)v, false, kind_of(n), p->cells, CLURIMOON_CELLS(n), p->links,
-                        CLURIMOON_LINKS(n), p->calendar, CLURIMOON_CALENDAR(n), p->words, CLURIMOON_VCS(v));
+  set = clurimoon_setup((uint16_t)n, (uint16_t)v, false, kind_of(n), 1, 1, p->cells, CLURIMOON_CELLS(n), p->links,
+                        CLURIMOON_LINKS(n), p->calendar, CLURIMOON_CALENDAR(n), p->words, CLURIMOON_VCS(v), p->bits, CLURIMOON_BITS);
   if (set.number != CLURIMOON_DONE) fail(p, "setup was refused");
   p->record = set.record;
 }
 
 static void open_vc(policer *p, uint32_t vci, uint8_t m, uint32_t f, uint32_t c) {
-  if (clurimoon_open(p->record, p->words, CLURIMOON_VCS(p->v), (uint16_t)vci, m, f, c) != CLURIMOON_DONE)
+  if (clurimoon_open(p->record, p->words, CLURIMOON_VCS(p->v), 1, (uint16_t)vci, m, f, c) != CLURIMOON_DONE)
     fail(p, "an open was refused");
 }
 
@@ -73,9 +74,9 @@ static void open_first(policer *p, const connection *c) {
   const uint32_t f2 = tags(p) ? CLURIMOON_F_MAX : 0;
   const uint8_t tag = tags(p) ? 1 : 0;
   uint16_t number;
-  if (has_path(p)) number = clurimoon_open_path(p->record, p->words, CLURIMOON_VCS(p->v), PATH, c->m, c->f, c->c, 0, f2, f2, tag);
-  else if (tag) number = clurimoon_open_sustained(p->record, p->words, CLURIMOON_VCS(p->v), 1, c->m, c->f, c->c, 0, f2, f2, tag);
-  else number = clurimoon_open(p->record, p->words, CLURIMOON_VCS(p->v), 1, c->m, c->f, c->c);
+  if (has_path(p)) number = clurimoon_open_path(p->record, p->words, CLURIMOON_VCS(p->v), 1, PATH, c->m, c->f, c->c, 0, f2, f2, tag);
+  else if (tag) number = clurimoon_open_sustained(p->record, p->words, CLURIMOON_VCS(p->v), 1, 1, c->m, c->f, c->c, 0, f2, f2, tag);
+  else number = clurimoon_open(p->record, p->words, CLURIMOON_VCS(p->v), 1, 1, c->m, c->f, c->c);
   if (number != CLURIMOON_DONE) fail(p, "the open of VC 1, or of the path in its place, was refused");
 }
 
@@ -94,7 +95,7 @@ static uint32_t serve_with(policer *p, uint32_t vci, uint32_t due_in, uint32_t v
   clurimoon_served s;
   write_header(p, cell, vci);
   s = clurimoon_slot(p->record, p->cells, CLURIMOON_CELLS(p->n), p->links, CLURIMOON_LINKS(p->n), p->calendar,
-                     CLURIMOON_CALENDAR(p->n), p->words, CLURIMOON_VCS(p->v), cell, vci == 0 ? 0 : CLURIMOON_CELL);
+                     CLURIMOON_CALENDAR(p->n), p->words, CLURIMOON_VCS(p->v), p->bits, CLURIMOON_BITS, cell, vci == 0 ? 0 : CLURIMOON_CELL);
   if (s.answer.number != CLURIMOON_DONE) fail(p, "a slot was refused");
   if (s.answer.verdict != (vci == 0 ? CLURIMOON_NOTHING : verdict)) fail(p, "a cell was not accepted, or not tagged");
   tagged += s.answer.verdict == CLURIMOON_TAGGED;

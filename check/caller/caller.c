@@ -33,13 +33,14 @@ static void structs(void) {
   LAID(clurimoon_record, t, 4, 4);
   LAID(clurimoon_record, T, 8, 2);
   LAID(clurimoon_record, rotation, 10, 2);
-  LAID(clurimoon_record, free_head, 12, 2);
-  LAID(clurimoon_record, free_tail, 14, 2);
-  LAID(clurimoon_record, out_head, 16, 2);
-  LAID(clurimoon_record, out_tail, 18, 2);
-  LAID(clurimoon_record, raw, 20, 2);
-  LAID(clurimoon_record, mode, 22, 2);
-  LAID(clurimoon_record, kind, 24, 2);
+  LAID(clurimoon_record, free, 12, 2);
+  LAID(clurimoon_record, out_head, 14, 2);
+  LAID(clurimoon_record, out_tail, 16, 2);
+  LAID(clurimoon_record, raw, 18, 2);
+  LAID(clurimoon_record, mode, 20, 2);
+  LAID(clurimoon_record, kind, 22, 2);
+  LAID(clurimoon_record, split_vci, 24, 2);
+  LAID(clurimoon_record, split_path, 26, 2);
   CHECK(sizeof(clurimoon_answer) == 12);
   LAID(clurimoon_answer, number, 0, 2);
   LAID(clurimoon_answer, verdict, 2, 2);
@@ -61,6 +62,9 @@ static void structs(void) {
   LAID(clurimoon_burst_end, record, 0, 28);
   LAID(clurimoon_burst_end, number, 28, 2);
   LAID(clurimoon_burst_end, done, 32, sizeof(size_t));
+  CHECK(sizeof(clurimoon_wait) == 4);
+  LAID(clurimoon_wait, number, 0, 2);
+  LAID(clurimoon_wait, slots, 2, 2);
   CHECK(sizeof(clurimoon_tat) == 24);
   LAID(clurimoon_tat, tat, 0, 8);
   LAID(clurimoon_tat, arrival, 8, 8);
@@ -76,13 +80,15 @@ static void structs(void) {
 static void macros(void) {
   CHECK(CLURIMOON_CELLS(1024) == 54272 && CLURIMOON_LINKS(76) == 76);
   CHECK(CLURIMOON_CALENDAR(76) == 152 && CLURIMOON_VCS(64) == 3840 && CLURIMOON_VCS(1024) == 15360);
-  CHECK(CLURIMOON_OCTETS(76, 64) == 19844);
+  CHECK(CLURIMOON_OCTETS(76, 64) == 20100 && CLURIMOON_BITS == 32 && CLURIMOON_ENTRY_BITS == 16);
   CHECK(CLURIMOON_OCTETS(76, 64) ==
-        CLURIMOON_CELLS(76) + 2 * CLURIMOON_LINKS(76) + 2 * CLURIMOON_CALENDAR(76) + 4 * CLURIMOON_VCS(64));
+        CLURIMOON_CELLS(76) + 2 * CLURIMOON_LINKS(76) + 2 * CLURIMOON_CALENDAR(76) + 4 * CLURIMOON_VCS(64) +
+            8 * CLURIMOON_BITS);
   CHECK(CLURIMOON_DONE == 0 && CLURIMOON_RANGE == 1 && CLURIMOON_LENGTH == 2 && CLURIMOON_STORED == 3);
   CHECK(CLURIMOON_VCI == 4 && CLURIMOON_ALREADY_OPEN == 5 && CLURIMOON_RULES == 6 && CLURIMOON_NOT_OPEN == 7);
   CHECK(CLURIMOON_WAITING == 8 && CLURIMOON_CELL_LENGTH == 9 && CLURIMOON_UNREADABLE == 10);
   CHECK(CLURIMOON_SECOND == 11 && CLURIMOON_NOT_AFTER == 12 && CLURIMOON_C2_MAX == 1073741824);
+  CHECK(CLURIMOON_NOT_OWNER == 16 && CLURIMOON_OWNER_FIRST == 0 && CLURIMOON_OWNER_SECOND == 1);
   CHECK(CLURIMOON_KIND == 13 && CLURIMOON_UNI == 0 && CLURIMOON_NNI == 1 && CLURIMOON_PATHS == 256);
   CHECK(CLURIMOON_PATH_MIN == 1 && CLURIMOON_PATH_MAX == 255 && CLURIMOON_PATH_NUMBER(1024, 255) == 1279);
   CHECK(CLURIMOON_NOTHING == 0 && CLURIMOON_ACCEPTED == 1 && CLURIMOON_EXCESS == 2 && CLURIMOON_UNKNOWN == 3);
@@ -95,14 +101,14 @@ enum { N = 5, V = 8, WORDS = 12 * (V + 256) };
 static uint8_t cells[53 * N], idle[53];
 static uint16_t links[N], calendar[2 * N];
 static uint32_t vcs[12 * (V + 256)];
+static uint64_t bits[32];
 
-#define MEMORY cells, sizeof cells, links, N, calendar, 2 * N, vcs, WORDS
+#define MEMORY cells, sizeof cells, links, N, calendar, 2 * N, vcs, WORDS, bits, 32
 
-/* By fields: the last two octets of a record are unused. */
 static int same_record(clurimoon_record a, clurimoon_record b) {
-  return a.n == b.n && a.v == b.v && a.t == b.t && a.T == b.T && a.rotation == b.rotation && a.free_head == b.free_head &&
-         a.free_tail == b.free_tail && a.out_head == b.out_head && a.out_tail == b.out_tail && a.raw == b.raw &&
-         a.mode == b.mode && a.kind == b.kind;
+  return a.n == b.n && a.v == b.v && a.t == b.t && a.T == b.T && a.rotation == b.rotation && a.free == b.free &&
+         a.out_head == b.out_head && a.out_tail == b.out_tail && a.raw == b.raw &&
+         a.mode == b.mode && a.kind == b.kind && a.split_vci == b.split_vci && a.split_path == b.split_path;
 }
 
 static int refused(clurimoon_answer a, unsigned number) {
@@ -120,23 +126,25 @@ static void setup_fields(bool raw, uint16_t kind) {
   unsigned k;
   clurimoon_set set;
   memset(cells, 7, sizeof cells), memset(links, 7, sizeof links), memset(vcs, 7, sizeof vcs);
-  set = clurimoon_setup(N, V, raw, kind, MEMORY);
+  memset(bits, 7, sizeof bits);
+  set = clurimoon_setup(N, V, raw, kind, 1, 1, MEMORY);
   CHECK(set.number == CLURIMOON_DONE);
   CHECK(set.record.n == N && set.record.v == V && set.record.t == 4294967295u);
   CHECK(set.record.T == N - 1 && set.record.rotation == V + 255 && set.record.kind == kind);
-  CHECK(set.record.free_head == 0 && set.record.free_tail == N - 1);
+  CHECK(set.record.free == N && set.record.split_vci == 1 && set.record.split_path == 1);
   CHECK(set.record.out_head == CLURIMOON_NONE && set.record.out_tail == CLURIMOON_NONE);
   CHECK(set.record.raw == (raw ? 1 : 0) && set.record.mode == CLURIMOON_CORRECTION);
   CHECK(clurimoon_audit(set.record, MEMORY));
   for (k = 0; k < sizeof cells; ++k) CHECK(cells[k] == 0);
-  for (k = 0; k < N; ++k) CHECK(links[k] == (k + 1 < N ? k + 1 : 0));
+  for (k = 0; k < N; ++k) CHECK(links[k] == 0);
+  for (k = 0; k < 32; ++k) CHECK(bits[k] == (k == 0 ? 31 : 0));
   for (k = 0; k < 2 * N; ++k) CHECK(calendar[k] == CLURIMOON_NONE);
   for (k = 0; k < WORDS; ++k) CHECK(vcs[k] == 0);
 }
 
 /* Each field of a record by value must arrive in its own place and come back so. */
 static void record_fields(void) {
-  clurimoon_record r = {1111, 2222, 3333333333u, 4444, 5555, 6666, 7777, 8888, 9999, 1212, 1313, 1414};
+  clurimoon_record r = {1111, 2222, 3333333333u, 4444, 5555, 6666, 8888, 9999, 1212, 1313, 1414, 1515, 1616};
   clurimoon_served s = clurimoon_slot(r, MEMORY, NULL, 0);
   clurimoon_burst_end e;
   CHECK(refused(s.answer, CLURIMOON_RANGE) && same_record(s.record, r));
@@ -151,45 +159,48 @@ static void record_fields(void) {
   CHECK(refused(s.answer, CLURIMOON_STORED) && same_record(s.record, r));
   r.out_head = r.out_tail = CLURIMOON_NONE;
   s = clurimoon_slot(r, MEMORY, NULL, 0);
-  /* The Free List is not read in a slot that neither accepts nor sends. */
+  /* The number of free spaces is not read in a slot that neither accepts nor sends. */
   CHECK(s.answer.number == CLURIMOON_DONE && s.record.t == 3333333334u && s.record.T == 3 &&
         s.record.rotation == 4);
-  CHECK(s.record.n == N && s.record.v == V && s.record.free_head == 6666 && s.record.free_tail == 7777);
+  CHECK(s.record.n == N && s.record.v == V && s.record.free == 6666);
   /* Nor are raw and mode, where no cell is lent, and kind, where no header is read. */
   CHECK(s.record.raw == 1212 && s.record.mode == 1313 && s.record.kind == 1414);
+  /* No slot reads the splits. */
+  CHECK(s.record.split_vci == 1515 && s.record.split_path == 1616);
   CHECK(s.record.out_head == CLURIMOON_NONE && s.record.out_tail == CLURIMOON_NONE);
   CHECK(clurimoon_audit(s.record, MEMORY) == false);
 }
 
 static void every_number(void) {
   uint8_t cell[54];
-  clurimoon_set set = clurimoon_setup(0, V, true, CLURIMOON_UNI, MEMORY);
+  clurimoon_set set = clurimoon_setup(0, V, true, CLURIMOON_UNI, 1, 1, MEMORY);
   clurimoon_record zeros, r;
   clurimoon_served s;
   memset(&zeros, 0, sizeof zeros), memset(cell, 0, sizeof cell);
   CHECK(set.number == CLURIMOON_RANGE && same_record(set.record, zeros));
-  set = clurimoon_setup(N, V, true, CLURIMOON_UNI, cells, sizeof cells - 1, links, N, calendar, 2 * N, vcs, WORDS);
+  set = clurimoon_setup(N, V, true, CLURIMOON_UNI, 1, 1, cells, sizeof cells - 1, links, N, calendar, 2 * N, vcs, WORDS, bits, 32);
   CHECK(set.number == CLURIMOON_LENGTH && same_record(set.record, zeros));
   /* The line kind after N and V, and before the lengths. */
-  set = clurimoon_setup(N, V, true, 2, MEMORY);
+  set = clurimoon_setup(N, V, true, 2, 1, 1, MEMORY);
   CHECK(set.number == CLURIMOON_KIND && same_record(set.record, zeros));
-  CHECK(clurimoon_setup(N, V, false, 65535, MEMORY).number == CLURIMOON_KIND);
-  CHECK(clurimoon_setup(N, 1, false, 2, MEMORY).number == CLURIMOON_RANGE);
-  CHECK(clurimoon_setup(N, V, false, 2, NULL, 0, NULL, 0, NULL, 0, NULL, 0).number == CLURIMOON_KIND);
-  CHECK(clurimoon_setup(N, V, false, 1, cells, sizeof cells, links, N, calendar, 2 * N, vcs, 12 * V).number == CLURIMOON_LENGTH);
-  set = clurimoon_setup(N, V, false, CLURIMOON_UNI, MEMORY);
+  CHECK(clurimoon_setup(N, V, false, 65535, 1, 1, MEMORY).number == CLURIMOON_KIND);
+  CHECK(clurimoon_setup(N, 1, false, 2, 1, 1, MEMORY).number == CLURIMOON_RANGE);
+  CHECK(clurimoon_setup(N, V, false, 2, 1, 1, NULL, 0, NULL, 0, NULL, 0, NULL, 0, NULL, 0).number == CLURIMOON_KIND);
+  CHECK(clurimoon_setup(N, V, false, 1, 1, 1, cells, sizeof cells, links, N, calendar, 2 * N, vcs, 12 * V, bits, 32).number == CLURIMOON_LENGTH);
+  CHECK(clurimoon_setup(N, V, false, 1, 1, 1, cells, sizeof cells, links, N, calendar, 2 * N, vcs, WORDS, bits, 16).number == CLURIMOON_LENGTH);
+  set = clurimoon_setup(N, V, false, CLURIMOON_UNI, 1, 1, MEMORY);
   r = set.record;
-  CHECK(clurimoon_open(r, vcs, WORDS - 1, 1, 2, 10, 26) == CLURIMOON_LENGTH);
-  CHECK(clurimoon_open(r, vcs, WORDS, V, 2, 10, 26) == CLURIMOON_VCI);
-  CHECK(clurimoon_open(r, vcs, WORDS, 1, 2, 10, 30) == CLURIMOON_RULES);
-  CHECK(clurimoon_open(r, vcs, WORDS, 1, 2, 10, 29) == CLURIMOON_DONE);
+  CHECK(clurimoon_open(r, vcs, WORDS - 1, 1, 1, 2, 10, 26) == CLURIMOON_LENGTH);
+  CHECK(clurimoon_open(r, vcs, WORDS, 1, V, 2, 10, 26) == CLURIMOON_VCI);
+  CHECK(clurimoon_open(r, vcs, WORDS, 1, 1, 2, 10, 30) == CLURIMOON_RULES);
+  CHECK(clurimoon_open(r, vcs, WORDS, 1, 1, 2, 10, 29) == CLURIMOON_DONE);
   CHECK(vcs[12 + CLURIMOON_WORD_OPEN] == 1 && vcs[12 + CLURIMOON_WORD_M] == 2 &&
         vcs[12 + CLURIMOON_WORD_F] == 10);
   CHECK(vcs[12 + CLURIMOON_WORD_C] == 29 && vcs[12 + CLURIMOON_WORD_S] == 0);
   CHECK(vcs[12 + CLURIMOON_WORD_LAST] == 4294967295u && vcs[12 + CLURIMOON_WORD_WAITING] == 0);
-  CHECK(clurimoon_open(r, vcs, WORDS, 1, 2, 10, 26) == CLURIMOON_ALREADY_OPEN);
-  CHECK(clurimoon_close(r, vcs, WORDS, 2) == CLURIMOON_NOT_OPEN);
-  CHECK(clurimoon_close(r, vcs, WORDS, 0) == CLURIMOON_VCI);
+  CHECK(clurimoon_open(r, vcs, WORDS, 1, 1, 2, 10, 26) == CLURIMOON_ALREADY_OPEN);
+  CHECK(clurimoon_close(r, vcs, WORDS, 1, 2) == CLURIMOON_NOT_OPEN);
+  CHECK(clurimoon_close(r, vcs, WORDS, 1, 0) == CLURIMOON_VCI);
   put_cell(cell, 1, 0x11);
   CHECK(refused(clurimoon_slot(r, MEMORY, cell, 54).answer, CLURIMOON_CELL_LENGTH));
   r = clurimoon_slot(r, MEMORY, cell, 53).record;
@@ -197,10 +208,10 @@ static void every_number(void) {
   CHECK(s.answer.verdict == CLURIMOON_ACCEPTED && s.answer.vci == 1 && s.answer.d == 1 &&
         s.answer.space == CLURIMOON_NONE);
   r = s.record;
-  CHECK(clurimoon_close(r, vcs, WORDS, 1) == CLURIMOON_WAITING);
+  CHECK(clurimoon_close(r, vcs, WORDS, 1, 1) == CLURIMOON_WAITING);
   vcs[24] = 2;
-  CHECK(clurimoon_open(r, vcs, WORDS, 2, 2, 10, 26) == CLURIMOON_STORED);
-  CHECK(clurimoon_close(r, vcs, WORDS, 2) == CLURIMOON_STORED);
+  CHECK(clurimoon_open(r, vcs, WORDS, 1, 2, 2, 10, 26) == CLURIMOON_STORED);
+  CHECK(clurimoon_close(r, vcs, WORDS, 1, 2) == CLURIMOON_STORED);
   CHECK(!clurimoon_audit(r, MEMORY));
   vcs[24] = 0;
   CHECK(clurimoon_audit(r, MEMORY));
@@ -210,7 +221,7 @@ static void every_number(void) {
 static int close_keeps(clurimoon_record r, uint16_t vci, unsigned number) {
   uint32_t before[WORDS];
   memcpy(before, vcs, sizeof vcs);
-  return clurimoon_close(r, vcs, WORDS, vci) == number && memcmp(before, vcs, sizeof vcs) == 0;
+  return clurimoon_close(r, vcs, WORDS, 1, vci) == number && memcmp(before, vcs, sizeof vcs) == 0;
 }
 
 /* m 2, F 10, C 16, cells in slots 0 and 1: close is 8 up to slot 4, and 0 in slot 5,
@@ -218,18 +229,18 @@ static int close_keeps(clurimoon_record r, uint16_t vci, unsigned number) {
 static void debts(void) {
   uint8_t cell[53];
   unsigned slot, k;
-  clurimoon_record r = clurimoon_setup(N, V, false, CLURIMOON_UNI, MEMORY).record;
+  clurimoon_record r = clurimoon_setup(N, V, false, CLURIMOON_UNI, 1, 1, MEMORY).record;
   clurimoon_served s;
   put_cell(cell, 1, 0x11);
-  CHECK(clurimoon_open(r, vcs, WORDS, 1, 2, 10, 16) == CLURIMOON_DONE);
+  CHECK(clurimoon_open(r, vcs, WORDS, 1, 1, 2, 10, 16) == CLURIMOON_DONE);
   for (slot = 0; slot < 5; ++slot) {
     s = clurimoon_slot(r, MEMORY, slot < 2 ? cell : NULL, slot < 2 ? 53 : 0);
     r = s.record;
     /* The first cell leaves at once, the second in slot 2; the debt is left. */
-    CHECK(s.answer.space == (slot == 0 ? 0 : slot == 2 ? 1 : CLURIMOON_NONE));
+    CHECK(s.answer.space == (slot == 0 || slot == 2 ? 0 : CLURIMOON_NONE));
     CHECK(vcs[12 + CLURIMOON_WORD_WAITING] == (slot == 1));
     CHECK(close_keeps(r, 1, CLURIMOON_WAITING));
-    CHECK(clurimoon_open(r, vcs, WORDS, 1, 2, 10, 16) == CLURIMOON_ALREADY_OPEN);
+    CHECK(clurimoon_open(r, vcs, WORDS, 1, 1, 2, 10, 16) == CLURIMOON_ALREADY_OPEN);
   }
   /* The words still hold slot 1's S, and C is held against that: 3 comes before 8. */
   CHECK(vcs[12 + CLURIMOON_WORD_S] == 16 && vcs[12 + CLURIMOON_WORD_LAST] == 1);
@@ -237,11 +248,11 @@ static void debts(void) {
   CHECK(close_keeps(r, 1, CLURIMOON_STORED));
   vcs[12 + CLURIMOON_WORD_S] = 16;
   r = clurimoon_slot(r, MEMORY, NULL, 0).record;
-  CHECK(clurimoon_close(r, vcs, WORDS, 1) == CLURIMOON_DONE);
+  CHECK(clurimoon_close(r, vcs, WORDS, 1, 1) == CLURIMOON_DONE);
   for (k = 0; k < 12; ++k) CHECK(vcs[12 + k] == 0);
   CHECK(close_keeps(r, 1, CLURIMOON_NOT_OPEN));
   /* Reopened at once, it owes nothing. */
-  CHECK(clurimoon_open(r, vcs, WORDS, 1, 2, 10, 16) == CLURIMOON_DONE);
+  CHECK(clurimoon_open(r, vcs, WORDS, 1, 1, 2, 10, 16) == CLURIMOON_DONE);
   s = clurimoon_slot(r, MEMORY, cell, 53);
   CHECK(s.answer.verdict == CLURIMOON_ACCEPTED && s.answer.d == 0 && s.answer.out_vci == 1);
   CHECK(close_keeps(s.record, 1, CLURIMOON_WAITING));
@@ -253,17 +264,17 @@ static void waits_alone(void) {
   static const uint8_t arrives[9] = {2, 2, 3, 3, 0, 1, 1, 0, 0};
   uint8_t cell[53];
   unsigned slot;
-  clurimoon_record r = clurimoon_setup(N, V, false, CLURIMOON_UNI, MEMORY).record;
-  CHECK(clurimoon_open(r, vcs, WORDS, 1, 0, 1, 1) == CLURIMOON_DONE);
-  CHECK(clurimoon_open(r, vcs, WORDS, 2, 0, 5, 9) == CLURIMOON_DONE);
-  CHECK(clurimoon_open(r, vcs, WORDS, 3, 0, 3, 5) == CLURIMOON_DONE);
+  clurimoon_record r = clurimoon_setup(N, V, false, CLURIMOON_UNI, 1, 1, MEMORY).record;
+  CHECK(clurimoon_open(r, vcs, WORDS, 1, 1, 0, 1, 1) == CLURIMOON_DONE);
+  CHECK(clurimoon_open(r, vcs, WORDS, 1, 2, 0, 5, 9) == CLURIMOON_DONE);
+  CHECK(clurimoon_open(r, vcs, WORDS, 1, 3, 0, 3, 5) == CLURIMOON_DONE);
   for (slot = 0; slot < 9; ++slot) {
     put_cell(cell, arrives[slot], slot);
     r = clurimoon_slot(r, MEMORY, cell, arrives[slot] ? 53 : 0).record;
     /* Slot 6: a debt of 1, and a cell waits; slot 7: the cell alone; slot 8: it has left. */
     if (slot == 6 || slot == 7) CHECK(close_keeps(r, 1, CLURIMOON_WAITING));
   }
-  CHECK(clurimoon_close(r, vcs, WORDS, 1) == CLURIMOON_DONE);
+  CHECK(clurimoon_close(r, vcs, WORDS, 1, 1) == CLURIMOON_DONE);
 }
 
 /* Four verdicts, and all six numbers of each answer. */
@@ -275,26 +286,26 @@ static int answers_with(clurimoon_answer a, unsigned verdict, unsigned vci, unsi
 
 static void verdicts(void) {
   uint8_t cell[53];
-  clurimoon_record r = clurimoon_setup(N, V, false, CLURIMOON_UNI, MEMORY).record;
+  clurimoon_record r = clurimoon_setup(N, V, false, CLURIMOON_UNI, 1, 1, MEMORY).record;
   clurimoon_served s;
-  CHECK(clurimoon_open(r, vcs, WORDS, 3, 0, 2, 5) == CLURIMOON_DONE);
+  CHECK(clurimoon_open(r, vcs, WORDS, 1, 3, 0, 2, 5) == CLURIMOON_DONE);
   put_cell(cell, 3, 0x33);
   s = clurimoon_slot(r, MEMORY, cell, 53);
   CHECK(answers_with(s.answer, 1, 3, 0, 0, 3));
   s = clurimoon_slot(s.record, MEMORY, cell, 53);
   CHECK(answers_with(s.answer, 1, 3, 1, CLURIMOON_NONE, 0));
   s = clurimoon_slot(s.record, MEMORY, cell, 53);
-  CHECK(answers_with(s.answer, 1, 3, 2, 1, 3));
+  CHECK(answers_with(s.answer, 1, 3, 2, 0, 3));
   s = clurimoon_slot(s.record, MEMORY, cell, 53);
   CHECK(answers_with(s.answer, 1, 3, 3, CLURIMOON_NONE, 0));
   s = clurimoon_slot(s.record, MEMORY, cell, 53);
-  CHECK(answers_with(s.answer, 2, 3, 0, 2, 3));
+  CHECK(answers_with(s.answer, 2, 3, 0, 1, 3));
   put_cell(cell, 4, 0x44);
   s = clurimoon_slot(s.record, MEMORY, cell, 53);
   CHECK(answers_with(s.answer, 3, 4, 0, CLURIMOON_NONE, 0));
   put_cell(cell, 0, 0);
   s = clurimoon_slot(s.record, MEMORY, cell, 53);
-  CHECK(answers_with(s.answer, 0, 0, 0, 3, 3));
+  CHECK(answers_with(s.answer, 0, 0, 0, 0, 3));
 }
 
 /* The octet 5 that the first four ask for: long division, a bit at a time. */
@@ -342,8 +353,8 @@ static void known_octets(void) {
 static void raw_single(unsigned bit) {
   uint8_t clean[53], cell[53];
   clurimoon_served s;
-  clurimoon_record r = clurimoon_setup(N, V, true, CLURIMOON_UNI, MEMORY).record;
-  CHECK(clurimoon_open(r, vcs, WORDS, 3, 0, 1, 1) == CLURIMOON_DONE);
+  clurimoon_record r = clurimoon_setup(N, V, true, CLURIMOON_UNI, 1, 1, MEMORY).record;
+  CHECK(clurimoon_open(r, vcs, WORDS, 1, 3, 0, 1, 1) == CLURIMOON_DONE);
   put_raw(clean, 3, 0x33, 0, 0), put_raw(cell, 3, 0x33, 1, bit);
   s = raw_slot(r, cell);
   CHECK(answers_with(s.answer, CLURIMOON_ACCEPTED, 3, 0, 0, 3) && s.record.mode == CLURIMOON_DETECTION);
@@ -355,9 +366,9 @@ static void raw_single(unsigned bit) {
   s = clurimoon_slot(s.record, MEMORY, NULL, 0);
   CHECK(answers_with(s.answer, 0, 0, 0, CLURIMOON_NONE, 0) && s.record.mode == CLURIMOON_DETECTION);
   s = raw_slot(s.record, clean);
-  CHECK(answers_with(s.answer, CLURIMOON_ACCEPTED, 3, 0, 1, 3) && s.record.mode == CLURIMOON_CORRECTION);
+  CHECK(answers_with(s.answer, CLURIMOON_ACCEPTED, 3, 0, 0, 3) && s.record.mode == CLURIMOON_CORRECTION);
   s = raw_slot(s.record, cell);
-  CHECK(answers_with(s.answer, CLURIMOON_ACCEPTED, 3, 0, 2, 3) && shown(s.answer, clean));
+  CHECK(answers_with(s.answer, CLURIMOON_ACCEPTED, 3, 0, 0, 3) && shown(s.answer, clean));
   CHECK(clurimoon_audit(s.record, MEMORY));
 }
 
@@ -365,18 +376,18 @@ static void raw_single(unsigned bit) {
 static void raw_double(unsigned bit) {
   uint8_t clean[53], cell[53];
   clurimoon_served s;
-  clurimoon_record r = clurimoon_setup(N, V, true, CLURIMOON_UNI, MEMORY).record;
-  CHECK(clurimoon_open(r, vcs, WORDS, 3, 0, 2, 5) == CLURIMOON_DONE);
+  clurimoon_record r = clurimoon_setup(N, V, true, CLURIMOON_UNI, 1, 1, MEMORY).record;
+  CHECK(clurimoon_open(r, vcs, WORDS, 1, 3, 0, 2, 5) == CLURIMOON_DONE);
   put_raw(clean, 3, 0x33, 0, 0), put_raw(cell, 3, 0x33, 2, bit);
   r = raw_slot(r, clean).record;
   s = raw_slot(r, clean);
   CHECK(answers_with(s.answer, CLURIMOON_ACCEPTED, 3, 1, CLURIMOON_NONE, 0));
   s = raw_slot(s.record, cell);
-  CHECK(answers_with(s.answer, CLURIMOON_DROPPED, 0, 0, 1, 3) && s.record.mode == CLURIMOON_DETECTION);
+  CHECK(answers_with(s.answer, CLURIMOON_DROPPED, 0, 0, 0, 3) && s.record.mode == CLURIMOON_DETECTION);
   CHECK(vcs[3 * 12 + CLURIMOON_WORD_WAITING] == 0);
-  r = clurimoon_setup(N, V, false, CLURIMOON_UNI, MEMORY).record;
+  r = clurimoon_setup(N, V, false, CLURIMOON_UNI, 1, 1, MEMORY).record;
   put_cell(cell, 3, 0x33), cell[4] = (uint8_t)(octet_5(cell) ^ bit);
-  CHECK(clurimoon_open(r, vcs, WORDS, 3, 0, 2, 5) == CLURIMOON_DONE);
+  CHECK(clurimoon_open(r, vcs, WORDS, 1, 3, 0, 2, 5) == CLURIMOON_DONE);
   s = raw_slot(r, cell);
   CHECK(answers_with(s.answer, CLURIMOON_ACCEPTED, 3, 0, 0, 3) && shown(s.answer, cell));
   CHECK(s.record.raw == 0 && s.record.mode == 0);
@@ -386,7 +397,7 @@ static void raw_double(unsigned bit) {
 static void raw_idle(void) {
   uint8_t cell[53], wrong[53];
   clurimoon_served s;
-  clurimoon_record r = clurimoon_setup(N, V, true, CLURIMOON_UNI, MEMORY).record;
+  clurimoon_record r = clurimoon_setup(N, V, true, CLURIMOON_UNI, 1, 1, MEMORY).record;
   unsigned last;
   for (last = 0; last < 2; ++last) {
     memset(cell, 0x6a, 53), memset(cell, 0, 4);
@@ -406,7 +417,7 @@ static void raw_idle(void) {
 static void raw_unfit(void) {
   uint8_t cell[54];
   clurimoon_served s;
-  clurimoon_record good = clurimoon_setup(N, V, true, CLURIMOON_UNI, MEMORY).record, r = good;
+  clurimoon_record good = clurimoon_setup(N, V, true, CLURIMOON_UNI, 1, 1, MEMORY).record, r = good;
   put_raw(cell, 3, 0x33, 0, 0);
   r.raw = 2;
   CHECK(!clurimoon_audit(r, MEMORY));
@@ -415,7 +426,7 @@ static void raw_unfit(void) {
   s = clurimoon_slot(r, MEMORY, NULL, 0);
   CHECK(s.answer.number == CLURIMOON_DONE && s.record.raw == 2);
   CHECK(refused(clurimoon_slot(r, MEMORY, cell, 52).answer, CLURIMOON_CELL_LENGTH));
-  CHECK(refused(clurimoon_slot(r, NULL, 0, links, N, calendar, 2 * N, vcs, WORDS, cell, 53).answer,
+  CHECK(refused(clurimoon_slot(r, NULL, 0, links, N, calendar, 2 * N, vcs, WORDS, bits, 32, cell, 53).answer,
                 CLURIMOON_LENGTH));
   r.n = 0;
   CHECK(refused(clurimoon_slot(r, MEMORY, cell, 53).answer, CLURIMOON_RANGE));
@@ -445,8 +456,8 @@ static void raw_burst(void) {
   uint8_t clean[53];
   unsigned k;
   clurimoon_burst_end e;
-  clurimoon_record r = clurimoon_setup(N, V, true, CLURIMOON_UNI, MEMORY).record;
-  CHECK(clurimoon_open(r, vcs, WORDS, 3, 0, 1, 1) == CLURIMOON_DONE);
+  clurimoon_record r = clurimoon_setup(N, V, true, CLURIMOON_UNI, 1, 1, MEMORY).record;
+  CHECK(clurimoon_open(r, vcs, WORDS, 1, 3, 0, 1, 1) == CLURIMOON_DONE);
   for (k = 0; k < K; ++k) put_raw(arrivals + 53 * k, 3, 0x40 + k, wrong[k], 5 * k + 30), sizes[k] = 53;
   memcpy(before, arrivals, sizeof before), memset(departures, 0xee, sizeof departures);
   e = clurimoon_burst(r, MEMORY, arrivals, sizeof arrivals, sizes, K, departures, sizeof departures, answers,
@@ -468,18 +479,18 @@ static int opens_with(clurimoon_record r, uint8_t m, uint32_t f, uint32_t c, uin
                       uint8_t tag, unsigned number) {
   uint32_t before[WORDS];
   memcpy(before, vcs, sizeof vcs);
-  return clurimoon_open_sustained(r, vcs, WORDS, 1, m, f, c, m2, f2, c2, tag) == number &&
+  return clurimoon_open_sustained(r, vcs, WORDS, 1, 1, m, f, c, m2, f2, c2, tag) == number &&
          (number == 0 || memcmp(before, vcs, sizeof vcs) == 0);
 }
 
 /* Every limit of 11, on both sides; 6 comes before it, and 5 before both. */
 static void second_limits(void) {
-  clurimoon_record r = clurimoon_setup(N, V, false, CLURIMOON_UNI, MEMORY).record, small = r;
+  clurimoon_record r = clurimoon_setup(N, V, false, CLURIMOON_UNI, 1, 1, MEMORY).record, small = r;
   unsigned k;
   small.v = 1;
   CHECK(opens_with(small, 0, 1, 1, 0, 1, 1, 0, CLURIMOON_RANGE));
-  CHECK(clurimoon_open_sustained(r, vcs, 7 * V, 1, 0, 1, 1, 0, 1, 1, 0) == CLURIMOON_LENGTH);
-  CHECK(clurimoon_open_sustained(r, vcs, WORDS, V, 0, 1, 1, 16, 1, 1, 0) == CLURIMOON_VCI);
+  CHECK(clurimoon_open_sustained(r, vcs, 7 * V, 1, 1, 0, 1, 1, 0, 1, 1, 0) == CLURIMOON_LENGTH);
+  CHECK(clurimoon_open_sustained(r, vcs, WORDS, 1, V, 0, 1, 1, 16, 1, 1, 0) == CLURIMOON_VCI);
   CHECK(opens_with(r, 2, 10, 30, 16, 1, 1, 2, CLURIMOON_RULES));
   CHECK(opens_with(r, 2, 10, 29, 16, 1, 1, 0, CLURIMOON_SECOND));
   CHECK(opens_with(r, 2, 10, 29, 0, 0, 1, 0, CLURIMOON_SECOND));
@@ -506,7 +517,7 @@ static void second_limits(void) {
     CHECK(!clurimoon_audit(r, MEMORY));
     vcs[12 + k] = before;
   }
-  CHECK(clurimoon_close(r, vcs, WORDS, 1) == CLURIMOON_DONE);
+  CHECK(clurimoon_close(r, vcs, WORDS, 1, 1) == CLURIMOON_DONE);
   for (k = 0; k < 12; ++k) CHECK(vcs[12 + k] == 0);
   CHECK(opens_with(r, 15, 32768, 32768, 0, 0, 0, 0, CLURIMOON_DONE) && vcs[12 + CLURIMOON_WORD_C] == 32768);
 }
@@ -522,36 +533,36 @@ static void path_calls(void) {
   static const uint16_t outside[4] = {0, 256, 257, 65535};
   enum { P = 12 * (V + 7) };
   uint32_t before[WORDS];
-  clurimoon_record r = clurimoon_setup(N, V, false, CLURIMOON_UNI, MEMORY).record, small = r;
+  clurimoon_record r = clurimoon_setup(N, V, false, CLURIMOON_UNI, 1, 1, MEMORY).record, small = r;
   unsigned k;
   small.v = 1;
-  CHECK(clurimoon_open_path(small, vcs, WORDS, 7, 2, 10, 29, 0, 0, 0, 0) == CLURIMOON_RANGE);
-  CHECK(clurimoon_close_path(small, vcs, WORDS, 7) == CLURIMOON_RANGE);
-  CHECK(clurimoon_open_path(r, vcs, 12 * V, 7, 2, 10, 29, 0, 0, 0, 0) == CLURIMOON_LENGTH);
-  CHECK(clurimoon_close_path(r, vcs, WORDS - 12, 7) == CLURIMOON_LENGTH);
+  CHECK(clurimoon_open_path(small, vcs, WORDS, 1, 7, 2, 10, 29, 0, 0, 0, 0) == CLURIMOON_RANGE);
+  CHECK(clurimoon_close_path(small, vcs, WORDS, 1, 7) == CLURIMOON_RANGE);
+  CHECK(clurimoon_open_path(r, vcs, 12 * V, 1, 7, 2, 10, 29, 0, 0, 0, 0) == CLURIMOON_LENGTH);
+  CHECK(clurimoon_close_path(r, vcs, WORDS - 12, 1, 7) == CLURIMOON_LENGTH);
   for (k = 0; k < 4; ++k) {
-    CHECK(clurimoon_open_path(r, vcs, WORDS, outside[k], 16, 0, 0, 16, 0, 0, 2) == CLURIMOON_VCI);
-    CHECK(clurimoon_close_path(r, vcs, WORDS, outside[k]) == CLURIMOON_VCI);
+    CHECK(clurimoon_open_path(r, vcs, WORDS, 1, outside[k], 16, 0, 0, 16, 0, 0, 2) == CLURIMOON_VCI);
+    CHECK(clurimoon_close_path(r, vcs, WORDS, 1, outside[k]) == CLURIMOON_VCI);
   }
-  CHECK(clurimoon_open_path(r, vcs, WORDS, 7, 2, 10, 30, 16, 1, 1, 0) == CLURIMOON_RULES);
-  CHECK(clurimoon_open_path(r, vcs, WORDS, 7, 2, 10, 29, 16, 1, 1, 0) == CLURIMOON_SECOND);
-  CHECK(clurimoon_close_path(r, vcs, WORDS, 7) == CLURIMOON_NOT_OPEN);
+  CHECK(clurimoon_open_path(r, vcs, WORDS, 1, 7, 2, 10, 30, 16, 1, 1, 0) == CLURIMOON_RULES);
+  CHECK(clurimoon_open_path(r, vcs, WORDS, 1, 7, 2, 10, 29, 16, 1, 1, 0) == CLURIMOON_SECOND);
+  CHECK(clurimoon_close_path(r, vcs, WORDS, 1, 7) == CLURIMOON_NOT_OPEN);
   memcpy(before, vcs, sizeof vcs);
-  CHECK(clurimoon_open_path(r, vcs, WORDS, 7, 2, 10, 29, 15, 3, CLURIMOON_C2_MAX, 1) == CLURIMOON_DONE);
+  CHECK(clurimoon_open_path(r, vcs, WORDS, 1, 7, 2, 10, 29, 15, 3, CLURIMOON_C2_MAX, 1) == CLURIMOON_DONE);
   CHECK(vcs[P + CLURIMOON_WORD_OPEN] == 1 && vcs[P + CLURIMOON_WORD_M] == 2 && vcs[P + CLURIMOON_WORD_F] == 10);
   CHECK(vcs[P + CLURIMOON_WORD_C] == 29 && vcs[P + CLURIMOON_WORD_S] == 0 && vcs[P + CLURIMOON_WORD_WAITING] == 0);
   CHECK(vcs[P + CLURIMOON_WORD_LAST] == 4294967295u && vcs[P + CLURIMOON_WORD_M2] == 15);
   CHECK(vcs[P + CLURIMOON_WORD_F2] == 3 && vcs[P + CLURIMOON_WORD_C2] == CLURIMOON_C2_MAX);
   CHECK(vcs[P + CLURIMOON_WORD_S2] == 0 && vcs[P + CLURIMOON_WORD_TAG] == 1);
-  CHECK(clurimoon_open_path(r, vcs, WORDS, 7, 16, 0, 0, 16, 0, 0, 2) == CLURIMOON_ALREADY_OPEN);
+  CHECK(clurimoon_open_path(r, vcs, WORDS, 1, 7, 16, 0, 0, 16, 0, 0, 2) == CLURIMOON_ALREADY_OPEN);
   /* Path 7 is not VC 7, and not VC V + 7. */
-  CHECK(clurimoon_close(r, vcs, WORDS, 7) == CLURIMOON_NOT_OPEN && clurimoon_close(r, vcs, WORDS, V + 7) == CLURIMOON_VCI);
+  CHECK(clurimoon_close(r, vcs, WORDS, 1, 7) == CLURIMOON_NOT_OPEN && clurimoon_close(r, vcs, WORDS, 1, V + 7) == CLURIMOON_VCI);
   CHECK(clurimoon_audit(r, MEMORY));
   vcs[P] = 2;
-  CHECK(clurimoon_open_path(r, vcs, WORDS, 7, 16, 0, 0, 16, 0, 0, 2) == CLURIMOON_STORED);
-  CHECK(clurimoon_close_path(r, vcs, WORDS, 7) == CLURIMOON_STORED && !clurimoon_audit(r, MEMORY));
+  CHECK(clurimoon_open_path(r, vcs, WORDS, 1, 7, 16, 0, 0, 16, 0, 0, 2) == CLURIMOON_STORED);
+  CHECK(clurimoon_close_path(r, vcs, WORDS, 1, 7) == CLURIMOON_STORED && !clurimoon_audit(r, MEMORY));
   vcs[P] = 1;
-  CHECK(clurimoon_close_path(r, vcs, WORDS, 7) == CLURIMOON_DONE && memcmp(before, vcs, sizeof vcs) == 0);
+  CHECK(clurimoon_close_path(r, vcs, WORDS, 1, 7) == CLURIMOON_DONE && memcmp(before, vcs, sizeof vcs) == 0);
   /* The words of numbers 0 and V are nobody's. */
   vcs[0] = vcs[12 * V] = 2, vcs[12 * V + CLURIMOON_WORD_WAITING] = 99;
   CHECK(clurimoon_audit(r, MEMORY));
@@ -567,27 +578,27 @@ static void path_traffic(uint16_t kind, bool raw) {
   const unsigned gfc = kind == CLURIMOON_UNI ? 0xa00 : 0; /* above the eight bits of the VPI */
   uint8_t cell[53];
   unsigned k;
-  clurimoon_record r = clurimoon_setup(N, V, raw, kind, MEMORY).record;
+  clurimoon_record r = clurimoon_setup(N, V, raw, kind, 1, 1, MEMORY).record;
   clurimoon_served s;
-  CHECK(clurimoon_open(r, vcs, WORDS, 3, 0, 1, 1) == CLURIMOON_DONE);
-  CHECK(clurimoon_open_path(r, vcs, WORDS, 255, 0, 2, 4, 0, 0, 0, 0) == CLURIMOON_DONE);
+  CHECK(clurimoon_open(r, vcs, WORDS, 1, 3, 0, 1, 1) == CLURIMOON_DONE);
+  CHECK(clurimoon_open_path(r, vcs, WORDS, 1, 255, 0, 2, 4, 0, 0, 0, 0) == CLURIMOON_DONE);
   for (k = 0; k < 5; ++k) {
     /* A cell in each slot, of a path with one in two: D 0, 1, 2, excess, 2. */
-    static const unsigned d[5] = {0, 1, 2, 0, 2}, space[5] = {0, CLURIMOON_NONE, 1, CLURIMOON_NONE, 2};
+    static const unsigned d[5] = {0, 1, 2, 0, 2}, space[5] = {0, CLURIMOON_NONE, 0, CLURIMOON_NONE, 1};
     put_path_cell(cell, 255 | gfc, vcis[k], k), cell[4] = (uint8_t)octet_5(cell);
     s = raw_slot(r, cell);
     CHECK(answers_with(s.answer, k == 3 ? CLURIMOON_EXCESS : CLURIMOON_ACCEPTED, V + 255, d[k], space[k], space[k] == CLURIMOON_NONE ? 0 : V + 255));
     r = s.record;
   }
   CHECK(clurimoon_audit(r, MEMORY) && vcs[12 * (V + 255) + CLURIMOON_WORD_WAITING] == 1);
-  CHECK(clurimoon_close_path(r, vcs, WORDS, 255) == CLURIMOON_WAITING);
+  CHECK(clurimoon_close_path(r, vcs, WORDS, 1, 255) == CLURIMOON_WAITING);
   /* VC 3 has its own bucket, and its cells have VPI 0; a closed path is unknown, with the VCI as read. */
   put_path_cell(cell, gfc, 3, 0x44), cell[4] = (uint8_t)octet_5(cell);
   s = raw_slot(r, cell);
-  CHECK(answers_with(s.answer, CLURIMOON_ACCEPTED, 3, 0, 4, 3) && shown(s.answer, cell));
+  CHECK(answers_with(s.answer, CLURIMOON_ACCEPTED, 3, 0, 1, 3) && shown(s.answer, cell));
   put_path_cell(cell, 254 | gfc, 3, 0x44), cell[4] = (uint8_t)octet_5(cell);
   s = raw_slot(s.record, cell);
-  CHECK(answers_with(s.answer, CLURIMOON_UNKNOWN, 3, 0, 3, V + 255));
+  CHECK(answers_with(s.answer, CLURIMOON_UNKNOWN, 3, 0, 0, V + 255));
   put_path_cell(cell, 254 | gfc, 0, 0x44), cell[4] = (uint8_t)octet_5(cell);
   s = raw_slot(s.record, cell);
   CHECK(answers_with(s.answer, CLURIMOON_UNKNOWN, 0, 0, CLURIMOON_NONE, 0));
@@ -610,14 +621,14 @@ static void path_traffic(uint16_t kind, bool raw) {
 static void kind_unfit(void) {
   uint8_t cell[54];
   clurimoon_served s;
-  clurimoon_record good = clurimoon_setup(N, V, true, CLURIMOON_NNI, MEMORY).record, r;
+  clurimoon_record good = clurimoon_setup(N, V, true, CLURIMOON_NNI, 1, 1, MEMORY).record, r;
   memset(cell, 0, sizeof cell), put_raw(cell, 3, 0x33, 0, 0);
-  CHECK(clurimoon_open(good, vcs, WORDS, 3, 0, 2, 5) == CLURIMOON_DONE);
+  CHECK(clurimoon_open(good, vcs, WORDS, 1, 3, 0, 2, 5) == CLURIMOON_DONE);
   r = good, r.kind = 2;
   CHECK(!clurimoon_audit(r, MEMORY));
   s = raw_slot(r, cell);
   CHECK(refused(s.answer, CLURIMOON_STORED) && same_record(s.record, r));
-  CHECK(clurimoon_close(r, vcs, WORDS, 3) == CLURIMOON_DONE && clurimoon_open(r, vcs, WORDS, 3, 0, 2, 5) == CLURIMOON_DONE);
+  CHECK(clurimoon_close(r, vcs, WORDS, 1, 3) == CLURIMOON_DONE && clurimoon_open(r, vcs, WORDS, 1, 3, 0, 2, 5) == CLURIMOON_DONE);
   CHECK(refused(clurimoon_slot(r, MEMORY, cell, 54).answer, CLURIMOON_CELL_LENGTH));
   s = clurimoon_slot(r, MEMORY, NULL, 0);
   CHECK(answers_with(s.answer, 0, 0, 0, CLURIMOON_NONE, 0) && s.record.kind == 2);
@@ -635,31 +646,31 @@ static void kind_unfit(void) {
   s = clurimoon_slot(r, MEMORY, NULL, 0);
   CHECK(refused(s.answer, CLURIMOON_STORED) && same_record(s.record, r));
   r.kind = CLURIMOON_NNI;
-  CHECK(answers_with(clurimoon_slot(r, MEMORY, NULL, 0).answer, 0, 0, 0, 1, 3));
+  CHECK(answers_with(clurimoon_slot(r, MEMORY, NULL, 0).answer, 0, 0, 0, 0, 3));
 }
 
 /* A path with a second bucket: above it a cell is tagged, whatever its VCI. */
 static void path_tags(void) {
   uint8_t cell[53], line[53];
-  clurimoon_record r = clurimoon_setup(N, V, false, CLURIMOON_NNI, MEMORY).record;
+  clurimoon_record r = clurimoon_setup(N, V, false, CLURIMOON_NNI, 1, 1, MEMORY).record;
   clurimoon_served s;
-  CHECK(clurimoon_open_path(r, vcs, WORDS, 9, 0, 1, 1, 0, 9, 9, 1) == CLURIMOON_DONE);
+  CHECK(clurimoon_open_path(r, vcs, WORDS, 1, 9, 0, 1, 1, 0, 9, 9, 1) == CLURIMOON_DONE);
   put_path_cell(cell, 9, 77, 0x31);
   s = clurimoon_slot(r, MEMORY, cell, 53);
   CHECK(answers_with(s.answer, CLURIMOON_ACCEPTED, V + 9, 0, 0, V + 9) && shown(s.answer, cell));
   put_path_cell(cell, 9, 78, 0x32);
   memcpy(line, cell, 53), line[3] = (uint8_t)(line[3] | 1), line[4] = (uint8_t)octet_5(line);
   s = clurimoon_slot(s.record, MEMORY, cell, 53);
-  CHECK(answers_with(s.answer, CLURIMOON_TAGGED, V + 9, 0, 1, V + 9) && shown(s.answer, line));
+  CHECK(answers_with(s.answer, CLURIMOON_TAGGED, V + 9, 0, 0, V + 9) && shown(s.answer, line));
 }
 
 /* VC 3 at line rate, beside one CLP 0 cell in four slots and a tolerance of four: with and without the flag. */
 static void tagging(bool tags, bool raw) {
   static const unsigned clp[8] = {0, 0, 0, 1, 0, 0, 0, 1}, fits[8] = {1, 1, 0, 1, 1, 0, 0, 1};
   uint8_t cell[53], line[53];
-  unsigned k, space = 0;
-  clurimoon_record r = clurimoon_setup(N, V, raw, CLURIMOON_UNI, MEMORY).record;
-  CHECK(clurimoon_open_sustained(r, vcs, WORDS, 3, 0, 1, 1, 2, 16, 32, tags ? 1 : 0) == CLURIMOON_DONE);
+  unsigned k;
+  clurimoon_record r = clurimoon_setup(N, V, raw, CLURIMOON_UNI, 1, 1, MEMORY).record;
+  CHECK(clurimoon_open_sustained(r, vcs, WORDS, 1, 3, 0, 1, 1, 2, 16, 32, tags ? 1 : 0) == CLURIMOON_DONE);
   for (k = 0; k < 8; ++k) {
     const unsigned verdict = fits[k] ? CLURIMOON_ACCEPTED : tags ? CLURIMOON_TAGGED : CLURIMOON_EXCESS;
     clurimoon_served s;
@@ -672,8 +683,7 @@ static void tagging(bool tags, bool raw) {
     if (verdict == CLURIMOON_EXCESS) {
       CHECK(answers_with(s.answer, CLURIMOON_EXCESS, 3, 0, CLURIMOON_NONE, 0));
     } else {
-      CHECK(answers_with(s.answer, verdict, 3, 0, space, 3) && shown(s.answer, line));
-      space = (space + 1) % N;
+      CHECK(answers_with(s.answer, verdict, 3, 0, 0, 3) && shown(s.answer, line));
     }
     r = s.record;
   }
@@ -682,16 +692,16 @@ static void tagging(bool tags, bool raw) {
   CHECK(vcs[36 + CLURIMOON_WORD_S2] == 20 && vcs[36 + CLURIMOON_WORD_LAST] == 7);
   CHECK(close_keeps(r, 3, CLURIMOON_WAITING));
   r = clurimoon_slot(r, MEMORY, NULL, 0).record;
-  CHECK(clurimoon_close(r, vcs, WORDS, 3) == CLURIMOON_DONE && clurimoon_audit(r, MEMORY));
+  CHECK(clurimoon_close(r, vcs, WORDS, 1, 3) == CLURIMOON_DONE && clurimoon_audit(r, MEMORY));
   for (k = 0; k < 12; ++k) CHECK(vcs[36 + k] == 0);
 }
 
 /* Above both buckets a cell is excess, whatever the flag. */
 static void above_both(void) {
   uint8_t cell[53];
-  clurimoon_record r = clurimoon_setup(N, V, false, CLURIMOON_UNI, MEMORY).record;
+  clurimoon_record r = clurimoon_setup(N, V, false, CLURIMOON_UNI, 1, 1, MEMORY).record;
   clurimoon_served s;
-  CHECK(clurimoon_open_sustained(r, vcs, WORDS, 3, 0, 2, 2, 0, 9, 9, 1) == CLURIMOON_DONE);
+  CHECK(clurimoon_open_sustained(r, vcs, WORDS, 1, 3, 0, 2, 2, 0, 9, 9, 1) == CLURIMOON_DONE);
   put_cell(cell, 3, 0x33);
   s = clurimoon_slot(r, MEMORY, cell, 53);
   CHECK(answers_with(s.answer, CLURIMOON_ACCEPTED, 3, 0, 0, 3));
@@ -699,7 +709,7 @@ static void above_both(void) {
   CHECK(answers_with(s.answer, CLURIMOON_EXCESS, 3, 0, CLURIMOON_NONE, 0));
   CHECK(vcs[36 + CLURIMOON_WORD_S] == 1 && vcs[36 + CLURIMOON_WORD_S2] == 8);
   s = clurimoon_slot(s.record, MEMORY, cell, 53);
-  CHECK(answers_with(s.answer, CLURIMOON_TAGGED, 3, 0, 1, 3));
+  CHECK(answers_with(s.answer, CLURIMOON_TAGGED, 3, 0, 0, 3));
   CHECK(vcs[36 + CLURIMOON_WORD_S] == 2 && vcs[36 + CLURIMOON_WORD_S2] == 7);
 }
 
@@ -714,28 +724,327 @@ static void line_parts(void) {
   CHECK(part.from_idle == 1 && part.start == 0 && part.length == 0);
 }
 
+/* All that a refused slot must leave as it came. */
+static int refused_unchanged(clurimoon_record r, const uint8_t *cell, size_t length) {
+  static uint8_t cells_before[sizeof cells];
+  static uint16_t links_before[N], calendar_before[2 * N];
+  static uint32_t vcs_before[WORDS];
+  static uint64_t bits_before[32];
+  clurimoon_served s;
+  memcpy(cells_before, cells, sizeof cells), memcpy(links_before, links, sizeof links);
+  memcpy(calendar_before, calendar, sizeof calendar), memcpy(vcs_before, vcs, sizeof vcs);
+  memcpy(bits_before, bits, sizeof bits);
+  s = clurimoon_slot(r, MEMORY, cell, length);
+  return refused(s.answer, CLURIMOON_STORED) && same_record(s.record, r) && memcmp(cells_before, cells, sizeof cells) == 0 &&
+         memcmp(links_before, links, sizeof links) == 0 && memcmp(calendar_before, calendar, sizeof calendar) == 0 &&
+         memcmp(vcs_before, vcs, sizeof vcs) == 0 && memcmp(bits_before, bits, sizeof bits) == 0;
+}
+
+/* Bits and number of free spaces: 3 where a space is taken, and where one is freed; not read elsewhere. */
+static void free_spaces(void) {
+  static const uint16_t numbers[6] = {0, N - 2, N, N + 1, 1024, 65535};
+  uint8_t cell[53];
+  unsigned k;
+  clurimoon_served s;
+  clurimoon_record good = clurimoon_setup(N, V, false, CLURIMOON_UNI, 1, 1, MEMORY).record, r;
+  CHECK(clurimoon_open(good, vcs, WORDS, 1, 3, 0, 2, 5) == CLURIMOON_DONE);
+  put_cell(cell, 3, 0x33);
+  /* The second of two cells waits in space 0, due in the next slot, which would also accept one. */
+  good = clurimoon_slot(good, MEMORY, cell, 53).record;
+  CHECK(good.free == N && bits[0] == 0x1f);
+  good = clurimoon_slot(good, MEMORY, cell, 53).record;
+  CHECK(good.free == N - 1 && bits[0] == 0x1e && clurimoon_audit(good, MEMORY));
+  for (k = N; k < 1024; ++k) {
+    /* A bit at or above N, counted or not. */
+    bits[k / 64] |= (uint64_t)1 << k % 64;
+    for (r = good; r.free < N + 1; ++r.free) {
+      CHECK(refused_unchanged(r, cell, 53) && refused_unchanged(r, NULL, 0) && !clurimoon_audit(r, MEMORY));
+    }
+    bits[k / 64] ^= (uint64_t)1 << k % 64;
+  }
+  for (k = 0; k < 6; ++k) {
+    r = good, r.free = numbers[k];
+    CHECK(refused_unchanged(r, cell, 53) && refused_unchanged(r, NULL, 0) && !clurimoon_audit(r, MEMORY));
+  }
+  /* None free for a cell: a space that is neither free nor queued is lost, for the audit too. */
+  bits[0] = 0, r = good, r.free = 0;
+  CHECK(refused_unchanged(r, cell, 53) && !clurimoon_audit(r, MEMORY));
+  /* A freed space already free. Taken first it is no longer free when it departs. */
+  bits[0] = 0x1f, r.free = N;
+  CHECK(refused_unchanged(r, NULL, 0) && !clurimoon_audit(r, MEMORY));
+  s = clurimoon_slot(r, MEMORY, cell, 53);
+  CHECK(answers_with(s.answer, CLURIMOON_ACCEPTED, 3, 2, 0, 3) && s.record.free == N && bits[0] == 0x1f);
+  /* Neither taken nor freed: nothing is read. */
+  r = clurimoon_setup(N, V, false, CLURIMOON_UNI, 1, 1, MEMORY).record;
+  memset(bits, 0xff, sizeof bits), r.free = 6666;
+  s = clurimoon_slot(r, MEMORY, cell, 53);
+  CHECK(answers_with(s.answer, CLURIMOON_UNKNOWN, 3, 0, CLURIMOON_NONE, 0) && s.record.free == 6666);
+  for (k = 0; k < 32; ++k) CHECK(bits[k] == UINT64_MAX);
+}
+
+/* Splits at setup: both sides of each edge, before the kind and the lengths. */
+static void splits(void) {
+  static const uint16_t vcis[6] = {0, 1, V - 1, V, V + 1, 65535}, paths[6] = {0, 1, 255, 256, 257, 65535};
+  unsigned k, j;
+  for (k = 0; k < 6; ++k) {
+    for (j = 0; j < 6; ++j) {
+      const int fit = (k == 1 || k == 2) && (j == 1 || j == 2);
+      clurimoon_set set = clurimoon_setup(N, V, false, CLURIMOON_NNI, vcis[k], paths[j], MEMORY);
+      clurimoon_record zeros;
+      memset(&zeros, 0, sizeof zeros);
+      CHECK(set.number == (fit ? CLURIMOON_DONE : CLURIMOON_RANGE));
+      if (fit) CHECK(set.record.split_vci == vcis[k] && set.record.split_path == paths[j] && clurimoon_audit(set.record, MEMORY));
+      else CHECK(same_record(set.record, zeros));
+      CHECK(clurimoon_setup(N, V, false, 2, vcis[k], paths[j], MEMORY).number == (fit ? CLURIMOON_KIND : CLURIMOON_RANGE));
+      CHECK(clurimoon_setup(N, V, false, 1, vcis[k], paths[j], NULL, 0, NULL, 0, NULL, 0, NULL, 0, NULL, 0).number == (fit ? CLURIMOON_LENGTH : CLURIMOON_RANGE));
+    }
+  }
+  CHECK(clurimoon_setup(N, 2, false, 1, 1, 1, cells, sizeof cells, links, N, calendar, 2 * N, vcs, 12 * 258, bits, 32).number == CLURIMOON_DONE);
+  CHECK(clurimoon_setup(N, 2, false, 1, 2, 1, cells, sizeof cells, links, N, calendar, 2 * N, vcs, 12 * 258, bits, 32).number == CLURIMOON_RANGE);
+}
+
+/* Each of the five calls by each operator, on each connection: only its owner is let through, whatever the words hold. */
+static int refuses(clurimoon_record r, uint16_t owner, unsigned path, uint16_t number, unsigned with) {
+  static uint32_t before[WORDS];
+  unsigned holds;
+  memcpy(before, vcs, sizeof vcs);
+  if (path) {
+    holds = clurimoon_open_path(r, vcs, WORDS, owner, number, 16, 0, 0, 16, 0, 0, 2) == with && clurimoon_close_path(r, vcs, WORDS, owner, number) == with;
+  } else {
+    holds = clurimoon_open(r, vcs, WORDS, owner, number, 16, 0, 0) == with && clurimoon_close(r, vcs, WORDS, owner, number) == with &&
+            clurimoon_open_sustained(r, vcs, WORDS, owner, number, 16, 0, 0, 16, 0, 0, 2) == with;
+  }
+  return holds && memcmp(before, vcs, sizeof vcs) == 0;
+}
+
+static void operators(void) {
+  static const uint16_t nobody[5] = {2, 3, 255, 256, 65535};
+  clurimoon_record r = clurimoon_setup(N, V, false, CLURIMOON_UNI, 4, 200, MEMORY).record, small;
+  unsigned c, k;
+  for (c = 1; c < V; ++c) {
+    const uint16_t owner = c < 4 ? 0 : 1, other = c < 4 ? 1 : 0;
+    CHECK(refuses(r, other, 0, (uint16_t)c, CLURIMOON_NOT_OWNER));
+    CHECK(clurimoon_open(r, vcs, WORDS, owner, (uint16_t)c, 0, 2, 5) == CLURIMOON_DONE);
+    CHECK(refuses(r, other, 0, (uint16_t)c, CLURIMOON_NOT_OWNER));
+    for (k = 0; k < 5; ++k) CHECK(refuses(r, nobody[k], 0, (uint16_t)c, CLURIMOON_NOT_OWNER));
+    /* Before any word is read: 16, where the owner would get 3. */
+    vcs[12 * c] = 2;
+    CHECK(refuses(r, other, 0, (uint16_t)c, CLURIMOON_NOT_OWNER) && refuses(r, owner, 0, (uint16_t)c, CLURIMOON_STORED));
+    vcs[12 * c] = 1;
+    CHECK(clurimoon_close(r, vcs, WORDS, owner, (uint16_t)c) == CLURIMOON_DONE);
+  }
+  for (c = 1; c < 256; ++c) {
+    const uint16_t owner = c < 200 ? 0 : 1, other = c < 200 ? 1 : 0;
+    CHECK(refuses(r, other, 1, (uint16_t)c, CLURIMOON_NOT_OWNER) && refuses(r, 2, 1, (uint16_t)c, CLURIMOON_NOT_OWNER));
+    CHECK(clurimoon_open_path(r, vcs, WORDS, owner, (uint16_t)c, 0, 2, 5, 0, 0, 0, 0) == CLURIMOON_DONE);
+    vcs[12 * (V + c) + 1] = 16;
+    CHECK(refuses(r, other, 1, (uint16_t)c, CLURIMOON_NOT_OWNER) && refuses(r, owner, 1, (uint16_t)c, CLURIMOON_STORED));
+    vcs[12 * (V + c) + 1] = 0;
+    CHECK(clurimoon_close_path(r, vcs, WORDS, owner, (uint16_t)c) == CLURIMOON_DONE);
+  }
+  /* 4 comes before 16, and 2 before 4; 1 is for a stored split out of its range, too, before 2. */
+  for (k = 0; k < 2; ++k) {
+    CHECK(refuses(r, 2, k, 0, CLURIMOON_VCI) && refuses(r, 0, k, k ? 256 : V, CLURIMOON_VCI) && refuses(r, 1, k, 65535, CLURIMOON_VCI));
+    small = r, small.split_vci = k ? V : 0;
+    CHECK(refuses(small, 1, k, 5, CLURIMOON_RANGE) && refuses(small, 2, k, 0, CLURIMOON_RANGE) && !clurimoon_audit(small, MEMORY));
+    CHECK(clurimoon_open(small, NULL, 0, 1, 1, 0, 1, 1) == CLURIMOON_RANGE && clurimoon_close(small, NULL, 0, 1, 1) == CLURIMOON_RANGE);
+    small = r, small.split_path = k ? 256 : 0;
+    CHECK(refuses(small, 1, k, 5, CLURIMOON_RANGE) && refuses(small, 2, k, 0, CLURIMOON_RANGE) && !clurimoon_audit(small, MEMORY));
+    /* Neither a slot nor next reads them. */
+    CHECK(clurimoon_slot(small, MEMORY, NULL, 0).answer.number == CLURIMOON_DONE);
+    CHECK(clurimoon_next(small, calendar, 2 * N, bits, 32).number == CLURIMOON_DONE);
+  }
+  CHECK(clurimoon_open(r, vcs, 12 * V, 2, 0, 0, 1, 1) == CLURIMOON_LENGTH);
+}
+
+/* How long until a cell leaves; a refusal has no slots. */
+static int waits(clurimoon_record r, unsigned number, unsigned slots) {
+  uint16_t calendar_before[2 * N];
+  uint64_t bits_before[32];
+  clurimoon_wait w;
+  memcpy(calendar_before, calendar, sizeof calendar), memcpy(bits_before, bits, sizeof bits);
+  w = clurimoon_next(r, calendar, 2 * N, bits, 32);
+  return w.number == number && w.slots == slots && memcmp(calendar_before, calendar, sizeof calendar) == 0 &&
+         memcmp(bits_before, bits, sizeof bits) == 0;
+}
+
+/* A VC with one cell in three slots: its cells are due in slots 0, 3 and 6, and one that is excess. */
+static void next_leaves(void) {
+  static const unsigned left[8] = {1, 0, 0, 1, 0, 0, 1, 0}, slots[8] = {0, 2, 1, 3, 2, 1, 0, 0};
+  uint8_t cell[53];
+  unsigned k;
+  clurimoon_record r = clurimoon_setup(N, V, false, CLURIMOON_UNI, 1, 1, MEMORY).record;
+  clurimoon_served s;
+  CHECK(waits(r, CLURIMOON_DONE, 0));
+  CHECK(clurimoon_open(r, vcs, WORDS, 1, 3, 0, 3, 7) == CLURIMOON_DONE && waits(r, CLURIMOON_DONE, 0));
+  put_cell(cell, 3, 0x33);
+  for (k = 0; k < 8; ++k) {
+    /* Slots 0, 1, 2 and 3 have a cell. T is k modulo 5, so that the entry of slot 6 stands behind the ring's end. */
+    static const unsigned entries[8] = {0, 8, 8 | 2, 2, 2, 2, 0, 0};
+    s = clurimoon_slot(r, MEMORY, k < 4 ? cell : NULL, k < 4 ? 53 : 0);
+    r = s.record;
+    CHECK(s.answer.number == 0 && (s.answer.space != CLURIMOON_NONE) == (left[k] == 1));
+    CHECK(s.answer.verdict == (k < 3 ? CLURIMOON_ACCEPTED : k == 3 ? CLURIMOON_EXCESS : CLURIMOON_NOTHING));
+    CHECK(bits[16] == entries[k] && waits(r, CLURIMOON_DONE, slots[k]) && clurimoon_audit(r, MEMORY));
+  }
+}
+
+/* Every refusal of next, in its order, and what is not looked at. */
+static void next_refusals(void) {
+  static const uint16_t outside[4] = {N, N + 1, 1024, 65535};
+  clurimoon_record good = clurimoon_setup(N, V, false, CLURIMOON_UNI, 1, 1, MEMORY).record, r = good;
+  unsigned k;
+  good.T = 2, good.rotation = 65535, good.raw = good.mode = good.kind = good.free = 7;
+  /* T is 2, and entry 1 is four slots away. No other number of the record is read. */
+  calendar[2] = 0, calendar[3] = 4, bits[16] = 2;
+  CHECK(waits(good, CLURIMOON_DONE, 4));
+  r = good, r.n = 0, r.T = 65535;
+  CHECK(waits(r, CLURIMOON_RANGE, 0));
+  r = good, r.n = 1025;
+  CHECK(waits(r, CLURIMOON_RANGE, 0));
+  r = good, r.v = 1;
+  CHECK(waits(r, CLURIMOON_RANGE, 0));
+  r.v = 1025;
+  CHECK(clurimoon_next(r, NULL, 0, NULL, 0).number == CLURIMOON_RANGE);
+  r = good, r.T = 65535;
+  CHECK(clurimoon_next(r, calendar, 2 * N - 1, bits, 32).number == CLURIMOON_LENGTH);
+  CHECK(clurimoon_next(r, calendar, 2 * N, bits, 31).number == CLURIMOON_LENGTH);
+  CHECK(clurimoon_next(r, calendar, 2 * N, bits, 16).slots == 0 && clurimoon_next(r, calendar, 2 * N, bits, 16).number == CLURIMOON_LENGTH);
+  CHECK(clurimoon_next(r, NULL, 0, bits, 32).number == CLURIMOON_LENGTH);
+  CHECK(clurimoon_next(r, calendar, 2 * N, NULL, 0).number == CLURIMOON_LENGTH);
+  for (k = 0; k < 4; ++k) {
+    r = good, r.T = outside[k];
+    CHECK(waits(r, CLURIMOON_STORED, 0));
+    r = good, r.out_head = outside[k];
+    CHECK(waits(r, outside[k] == 65535 ? CLURIMOON_DONE : CLURIMOON_STORED, outside[k] == 65535 ? 4 : 0));
+    r.out_head = 0, r.out_tail = outside[k];
+    CHECK(waits(r, CLURIMOON_STORED, 0));
+    r.out_head = outside[k], r.out_tail = 0;
+    CHECK(waits(r, CLURIMOON_STORED, 0));
+  }
+  /* Where the Output List has a cell no bit is read, and no entry. */
+  r = good, r.out_head = r.out_tail = 4, bits[16] = 1;
+  CHECK(waits(r, CLURIMOON_DONE, 1));
+  /* The entry that is named: empty, half empty, unfit. Another farther on is not asked. */
+  bits[16] = 8 | 2;
+  CHECK(waits(good, CLURIMOON_STORED, 0));
+  for (k = 0; k < 4; ++k) {
+    calendar[6] = outside[k], calendar[7] = 0;
+    CHECK(waits(good, CLURIMOON_STORED, 0));
+    calendar[6] = 0, calendar[7] = outside[k];
+    CHECK(waits(good, CLURIMOON_STORED, 0));
+  }
+  calendar[6] = calendar[7] = N - 1;
+  CHECK(waits(good, CLURIMOON_DONE, 1));
+  /* Bit T, bits at N and above, and an entry without its bit are not looked at. */
+  bits[16] = 0;
+  CHECK(waits(good, CLURIMOON_DONE, 0));
+  bits[16] = 4 | 2;
+  CHECK(waits(good, CLURIMOON_DONE, 4));
+  for (k = N; k < 1024; ++k) {
+    bits[16] = 4, memset(bits + 17, 0, 15 * sizeof *bits);
+    bits[16 + k / 64] |= (uint64_t)1 << k % 64;
+    CHECK(waits(good, CLURIMOON_DONE, 0) && !clurimoon_audit(good, MEMORY));
+    bits[16] |= 2;
+    CHECK(waits(good, CLURIMOON_DONE, 4));
+  }
+}
+
+/* N 1 has no entry after T: a cell leaves in the slot of its arrival. */
+static void next_at_n_1(void) {
+  clurimoon_record r = clurimoon_setup(1, 2, false, CLURIMOON_UNI, 1, 1, cells, 53, links, 1, calendar, 2, vcs, 12 * 258, bits, 32).record;
+  clurimoon_wait w;
+  memset(bits + 16, 255, 16 * sizeof *bits);
+  w = clurimoon_next(r, calendar, 2, bits, 32);
+  CHECK(w.number == CLURIMOON_DONE && w.slots == 0);
+  r.out_head = r.out_tail = 0;
+  w = clurimoon_next(r, calendar, 2, bits, 32);
+  CHECK(w.number == CLURIMOON_DONE && w.slots == 1);
+}
+
+/* The greatest N: the first entry, the last, and each first one of a word, from every T; the ring closes at N. */
+static void next_far(void) {
+  static uint16_t wide[2048];
+  static const unsigned at[6] = {0, 1, 63, 64, 960, 1023};
+  clurimoon_record r = clurimoon_setup(N, V, false, CLURIMOON_UNI, 1, 1, MEMORY).record;
+  unsigned k, T;
+  r.n = 1024;
+  for (k = 0; k < 2048; ++k) wide[k] = CLURIMOON_NONE;
+  for (k = 0; k < 6; ++k) {
+    memset(bits + 16, 0, 16 * sizeof *bits);
+    bits[16 + at[k] / 64] = (uint64_t)1 << at[k] % 64;
+    wide[2 * at[k]] = wide[2 * at[k] + 1] = 7;
+    for (T = 0; T < 1024; ++T) {
+      clurimoon_wait w;
+      r.T = (uint16_t)T;
+      w = clurimoon_next(r, wide, 2048, bits, 32);
+      CHECK(w.number == CLURIMOON_DONE && w.slots == (at[k] + 1024 - T) % 1024);
+    }
+    wide[2 * at[k]] = wide[2 * at[k] + 1] = CLURIMOON_NONE;
+  }
+}
+
+/* What a slot does to the bits of the entries, whatever they hold: it sets, clears and judges none. */
+static void marks(void) {
+  uint8_t cell[53];
+  clurimoon_served s;
+  clurimoon_record good = clurimoon_setup(N, V, false, CLURIMOON_UNI, 1, 1, MEMORY).record, r;
+  unsigned k;
+  CHECK(clurimoon_open(good, vcs, WORDS, 1, 3, 0, 2, 5) == CLURIMOON_DONE);
+  put_cell(cell, 3, 0x33);
+  memset(bits + 16, 255, 16 * sizeof *bits);
+  /* D 0: set and cleared in one slot, where it was set before. T is 0. */
+  s = clurimoon_slot(good, MEMORY, cell, 53);
+  CHECK(answers_with(s.answer, CLURIMOON_ACCEPTED, 3, 0, 0, 3) && bits[16] == ~(uint64_t)1);
+  for (k = 17; k < 32; ++k) CHECK(bits[k] == UINT64_MAX);
+  CHECK(!clurimoon_audit(s.record, MEMORY));
+  memset(bits + 16, 0, 16 * sizeof *bits);
+  CHECK(clurimoon_audit(s.record, MEMORY));
+  /* D 1 joins entry 2, and an empty entry T keeps its bit. */
+  bits[16] = 2;
+  s = clurimoon_slot(s.record, MEMORY, cell, 53);
+  CHECK(answers_with(s.answer, CLURIMOON_ACCEPTED, 3, 1, CLURIMOON_NONE, 0) && bits[16] == 6);
+  CHECK(!clurimoon_audit(s.record, MEMORY));
+  bits[16] = 0;
+  CHECK(!clurimoon_audit(s.record, MEMORY));
+  bits[16] = 4;
+  CHECK(clurimoon_audit(s.record, MEMORY));
+  for (k = 0; k < 1024; ++k) {
+    /* Each bit of the 1,024 against its entry. */
+    bits[16 + k / 64] ^= (uint64_t)1 << k % 64;
+    CHECK(!clurimoon_audit(s.record, MEMORY));
+    bits[16 + k / 64] ^= (uint64_t)1 << k % 64;
+  }
+  /* A refused slot has set none, and the transfer clears a bit that may be clear already. */
+  r = s.record, r.kind = 2;
+  CHECK(refused_unchanged(r, cell, 53) && refused_unchanged(r, NULL, 0));
+  bits[16] = 16;
+  s = clurimoon_slot(s.record, MEMORY, NULL, 0);
+  CHECK(answers_with(s.answer, CLURIMOON_NOTHING, 0, 0, 0, 3) && bits[16] == 16 && bits[0] == 31);
+}
+
 /* Every slice, of length 0, as NULL. */
 static void nulls(void) {
-  clurimoon_set set = clurimoon_setup(N, V, false, CLURIMOON_UNI, NULL, 0, NULL, 0, NULL, 0, NULL, 0);
+  clurimoon_set set = clurimoon_setup(N, V, false, CLURIMOON_UNI, 1, 1, NULL, 0, NULL, 0, NULL, 0, NULL, 0, NULL, 0);
   clurimoon_record r;
   clurimoon_part part;
   clurimoon_burst_end e;
   CHECK(set.number == CLURIMOON_LENGTH);
-  set = clurimoon_setup(N, V, false, CLURIMOON_UNI, MEMORY);
+  set = clurimoon_setup(N, V, false, CLURIMOON_UNI, 1, 1, MEMORY);
   r = set.record;
-  CHECK(clurimoon_open(r, NULL, 0, 1, 2, 10, 26) == CLURIMOON_LENGTH);
-  CHECK(clurimoon_open_sustained(r, NULL, 0, 1, 2, 10, 26, 0, 0, 0, 0) == CLURIMOON_LENGTH);
-  CHECK(clurimoon_close(r, NULL, 0, 1) == CLURIMOON_LENGTH);
-  CHECK(clurimoon_open_path(r, NULL, 0, 1, 2, 10, 26, 0, 0, 0, 0) == CLURIMOON_LENGTH);
-  CHECK(clurimoon_close_path(r, NULL, 0, 1) == CLURIMOON_LENGTH);
-  CHECK(refused(clurimoon_slot(r, NULL, 0, NULL, 0, NULL, 0, NULL, 0, NULL, 0).answer, CLURIMOON_LENGTH));
+  CHECK(clurimoon_open(r, NULL, 0, 1, 1, 2, 10, 26) == CLURIMOON_LENGTH);
+  CHECK(clurimoon_open_sustained(r, NULL, 0, 1, 1, 2, 10, 26, 0, 0, 0, 0) == CLURIMOON_LENGTH);
+  CHECK(clurimoon_close(r, NULL, 0, 1, 1) == CLURIMOON_LENGTH);
+  CHECK(clurimoon_open_path(r, NULL, 0, 1, 1, 2, 10, 26, 0, 0, 0, 0) == CLURIMOON_LENGTH);
+  CHECK(clurimoon_close_path(r, NULL, 0, 1, 1) == CLURIMOON_LENGTH);
+  CHECK(refused(clurimoon_slot(r, NULL, 0, NULL, 0, NULL, 0, NULL, 0, NULL, 0, NULL, 0).answer, CLURIMOON_LENGTH));
   CHECK(clurimoon_slot(r, MEMORY, NULL, 0).answer.number == CLURIMOON_DONE);
   part = clurimoon_line(NULL, 0, NULL, 0, 0);
   CHECK(part.from_idle == 1 && part.start == 0 && part.length == 0);
-  CHECK(!clurimoon_audit(r, NULL, 0, NULL, 0, NULL, 0, NULL, 0));
+  CHECK(!clurimoon_audit(r, NULL, 0, NULL, 0, NULL, 0, NULL, 0, NULL, 0));
   e = clurimoon_burst(r, MEMORY, NULL, 0, NULL, 0, NULL, 0, NULL, 0);
   CHECK(e.number == CLURIMOON_DONE && e.done == 0 && same_record(e.record, r));
-  e = clurimoon_burst(r, NULL, 0, NULL, 0, NULL, 0, NULL, 0, NULL, 0, NULL, 0, NULL, 0, NULL, 0);
+  e = clurimoon_burst(r, NULL, 0, NULL, 0, NULL, 0, NULL, 0, NULL, 0, NULL, 0, NULL, 0, NULL, 0, NULL, 0);
   CHECK(e.number == CLURIMOON_LENGTH && e.done == 0 && same_record(e.record, r));
 }
 
@@ -746,13 +1055,13 @@ static void bursts(void) {
   static uint16_t answers[6 * K];
   unsigned k;
   enum { W = 12 * 258 };
-  clurimoon_record r = clurimoon_setup(1, 2, false, CLURIMOON_NNI, cells, 53, links, 1, calendar, 2, vcs, W).record;
+  clurimoon_record r = clurimoon_setup(1, 2, false, CLURIMOON_NNI, 1, 1, cells, 53, links, 1, calendar, 2, vcs, W, bits, 32).record;
   clurimoon_burst_end e;
-  CHECK(clurimoon_open(r, vcs, W, 1, 0, 1, 1) == CLURIMOON_DONE && clurimoon_open_path(r, vcs, W, 5, 0, 1, 1, 0, 0, 0, 0) == CLURIMOON_DONE);
+  CHECK(clurimoon_open(r, vcs, W, 1, 1, 0, 1, 1) == CLURIMOON_DONE && clurimoon_open_path(r, vcs, W, 1, 5, 0, 1, 1, 0, 0, 0, 0) == CLURIMOON_DONE);
   memset(departures, 0xee, sizeof departures), memset(answers, 0xee, sizeof answers);
   for (k = 0; k < K; ++k) put_path_cell(arrivals + 53 * k, k == 2 ? 5 : 0, 1, 100 + k), sizes[k] = k == 4 ? 0 : 53;
   sizes[7] = 52;
-  e = clurimoon_burst(r, cells, 53, links, 1, calendar, 2, vcs, W, arrivals, sizeof arrivals, sizes, K,
+  e = clurimoon_burst(r, cells, 53, links, 1, calendar, 2, vcs, W, bits, 32, arrivals, sizeof arrivals, sizes, K,
                       departures, sizeof departures, answers, 6 * K);
   CHECK(e.number == CLURIMOON_CELL_LENGTH && e.done == 7 && e.record.t == 6);
   for (k = 0; k < K; ++k) {
@@ -766,7 +1075,7 @@ static void bursts(void) {
     if (left) CHECK(memcmp(departures + 53 * k, arrivals + 53 * k, 53) == 0);
     else CHECK(departures[53 * k] == 0xee && departures[53 * k + 52] == 0xee);
   }
-  e = clurimoon_burst(r, cells, 53, links, 1, calendar, 2, vcs, W, arrivals, sizeof arrivals, sizes, K,
+  e = clurimoon_burst(r, cells, 53, links, 1, calendar, 2, vcs, W, bits, 32, arrivals, sizeof arrivals, sizes, K,
                       departures, sizeof departures - 1, answers, 6 * K);
   CHECK(e.number == CLURIMOON_LENGTH && e.done == 0 && same_record(e.record, r));
 }
@@ -843,6 +1152,14 @@ int main(void) {
   for (bit = 0; bit < 4; ++bit) path_traffic(bit % 2 == 1 ? CLURIMOON_NNI : CLURIMOON_UNI, bit >= 2);
   kind_unfit();
   path_tags();
+  free_spaces();
+  splits();
+  operators();
+  next_leaves();
+  next_refusals();
+  next_at_n_1();
+  next_far();
+  marks();
   line_parts();
   nulls();
   bursts();

@@ -3,5 +3,5 @@
 
 uint16_t open_wide(clurimoon_record record, uint32_t *vcs, size_t length, unsigned vci);
 uint16_t open_wide(clurimoon_record record, uint32_t *vcs, size_t length, unsigned vci) {
-  return clurimoon_open(record, vcs, length, vci, 2, 10, 26);
+  return clurimoon_open(record, vcs, length, CLURIMOON_OWNER_SECOND, vci, 2, 10, 26);
 }

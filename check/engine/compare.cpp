@@ -295,21 +295,22 @@ void beside(Random &random) {
   std::vector<uint8_t> cells(CLURIMOON_CELLS(n));
   std::vector<uint16_t> links(CLURIMOON_LINKS(n)), calendar(CLURIMOON_CALENDAR(n));
   std::vector<uint32_t> words(CLURIMOON_VCS(vcs));
-  const clurimoon_set set = clurimoon_setup(n, vcs, raw, kind, cells.data(), cells.size(), links.data(), links.size(),
-                                            calendar.data(), calendar.size(), words.data(), words.size());
+  std::vector<uint64_t> bits(CLURIMOON_BITS);
+  const clurimoon_set set = clurimoon_setup(n, vcs, raw, kind, 1, 1, cells.data(), cells.size(), links.data(), links.size(),
+                                            calendar.data(), calendar.size(), words.data(), words.size(), bits.data(), bits.size());
   clurimoon_record record = set.record;
   const uint16_t name = static_cast<uint16_t>(one.v);
   const uint8_t m = static_cast<uint8_t>(k.m);
   const uint32_t f = static_cast<uint32_t>(k.f), c = static_cast<uint32_t>(k.c);
-  if (set.number != 0 || (path ? clurimoon_open_path(record, words.data(), words.size(), name, m, f, c, 0, 0, 0, 0)
-                               : clurimoon_open(record, words.data(), words.size(), name, m, f, c)) != 0)
+  if (set.number != 0 || (path ? clurimoon_open_path(record, words.data(), words.size(), 1, name, m, f, c, 0, 0, 0, 0)
+                               : clurimoon_open(record, words.data(), words.size(), 1, name, m, f, c)) != 0)
     std::printf("engine: no policer\n"), std::exit(1);
   Kept kept;
   for (uint64_t slot = 0, slots = random.between(20, 300); slot < slots; ++slot) {
     const Arrived a = arrives(random, one, vcs, raw);
     const clurimoon_served s =
         clurimoon_slot(record, cells.data(), cells.size(), links.data(), links.size(), calendar.data(), calendar.size(),
-                       words.data(), words.size(), a.octets.data(), a.octets.size());
+                       words.data(), words.size(), bits.data(), bits.size(), a.octets.data(), a.octets.size());
     const uint16_t verdict = s.answer.verdict;
     record = s.record;
     meet(BESIDE_UNKNOWN, verdict == 3), meet(BESIDE_DROPPED, verdict == 4), meet(BESIDE_NOTHING, a.octets.empty());

@@ -3,7 +3,8 @@
  * end of its buffer, and took the cards down where no memory followed. Here every
  * lent buffer ends exactly at an unreadable page, and then begins exactly after
  * one, for every N from 1 to 1,024, while setup, opens, slots at full load, burst,
- * line and audit run, with VCs and paths, at both line kinds. An octet read outside
+ * line, audit and the call for the next departure run, with VCs and paths, at both
+ * line kinds. An octet read outside
  * a buffer ends the program; an octet written on its free side is found by comparing
  * what was put there. The words of path 255 end where the buffer ends.
  *
@@ -38,6 +39,7 @@ static bool at_end; /* buffers end at an unreadable page, or begin after one */
 static unsigned now_n, now_v;
 static bool raw; /* the policer checks headers */
 static uint16_t kind;
+static uint16_t split_vci, split_path; /* what is the second operator's from here on */
 
 /* A slot that has no header check, in the place of the archive's, is run with NOT_RAW defined. */
 #ifdef NOT_RAW
@@ -96,19 +98,21 @@ static void untouched(const struct fence *f, const char *name) {
     if (*from != filler) fail(name);
 }
 
-static struct fence cells_fence, links_fence, calendar_fence, vcs_fence, cell_fence, idle_fence;
+static struct fence cells_fence, links_fence, calendar_fence, vcs_fence, bits_fence, cell_fence, idle_fence;
 static struct fence arrivals_fence, sizes_fence, departures_fence, answers_fence;
 
 static uint8_t *cells, *cell, *idle, *arrivals, *sizes, *departures;
 static uint16_t *links, *calendar, *answers;
 static uint32_t *vcs;
+static uint64_t *bits;
 static unsigned long long slots_served, cells_sent, calls_made, refused, mended, dropped, tagged, not_sustained;
 static unsigned long long of_paths[2];
-static unsigned greatest_space, greatest_d;
+static unsigned greatest_space, greatest_d, greatest_wait;
 
 static void make_fences(void) {
   cells_fence = make_fence(CLURIMOON_CELLS(1024)), links_fence = make_fence(2 * 1024);
   calendar_fence = make_fence(4 * 1024), vcs_fence = make_fence(4 * CLURIMOON_VCS(1024));
+  bits_fence = make_fence(8 * CLURIMOON_BITS);
   cell_fence = make_fence(53), idle_fence = make_fence(53);
   arrivals_fence = make_fence(53 * slots_in_burst), sizes_fence = make_fence(slots_in_burst);
   departures_fence = make_fence(53 * slots_in_burst), answers_fence = make_fence(12 * slots_in_burst);
@@ -119,6 +123,7 @@ static void lend_all(unsigned n, unsigned v) {
   links = lend(&links_fence, 2 * CLURIMOON_LINKS(n));
   calendar = lend(&calendar_fence, 2 * CLURIMOON_CALENDAR(n));
   vcs = lend(&vcs_fence, 4 * CLURIMOON_VCS(v));
+  bits = lend(&bits_fence, 8 * CLURIMOON_BITS);
   cell = lend(&cell_fence, 53), idle = lend(&idle_fence, 53);
   arrivals = lend(&arrivals_fence, 53 * slots_in_burst), sizes = lend(&sizes_fence, slots_in_burst);
   departures = lend(&departures_fence, 53 * slots_in_burst);
@@ -130,6 +135,7 @@ static void all_untouched(void) {
       untouched(&links_fence, "written beside the links");
   untouched(&calendar_fence, "written beside the calendar"),
       untouched(&vcs_fence, "written beside the VC words");
+  untouched(&bits_fence, "written beside the bits");
   untouched(&cell_fence, "written beside the cell"), untouched(&idle_fence, "written beside the idle cell");
   untouched(&arrivals_fence, "written beside the arrivals"),
       untouched(&sizes_fence, "written beside the sizes");
@@ -163,7 +169,8 @@ static unsigned damage_header(uint8_t *to, unsigned mark) {
 }
 
 #define MEMORY                                                                                               \
-  cells, CLURIMOON_CELLS(n), links, CLURIMOON_LINKS(n), calendar, CLURIMOON_CALENDAR(n), vcs, CLURIMOON_VCS(v)
+  cells, CLURIMOON_CELLS(n), links, CLURIMOON_LINKS(n), calendar, CLURIMOON_CALENDAR(n), vcs, CLURIMOON_VCS(v), \
+      bits, CLURIMOON_BITS
 
 /* What the check makes of a cell with so many wrong bits: mended, dropped, or let through as it is. */
 static void judge_check(unsigned verdict, unsigned mode, unsigned wrong, bool lent) {
@@ -187,20 +194,35 @@ static void judge_verdict(unsigned verdict, unsigned vci, unsigned connection, u
 /* Every VC but the last has the line's rate for its peak if it is VC 1, and a third of it otherwise, as paths have; VC 1
    has a second bucket, and the last VC and the last path have one with the flag. Tolerances are the greatest, so that the
    memory fills. */
+static uint16_t owner_of(unsigned v, unsigned connection) {
+  return connection < v ? connection >= split_vci : connection - v >= split_path;
+}
 static uint16_t open_one(clurimoon_record r, unsigned n, unsigned v, unsigned connection) {
+  const uint16_t owner = owner_of(v, connection);
   const uint32_t f = connection == 1 && v > 2 ? 16 : 48, c = f + 16 * n - 1;
   const uint16_t vci = (uint16_t)connection, vpi = (uint16_t)(connection - v);
   ++calls_made;
-  if (connection == v + 255) return clurimoon_open_path(r, vcs, CLURIMOON_VCS(v), vpi, 4, f, c, 2, 24, 90, 1);
-  if (connection > v) return clurimoon_open_path(r, vcs, CLURIMOON_VCS(v), vpi, 4, f, c, 0, 0, 0, 0);
-  if (connection == v - 1) return clurimoon_open_sustained(r, vcs, CLURIMOON_VCS(v), vci, 4, f, c, 2, 24, 90, 1);
-  if (connection == 1) return clurimoon_open_sustained(r, vcs, CLURIMOON_VCS(v), vci, 4, f, c, 15, 327680, 327680, 0);
-  return clurimoon_open(r, vcs, CLURIMOON_VCS(v), vci, 4, f, c);
+  if (connection == v + 255) return clurimoon_open_path(r, vcs, CLURIMOON_VCS(v), owner, vpi, 4, f, c, 2, 24, 90, 1);
+  if (connection > v) return clurimoon_open_path(r, vcs, CLURIMOON_VCS(v), owner, vpi, 4, f, c, 0, 0, 0, 0);
+  if (connection == v - 1) return clurimoon_open_sustained(r, vcs, CLURIMOON_VCS(v), owner, vci, 4, f, c, 2, 24, 90, 1);
+  if (connection == 1) return clurimoon_open_sustained(r, vcs, CLURIMOON_VCS(v), owner, vci, 4, f, c, 15, 327680, 327680, 0);
+  return clurimoon_open(r, vcs, CLURIMOON_VCS(v), owner, vci, 4, f, c);
 }
 static uint16_t close_one(clurimoon_record r, unsigned v, unsigned connection) {
+  const uint16_t owner = owner_of(v, connection);
   ++calls_made;
-  if (connection > v) return clurimoon_close_path(r, vcs, CLURIMOON_VCS(v), (uint16_t)(connection - v));
-  return clurimoon_close(r, vcs, CLURIMOON_VCS(v), (uint16_t)connection);
+  if (connection > v) return clurimoon_close_path(r, vcs, CLURIMOON_VCS(v), owner, (uint16_t)(connection - v));
+  return clurimoon_close(r, vcs, CLURIMOON_VCS(v), owner, (uint16_t)connection);
+}
+
+/* How long until a cell leaves, from calendar and bits between unreadable pages. */
+static unsigned next_in(clurimoon_record r, unsigned n) {
+  now_doing = "next";
+  const clurimoon_wait w = clurimoon_next(r, calendar, CLURIMOON_CALENDAR(n), bits, CLURIMOON_BITS);
+  if (w.number != 0 || w.slots > (n == 1 ? 1 : n - 1)) fail("the next departure was refused, or too far away");
+  if (w.slots > greatest_wait) greatest_wait = w.slots;
+  ++calls_made;
+  return w.slots;
 }
 
 /* The connections that are open: VCs 1, 2 and the last, paths 1 and 255; which of them has the k-th cell. */
@@ -213,9 +235,11 @@ static clurimoon_record one_slot(clurimoon_record r, unsigned n, unsigned v, siz
                                  unsigned connection) {
   /* An empty cell is lent as a pointer to unreadable memory. */
   const uint8_t *lent = length == 0 ? cell_fence.start + cell_fence.room : cell;
+  const unsigned wait = next_in(r, n);
   now_doing = "slot";
   clurimoon_served s = clurimoon_slot(r, MEMORY, lent, length);
   if (s.answer.number != 0) fail("a slot was refused");
+  if (length == 0 && (s.answer.space != CLURIMOON_NONE) != (wait == 1)) fail("a cell left in another slot than was said");
   ++slots_served, ++calls_made;
   judge_check(s.answer.verdict, r.mode, wrong, length != 0);
   if (wrong < 2) judge_verdict(s.answer.verdict, s.answer.vci, connection, v);
@@ -263,6 +287,32 @@ static clurimoon_record one_burst(clurimoon_record r, unsigned n, unsigned v, un
   return e.record;
 }
 
+/* The lowest free space is taken, so that the last one, whose octets end where the buffer ends, is seldom. Here all others
+   are hidden for a slot and for a burst of one slot, in each of which a cell is stored there and leaves at once. */
+static clurimoon_record in_the_last_space(clurimoon_record r, unsigned n, unsigned v, unsigned one, unsigned other) {
+  uint64_t before[CLURIMOON_BITS];
+  memcpy(before, bits, sizeof before), memset(bits, 0, sizeof before);
+  bits[(n - 1) / 64] = (uint64_t)1 << (n - 1) % 64, r.free = 1;
+  write_cell(cell, one, 0);
+  r = one_slot(r, n, v, 53, 0, one);
+  now_doing = "burst";
+  write_cell(arrivals, other, 0), sizes[0] = 53;
+  const clurimoon_burst_end e = clurimoon_burst(r, MEMORY, arrivals, 53, sizes, 1, departures, 53, answers, 6);
+  if (e.number != 0 || answers[CLURIMOON_ANSWER_SPACE] != n - 1 || e.record.free != 1) fail("the last space was not taken");
+  memcpy(bits, before, sizeof before);
+  r = e.record, r.free = (uint16_t)n;
+  ++slots_served, ++calls_made;
+  return r;
+}
+
+/* With T there and no cell in the Output List, the bits name an entry that is empty or unfit. */
+static void next_refused(clurimoon_record r, unsigned n, unsigned T) {
+  r.T = (uint16_t)T, r.out_head = r.out_tail = CLURIMOON_NONE;
+  const clurimoon_wait w = clurimoon_next(r, calendar, CLURIMOON_CALENDAR(n), bits, CLURIMOON_BITS);
+  if (w.number != CLURIMOON_STORED || w.slots != 0) fail("an empty entry or an unfit one was taken for the next");
+  ++calls_made, ++refused;
+}
+
 /* Numbers out of range, right where a careless call would follow them. */
 static void run_damaged(clurimoon_record good, unsigned n, unsigned v) {
   now_doing = "slot or audit in a damaged state";
@@ -271,7 +321,7 @@ static void run_damaged(clurimoon_record good, unsigned n, unsigned v) {
     const uint16_t bad = (uint16_t)(which % 2 == 0 ? n : 65534), bad_flag = (uint16_t)(which % 2 == 0 ? 2 : 65535);
     if (which / 2 == 0) r.T = bad;
     if (which / 2 == 1) r.rotation = which % 2 == 0 ? (uint16_t)(v + 256) : 65534;
-    if (which / 2 == 2) r.free_head = bad, r.free_tail = 0;
+    if (which / 2 == 2) r.free = which % 2 == 0 ? (uint16_t)(n + 1) : 65534;
     if (which / 2 == 3) r.out_head = 0, r.out_tail = bad;
     if (which / 2 == 4) r.out_head = r.out_tail = bad;
     if (which / 2 == 5) r.kind = bad_flag;
@@ -280,9 +330,28 @@ static void run_damaged(clurimoon_record good, unsigned n, unsigned v) {
     write_cell(cell, which % 3 == 0 ? v + 255 : v - 1, which);
     refused += clurimoon_slot(r, MEMORY, cell, 53).answer.number == CLURIMOON_STORED;
     if (clurimoon_audit(r, MEMORY)) fail("the audit says yes in a damaged state");
+    const unsigned unfit = which / 2 == 0 || which / 2 == 3 || which / 2 == 4 ? CLURIMOON_STORED : CLURIMOON_DONE;
+    if (clurimoon_next(r, calendar, CLURIMOON_CALENDAR(n), bits, CLURIMOON_BITS).number != unfit) fail("next answers otherwise");
+    calls_made += 3;
+  }
+  /* Bits in the first and the last word of spaces: more than the number says, and at or above N. In the first and the last
+     of entries: of one that is empty, and at or above N, which no slot judges. */
+  for (unsigned w = 0; w < 32; w += w % 2 == 0 ? 15 : 1) {
+    const uint64_t before = bits[w];
+    bits[w] = before ^ (uint64_t)1 << 63;
+    if (w < 16) refused += clurimoon_slot(good, MEMORY, cell, 53).answer.number == CLURIMOON_STORED;
+    else if (n > 64 * (w - 16) + 63) next_refused(good, n, w == 16 ? 62 : 1022);
+    if (clurimoon_audit(good, MEMORY)) fail("the audit says yes in a damaged state");
+    bits[w] = before;
     calls_made += 2;
   }
+  /* Every bit is set, those at N and above too, and from each end of the calendar the next entry is empty. */
+  uint64_t marks[CLURIMOON_BITS];
+  memcpy(marks, bits, sizeof marks), memset(bits + 16, 255, sizeof marks / 2);
+  for (unsigned T = 0; n > 1 && T < n; T += n - 1) next_refused(good, n, T);
   for (unsigned k = 0; k < 2 * n; ++k) calendar[k] = (uint16_t)(k % 4 < 2 ? n : 65534);
+  for (unsigned T = 0; n > 1 && T < n; T += n - 1) next_refused(good, n, T);
+  memcpy(bits, marks, sizeof marks);
   for (unsigned k = 0; k < n; ++k) links[k] = (uint16_t)(k % 2 ? n : 65534);
   refused += clurimoon_slot(good, MEMORY, cell, 53).answer.number == CLURIMOON_STORED;
   if (clurimoon_audit(good, MEMORY)) fail("the audit says yes in a damaged state");
@@ -291,13 +360,36 @@ static void run_damaged(clurimoon_record good, unsigned n, unsigned v) {
   calls_made += 3;
 }
 
+/* The operator whose connection it isn't, and nobody: 16, whatever the words hold, and no word changes. */
+static void run_strangers(clurimoon_record r, unsigned v) {
+  static uint32_t before[CLURIMOON_VCS(1024)];
+  memcpy(before, vcs, 4 * CLURIMOON_VCS(v)), memset(vcs, 255, 4 * CLURIMOON_VCS(v));
+  now_doing = "open or close by another operator";
+  for (unsigned k = 0; k < 5; ++k) {
+    const unsigned connection = of_the_open(v, k);
+    const uint16_t other = (uint16_t)(1 - owner_of(v, connection)), number = (uint16_t)(connection > v ? connection - v : connection);
+    for (unsigned owner = other; owner < 4; owner += 2) {
+      const uint16_t said[2] = {
+          connection > v ? clurimoon_open_path(r, vcs, CLURIMOON_VCS(v), (uint16_t)owner, number, 0, 1, 1, 0, 0, 0, 0)
+                         : clurimoon_open(r, vcs, CLURIMOON_VCS(v), (uint16_t)owner, number, 0, 1, 1),
+          connection > v ? clurimoon_close_path(r, vcs, CLURIMOON_VCS(v), (uint16_t)owner, number)
+                         : clurimoon_close(r, vcs, CLURIMOON_VCS(v), (uint16_t)owner, number)};
+      if (said[0] != CLURIMOON_NOT_OWNER || said[1] != CLURIMOON_NOT_OWNER) fail("a stranger was not refused");
+      calls_made += 2, refused += 2;
+    }
+  }
+  for (size_t k = 0; k < CLURIMOON_VCS(v); ++k)
+    if (vcs[k] != UINT32_MAX) fail("a stranger has written");
+  memcpy(vcs, before, 4 * CLURIMOON_VCS(v));
+}
+
 /* A record that claims more than was lent: refused before anything is read. */
 static void run_too_small(clurimoon_record good, unsigned n, unsigned v) {
   now_doing = "a call whose record claims more than was lent";
   for (unsigned which = 0; which < 2; ++which) {
     clurimoon_record r = good;
     if (which == 0) r.n = (uint16_t)(n < 1024 ? n + 1 : n - 1);
-    else r.v = (uint16_t)(v < 1024 ? v + 1 : v - 1);
+    else r.v = (uint16_t)(v < 1024 ? v + 1 : v - 1), r.split_vci = 1;
     if (clurimoon_slot(r, MEMORY, cell, 53).answer.number != CLURIMOON_LENGTH)
       fail("wrong lengths were not refused");
     if (clurimoon_burst(r, MEMORY, arrivals, 53 * slots_in_burst, sizes, slots_in_burst, departures,
@@ -305,23 +397,39 @@ static void run_too_small(clurimoon_record good, unsigned n, unsigned v) {
             .number != CLURIMOON_LENGTH)
       fail("wrong lengths were not refused");
     if (clurimoon_audit(r, MEMORY)) fail("the audit says yes to wrong lengths");
+    if (which == 0 && clurimoon_next(r, calendar, CLURIMOON_CALENDAR(n), bits, CLURIMOON_BITS).number != CLURIMOON_LENGTH)
+      fail("wrong lengths were not refused");
+    calls_made += 4 - which, refused += 3 - which;
+  }
+  /* A word of bits too few, those of the spaces alone, or none: neither a word before them nor an unreadable one is read. */
+  for (unsigned short_by = 1; short_by <= 32; short_by += short_by == 1 ? 15 : 16) {
+    uint64_t *few = short_by == 32 ? (uint64_t *)(void *)(bits_fence.start + bits_fence.room) : at_end ? bits + short_by : bits;
+    if (clurimoon_slot(good, cells, CLURIMOON_CELLS(n), links, CLURIMOON_LINKS(n), calendar, CLURIMOON_CALENDAR(n), vcs,
+                       CLURIMOON_VCS(v), few, 32 - short_by, cell, 53)
+            .answer.number != CLURIMOON_LENGTH)
+      fail("too few bits were not refused");
+    if (clurimoon_audit(good, cells, CLURIMOON_CELLS(n), links, CLURIMOON_LINKS(n), calendar, CLURIMOON_CALENDAR(n), vcs,
+                        CLURIMOON_VCS(v), few, 32 - short_by))
+      fail("the audit says yes to too few bits");
+    if (clurimoon_next(good, calendar, CLURIMOON_CALENDAR(n), few, 32 - short_by).number != CLURIMOON_LENGTH)
+      fail("too few bits were not refused");
     calls_made += 3, refused += 2;
   }
   clurimoon_record wide = good;
-  wide.v = (uint16_t)(v < 1024 ? v + 1 : v - 1);
-  if (clurimoon_open(wide, vcs, CLURIMOON_VCS(v), (uint16_t)(wide.v - 1), 0, 1, 1) != CLURIMOON_LENGTH)
+  wide.v = (uint16_t)(v < 1024 ? v + 1 : v - 1), wide.split_vci = 1;
+  if (clurimoon_open(wide, vcs, CLURIMOON_VCS(v), 1, (uint16_t)(wide.v - 1), 0, 1, 1) != CLURIMOON_LENGTH)
     fail("open was not refused");
-  if (clurimoon_open_sustained(wide, vcs, CLURIMOON_VCS(v), (uint16_t)(wide.v - 1), 0, 1, 1, 0, 1, 1, 1) != CLURIMOON_LENGTH)
+  if (clurimoon_open_sustained(wide, vcs, CLURIMOON_VCS(v), 1, (uint16_t)(wide.v - 1), 0, 1, 1, 0, 1, 1, 1) != CLURIMOON_LENGTH)
     fail("open_sustained was not refused");
-  if (clurimoon_close(wide, vcs, CLURIMOON_VCS(v), (uint16_t)(wide.v - 1)) != CLURIMOON_LENGTH)
+  if (clurimoon_close(wide, vcs, CLURIMOON_VCS(v), 1, (uint16_t)(wide.v - 1)) != CLURIMOON_LENGTH)
     fail("close was not refused");
-  if (clurimoon_open_path(wide, vcs, CLURIMOON_VCS(v), 255, 0, 1, 1, 0, 1, 1, 1) != CLURIMOON_LENGTH)
+  if (clurimoon_open_path(wide, vcs, CLURIMOON_VCS(v), 1, 255, 0, 1, 1, 0, 1, 1, 1) != CLURIMOON_LENGTH)
     fail("open_path was not refused");
-  if (clurimoon_close_path(wide, vcs, CLURIMOON_VCS(v), 255) != CLURIMOON_LENGTH) fail("close_path was not refused");
+  if (clurimoon_close_path(wide, vcs, CLURIMOON_VCS(v), 1, 255) != CLURIMOON_LENGTH) fail("close_path was not refused");
   for (unsigned vpi = 256; vpi < 65536; vpi = vpi * 17 / 16) {
-    if (clurimoon_open_path(good, vcs, CLURIMOON_VCS(v), (uint16_t)vpi, 0, 1, 1, 0, 1, 1, 1) != CLURIMOON_VCI)
+    if (clurimoon_open_path(good, vcs, CLURIMOON_VCS(v), 1, (uint16_t)vpi, 0, 1, 1, 0, 1, 1, 1) != CLURIMOON_VCI)
       fail("a path past the last was opened");
-    if (clurimoon_close_path(good, vcs, CLURIMOON_VCS(v), (uint16_t)vpi) != CLURIMOON_VCI)
+    if (clurimoon_close_path(good, vcs, CLURIMOON_VCS(v), 1, (uint16_t)vpi) != CLURIMOON_VCI)
       fail("a path past the last was closed");
     calls_made += 2, refused += 2;
   }
@@ -348,12 +456,28 @@ static clurimoon_record close_again(clurimoon_record r, unsigned n, unsigned v, 
   return r;
 }
 
+/* The calendar's last entry, whose pair ends where the buffer ends, and its first, each by its bit alone. All cells have left. */
+static void last_entry(clurimoon_record r, unsigned n) {
+  for (unsigned entry = 0; n > 1 && entry < n; entry += n - 1) {
+    for (unsigned T = 0; T < n; T += n < 8 ? 1 : n / 7) {
+      if (T == entry) continue;
+      r.T = (uint16_t)T;
+      calendar[2 * entry] = 0, calendar[2 * entry + 1] = (uint16_t)(n - 1);
+      bits[16 + entry / 64] |= (uint64_t)1 << entry % 64;
+      if (next_in(r, n) != (entry + n - T) % n) fail("the first entry or the last was not found");
+      calendar[2 * entry] = calendar[2 * entry + 1] = CLURIMOON_NONE;
+      bits[16 + entry / 64] &= ~((uint64_t)1 << entry % 64);
+    }
+  }
+}
+
 /* One policer from setup on, under full load until every space was used. */
 static void run_policer(unsigned n, unsigned v) {
   now_n = n, now_v = v;
+  split_vci = (uint16_t)(1 + n % (v - 1)), split_path = (uint16_t)(1 + n % 255);
   lend_all(n, v);
   now_doing = "setup";
-  clurimoon_set set = clurimoon_setup((uint16_t)n, (uint16_t)v, raw, kind, MEMORY);
+  clurimoon_set set = clurimoon_setup((uint16_t)n, (uint16_t)v, raw, kind, split_vci, split_path, MEMORY);
   if (set.number != 0) fail("setup was refused");
   clurimoon_record r = set.record;
   now_doing = "open";
@@ -363,9 +487,10 @@ static void run_policer(unsigned n, unsigned v) {
     for (unsigned before = 0; before < k; ++before) again = again || of_the_open(v, before) == of_the_open(v, k);
     if (open_one(r, n, v, of_the_open(v, k)) != (again ? CLURIMOON_ALREADY_OPEN : CLURIMOON_DONE)) fail("an open was refused");
   }
-  greatest_space = greatest_d = 0;
+  greatest_space = greatest_d = greatest_wait = 0;
   const unsigned first = kind == CLURIMOON_NNI ? v + 255 : v - 1;
-  /* Long enough to use every space, and for rotation to name every VC and path. */
+  r = in_the_last_space(r, n, v, first, kind == CLURIMOON_NNI ? v - 1 : v + 255);
+  /* Long enough to use every entry, and for rotation to name every VC and path. */
   for (unsigned k = 0; k < 3 * n + 40 || k < v + 258; ++k) {
     /* One of them alone first: its delays climb to N-1. */
     const unsigned connection = k % 3 == 0 || k < 5 * n / 8 + 8 ? first : of_the_open(v, k);
@@ -379,8 +504,10 @@ static void run_policer(unsigned n, unsigned v) {
   calls_made += 1;
   r = close_again(r, n, v, v - 1);
   r = close_again(r, n, v, v + 255);
+  last_entry(r, n);
   if (greatest_space != n - 1 || greatest_d != n - 1) fail("the last space or the last entry was never used");
   all_untouched();
+  run_strangers(r, v);
   run_too_small(r, n, v);
   run_damaged(r, n, v);
   all_untouched();

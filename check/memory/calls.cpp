@@ -3,6 +3,7 @@
 #include "../second/hec.hpp"
 
 #include <algorithm>
+#include <bitset>
 
 namespace calls {
 
@@ -36,6 +37,21 @@ const char *const path_name[path_count] = {
     CALLS_PATHS(X)
 #undef X
 };
+const char *const space_name[space_count] = {
+#define X(name) #name,
+    CALLS_SPACES(X)
+#undef X
+};
+const char *const mark_name[mark_count] = {
+#define X(name) #name,
+    CALLS_MARKS(X)
+#undef X
+};
+const char *const owner_name[owner_count] = {
+#define X(name) #name,
+    CALLS_OWNERS(X)
+#undef X
+};
 Tally tally;
 
 namespace {
@@ -43,6 +59,10 @@ namespace {
 constexpr uint16_t empty = 65535;
 // "Path records, 256 with the first unused, stand after the V records".
 constexpr unsigned paths = 256;
+// Request (vii): "Keep a bit for each space, sixteen words of 64 bits": bit k of word w is space 64 w + k.
+constexpr unsigned free_words = 16, word_bits = 64;
+// Request (ix): "Keep one bit for each entry": words 16 to 31, bit k of word 16 + w is entry 64 w + k.
+constexpr unsigned entry_words = 16, most_entries = entry_words * word_bits;
 
 // Thrown where a call reads a stored number outside its range.
 struct Unfit {
@@ -63,14 +83,19 @@ struct Journal {
   struct Fullword {
     uint32_t *at, before;
   };
+  struct Doubleword {
+    uint64_t *at, before;
+  };
   std::vector<Halfword> halves;
   std::vector<Fullword> fulls;
+  std::vector<Doubleword> doubles;
   uint8_t *cell = nullptr;
   std::array<uint8_t, 53> cell_before{};
 
-  void clear() { halves.clear(), fulls.clear(), cell = nullptr; }
+  void clear() { halves.clear(), fulls.clear(), doubles.clear(), cell = nullptr; }
   void put(uint16_t &at, uint16_t value) { halves.push_back({&at, at}), at = value; }
   void put(uint32_t &at, uint32_t value) { fulls.push_back({&at, at}), at = value; }
+  void put(uint64_t &at, uint64_t value) { doubles.push_back({&at, at}), at = value; }
   void put_cell(uint8_t *at, const uint8_t *from) {
     std::copy(at, at + 53, cell_before.begin());
     cell = at;
@@ -79,15 +104,42 @@ struct Journal {
   void undo() {
     for (auto i = halves.rbegin(); i != halves.rend(); ++i) *i->at = i->before;
     for (auto i = fulls.rbegin(); i != fulls.rend(); ++i) *i->at = i->before;
+    for (auto i = doubles.rbegin(); i != doubles.rend(); ++i) *i->at = i->before;
     if (cell) std::copy(cell_before.begin(), cell_before.end(), cell);
   }
 };
+
+// "a split VCI outside 1 to V-1 or a split path number outside 1 to 255 is 1"
+bool vci_split_fits(unsigned v, unsigned split) { return split != 0 && split < v; }
+bool path_split_fits(unsigned split) { return split != 0 && split < paths; }
 
 bool sizes_in_range(uint16_t n, uint16_t v) { return 1 <= n && n <= 1024 && 2 <= v && v <= 1024; }
 
 bool lengths_fit(uint16_t n, uint16_t v, const Memory &lent) {
   return lent.cells.length == size_t{53} * n && lent.links.length == n &&
-         lent.calendar.length == size_t{2} * n && lent.vcs.length == size_t{word_count} * (v + paths);
+         lent.calendar.length == size_t{2} * n && lent.vcs.length == size_t{word_count} * (v + paths) &&
+         lent.bits.length == free_words + entry_words;
+}
+
+bool is_free(const Lent<uint64_t> &bits, unsigned space) {
+  return std::bitset<word_bits>(bits.at[space / word_bits])[space % word_bits];
+}
+template <class Word> bool is_marked(const Lent<Word> &bits, unsigned entry) {
+  return std::bitset<word_bits>(bits.at[free_words + entry / word_bits])[entry % word_bits];
+}
+// The ones of the words of spaces, those below N and those at N and above.
+struct Ones {
+  unsigned below = 0, above = 0;
+};
+Ones count_ones(const Lent<uint64_t> &bits, unsigned n) {
+  Ones ones;
+  for (unsigned w = 0; w < free_words; ++w) {
+    const unsigned reach = n <= word_bits * w ? 0 : std::min(n - word_bits * w, word_bits);
+    const uint64_t mask = reach == word_bits ? ~uint64_t{0} : (uint64_t{1} << reach) - 1;
+    ones.below += static_cast<unsigned>(std::bitset<word_bits>(bits.at[w] & mask).count());
+    ones.above += static_cast<unsigned>(std::bitset<word_bits>(bits.at[w] & ~mask).count());
+  }
+  return ones;
 }
 
 // The rules on m, F and C; `first` is the clause for m, the others follow it.
@@ -156,12 +208,37 @@ Header read_header(unsigned kind, const uint8_t *octet) {
   return {word >> 20 & (kind == CLURIMOON_NNI ? 0xfffu : 0xffu), word >> 4 & 0xffff, word & 1};
 }
 void meet(Path what) { tally.path[what] += 1; }
+void meet(Space what) { tally.space[what] += 1; }
+void meet(Mark what) { tally.mark[what] += 1; }
+void meet(Owner what) { tally.owner[what] += 1; }
+
+// "a bit at or above N, a number other than the ones": two clauses from `first`.
+void need_spaces(uint16_t n, uint16_t free, const Lent<uint64_t> &bits, Clause first) {
+  const Ones ones = count_ones(bits, n);
+  if (ones.above != 0) {
+    if (free == ones.below + ones.above) meet(bit_above_counted);
+    if (free == ones.below) meet(bit_above_not_counted);
+    if (ones.above == 1 && is_free(bits, n)) meet(bit_N_alone);
+    if (ones.above == 1 && is_free(bits, 1023)) meet(bit_1023_alone);
+    if (n % word_bits != 0 && bits.at[n / word_bits] >> n % word_bits != 0) meet(bit_above_in_a_word_below_N);
+    if (std::any_of(bits.at + (n + word_bits - 1) / word_bits, bits.at + free_words, [](uint64_t w) { return w != 0; }))
+      meet(bit_in_a_word_above_N);
+  } else if (free != ones.below) {
+    if (free == ones.below + 1) meet(number_one_above);
+    if (free + 1u == ones.below) meet(number_one_below);
+    if (free == 0) meet(number_0_of_some);
+    if (free > n) meet(number_above_N);
+    if (ones.below == 0) meet(number_of_none);
+  }
+  need(ones.above == 0, first);
+  need(free == ones.below, static_cast<Clause>(first + 1));
+}
 
 // One slot, step by step, on the lent memory itself.
 class Slot {
 public:
-  Slot(const clurimoon_record &record, const Memory &lent, Journal &journal)
-      : r(record), lent(lent), journal(journal), n(record.n), v(record.v) {}
+  Slot(const clurimoon_record &record, const Memory &lent, Journal &journal, std::deque<uint16_t> *free_list)
+      : r(record), lent(lent), journal(journal), n(record.n), v(record.v), free_list(free_list) {}
 
   clurimoon_served serve(Lent<const uint8_t> cell) {
     bool lets_through = cell.length == 53;
@@ -180,6 +257,7 @@ public:
     if (r.out_head != empty) depart();
     return {r, answer};
   }
+  bool touched_marks() const { return marked; }
 
 private:
   clurimoon_record r;
@@ -187,6 +265,9 @@ private:
   const Memory &lent;
   Journal &journal;
   const uint16_t n, v;
+  std::deque<uint16_t> *const free_list; // the old form's, or none
+  uint16_t stored_in = empty; // the space that this slot took
+  bool marked = false; // a bit of an entry was set or cleared
   std::array<uint8_t, 53> arriving{}; // a copy of the lent cell, so that the lent one stays as it is
 
   // Whether the cell goes on, mended where one bit is wrong in correction.
@@ -282,37 +363,74 @@ private:
     if (above_second && tags && r.raw == 1 && r.mode == CLURIMOON_DETECTION) met(tagged_and_mended);
   }
 
+  // The lowest free space, found by looking at one after the other.
   uint16_t take_free() {
-    need_pair(n, r.free_head, r.free_tail, take_pair_head);
-    need(r.free_head != empty, take_empty);
-    const uint16_t space = r.free_head;
-    if (r.free_head == r.free_tail) {
-      r.free_head = r.free_tail = empty;
-    } else {
-      need(lent.links.at[space] < n, take_link);
-      r.free_head = lent.links.at[space];
-    }
-    return space;
+    const bool one_would_leave = r.out_head != empty || lent.calendar.at[2 * r.T] != empty;
+    if (r.free == 0 && one_would_leave) meet(none_for_a_cell_and_one_would_leave);
+    need_spaces(n, r.free, lent.bits, take_bit_above);
+    need(r.free != 0, take_none);
+    uint16_t space = 0;
+    while (!is_free(lent.bits, space)) ++space;
+    if (free_list) space = free_list->at(0), free_list->pop_front();
+    uint64_t &word = lent.bits.at[space / word_bits];
+    journal.put(word, word & ~(uint64_t{1} << space % word_bits));
+    r.free = static_cast<uint16_t>(r.free - 1);
+    tally_taken(space);
+    return stored_in = space;
+  }
+
+  void tally_taken(uint16_t space) const {
+    meet(r.free == 0 ? took_the_last_free : took_one_of_several);
+    if (space != 0 && r.free != 0) meet(took_above_a_hole);
+    if (space % word_bits == 63) meet(took_bit_63);
+    if (space >= word_bits) meet(took_beyond_word_0);
+    if (space / word_bits == 15) meet(took_in_word_15);
+    if (n % word_bits == 0) meet(took_at_N_64_k);
+    const uint16_t *const ends = lent.calendar.at;
+    const bool queued = std::find(ends, ends + lent.calendar.length, space) != ends + lent.calendar.length;
+    if (queued || space == r.out_head || space == r.out_tail) meet(took_a_queued_space);
+    if (space == ends[2 * ((r.T + answer.d) % n)]) meet(took_the_head_of_its_entry);
+    if (space == r.out_head) meet(took_the_next_to_depart);
   }
 
   void join(unsigned entry, uint16_t space) {
     uint16_t &head = lent.calendar.at[2 * entry], &tail = lent.calendar.at[2 * entry + 1];
     need_pair(n, head, tail, join_pair_head);
+    const bool was = is_marked(lent.bits, entry);
+    meet(!was ? join_set_a_mark : join_found_it_set);
+    if (was && head == empty) meet(join_found_it_set_of_an_empty_entry);
+    if (!was && head != empty) meet(join_found_it_clear_of_a_marked_entry);
+    if (entry >= word_bits) meet(join_beyond_word_16);
+    if (entry >= most_entries - word_bits) meet(join_in_word_31);
+    if (entry == r.T && head == empty) meet(was ? joined_and_transferred_where_it_was_set : joined_and_transferred);
     if (head == empty) journal.put(tail, space);
     else journal.put(lent.links.at[space], head);
     journal.put(head, space);
+    set_mark(entry, true);
+    marked = true;
+  }
+
+  void set_mark(unsigned entry, bool to) {
+    uint64_t &word = lent.bits.at[free_words + entry / word_bits];
+    const uint64_t bit = uint64_t{1} << entry % word_bits;
+    journal.put(word, to ? word | bit : word & ~bit);
   }
 
   void transfer() {
     uint16_t &head = lent.calendar.at[2 * r.T], &tail = lent.calendar.at[2 * r.T + 1];
     need_pair(n, head, tail, entry_pair_head);
     need_pair(n, r.out_head, r.out_tail, output_pair_head);
+    if (head == empty && is_marked(lent.bits, r.T)) meet(quiet_kept_a_mark_of_T);
     if (head == empty) return;
+    meet(is_marked(lent.bits, r.T) ? transfer_cleared_a_mark : transfer_found_it_clear);
+    if (r.T >= word_bits) meet(transfer_beyond_word_16);
     if (r.out_head == empty) r.out_head = head;
     else journal.put(lent.links.at[r.out_tail], head);
     r.out_tail = tail;
     journal.put(head, empty);
     journal.put(tail, empty);
+    set_mark(r.T, false);
+    marked = true;
   }
 
   void depart() {
@@ -341,10 +459,18 @@ private:
   }
 
   void give_back(uint16_t space) {
-    need_pair(n, r.free_head, r.free_tail, give_pair_head);
-    if (r.free_head == empty) r.free_head = space;
-    else journal.put(lent.links.at[r.free_tail], space);
-    r.free_tail = space;
+    need_spaces(n, r.free, lent.bits, give_bit_above);
+    if (is_free(lent.bits, space)) meet(stored_in == empty ? already_free_without : already_free_after_a_taking);
+    need(!is_free(lent.bits, space), give_already_free);
+    uint64_t &word = lent.bits.at[space / word_bits];
+    journal.put(word, word | uint64_t{1} << space % word_bits);
+    r.free = static_cast<uint16_t>(r.free + 1);
+    if (free_list) free_list->push_back(space);
+    if (r.free == 1) meet(freed_the_first);
+    if (space % word_bits == 63) meet(freed_bit_63);
+    if (space >= word_bits) meet(freed_beyond_word_0);
+    if (space / word_bits == 15) meet(freed_in_word_15);
+    if (stored_in != empty) meet(stored_in == space ? freed_the_one_just_taken : took_and_freed_another);
   }
 };
 
@@ -361,14 +487,49 @@ uint32_t *words_of(const clurimoon_record &record, Lent<uint32_t> vcs, Name name
   return vcs.at + size_t{word_count} * (name.path ? record.v + size_t{name.number} : name.number);
 }
 
+// "Connections below a split VCI and a split path number are the first's, the others the second's"; it is one that has a name.
+bool is_owner(const clurimoon_record &record, Name name) {
+  const uint16_t split = name.path ? record.split_path : record.split_vci;
+  if (name.owner > 1) return false;
+  return name.number < split ? name.owner == 0 : name.owner == 1;
+}
+
+void tally_16(const clurimoon_record &record, Lent<uint32_t> vcs, Name name, Clause open_clause) {
+  const uint16_t split = name.path ? record.split_path : record.split_vci, other = name.path ? record.split_vci : record.split_path;
+  meet(name.owner == 0 ? refused_16_to_the_first : name.owner == 1 ? refused_16_to_the_second : refused_16_to_nobody);
+  if (name.owner == 0 && name.number == split) meet(refused_16_at_the_split);
+  if (name.owner == 1 && name.number + 1 == split) meet(refused_16_below_the_split);
+  if (name.path) meet(refused_16_of_a_path);
+  if (name.owner <= 1 && (name.number < other) == (name.owner == 0)) meet(refused_16_by_the_other_split);
+  const uint32_t *words = words_of(record, vcs, name);
+  try {
+    need_connection(record.n, words, open_clause);
+    meet(words[w_open] == 1 ? refused_16_of_an_open_one : refused_16_of_a_closed_one);
+  } catch (const Unfit &) {
+    meet(refused_16_of_an_unfit_one);
+  }
+}
+
 // The refusals that open and close share, up to 3; 0 if there is none.
 uint16_t refuse(const clurimoon_record &record, Lent<uint32_t> vcs, Name name, Clause open_clause) {
   if (!sizes_in_range(record.n, record.v)) return 1;
+  const bool vci_fits = vci_split_fits(record.v, record.split_vci), path_fits = path_split_fits(record.split_path);
+  if (!vci_fits || !path_fits) {
+    meet(!vci_fits ? stored_split_vci_unfit : stored_split_path_unfit);
+    if (vcs.length != size_t{word_count} * (record.v + paths)) meet(stored_split_1_before_2);
+    if (name.number == 0) meet(stored_split_1_before_4);
+    return 1;
+  }
   if (vcs.length != size_t{word_count} * (record.v + paths)) return 2;
   if (name.number < 1 || name.number >= (name.path ? paths : record.v)) {
     if (name.path) meet(name.number == 0 ? refused_4_path_0 : name.number == paths ? refused_4_path_256 : refused_4_path_above);
+    if (name.owner > 1) meet(refused_4_to_nobody);
     return 4;
   }
+  if (!is_owner(record, name)) return tally_16(record, vcs, name, open_clause), 16;
+  const uint16_t split = name.path ? record.split_path : record.split_vci;
+  if (name.number == split) meet(name.path ? at_the_split_path : at_the_split_vci);
+  if (name.number + 1 == split) meet(name.path ? below_the_split_path : below_the_split_vci);
   try {
     need_connection(record.n, words_of(record, vcs, name), open_clause);
   } catch (const Unfit &unfit) {
@@ -384,9 +545,18 @@ clurimoon_served refused(const clurimoon_record &record, uint16_t number) {
 
 } // namespace
 
-clurimoon_set setup(uint16_t n, uint16_t v, bool raw, uint16_t kind, Memory lent) {
+clurimoon_set setup(uint16_t n, uint16_t v, bool raw, uint16_t kind, Splits splits, Memory lent) {
   if (!sizes_in_range(n, v)) {
     if (kind > 1) meet(refused_1_before_13);
+    return {1, {}};
+  }
+  if (!vci_split_fits(v, splits.vci) || !path_split_fits(splits.path)) {
+    if (splits.vci == 0) meet(setup_split_vci_0);
+    if (splits.vci == v) meet(setup_split_vci_V);
+    if (splits.path == 0) meet(setup_split_path_0);
+    if (splits.path == paths) meet(setup_split_path_256);
+    if (kind > 1) meet(setup_split_1_before_13);
+    else if (!lengths_fit(n, v, lent)) meet(setup_split_1_before_2);
     return {1, {}};
   }
   if (kind > 1) {
@@ -397,16 +567,20 @@ clurimoon_set setup(uint16_t n, uint16_t v, bool raw, uint16_t kind, Memory lent
   std::fill_n(lent.cells.at, lent.cells.length, uint8_t{0});
   std::fill_n(lent.links.at, lent.links.length, uint16_t{0});
   std::fill_n(lent.vcs.at, lent.vcs.length, uint32_t{0});
-  for (uint16_t space = 0; space + 1 < n; ++space) lent.links.at[space] = static_cast<uint16_t>(space + 1);
   std::fill_n(lent.calendar.at, lent.calendar.length, empty);
+  std::fill_n(lent.bits.at, lent.bits.length, uint64_t{0});
+  for (unsigned space = 0; space < n; ++space) lent.bits.at[space / word_bits] |= uint64_t{1} << space % word_bits;
   clurimoon_record record{};
   record.n = n, record.v = v;
   record.t = UINT32_MAX;
   record.T = static_cast<uint16_t>(n - 1);
   record.rotation = static_cast<uint16_t>(v + paths - 1);
-  record.free_head = 0, record.free_tail = static_cast<uint16_t>(n - 1);
+  record.free = n;
   record.out_head = record.out_tail = empty;
   record.raw = raw ? 1 : 0, record.mode = CLURIMOON_CORRECTION, record.kind = kind;
+  record.split_vci = splits.vci, record.split_path = splits.path;
+  if (splits.vci == v - 1) meet(setup_split_vci_last);
+  if (splits.path == paths - 1) meet(setup_split_path_255);
   return {0, record};
 }
 
@@ -429,7 +603,8 @@ uint16_t open(const clurimoon_record &record, Lent<uint32_t> vcs, Name name, con
   const uint32_t fresh[word_count] = {1,        rates.m,  rates.f,  rates.c,  0, record.t,
                                       0,        rates.m2, rates.f2, rates.c2, 0, rates.tag};
   std::copy(fresh, fresh + word_count, words);
-  if (name.path) meet(path_opened);
+  if (name.path) meet(path_opened), meet(name.owner == 0 ? path_of_the_first : path_of_the_second);
+  meet(name.owner == 0 ? opened_by_the_first : opened_by_the_second);
   return 0;
 }
 
@@ -473,6 +648,7 @@ uint16_t close(const clurimoon_record &record, Lent<uint32_t> vcs, Name name) {
   if (owed != 0 || words[w_waiting] != 0) return journal.undo(), 8;
   std::fill_n(words, size_t{word_count}, 0u);
   if (name.path) meet(path_closed);
+  meet(name.owner == 0 ? closed_by_the_first : closed_by_the_second);
   return 0;
 }
 
@@ -568,16 +744,37 @@ void tally_paths(const clurimoon_record &record, const Open &open, Lent<const ui
   if (header.vpi == 0 && open.path_by_vci) meet(vci_is_number_of_an_open_path);
 }
 
-clurimoon_served judged_slot(const clurimoon_record &record, Memory lent, Lent<const uint8_t> cell) {
+// Whether a slot that took or freed a space would be refused for it.
+bool spaces_unfit(const clurimoon_record &record, const Memory &lent) {
+  if (!sizes_in_range(record.n, record.v) || !lengths_fit(record.n, record.v, lent)) return false;
+  const Ones ones = count_ones(lent.bits, record.n);
+  return ones.above != 0 || ones.below != record.free;
+}
+
+// Whether each bit of an entry is set exactly where the entry isn't empty.
+bool marks_fit(const clurimoon_record &record, const Memory &lent) {
+  std::array<uint64_t, entry_words> words{};
+  for (unsigned entry = 0; entry < record.n; ++entry)
+    words[entry / word_bits] |= uint64_t{lent.calendar.at[2 * entry] != empty} << entry % word_bits;
+  return std::equal(words.begin(), words.end(), lent.bits.at + free_words);
+}
+
+clurimoon_served judged_slot(const clurimoon_record &record, Memory lent, Lent<const uint8_t> cell,
+                             std::deque<uint16_t> *free_list = nullptr) {
   if (!sizes_in_range(record.n, record.v)) return refused(record, 1);
   if (!lengths_fit(record.n, record.v, lent)) return refused(record, 2);
   if (cell.length != 0 && cell.length != 53) return refused(record, 9);
   static thread_local Journal journal;
   journal.clear();
+  const bool wrong = !marks_fit(record, lent);
+  Slot slot(record, lent, journal, free_list);
   try {
-    return Slot(record, lent, journal).serve(cell);
+    const clurimoon_served served = slot.serve(cell);
+    if (wrong && slot.touched_marks()) meet(wrong_marks_not_judged);
+    return served;
   } catch (const Unfit &unfit) {
     tally.clause[unfit.clause] += 1;
+    if (slot.touched_marks()) meet(undone_with_a_mark);
     journal.undo();
     return refused(record, 3);
   }
@@ -587,10 +784,23 @@ clurimoon_served judged_slot(const clurimoon_record &record, Memory lent, Lent<c
 
 clurimoon_served slot(const clurimoon_record &record, Memory lent, Lent<const uint8_t> cell) {
   const Open open = open_before(record, lent, cell);
+  const bool unfit = spaces_unfit(record, lent);
   const clurimoon_served served = judged_slot(record, lent, cell);
   tally_check(record, cell, served.answer);
   const bool mended = record.raw == 1 && served.record.mode == CLURIMOON_DETECTION && cell.length == 53;
   tally_paths(record, open, cell, mended, served.answer);
+  if (unfit && served.answer.number == 0) meet(served.answer.verdict == CLURIMOON_EXCESS ? unfit_and_excess : unfit_not_read);
+  if (unfit && served.answer.number == 9) meet(unfit_after_9);
+  if (served.answer.number == 0 && !(vci_split_fits(record.v, record.split_vci) && path_split_fits(record.split_path))) meet(unfit_split_not_read);
+  return served;
+}
+
+clurimoon_served slot_listed(const clurimoon_record &record, Memory lent, Lent<const uint8_t> cell, std::deque<uint16_t> &free_list) {
+  const std::deque<uint16_t> before = free_list;
+  const Tally met = tally;
+  const clurimoon_served served = judged_slot(record, lent, cell, &free_list);
+  if (served.answer.number != 0) free_list = before;
+  tally = met;
   return served;
 }
 
@@ -612,13 +822,14 @@ void must(bool holds, Fault fault) {
   if (!holds) throw No{fault};
 }
 
-// The audit: it collects which list each space is in, and counts queued cells.
+// The audit: it collects which spaces are queued, none of which may be free, and counts queued cells.
 class Audit {
 public:
   Audit(const clurimoon_record &record, const Memory &lent)
       : r(record), lent(lent), seen(record.n, false), queued(record.v + paths, 0) {}
 
   void run() {
+    must(vci_split_fits(r.v, r.split_vci) && path_split_fits(r.split_path), no_splits);
     must(r.T < r.n, no_T);
     must(r.raw <= 1, no_raw);
     must(r.mode <= 1, no_mode);
@@ -626,16 +837,24 @@ public:
     must(r.rotation < r.v + paths, no_rotation);
     for (unsigned c = 1; c < r.v + paths; ++c)
       if (c != r.v) judge_connection(words(c));
-    walk(r.free_head, r.free_tail, false);
-    walk(r.out_head, r.out_tail, true);
+    const Ones ones = count_ones(lent.bits, r.n);
+    must(ones.above == 0, no_bit_above);
+    must(ones.below == r.free, no_number);
+    judge_marks();
+    walk(r.out_head, r.out_tail);
     for (unsigned entry = 0; entry < r.n; ++entry)
-      walk(lent.calendar.at[2 * entry], lent.calendar.at[2 * entry + 1], true);
-    must(std::find(seen.begin(), seen.end(), false) == seen.end(), no_space_missing);
+      walk(lent.calendar.at[2 * entry], lent.calendar.at[2 * entry + 1]);
+    for (unsigned space = 0; space < r.n; ++space)
+      must(seen[space] || is_free(lent.bits, space), no_space_missing);
     must(lent.calendar.at[2 * r.T] == empty, no_entry_T);
     for (unsigned c = 1; c < r.v + paths; ++c)
       if (c != r.v) must(words(c)[w_open] == 0 || words(c)[w_waiting] == queued[c], no_waiting_count);
     if (words(r.v)[w_open] != 0) meet(audited_with_record_V_in_disguise);
     if (path_queued) meet(audited_with_a_path_queued);
+    if (r.free == r.n) meet(audited_all_free);
+    if (r.free == 0) meet(audited_none_free);
+    for (unsigned space = 0; space < r.n; ++space)
+      if (is_free(lent.bits, space) && lent.links.at[space] >= r.n) return meet(audited_with_a_wide_link);
   }
 
 private:
@@ -657,7 +876,22 @@ private:
     must(words[w_waiting] <= r.n, no_waiting_range);
   }
 
-  void walk(uint16_t head, uint16_t tail, bool queue) {
+  // "compared by the audit": each bit with its entry; there is no entry at N and above.
+  void judge_marks() const {
+    unsigned marks = 0;
+    for (unsigned entry = 0; entry < most_entries; ++entry) {
+      const bool marked = is_marked(lent.bits, entry);
+      must(entry < r.n || !marked, no_mark_above);
+      if (entry >= r.n) continue;
+      const bool some = lent.calendar.at[2 * entry] != empty;
+      must(marked || !some, no_mark_missing);
+      must(some || !marked, no_mark_of_an_empty_entry);
+      marks += marked;
+    }
+    meet(marks == 0 ? audited_without : marks == 1 ? audited_with_a_mark : audited_with_marks);
+  }
+
+  void walk(uint16_t head, uint16_t tail) {
     must((head == empty && tail == empty) || (head < r.n && tail < r.n), no_pair);
     if (head == empty) return;
     // A chain that misses its tail comes back to one of its own spaces.
@@ -666,8 +900,9 @@ private:
       must(space < r.n, no_link);
       must(!here[space], no_chain_end);
       must(!seen[space], no_space_twice);
+      must(!is_free(lent.bits, space), no_free_space_queued);
       seen[space] = here[space] = true;
-      if (queue) count(space);
+      count(space);
       if (space == tail) return;
     }
   }
@@ -696,6 +931,98 @@ bool audit(const clurimoon_record &record, Memory lent) {
     return false;
   }
   return true;
+}
+
+namespace {
+
+// What decided an answer, from the state alone. `steps` is the ring distance to the entry that the bits named, 0 for none.
+void tally_next(const clurimoon_record &r, const Lent<const uint16_t> &calendar, const Lent<const uint64_t> &bits, unsigned steps) {
+  const unsigned n = r.n, T = r.T, entry = (T + steps) % n;
+  const auto some = [&](unsigned e) { return calendar.at[2 * e] != empty; };
+  bool above = false, passed = false, wrong_later = false;
+  for (unsigned e = n; e < most_entries; ++e) above = above || is_marked(bits, e);
+  for (unsigned k = 1; k < (steps == 0 ? n : steps); ++k) passed = passed || some((T + k) % n);
+  for (unsigned k = steps + 1; steps != 0 && k < n; ++k) wrong_later = wrong_later || (is_marked(bits, (T + k) % n) && !some((T + k) % n));
+  if (steps == 0) {
+    meet(next_is_none);
+    if (is_marked(bits, T)) meet(next_is_none_with_the_mark_of_T);
+    if (above) meet(next_is_none_with_a_mark_above);
+    if (passed) meet(next_is_none_with_an_unmarked_entry);
+    if (n == 1) meet(next_at_N_1);
+    return;
+  }
+  if (steps == 1) meet(next_is_1_entry_on);
+  if (steps == n - 1 && n > 2) meet(next_is_N_1_entries_on);
+  meet(entry > T ? next_ahead : next_beyond_the_end);
+  if (entry / word_bits == T / word_bits) meet(entry > T ? next_in_the_word_of_T_ahead : next_in_the_word_of_T_behind);
+  else meet(next_in_another_word);
+  if (entry / word_bits > T / word_bits + 1) meet(next_two_words_on);
+  if (entry % word_bits == 0) meet(next_at_bit_0);
+  if (entry % word_bits == word_bits - 1) meet(next_at_bit_63);
+  if (T % word_bits == word_bits - 1) meet(next_from_bit_63);
+  if (entry == 0) meet(next_at_entry_0);
+  if (entry == n - 1) meet(next_at_the_last_entry);
+  if (is_marked(bits, T)) meet(next_past_the_mark_of_T);
+  if (above && entry < T) meet(next_past_a_mark_above);
+  if (passed) meet(next_past_an_unmarked_entry);
+  if (wrong_later) meet(next_before_a_wrong_mark);
+}
+
+// The ring distance from T to the first entry after it that the bits name, 0 where they name none; T is below N.
+unsigned named_by_bits(const clurimoon_record &r, const Lent<const uint64_t> &bits) {
+  for (unsigned k = 1; k < r.n; ++k)
+    if (is_marked(bits, (r.T + k) % r.n)) return k;
+  return 0;
+}
+
+} // namespace
+
+clurimoon_wait next(const clurimoon_record &record, Lent<const uint16_t> calendar, Lent<const uint64_t> bits) {
+  const uint16_t n = record.n;
+  if (!sizes_in_range(n, record.v)) {
+    meet(next_is_refused_1);
+    if (record.T >= n) meet(next_unfit_after_1_2);
+    return {1, 0};
+  }
+  if (calendar.length != size_t{2} * n || bits.length != free_words + entry_words) {
+    meet(next_is_refused_2);
+    if (record.T >= n) meet(next_unfit_after_1_2);
+    return {2, 0};
+  }
+  try {
+    need(record.T < n, next_T);
+    need_pair(n, record.out_head, record.out_tail, next_output_pair_head);
+    const unsigned steps = named_by_bits(record, bits);
+    const unsigned entry = (record.T + steps) % n;
+    if (record.out_head != empty) {
+      meet(next_of_the_output);
+      if (steps != 0 && calendar.at[2 * entry] == empty) meet(next_of_the_output_reads_no_bit);
+      return {0, 1};
+    }
+    if (steps != 0) {
+      const uint16_t head = calendar.at[2 * entry], tail = calendar.at[2 * entry + 1];
+      if (head == empty && tail == empty)
+        for (unsigned k = steps + 1; k < n; ++k)
+          if (is_marked(bits, (record.T + k) % n) && calendar.at[2 * ((record.T + k) % n)] < n) {
+            meet(next_3_though_a_later_one_fits);
+            break;
+          }
+      need_pair(n, head, tail, next_entry_pair_head);
+      need(head != empty, next_entry_empty);
+    }
+    tally_next(record, calendar, bits, steps);
+    return {0, static_cast<uint16_t>(steps)};
+  } catch (const Unfit &unfit) {
+    tally.clause[unfit.clause] += 1;
+    return {3, 0};
+  }
+}
+
+uint16_t walked(const clurimoon_record &record, Lent<const uint16_t> calendar) {
+  if (record.out_head != empty) return 1;
+  for (uint16_t slots = 1; slots < record.n; ++slots)
+    if (calendar.at[2 * ((record.T + slots) % record.n)] != empty) return slots;
+  return 0;
 }
 
 clurimoon_burst_end burst(const clurimoon_record &record, Memory lent, Lent<const uint8_t> arrivals,

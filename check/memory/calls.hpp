@@ -1,11 +1,12 @@
 // A second implementation of the calls on lent memory, from the words of documents
-// 01 and 02 on links, heads and tails. Each step writes at once, through a journal; where a
+// 01 and 02 on links, heads, tails and bits. Each step writes at once, through a journal; where a
 // number that is read is out of its range, the journal is undone. So nothing here
 // plans ahead, and a refusal is known by the clause of refusal 3 that gave it.
 #pragma once
 #include <array>
 #include <cstddef>
 #include <cstdint>
+#include <deque>
 #include <string>
 #include <vector>
 
@@ -23,14 +24,15 @@ namespace calls {
   X(slot_raw) X(slot_mode) X(slot_T) X(slot_rotation)                                                        \
   X(rotation_open) CALLS_RULES(X, rotation)                                                                  \
   X(arrival_kind) X(arrival_open) CALLS_RULES(X, arrival) X(arrival_waiting)                                 \
-  CALLS_PAIR(X, take_pair) X(take_empty) X(take_link)                                                        \
+  X(take_bit_above) X(take_number) X(take_none)                                                              \
   CALLS_PAIR(X, join_pair) CALLS_PAIR(X, entry_pair) CALLS_PAIR(X, output_pair) X(output_link)               \
   X(departing_kind) X(departing_vpi_high) X(departing_vci_0) X(departing_vci_high) X(departing_closed)       \
   X(departing_open)                                                                                          \
   X(departing_waiting_0) X(departing_waiting_high)                                                           \
-  CALLS_PAIR(X, give_pair)                                                                                   \
+  X(give_bit_above) X(give_number) X(give_already_free)                                                      \
   X(open_open) CALLS_RULES(X, open) X(open_waiting)                                                          \
-  X(close_open) CALLS_RULES(X, close) X(close_waiting)
+  X(close_open) CALLS_RULES(X, close) X(close_waiting)                                                       \
+  X(next_T) CALLS_PAIR(X, next_output_pair) CALLS_PAIR(X, next_entry_pair) X(next_entry_empty)
 
 enum Clause {
 #define X(name) name,
@@ -44,13 +46,13 @@ extern const char *const clause_name[clause_count];
 #define CALLS_FAULTS(X)                                                                                      \
   X(no_range)                                                                                                \
   X(no_length)                                                                                               \
-  X(no_T)                                                                                                    \
+  X(no_splits) X(no_T)                                                                                                    \
   X(no_raw)                                                                                                  \
   X(no_mode)                                                                                                 \
   X(no_kind)                                                                                                 \
   X(no_rotation)                                                                                             \
   X(no_open_word)                                                                                            \
-  X(no_rules) X(no_S) X(no_second_limits) X(no_second_S) X(no_waiting_range) X(no_pair) X(no_link) X(no_space_twice) X(no_space_missing)        \
+  X(no_rules) X(no_S) X(no_second_limits) X(no_second_S) X(no_waiting_range) X(no_bit_above) X(no_number) X(no_mark_above) X(no_mark_missing) X(no_mark_of_an_empty_entry) X(no_pair) X(no_link) X(no_space_twice) X(no_free_space_queued) X(no_space_missing)        \
       X(no_chain_end) X(no_entry_T) X(no_header) X(no_waiting_count)
 
 enum Fault {
@@ -188,6 +190,81 @@ enum Path {
 };
 extern const char *const path_name[path_count];
 
+// What a slot and the audit made of the bits and of the number of free spaces.
+#define CALLS_SPACES(X)                                                                                      \
+  X(took_one_of_several) X(took_the_last_free) X(took_above_a_hole) /* not space 0, nor the only free one */ \
+  X(took_bit_63) X(took_beyond_word_0) X(took_in_word_15) X(took_at_N_64_k) /* no word is cut by N */        \
+  X(freed_the_first) X(freed_bit_63) X(freed_beyond_word_0) X(freed_in_word_15)                              \
+  X(took_and_freed_another) X(freed_the_one_just_taken)                                                      \
+  X(took_a_queued_space) X(took_the_head_of_its_entry) /* its link then names itself */                      \
+  X(took_the_next_to_depart) /* free and queued at once: taken first, so not free when it departs */         \
+  X(already_free_after_a_taking) X(already_free_without)                                                     \
+  X(bit_N_alone) X(bit_above_in_a_word_below_N) X(bit_in_a_word_above_N) X(bit_1023_alone)                   \
+  X(bit_above_counted) /* the number is the ones, with those at and above N */                               \
+  X(bit_above_not_counted) /* it is the ones below N */                                                      \
+  X(number_one_above) X(number_one_below) X(number_0_of_some) X(number_above_N) X(number_of_none)            \
+  X(none_for_a_cell_and_one_would_leave) X(unfit_not_read) X(unfit_and_excess) X(unfit_after_9)              \
+  X(audited_all_free) X(audited_none_free) X(audited_with_a_wide_link) /* of a free space: no chain reads it */
+
+enum Space {
+#define X(name) name,
+  CALLS_SPACES(X)
+#undef X
+      space_count
+};
+extern const char *const space_name[space_count];
+
+// What a slot, the audit and the call for the next departure made of the bits of the calendar entries.
+#define CALLS_MARKS(X)                                                                                       \
+  X(join_set_a_mark) X(join_found_it_set) X(join_found_it_set_of_an_empty_entry)                             \
+  X(join_found_it_clear_of_a_marked_entry) X(join_beyond_word_16) X(join_in_word_31)                         \
+  X(transfer_cleared_a_mark) X(transfer_found_it_clear) X(transfer_beyond_word_16)                           \
+  X(joined_and_transferred) X(joined_and_transferred_where_it_was_set) /* D 0, and entry T was empty */      \
+  X(quiet_kept_a_mark_of_T) /* entry T is empty: its bit stays, though it is wrong */                        \
+  X(wrong_marks_not_judged) /* in a slot that joins or transfers */                                          \
+  X(undone_with_a_mark) /* 3, after a mark was set */                                                        \
+  X(next_of_the_output) X(next_of_the_output_reads_no_bit) /* though the bits name an empty entry */         \
+  X(next_is_none) X(next_is_none_with_the_mark_of_T) X(next_is_none_with_a_mark_above)                       \
+  X(next_is_none_with_an_unmarked_entry) X(next_at_N_1)                                                      \
+  X(next_is_1_entry_on) X(next_is_N_1_entries_on) X(next_ahead) X(next_beyond_the_end)                       \
+  X(next_in_the_word_of_T_ahead) X(next_in_the_word_of_T_behind) X(next_in_another_word)                     \
+  X(next_two_words_on) X(next_at_bit_0) X(next_at_bit_63) X(next_from_bit_63) X(next_at_entry_0)             \
+  X(next_at_the_last_entry) X(next_past_the_mark_of_T) X(next_past_a_mark_above) X(next_past_an_unmarked_entry) \
+  X(next_before_a_wrong_mark) /* one farther on names an empty entry */                                      \
+  X(next_3_though_a_later_one_fits) X(next_is_refused_1) X(next_is_refused_2) X(next_unfit_after_1_2)        \
+  X(audited_with_a_mark) X(audited_with_marks) X(audited_without)
+
+enum Mark {
+#define X(name) name,
+  CALLS_MARKS(X)
+#undef X
+      mark_count
+};
+extern const char *const mark_name[mark_count];
+
+// What splits and operators had to do with setup, open and close.
+#define CALLS_OWNERS(X)                                                                                      \
+  X(setup_split_vci_0) X(setup_split_vci_V) X(setup_split_path_0) X(setup_split_path_256)                    \
+  X(setup_split_1_before_13) X(setup_split_1_before_2) X(setup_split_vci_last) X(setup_split_path_255)       \
+  X(stored_split_vci_unfit) X(stored_split_path_unfit) X(stored_split_1_before_2) X(stored_split_1_before_4) \
+  X(opened_by_the_first) X(opened_by_the_second) X(closed_by_the_first) X(closed_by_the_second)              \
+  X(path_of_the_first) X(path_of_the_second) X(at_the_split_vci) X(below_the_split_vci)                      \
+  X(at_the_split_path) X(below_the_split_path)                                                               \
+  X(refused_16_to_the_first) X(refused_16_to_the_second) X(refused_16_to_nobody)                             \
+  X(refused_16_at_the_split) /* the first asks for the split itself */                                       \
+  X(refused_16_below_the_split) /* the second asks for the one below it */                                   \
+  X(refused_16_of_a_path) X(refused_16_by_the_other_split) /* the split of the other kind would let it pass */ \
+  X(refused_16_of_an_unfit_one) /* no word is read: it would be 3 */                                         \
+  X(refused_16_of_an_open_one) X(refused_16_of_a_closed_one) X(refused_4_to_nobody) X(unfit_split_not_read)
+
+enum Owner {
+#define X(name) name,
+  CALLS_OWNERS(X)
+#undef X
+      owner_count
+};
+extern const char *const owner_name[owner_count];
+
 // What was met, for the summary of a run.
 struct Tally {
   std::array<uint64_t, clause_count> clause{};
@@ -196,6 +273,9 @@ struct Tally {
   std::array<uint64_t, check_count> check{};
   std::array<uint64_t, bucket_count> bucket{};
   std::array<uint64_t, path_count> path{};
+  std::array<uint64_t, space_count> space{};
+  std::array<uint64_t, mark_count> mark{};
+  std::array<uint64_t, owner_count> owner{};
   std::array<uint64_t, 40> mended_bit{};
 };
 extern Tally tally;
@@ -210,13 +290,19 @@ struct Memory {
   Lent<uint8_t> cells;
   Lent<uint16_t> links, calendar;
   Lent<uint32_t> vcs;
+  Lent<uint64_t> bits;
 };
 
-clurimoon_set setup(uint16_t n, uint16_t v, bool raw, uint16_t kind, Memory);
-// What is opened or closed: a VC by its VCI, or a path by its VPI.
+// The first connections that are the second operator's: a VCI, and a path's number.
+struct Splits {
+  uint16_t vci, path;
+};
+clurimoon_set setup(uint16_t n, uint16_t v, bool raw, uint16_t kind, Splits, Memory);
+// What is opened or closed, and by which operator: a VC by its VCI, or a path by its VPI.
 struct Name {
   bool path;
   uint16_t number;
+  uint16_t owner;
 };
 // What it is opened with: its peak bucket, and its second one or zeros.
 struct Rates {
@@ -229,8 +315,15 @@ struct Rates {
 uint16_t open(const clurimoon_record &, Lent<uint32_t> vcs, Name, const Rates &);
 uint16_t close(const clurimoon_record &, Lent<uint32_t> vcs, Name);
 clurimoon_served slot(const clurimoon_record &, Memory, Lent<const uint8_t> cell);
+// The same slot with document 01's Free List in place of the lowest free space: its head is taken, and what departs goes to
+// its tail. A refused slot leaves the list as it came.
+clurimoon_served slot_listed(const clurimoon_record &, Memory, Lent<const uint8_t> cell, std::deque<uint16_t> &free_list);
 clurimoon_part line(size_t cells_length, size_t idle_length, uint16_t number);
 bool audit(const clurimoon_record &, Memory);
+// How long until a cell leaves: by the bits, one after the other.
+clurimoon_wait next(const clurimoon_record &, Lent<const uint16_t> calendar, Lent<const uint64_t> bits);
+// The same by a walk over the entries themselves, which looks at no bit; of a state whose numbers are in range.
+uint16_t walked(const clurimoon_record &, Lent<const uint16_t> calendar);
 clurimoon_burst_end burst(const clurimoon_record &, Memory, Lent<const uint8_t> arrivals,
                           Lent<const uint8_t> sizes, Lent<uint8_t> departures, Lent<uint16_t> answers);
 

@@ -1,5 +1,5 @@
 // Compares the archive with the second implementation of the calls, after every
-// call: the answer, the record, all four memories, and what lies around them.
+// call: the answer, the record, all five memories, and what lies around them.
 //
 //   compare SEED CALLS [SCENARIO]
 //
@@ -18,12 +18,13 @@ public:
 
   void numbers() {
     const std::map<std::string, std::vector<unsigned>> expected = {{"setup", {0, 1, 2, 13}},
-                                                                   {"open", {0, 1, 2, 3, 4, 5, 6}},
-                                                                   {"open_sustained", {0, 1, 2, 3, 4, 5, 6, 11}},
-                                                                   {"open_path", {0, 1, 2, 3, 4, 5, 6, 11}},
-                                                                   {"close", {0, 1, 2, 3, 4, 7, 8}},
-                                                                   {"close_path", {0, 1, 2, 3, 4, 7, 8}},
+                                                                   {"open", {0, 1, 2, 3, 4, 5, 6, 16}},
+                                                                   {"open_sustained", {0, 1, 2, 3, 4, 5, 6, 11, 16}},
+                                                                   {"open_path", {0, 1, 2, 3, 4, 5, 6, 11, 16}},
+                                                                   {"close", {0, 1, 2, 3, 4, 7, 8, 16}},
+                                                                   {"close_path", {0, 1, 2, 3, 4, 7, 8, 16}},
                                                                    {"slot", {0, 1, 2, 3, 9}},
+                                                                   {"next", {0, 1, 2, 3}},
                                                                    {"burst", {0, 1, 2, 3, 9}}};
     for (const auto &[call, which] : expected) {
       std::printf("  %-14s", call.c_str());
@@ -41,6 +42,9 @@ public:
     std::printf("\n  audits:");
     item(" yes", audits_yes), item(", no", audits_no), item("; line parts: empty", parts_empty);
     item(", idle", parts_idle), item(", space", parts_cell), item("; damages", damages);
+    std::printf("\n  slots beside the old form:"), item("", beside_old), item(", in another space", other_spaces);
+    std::printf("\n  next departures beside a walk over the entries: none waits"), item("", walked_none), item(", some", walked_some);
+    item("; beside what then left", left_asleep), item(", empty slots", slots_asleep);
     std::printf("\n");
   }
   // Which of the forty bits were mended: the one least often, that is.
@@ -105,6 +109,9 @@ int main(int count_arguments, char **arguments) {
   summary.clauses("close by what is left of S:", calls::close_name, calls::tally.close);
   summary.clauses("cells and openings by the second bucket:", calls::bucket_name, calls::tally.bucket);
   summary.clauses("line kind and paths:", calls::path_name, calls::tally.path);
+  summary.clauses("bits and number of free spaces:", calls::space_name, calls::tally.space);
+  summary.clauses("bits of the calendar entries:", calls::mark_name, calls::tally.mark);
+  summary.clauses("splits and operators:", calls::owner_name, calls::tally.owner);
   if (may_be_raw) summary.clauses("the header check:", calls::check_name, calls::tally.check), summary.bits();
   std::printf("memories: %llu calls in %llu scenarios compared, all equal\n",
               static_cast<unsigned long long>(made), static_cast<unsigned long long>(scenario));

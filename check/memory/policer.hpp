@@ -2,6 +2,7 @@
 // made of both with the same arguments, and everything is compared after it.
 #pragma once
 #include <algorithm>
+#include <optional>
 
 #include "../random.hpp"
 #include "../second/hec.hpp"
@@ -17,6 +18,47 @@ constexpr bool may_be_raw = true;
 #endif
 
 constexpr size_t words_per_connection = 12, paths = 256;
+// Of the words of bits, those of spaces, and all of them: those of calendar entries follow.
+constexpr size_t free_words = 16, bit_words = 32;
+
+// The old form of a policer from its setup on, with document 01's Free List. What it says is compared with the archive while
+// the archive's policer is fresh: all but which space a cell has.
+class Old {
+public:
+  Old(uint16_t n, uint16_t v, bool raw, uint16_t kind, calls::Splits splits)
+      : cells(size_t{53} * n), links(n), calendar(size_t{2} * n), vcs(words_per_connection * (v + paths)), bits(bit_words) {
+    record = calls::setup(n, v, raw, kind, splits, lend()).record;
+    for (uint16_t space = 0; space < n; ++space) list.push_back(space);
+  }
+  void open(calls::Name name, const calls::Rates &rates, uint16_t number) {
+    same<uint64_t>("number beside the old form", calls::open(record, lend().vcs, name, rates), number);
+  }
+  void close(calls::Name name, uint16_t number) {
+    same<uint64_t>("number beside the old form", calls::close(record, lend().vcs, name), number);
+  }
+  void slot(const uint8_t *cell, size_t length, clurimoon_answer got, const uint8_t *departed) {
+    const clurimoon_served served = calls::slot_listed(record, lend(), {cell, length}, list);
+    record = served.record;
+    clurimoon_answer a = served.answer;
+    beside_old += 1, other_spaces += a.space != got.space;
+    if (a.space != none && got.space != none) {
+      if (std::memcmp(&cells[size_t{53} * a.space], departed, 53) != 0) fail("other octets depart than of the old form");
+      a.space = got.space;
+    }
+    same("answer beside the old form", a, got);
+  }
+
+private:
+  std::vector<uint8_t> cells;
+  std::vector<uint16_t> links, calendar;
+  std::vector<uint32_t> vcs;
+  std::vector<uint64_t> bits;
+  clurimoon_record record{};
+  std::deque<uint16_t> list;
+  calls::Memory lend() {
+    return {{cells.data(), cells.size()}, {links.data(), links.size()}, {calendar.data(), calendar.size()}, {vcs.data(), vcs.size()}, {bits.data(), bits.size()}};
+  }
+};
 
 class Policer {
 protected:
@@ -26,11 +68,13 @@ protected:
     Twin<uint8_t> cells;
     Twin<uint16_t> links, calendar;
     Twin<uint32_t> vcs;
+    Twin<uint64_t> bits;
   };
   Random random;
   uint16_t n = 1, v = 2;
   clurimoon_record record{};
   Memories memory;
+  std::optional<Old> old; // asked while the policer is fresh
   bool fresh = true; // since setup each call got what the call before left
   unsigned load = 90;
   unsigned wrong = 10; // cells in a hundred that come with a wrong header, where it is checked
@@ -43,16 +87,24 @@ protected:
     if (random.percent(50)) return random.pick(favourites);
     return static_cast<uint16_t>(v + random.pick(favourite_paths));
   }
-  calls::Name name_of(size_t connection) const {
-    return {connection > v, static_cast<uint16_t>(connection > v ? connection - v : connection)};
+  // A VC or path with the operator who asks for it: mostly its own, now and then the other, or nobody.
+  calls::Name named(bool path, uint16_t number) {
+    const bool of_the_first = number < (path ? record.split_path : record.split_vci);
+    uint16_t owner = of_the_first ? CLURIMOON_OWNER_FIRST : CLURIMOON_OWNER_SECOND;
+    if (random.once_in(12)) owner = static_cast<uint16_t>(1 - owner);
+    if (random.once_in(60)) owner = random.pick<uint16_t>({2, 3, 255, 256, 257, 65535});
+    return {path, number, owner};
+  }
+  calls::Name name_of(size_t connection) {
+    return named(connection > v, static_cast<uint16_t>(connection > v ? connection - v : connection));
   }
 
   void choose_sizes() {
     const uint64_t kind = random.below(100);
     if (kind < 50) n = static_cast<uint16_t>(random.between(1, 8));
     else if (kind < 80) n = static_cast<uint16_t>(random.between(1, 80));
-    else if (kind < 94) n = random.pick<uint16_t>({1, 2, 5, 31, 32, 33, 37, 63, 64, 65, 75, 76});
-    else n = random.pick<uint16_t>({512, 1000, 1023, 1024});
+    else if (kind < 94) n = random.pick<uint16_t>({1, 2, 5, 31, 32, 33, 37, 63, 64, 65, 75, 76, 127, 128, 129});
+    else n = random.pick<uint16_t>({512, 959, 961, 1000, 1023, 1024});
     if (kind % 10 < 7) v = static_cast<uint16_t>(random.between(2, 9));
     else if (kind % 10 < 9) v = static_cast<uint16_t>(random.between(2, 70));
     else v = random.pick<uint16_t>({2, 3, 64, 255, 256, 1023, 1024});
@@ -76,10 +128,12 @@ protected:
     memory.links.resize(n, {0});
     memory.calendar.resize(size_t{2} * n, {none});
     memory.vcs.resize(words_per_connection * connections(), {1, 2, 10, 10, 0, 0, 1, 2, 20, 60, 0, 1});
+    memory.bits.resize(bit_words, {1, uint64_t{1} << 63});
     for (size_t k = 0; k < memory.cells.size(); k += random.between(1, 60))
       memory.cells.set(k, static_cast<uint8_t>(random.next()));
     for (size_t k = 0; k < memory.vcs.size(); k += random.between(1, 20))
       memory.vcs.set(k, static_cast<uint32_t>(random.next()));
+    for (size_t k = 0; k < bit_words; k += random.between(1, 4)) memory.bits.set(k, random.next());
   }
 
   // Setup over old content; where sizes or lengths are wrong it must refuse.
@@ -89,18 +143,30 @@ protected:
     if (random.once_in(12)) asked_n = random.pick<uint16_t>({0, 1025, 65535, 1024, 1});
     if (random.once_in(12)) asked_v = random.pick<uint16_t>({0, 1, 1025, 65535, 1024, 2});
     const Lengths lent = random.once_in(12) ? wrong_lengths() : lengths();
+    calls::Splits splits = any_splits();
+    if (random.once_in(10)) splits.vci = random.pick<uint16_t>({0, v, v, static_cast<uint16_t>(v + 1), 65535});
+    if (random.once_in(10)) splits.path = random.pick<uint16_t>({0, 256, 256, 257, 65535});
     uint16_t kind = random.once_in(2) ? CLURIMOON_UNI : CLURIMOON_NNI;
     if (random.once_in(12)) kind = random.pick<uint16_t>({2, 3, 256, 257, 65535});
-    const clurimoon_set got = setup(asked_n, asked_v, may_be_raw && random.once_in(2), kind, lent);
+    const bool raw = may_be_raw && random.once_in(2);
+    const clurimoon_set got = setup(asked_n, asked_v, raw, kind, splits, lent);
     record = got.record;
     // Another size with just its lengths is done, too, and is not the policer that follows.
     if (got.number != 0 || asked_n != n || asked_v != v) return false;
+    old.emplace(n, v, raw, kind, splits);
     if (random.once_in(2)) disguise(0);
     if (random.once_in(2)) disguise(v);
     for (uint64_t k = random.between(1, 12); k > 0; --k) any_open();
     return true;
   }
 
+  // Splits within their ranges, often next to a connection in use.
+  calls::Splits any_splits() {
+    const uint16_t vci = random.pick(favourites), path = random.pick(favourite_paths);
+    const uint16_t after_vci = static_cast<uint16_t>(vci + 1 < v ? vci + 1 : vci), after_path = static_cast<uint16_t>(path < 255 ? path + 1 : path);
+    return {random.pick<uint16_t>({1, vci, vci, after_vci, after_vci, static_cast<uint16_t>(v - 1), static_cast<uint16_t>(random.between(1, v - 1u))}),
+            random.pick<uint16_t>({1, path, path, after_path, after_path, 255, static_cast<uint16_t>(random.between(1, 255))})};
+  }
   // The words of numbers 0 and V don't matter: here they look like those of an open VC, or like none.
   void disguise(size_t connection) {
     const uint32_t open = random.pick<uint32_t>({1, 1, 2, UINT32_MAX});
@@ -117,8 +183,10 @@ protected:
     if (n <= 1024 && v == 2) v = 1025;
     favourites = {1}, favourite_paths = {1, 255};
     make_buffers();
-    setup(n, v, may_be_raw && random.once_in(2), random.pick<uint16_t>({0, 1, 2, 65535}), lengths());
-    for (uint16_t space = 0; space < n; ++space) memory.links.set(space, static_cast<uint16_t>(space + 1));
+    setup(n, v, may_be_raw && random.once_in(2), random.pick<uint16_t>({0, 1, 2, 65535}), {1, 1}, lengths());
+    for (uint16_t space = 0; space < n; ++space) memory.links.set(space, 0);
+    for (size_t w = 0; w < free_words; ++w) memory.bits.set(w, n >= 64 * (w + 1) ? UINT64_MAX : n > 64 * w ? (uint64_t{1} << (n - 64 * w)) - 1 : 0);
+    for (size_t w = free_words; w < bit_words; ++w) memory.bits.set(w, 0);
     for (size_t k = 0; k < memory.calendar.size(); ++k) memory.calendar.set(k, none);
     for (size_t k = 0; k < memory.vcs.size(); ++k) memory.vcs.set(k, 0);
     record = {n,
@@ -126,22 +194,23 @@ protected:
               UINT32_MAX,
               static_cast<uint16_t>(n - 1),
               static_cast<uint16_t>(v + paths - 1),
-              0,
-              static_cast<uint16_t>(n - 1),
+              n,
               none,
               none,
               static_cast<uint16_t>(may_be_raw ? random.below(4) : 0),
               static_cast<uint16_t>(may_be_raw ? random.below(3) : 0),
-              static_cast<uint16_t>(random.below(4))};
+              static_cast<uint16_t>(random.below(4)),
+              1,
+              1};
     fresh = false;
   }
 
   struct Lengths {
-    size_t cells, links, calendar, vcs;
+    size_t cells, links, calendar, vcs, bits;
     bool null;
   };
   Lengths lengths() {
-    return {memory.cells.size(), memory.links.size(), memory.calendar.size(), memory.vcs.size(),
+    return {memory.cells.size(), memory.links.size(), memory.calendar.size(), memory.vcs.size(), memory.bits.size(),
             random.once_in(2)};
   }
   size_t wrong_length(size_t length, size_t unit) {
@@ -149,40 +218,50 @@ protected:
   }
   Lengths wrong_lengths() {
     Lengths lent = lengths();
-    const uint64_t which = random.below(5);
+    const uint64_t which = random.below(6);
     if (which == 0 || which == 4) lent.cells = wrong_length(lent.cells, 53);
     if (which == 1 || which == 4) lent.links = wrong_length(lent.links, 1);
     if (which == 2 || which == 4) lent.calendar = wrong_length(lent.calendar, 2);
     // those of (iv) and of document 01, and of 256 paths with none unused before them
     const size_t other = random.pick<size_t>({size_t{7} * v, size_t{12} * v, size_t{7} * connections()});
     if (which == 3 || which == 4) lent.vcs = random.once_in(3) ? other : wrong_length(lent.vcs, words_per_connection);
+    // a word for each 64 of N, a word a space, the spaces alone, and entries by N behind them
+    if (which == 5 || which == 4) lent.bits = random.pick<size_t>({0, 1, 15, 16, 16, 17, 31, 33, (n + 63u) / 64u, n, 16 + (n + 63u) / 64u});
     return lent;
+  }
+  // For open and close: a wrong length more often where the splits would be refused before it.
+  size_t words_lent() {
+    const bool fit = record.split_vci != 0 && record.split_vci < v && record.split_path != 0 && record.split_path < paths;
+    return random.once_in(fit ? 60 : 8) ? wrong_lengths().vcs : memory.vcs.size();
   }
   Lengths usual_lengths() { return random.once_in(60) ? wrong_lengths() : lengths(); }
 
   calls::Memory lend_ours(const Lengths &lent) {
     return {memory.cells.lend_ours(lent.cells), memory.links.lend_ours(lent.links),
-            memory.calendar.lend_ours(lent.calendar), memory.vcs.lend_ours(lent.vcs)};
+            memory.calendar.lend_ours(lent.calendar), memory.vcs.lend_ours(lent.vcs),
+            memory.bits.lend_ours(lent.bits)};
   }
   void compare_memories() const {
     memory.cells.compare("cells");
     memory.links.compare("links");
     memory.calendar.compare("calendar");
     memory.vcs.compare("VC words");
+    memory.bits.compare("bits");
   }
   void begin_call(const char *name) {
     call_name = name;
     made += 1;
   }
 
-  clurimoon_set setup(uint16_t asked_n, uint16_t asked_v, bool raw, uint16_t kind, const Lengths &lent) {
+  clurimoon_set setup(uint16_t asked_n, uint16_t asked_v, bool raw, uint16_t kind, calls::Splits splits, const Lengths &lent) {
     begin_call("setup");
-    const clurimoon_set expected = calls::setup(asked_n, asked_v, raw, kind, lend_ours(lent));
+    const clurimoon_set expected = calls::setup(asked_n, asked_v, raw, kind, splits, lend_ours(lent));
     const clurimoon_set got =
-        clurimoon_setup(asked_n, asked_v, raw, kind, memory.cells.lend_theirs(lent.cells, lent.null), lent.cells,
+        clurimoon_setup(asked_n, asked_v, raw, kind, splits.vci, splits.path, memory.cells.lend_theirs(lent.cells, lent.null), lent.cells,
                         memory.links.lend_theirs(lent.links, lent.null), lent.links,
                         memory.calendar.lend_theirs(lent.calendar, lent.null), lent.calendar,
-                        memory.vcs.lend_theirs(lent.vcs, lent.null), lent.vcs);
+                        memory.vcs.lend_theirs(lent.vcs, lent.null), lent.vcs,
+                        memory.bits.lend_theirs(lent.bits, lent.null), lent.bits);
     same<uint64_t>("number", expected.number, got.number);
     same_record(expected.record, got.record);
     compare_memories();
@@ -217,13 +296,13 @@ protected:
   }
   uint16_t any_vci() {
     if (random.percent(80)) return random.pick(favourites);
-    return random.pick<uint16_t>({0, 1, static_cast<uint16_t>(v - 1), v, static_cast<uint16_t>(v + 1), 65535,
+    return random.pick<uint16_t>({0, 1, record.split_vci, static_cast<uint16_t>(record.split_vci - 1), static_cast<uint16_t>(v - 1), v, static_cast<uint16_t>(v + 1), 65535,
                                   static_cast<uint16_t>(random.below(v)),
                                   static_cast<uint16_t>(v + random.pick(favourite_paths))});
   }
   uint16_t any_vpi() {
     if (random.percent(80)) return random.pick(favourite_paths);
-    return random.pick<uint16_t>({0, 1, 2, 254, 255, 256, 256, 257, 511, 4095, 65535, v, static_cast<uint16_t>(random.below(256)),
+    return random.pick<uint16_t>({0, 1, 2, record.split_path, static_cast<uint16_t>(record.split_path - 1), 254, 255, 256, 256, 257, 511, 4095, 65535, v, static_cast<uint16_t>(random.below(256)),
                                   static_cast<uint16_t>(v + random.pick(favourite_paths))});
   }
 
@@ -261,8 +340,11 @@ protected:
   void any_open() {
     const uint64_t kind = random.below(100);
     if (kind < 20) open();
-    else if (kind < 60) open_sustained();
-    else open_path();
+    else open_of(named(kind >= 60, kind < 60 ? any_vci() : any_vpi()));
+  }
+  void open_of(calls::Name name) {
+    if (name.path) open_path(name);
+    else open_sustained(name);
   }
   calls::Rates peak_alone() {
     calls::Rates rates{};
@@ -273,12 +355,13 @@ protected:
     begin_call("open");
     calls::Rates rates = peak_alone();
     if (random.percent(15)) break_rules(rates.m, rates.f, rates.c);
-    const uint16_t vci = any_vci();
-    const size_t lent = usual_lengths().vcs;
-    const uint16_t expected = calls::open(record, memory.vcs.lend_ours(lent), {false, vci}, rates);
-    const uint16_t got = clurimoon_open(record, memory.vcs.lend_theirs(lent, random.once_in(2)), lent, vci, rates.m,
+    const calls::Name name = named(false, any_vci());
+    const size_t lent = words_lent();
+    const uint16_t expected = calls::open(record, memory.vcs.lend_ours(lent), name, rates);
+    const uint16_t got = clurimoon_open(record, memory.vcs.lend_theirs(lent, random.once_in(2)), lent, name.owner, name.number, rates.m,
                                         rates.f, rates.c);
     opened("open", expected, got);
+    if (old && fresh && got != 2) old->open(name, rates, got);
   }
   calls::Rates any_rates() {
     calls::Rates rates = peak_alone();
@@ -290,26 +373,26 @@ protected:
     if (random.percent(8)) break_rules(rates.m, rates.f, rates.c);
     return rates;
   }
-  void open_sustained() {
+  void open_sustained(calls::Name name) {
     begin_call("open_sustained");
     const calls::Rates rates = any_rates();
-    const uint16_t vci = any_vci();
-    const size_t lent = usual_lengths().vcs;
-    const uint16_t expected = calls::open(record, memory.vcs.lend_ours(lent), {false, vci}, rates);
+    const size_t lent = words_lent();
+    const uint16_t expected = calls::open(record, memory.vcs.lend_ours(lent), name, rates);
     const uint16_t got =
-        clurimoon_open_sustained(record, memory.vcs.lend_theirs(lent, random.once_in(2)), lent, vci, rates.m, rates.f,
+        clurimoon_open_sustained(record, memory.vcs.lend_theirs(lent, random.once_in(2)), lent, name.owner, name.number, rates.m, rates.f,
                                  rates.c, rates.m2, rates.f2, rates.c2, rates.tag);
     opened("open_sustained", expected, got);
+    if (old && fresh && got != 2) old->open(name, rates, got);
   }
-  void open_path() {
+  void open_path(calls::Name name) {
     begin_call("open_path");
     const calls::Rates rates = any_rates();
-    const uint16_t vpi = any_vpi();
-    const size_t lent = usual_lengths().vcs;
-    const uint16_t expected = calls::open(record, memory.vcs.lend_ours(lent), {true, vpi}, rates);
-    const uint16_t got = clurimoon_open_path(record, memory.vcs.lend_theirs(lent, random.once_in(2)), lent, vpi, rates.m,
+    const size_t lent = words_lent();
+    const uint16_t expected = calls::open(record, memory.vcs.lend_ours(lent), name, rates);
+    const uint16_t got = clurimoon_open_path(record, memory.vcs.lend_theirs(lent, random.once_in(2)), lent, name.owner, name.number, rates.m,
                                              rates.f, rates.c, rates.m2, rates.f2, rates.c2, rates.tag);
     opened("open_path", expected, got);
+    if (old && fresh && got != 2) old->open(name, rates, got);
   }
   void opened(const char *call, uint16_t expected, uint16_t got) {
     same<uint64_t>("number", expected, got);
@@ -318,20 +401,21 @@ protected:
     never_3(got);
   }
   void close() {
-    if (random.once_in(2)) close_of({false, any_vci()});
-    else close_of({true, any_vpi()});
+    if (random.once_in(2)) close_of(named(false, any_vci()));
+    else close_of(named(true, any_vpi()));
   }
   void close_of(calls::Name name) {
     const char *const call = name.path ? "close_path" : "close";
     begin_call(call);
-    const size_t lent = usual_lengths().vcs;
+    const size_t lent = words_lent();
     const uint16_t expected = calls::close(record, memory.vcs.lend_ours(lent), name);
     uint32_t *const words = memory.vcs.lend_theirs(lent, random.once_in(2));
-    const uint16_t got = name.path ? clurimoon_close_path(record, words, lent, name.number) : clurimoon_close(record, words, lent, name.number);
+    const uint16_t got = (name.path ? clurimoon_close_path : clurimoon_close)(record, words, lent, name.owner, name.number);
     same<uint64_t>("number", expected, got);
     compare_memories();
     count(call, got);
     never_3(got);
+    if (old && fresh && got != 2) old->close(name, got);
   }
   void never_3(unsigned number) const {
     if (fresh && number == 3) fail("refusal 3 from a fresh state");
@@ -394,6 +478,7 @@ protected:
                        memory.links.lend_theirs(lent.links, lent.null), lent.links,
                        memory.calendar.lend_theirs(lent.calendar, lent.null), lent.calendar,
                        memory.vcs.lend_theirs(lent.vcs, lent.null), lent.vcs,
+                       memory.bits.lend_theirs(lent.bits, lent.null), lent.bits,
                        length == 0 && lent.null ? nullptr : cell, length);
     same("answer", expected.answer, got.answer);
     same_record(expected.record, got.record);
@@ -403,6 +488,10 @@ protected:
     count("slot", got.answer.number);
     never_3(got.answer.number);
     if (got.answer.number == 0) tally(got.answer.verdict, got.answer.space);
+    if (!old || !fresh || got.answer.number == 2) return;
+    uint8_t departed[53] = {};
+    for (size_t k = 0; k < 53 && got.answer.space < n; ++k) departed[k] = memory.cells.get(size_t{53} * got.answer.space + k);
+    old->slot(cell, length, got.answer, departed);
   }
   void tally(uint16_t verdict, uint16_t space) {
     if (verdict > 5) fail("a verdict above 5");
@@ -441,7 +530,8 @@ protected:
         record, memory.cells.lend_theirs(lent.cells, lent.null), lent.cells,
         memory.links.lend_theirs(lent.links, lent.null), lent.links,
         memory.calendar.lend_theirs(lent.calendar, lent.null), lent.calendar,
-        memory.vcs.lend_theirs(lent.vcs, lent.null), lent.vcs, arrivals.lend_theirs(lent_arrivals, lent.null),
+        memory.vcs.lend_theirs(lent.vcs, lent.null), lent.vcs,
+        memory.bits.lend_theirs(lent.bits, lent.null), lent.bits, arrivals.lend_theirs(lent_arrivals, lent.null),
         lent_arrivals, sizes.lend_theirs(lent_sizes, lent.null), lent_sizes,
         departures.lend_theirs(lent_departures, lent.null), lent_departures,
         answers.lend_theirs(lent_answers, lent.null), lent_answers);
@@ -456,6 +546,13 @@ protected:
     never_3(got.number);
     burst_slots += got.done;
     for (size_t k = 0; k < got.done; ++k) tally(answers.get(6 * k + 1), answers.get(6 * k + 4));
+    for (size_t k = 0; old && fresh && k < got.done; ++k) {
+      uint16_t six[6];
+      uint8_t cell[53], departed[53];
+      for (size_t i = 0; i < 6; ++i) six[i] = answers.get(6 * k + i);
+      for (size_t i = 0; i < 53; ++i) cell[i] = arrivals.get(53 * k + i), departed[i] = departures.get(53 * k + i);
+      old->slot(cell, sizes.get(k), {six[0], six[1], six[2], six[3], six[4], six[5]}, departed);
+    }
   }
 
   void line() {
@@ -487,20 +584,75 @@ protected:
     const bool got = clurimoon_audit(record, memory.cells.lend_theirs(lent.cells, lent.null), lent.cells,
                                      memory.links.lend_theirs(lent.links, lent.null), lent.links,
                                      memory.calendar.lend_theirs(lent.calendar, lent.null), lent.calendar,
-                                     memory.vcs.lend_theirs(lent.vcs, lent.null), lent.vcs);
+                                     memory.vcs.lend_theirs(lent.vcs, lent.null), lent.vcs,
+                                     memory.bits.lend_theirs(lent.bits, lent.null), lent.bits);
     same<uint64_t>("yes", expected, got);
     compare_memories();
     const bool right = lent.cells == memory.cells.size() && lent.links == memory.links.size() &&
-                       lent.calendar == memory.calendar.size() && lent.vcs == memory.vcs.size();
+                       lent.calendar == memory.calendar.size() && lent.vcs == memory.vcs.size() &&
+                       lent.bits == memory.bits.size();
     if (fresh && right && !got) fail("the audit says no in a fresh state");
     (got ? audits_yes : audits_no) += 1;
     met["audit"][0] += 1;
   }
 
+  // How long until something leaves. It is lent calendar and bits alone; whatever the other three would be, it answers.
+  void next() {
+    begin_call("next");
+    const Lengths lent = random.once_in(20) ? wrong_lengths() : lengths();
+    const Lent<uint16_t> calendar = memory.calendar.lend_ours(lent.calendar);
+    const Lent<uint64_t> bits = memory.bits.lend_ours(lent.bits);
+    const clurimoon_wait expected = calls::next(record, {calendar.at, calendar.length}, {bits.at, bits.length});
+    const clurimoon_wait got = clurimoon_next(record, memory.calendar.lend_theirs(lent.calendar, lent.null), lent.calendar,
+                                              memory.bits.lend_theirs(lent.bits, lent.null), lent.bits);
+    same<uint64_t>("number", expected.number, got.number);
+    same<uint64_t>("slots", expected.slots, got.slots);
+    compare_memories();
+    count("next", got.number);
+    never_3(got.number);
+    if (got.number != 0 || lent.calendar != memory.calendar.size() || lent.bits != memory.bits.size()) return;
+    if (n <= 130 || random.once_in(6)) as_walked(got.slots);
+  }
+  // In a state that the audit says yes to: the answer is that of the full walk over the entries, and of the slots to come, lent
+  // no cell, the one that it names is the first to send.
+  void as_walked(uint16_t slots) {
+    const calls::Tally before = calls::tally;
+    const bool sound = calls::audit(record, lend_ours(lengths()));
+    calls::tally = before;
+    if (!sound) {
+      if (fresh) fail("a fresh state is not sound");
+      return;
+    }
+    const Lent<uint16_t> calendar = memory.calendar.lend_ours(memory.calendar.size());
+    same<uint64_t>("slots, by a walk over the entries", calls::walked(record, {calendar.at, calendar.length}), slots);
+    (slots == 0 ? walked_none : walked_some) += 1;
+    if (n <= 130 || random.once_in(3)) as_left(slots);
+  }
+  void as_left(uint16_t slots) {
+    const size_t quiet = slots == 0 ? size_t{n} + random.below(4) : slots + random.below(3);
+    Memories asleep = memory;
+    std::vector<uint8_t> arrivals(53 * quiet, 0xa5), sizes(quiet, 0), departures(53 * quiet);
+    std::vector<uint16_t> answers(6 * quiet);
+    const clurimoon_burst_end end = clurimoon_burst(
+        record, asleep.cells.lend_theirs(asleep.cells.size(), false), asleep.cells.size(),
+        asleep.links.lend_theirs(asleep.links.size(), false), asleep.links.size(),
+        asleep.calendar.lend_theirs(asleep.calendar.size(), false), asleep.calendar.size(),
+        asleep.vcs.lend_theirs(asleep.vcs.size(), false), asleep.vcs.size(),
+        asleep.bits.lend_theirs(asleep.bits.size(), false), asleep.bits.size(), arrivals.data(), arrivals.size(), sizes.data(),
+        sizes.size(), departures.data(), departures.size(), answers.data(), answers.size());
+    if (end.number != 0 || end.done != quiet) fail("an empty slot was refused in a sound state");
+    size_t first = 0;
+    for (size_t k = 0; k < quiet && first == 0; ++k)
+      if (answers[6 * k + CLURIMOON_ANSWER_SPACE] != none) first = k + 1;
+    same<uint64_t>("slots, by what then leaves", first, slots);
+    left_asleep += 1, slots_asleep += quiet;
+  }
+
   void calls_for(uint64_t count) {
     for (; count > 0; --count) {
       const uint64_t kind = random.below(100);
-      if (kind < 66) slot();
+      if (kind < 60) slot();
+      else if (kind < 66) next();
       else if (kind < 72) any_open();
       else if (kind < 78) close();
       else if (kind < 82) line();

@@ -75,9 +75,8 @@ private:
 inline std::string show(const clurimoon_record &r) {
   std::string text = "{";
   for (uint32_t number :
-       {uint32_t{r.n}, uint32_t{r.v}, r.t, uint32_t{r.T}, uint32_t{r.rotation}, uint32_t{r.free_head},
-        uint32_t{r.free_tail}, uint32_t{r.out_head}, uint32_t{r.out_tail}, uint32_t{r.raw}, uint32_t{r.mode},
-        uint32_t{r.kind}})
+       {uint32_t{r.n}, uint32_t{r.v}, r.t, uint32_t{r.T}, uint32_t{r.rotation}, uint32_t{r.free}, uint32_t{r.out_head}, uint32_t{r.out_tail}, uint32_t{r.raw}, uint32_t{r.mode},
+        uint32_t{r.kind}, uint32_t{r.split_vci}, uint32_t{r.split_path}})
     text += " " + std::to_string(number);
   return text + " }";
 }
@@ -96,19 +95,20 @@ template <class T> void same(const char *name, const T &expected, const T &got) 
 inline void same_record(const clurimoon_record &expected, const clurimoon_record &got) {
   const bool equal = expected.n == got.n && expected.v == got.v && expected.t == got.t &&
                      expected.T == got.T && expected.rotation == got.rotation &&
-                     expected.free_head == got.free_head && expected.free_tail == got.free_tail &&
-                     expected.out_head == got.out_head && expected.out_tail == got.out_tail &&
-                     expected.raw == got.raw && expected.mode == got.mode && expected.kind == got.kind;
+                     expected.free == got.free && expected.out_head == got.out_head &&
+                     expected.out_tail == got.out_tail && expected.raw == got.raw && expected.mode == got.mode && expected.kind == got.kind &&
+                     expected.split_vci == got.split_vci && expected.split_path == got.split_path;
   if (!equal) same("record", expected, got);
 }
 
 // How often each call gave each number, and each verdict was met.
-inline std::map<std::string, std::array<uint64_t, 14>> met;
+inline std::map<std::string, std::array<uint64_t, 17>> met;
 inline std::array<uint64_t, 6> verdicts;
-inline uint64_t sent, audits_yes, audits_no, parts_empty, parts_idle, parts_cell, burst_slots, damages;
+inline uint64_t sent, audits_yes, audits_no, parts_empty, parts_idle, parts_cell, burst_slots, damages, beside_old, other_spaces, walked_none, walked_some,
+    left_asleep, slots_asleep;
 
 inline void count(const char *call, unsigned number) {
-  if (number > 13) fail("a number above 13");
+  if (number > 16) fail("a number above 16");
   met[call][number] += 1;
 }
 

@@ -4,7 +4,7 @@
 //   vectors FILE
 //
 // A vector is some lines up to an empty one: `vector NAME CALL STATE`; the record, the lengths and what the memories hold
-// (spaces and connections that aren't named are 0); `args`; `answer`; then `after same`, or `after` and the lines that have changed.
+// (spaces, connections and words of bits that aren't named are 0); `args`; `answer`; then `after same`, or `after` and the lines that have changed.
 #include <cstdio>
 #include <cstdlib>
 #include <fstream>
@@ -30,8 +30,9 @@ struct State {
   std::vector<uint8_t> cells;
   std::vector<uint16_t> links, calendar;
   std::vector<uint32_t> vcs;
+  std::vector<uint64_t> bits;
   calls::Memory lend() {
-    return {{cells.data(), cells.size()}, {links.data(), links.size()}, {calendar.data(), calendar.size()}, {vcs.data(), vcs.size()}};
+    return {{cells.data(), cells.size()}, {links.data(), links.size()}, {calendar.data(), calendar.size()}, {vcs.data(), vcs.size()}, {bits.data(), bits.size()}};
   }
 };
 
@@ -66,6 +67,8 @@ public:
     return value;
   }
   uint16_t half(const std::string &key) { return static_cast<uint16_t>(number(key, UINT16_MAX)); }
+  // A field that a vector from before request (xi) hasn't: there all connections are the second operator's.
+  uint16_t half_or(const std::string &key, uint16_t value) { return values.count(key) ? half(key) : value; }
   uint8_t octet(const std::string &key) { return static_cast<uint8_t>(number(key, UINT8_MAX)); }
   uint32_t word(const std::string &key) { return static_cast<uint32_t>(number(key, UINT32_MAX)); }
   void done() const {
@@ -93,12 +96,12 @@ template <class Word> std::vector<Word> numbers(std::string text) {
 }
 
 // `place:content` parts into a memory that is 0 elsewhere; `unit` elements a place.
-template <class Word, class Read> void place_parts(std::vector<Word> &memory, const std::string &line, size_t unit, Read read) {
+template <class Word, class Read> void place_parts(std::vector<Word> &memory, const std::string &line, size_t unit, Read read, size_t from = 0) {
   std::istringstream parts(line);
   for (std::string part; parts >> part;) {
     const size_t colon = part.find(':');
     const std::vector<Word> content = read(part.substr(colon + 1));
-    const size_t at = unit * number_of(part.substr(0, colon));
+    const size_t at = from + unit * number_of(part.substr(0, colon));
     if (at + content.size() > memory.size()) fail("more than was lent: " + part.substr(0, colon));
     std::copy(content.begin(), content.end(), memory.begin() + static_cast<std::ptrdiff_t>(at));
   }
@@ -108,9 +111,11 @@ clurimoon_record read_record(const std::string &line) {
   Fields f(line);
   clurimoon_record r{};
   r.n = f.half("N"), r.v = f.half("V"), r.t = f.word("t"), r.T = f.half("T"), r.rotation = f.half("rotation");
-  r.free_head = f.half("free_head"), r.free_tail = f.half("free_tail");
+  r.free = f.half("free_number");
   r.out_head = f.half("out_head"), r.out_tail = f.half("out_tail");
   r.raw = f.half("raw"), r.mode = f.half("mode"), r.kind = f.half("kind");
+  const uint16_t split = r.v == 0 ? 0 : 1; // a record of zeros has none
+  r.split_vci = f.half_or("split_vci", split), r.split_path = f.half_or("split_path", split);
   return f.done(), r;
 }
 
@@ -119,16 +124,21 @@ State read_state(Lines lines) {
   if (lines.count("rec")) state.record = read_record(lines["rec"]);
   Fields length(lines["length"]);
   state.cells.resize(length.word("cells")), state.vcs.resize(length.word("words"));
+  // one lent memory: the bits of the entries stand behind those of the spaces
+  const size_t free_bits = length.word("free_bits"), entry_bits = length.word("entry_bits");
+  state.bits.resize(free_bits + entry_bits);
   state.links = numbers<uint16_t>(lines["links"]), state.calendar = numbers<uint16_t>(lines["calendar"]);
   if (state.links.size() != length.word("links") || state.calendar.size() != length.word("calendar")) fail("lengths");
   length.done();
   place_parts(state.cells, lines["cells"], 53, from_hex);
   place_parts(state.vcs, lines["words"], 12, numbers<uint32_t>);
+  place_parts(state.bits, lines["free_bits"], 1, numbers<uint64_t>);
+  place_parts(state.bits, lines["entry_bits"], 1, numbers<uint64_t>, free_bits);
   return state;
 }
 
 std::vector<uint64_t> numbers_of(const clurimoon_record &r) {
-  return {r.n, r.v, r.t, r.T, r.rotation, r.free_head, r.free_tail, r.out_head, r.out_tail, r.raw, r.mode, r.kind};
+  return {r.n, r.v, r.t, r.T, r.rotation, r.free, r.out_head, r.out_tail, r.raw, r.mode, r.kind, r.split_vci, r.split_path};
 }
 template <class Word> void same_memory(const std::string &what, const std::vector<Word> &expected, const std::vector<Word> &got) {
   for (size_t k = 0; k < expected.size(); ++k)
@@ -140,35 +150,37 @@ template <class Word> void same_memory(const std::string &what, const std::vecto
 std::string make(bool archive, const std::string &call, const std::string &arguments, State &s) {
   Fields f(arguments);
   std::string answer;
-#define THEIRS s.cells.data(), s.cells.size(), s.links.data(), s.links.size(), s.calendar.data(), s.calendar.size(), s.vcs.data(), s.vcs.size()
+#define THEIRS s.cells.data(), s.cells.size(), s.links.data(), s.links.size(), s.calendar.data(), s.calendar.size(), s.vcs.data(), s.vcs.size(), s.bits.data(), s.bits.size()
   if (call == "setup") {
     const uint16_t n = f.half("N"), v = f.half("V");
     const bool raw = f.number("raw", 1) == 1;
     const uint16_t kind = f.half("kind");
-    const clurimoon_set set = archive ? clurimoon_setup(n, v, raw, kind, THEIRS) : calls::setup(n, v, raw, kind, s.lend());
+    const calls::Splits splits = {f.half_or("split_vci", 1), f.half_or("split_path", 1)};
+    const clurimoon_set set = archive ? clurimoon_setup(n, v, raw, kind, splits.vci, splits.path, THEIRS)
+                                      : calls::setup(n, v, raw, kind, splits, s.lend());
     s.record = set.record;
     answer = "number=" + std::to_string(set.number);
   } else if (call == "open") {
     const bool path = f.number("path", 1) == 1;
-    const uint16_t number_asked = f.half("number");
+    const uint16_t number_asked = f.half("number"), owner = f.half_or("op", 1);
     calls::Rates r{};
     r.m = f.octet("m"), r.f = f.word("F"), r.c = f.word("C");
     r.m2 = f.octet("m2"), r.f2 = f.word("F2"), r.c2 = f.word("C2"), r.tag = f.octet("flag");
     State once_more = s;
     const auto theirs = path ? clurimoon_open_path : clurimoon_open_sustained;
-    const uint16_t number = archive ? theirs(s.record, s.vcs.data(), s.vcs.size(), number_asked, r.m, r.f, r.c, r.m2, r.f2, r.c2, r.tag)
-                                    : calls::open(s.record, s.lend().vcs, {path, number_asked}, r);
+    const uint16_t number = archive ? theirs(s.record, s.vcs.data(), s.vcs.size(), owner, number_asked, r.m, r.f, r.c, r.m2, r.f2, r.c2, r.tag)
+                                    : calls::open(s.record, s.lend().vcs, {path, number_asked, owner}, r);
     if (archive && !path && r.m2 == 0 && r.f2 == 0 && r.c2 == 0 && r.tag == 0) {
-      const uint16_t plain = clurimoon_open(once_more.record, once_more.vcs.data(), once_more.vcs.size(), number_asked, r.m, r.f, r.c);
+      const uint16_t plain = clurimoon_open(once_more.record, once_more.vcs.data(), once_more.vcs.size(), owner, number_asked, r.m, r.f, r.c);
       if (plain != number || once_more.vcs != s.vcs) fail("open differs from open_sustained with zeros");
     }
     answer = "number=" + std::to_string(number);
   } else if (call == "close") {
     const bool path = f.number("path", 1) == 1;
-    const uint16_t number_asked = f.half("number");
+    const uint16_t number_asked = f.half("number"), owner = f.half_or("op", 1);
     const auto theirs = path ? clurimoon_close_path : clurimoon_close;
-    answer = "number=" + std::to_string(archive ? theirs(s.record, s.vcs.data(), s.vcs.size(), number_asked)
-                                                : calls::close(s.record, s.lend().vcs, {path, number_asked}));
+    answer = "number=" + std::to_string(archive ? theirs(s.record, s.vcs.data(), s.vcs.size(), owner, number_asked)
+                                                : calls::close(s.record, s.lend().vcs, {path, number_asked, owner}));
   } else if (call == "slot") {
     const std::string digits = f.text("cell");
     const std::vector<uint8_t> cell = from_hex(digits == "-" ? "" : digits), before = cell;
@@ -179,6 +191,10 @@ std::string make(bool archive, const std::string &call, const std::string &argum
     if (cell != before) fail("the arriving cell was written");
     answer = "number=" + std::to_string(a.number) + " verdict=" + std::to_string(a.verdict) + " vci=" + std::to_string(a.vci) +
              " d=" + std::to_string(a.d) + " space=" + std::to_string(a.space) + " out=" + std::to_string(a.out_vci);
+  } else if (call == "next") {
+    const clurimoon_wait wait = archive ? clurimoon_next(s.record, s.calendar.data(), s.calendar.size(), s.bits.data(), s.bits.size())
+                                        : calls::next(s.record, {s.calendar.data(), s.calendar.size()}, {s.bits.data(), s.bits.size()});
+    answer = "number=" + std::to_string(wait.number) + " slots=" + std::to_string(wait.slots);
   } else if (call == "audit") {
     answer = std::string("yes=") + ((archive ? clurimoon_audit(s.record, THEIRS) : calls::audit(s.record, s.lend())) ? "1" : "0");
   } else {
@@ -198,6 +214,7 @@ void run(bool archive, const std::string &call, const Lines &before, const Lines
   same_memory(who + ": links", expected.links, state.links);
   same_memory(who + ": calendar", expected.calendar, state.calendar);
   same_memory(who + ": VC words", expected.vcs, state.vcs);
+  same_memory(who + ": bits", expected.bits, state.bits);
 }
 
 } // namespace

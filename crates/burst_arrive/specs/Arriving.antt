@@ -4,7 +4,7 @@
 --
 --   Judges k words vci D S == an open connection without a second bucket accepts a cell
 --   Arrives k words cell.. == the connection that the cell names accepts it
---   Seats k .. p           == the cell has its space, its entry and the Free List without it
+--   Seats k .. p           == the cell has its space, the lowest free one, and its entry
 --   Spotted k .. p         == all of these
 use Prim.Native.Nat.{ℕ, _+_, _*_, _≤_, _<_}
 use mathlib.Core.Path.{_≡_}
@@ -12,7 +12,8 @@ use mathlib.Core.Bool.{true}
 use mathlib.Core.List.{List}
 use lib.ListN.{length, getD}
 use Rattle.meaning.specs.declared.Record.{Record}
-use Rattle.meaning.specs.Numbers.{mostN, mostV, octets, cellStart, perEntry, wordsIn, accepted, fPlace, waitingPlace}
+use Rattle.meaning.specs.Numbers.{mostN, mostV, octets, cellStart, perEntry, wordsIn, bitWords, accepted, fPlace, waitingPlace}
+use Rattle.meaning.specs.Bits.{isFree, spacesFit, lowestFree}
 use Rattle.meaning.specs.Bucket.{withS}
 use Rattle.meaning.specs.Words.{connectionAt, bucketFits}
 use Rattle.meaning.specs.Lists.{endsFit}
@@ -23,7 +24,6 @@ use Rattle.slot_arrive.specs.Arrival.{connectionNow, judgedAs, judgedOf}
 use Rattle.slot_arrive.specs.Both.{judgedPeak}
 use Rattle.mem_lists.specs.declared.Seat.{Seat}
 use Rattle.mem_lists.specs.Spaces.{endsOf, seatAs, entryOf, seatOf}
-use Rattle.slot_plan.specs.Plan.{freeEnds}
 use Rattle.slot_plan.specs.Facts.{Accepted}
 use Rattle.burst_way.specs.declared.Way.{Way}
 use Rattle.burst_arrive.specs.declared.Spot.{Spot}
@@ -33,15 +33,15 @@ abbrev pub judgedAt : List ℕ → Spot → Judged
 judgedAt words p =
     judgedAs true accepted (p .vci) (p .d) (p .s + getD words (fPlace (p .vci)) 0) (getD words (waitingPlace (p .vci)) 0 + 1) 0
 
-abbrev pub seatAt : Record → Spot → Seat
-seatAt k p = seatAs true (p .x) (endsOf (p .link) (k .freetail)) (p .e) (endsOf (p .head) (p .tail))
+abbrev pub seatAt : Spot → Seat
+seatAt p = seatAs true (p .x) (p .e) (endsOf (p .head) (p .tail))
 
-pub record Seats (k : Record) (links calendar : List ℕ) (p : Spot) : Type 0 where
-  pub seat : seatAt k p ≡ seatOf (k .n) links calendar (k .turn) (freeEnds k) (p .d)
+pub record Seats (k : Record) (calendar bits : List ℕ) (p : Spot) : Type 0 where
+  pub seat : seatAt p ≡ seatOf (k .n) calendar (k .turn) (p .d) (lowestFree bits)
   pub e-is : p .e ≡ entryOf (k .n) (k .turn) (p .d)
+  pub some-free : 1 ≤ k .free
+  pub is-free : isFree bits (p .x) ≡ true
   pub x-low : p .x < k .n
-  pub link-low : p .link < k .n
-  pub tail-low : k .freetail < k .n
   pub entry-fits : endsFit (k .n) (endsOf (p .head) (p .tail)) ≡ true
 
 -- an open connection without a second bucket that accepts a cell with this D, its S being S before the cell
@@ -62,20 +62,20 @@ pub record Arrives (k : Record) (words cell : List ℕ) (vci D S : ℕ) : Type 0
   pub is-accepted : Accepted k (judgedAs true accepted vci D (S + getD words (fPlace vci) 0) (getD words (waitingPlace vci) 0 + 1) 0) cell words
   pub at-connection : Judges k words vci D S
 
-pub record Spotted (k : Record) (links calendar words cell : List ℕ) (p : Spot) : Type 0 where
+pub record Spotted (k : Record) (calendar words bits cell : List ℕ) (p : Spot) : Type 0 where
   pub judged : judgedAt words p ≡ judgedOf (k .n) (k .v) (k .kind) (k .t) words cell
   pub is-accepted : Accepted k (judgedAt words p) cell words
   pub at-connection : Judges k words (p .vci) (p .d) (p .s)
-  pub seats : Seats k links calendar p
+  pub seats : Seats k calendar bits p
 
 -- ---- what is asked of lent memories, for contracts: w is the policer in the slot to come
 abbrev pub MaySeat : Way → Slice → Slice → ℕ → Type 0
-MaySeat w links calendar D =
-    (w .n ≤ mostN) × (length (links .now) ≡ w .n) × (length (calendar .now) ≡ perEntry * w .n) × (w .turn < w .n) × (D < w .n)
-    × (endsFit (w .n) (endsOf (w .freehead) (w .freetail)) ≡ true)
+MaySeat w calendar bits D =
+    (w .n ≤ mostN) × (length (calendar .now) ≡ perEntry * w .n) × (length (bits .now) ≡ bitWords) × (w .turn < w .n) × (D < w .n)
+    × (spacesFit (w .n) (w .free) (bits .now) ≡ true)
 
 abbrev pub MayArrive : Way → Slice → Slice → Slice → Slice → ℕ → Type 0
-MayArrive w links calendar words arrivals i =
-    (w .n ≤ mostN) × (w .v ≤ mostV) × (length (links .now) ≡ w .n) × (length (calendar .now) ≡ perEntry * w .n)
-    × (length (words .now) ≡ wordsIn (w .v)) × (w .turn < w .n) × (cellStart i + octets ≤ length (arrivals .now))
-    × (endsFit (w .n) (endsOf (w .freehead) (w .freetail)) ≡ true)
+MayArrive w calendar words bits arrivals i =
+    (w .n ≤ mostN) × (w .v ≤ mostV) × (length (calendar .now) ≡ perEntry * w .n) × (length (words .now) ≡ wordsIn (w .v))
+    × (length (bits .now) ≡ bitWords) × (w .turn < w .n) × (cellStart i + octets ≤ length (arrivals .now))
+    × (spacesFit (w .n) (w .free) (bits .now) ≡ true)

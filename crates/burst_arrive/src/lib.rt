@@ -24,12 +24,10 @@ pub struct Judgement {
     pub s: u32,
 }
 
-// An accepted cell: its space x and the Free List's head after it; D, its connection and that one's S before the cell; its
-// entry e and that entry's head and tail.
+// An accepted cell: its space x; D, its connection and that one's S before the cell; its entry e and that entry's head and tail.
 pub struct Spot {
     pub ok: bool,
     pub x: usize,
-    pub link: usize,
     pub d: usize,
     pub vci: usize,
     pub s: u32,
@@ -96,7 +94,6 @@ fn no_spot() -> Spot
     Spot {
         ok: false,
         x: 0,
-        link: 0,
         d: 0,
         vci: 0,
         s: 0,
@@ -106,20 +103,16 @@ fn no_spot() -> Spot
     }
 }
 
-// The seat of an accepted cell. A Free List with one space is left to the long way.
-fn seat_of(w: Way, a: Judgement, links: &[u16], calendar: &[u16]) -> Spot
-    requires { ⌜ MaySeat w links calendar (a .d) ⌝ }
-    ensures { λ p. ⌜ (p .ok ≡ true → Seats (slotRecord w) (now (links .entry)) (now (calendar .entry)) p × (p .vci ≡ a .vci)
+// The seat of an accepted cell, in the lowest free space. The words fit, as the caller knows, so no bit is counted here.
+fn seat_of(w: Way, a: Judgement, calendar: &[u16], bits: &[u64]) -> Spot
+    requires { ⌜ MaySeat w calendar bits (a .d) ⌝ }
+    ensures { λ p. ⌜ (p .ok ≡ true → Seats (slotRecord w) (now (calendar .entry)) (now (bits .entry)) p × (p .vci ≡ a .vci)
         × (p .d ≡ a .d) × (p .s ≡ a .s)) ⌝ }
 {
-    if w.freehead == w.freetail {
+    if w.free == 0 {
         return no_spot();
     }
-    let x = w.freehead;
-    let link = links[x] as usize;
-    if link >= w.n {
-        return no_spot();
-    }
+    let x = mem_bits::lowest(bits) as usize;
     let far = w.turn + a.d;
     let e = if far < w.n { far } else { far - w.n };
     let head = calendar[2 * e] as usize;
@@ -130,7 +123,6 @@ fn seat_of(w: Way, a: Judgement, links: &[u16], calendar: &[u16]) -> Spot
     Spot {
         ok: true,
         x: x,
-        link: link,
         d: a.d,
         vci: a.vci,
         s: a.s,
@@ -157,19 +149,19 @@ fn fits(n: usize, head: usize, tail: usize) -> bool
 // Step 3: slot i's cell, where it is accepted.
 pub fn accepted_spot(
     w: Way,
-    links: &[u16],
     calendar: &[u16],
     words: &[u32],
+    bits: &[u64],
     arrivals: &[u8],
     i: usize,
 ) -> Spot
-    requires { ⌜ MayArrive w links calendar words arrivals i ⌝ }
+    requires { ⌜ MayArrive w calendar words bits arrivals i ⌝ }
     ensures { λ p. ⌜ (p .ok ≡ true
-        → Spotted (slotRecord w) (now (links .entry)) (now (calendar .entry)) (now (words .entry)) (take 53 (drop (53 * i) (now (arrivals .entry)))) p) ⌝ }
+        → Spotted (slotRecord w) (now (calendar .entry)) (now (words .entry)) (now (bits .entry)) (take 53 (drop (53 * i) (now (arrivals .entry)))) p) ⌝ }
 {
     let a = arrived(w, words, arrivals, i);
     if !a.ok {
         return no_spot();
     }
-    seat_of(w, a, links, calendar)
+    seat_of(w, a, calendar, bits)
 }

@@ -11,9 +11,11 @@ use lib.ListN.{length, getD}
 use Rattle.meaning.specs.declared.Record.{Record}
 use Rattle.meaning.specs.Plain.{if_then_else_, _=?_}
 use Rattle.meaning.specs.Numbers.{empty, cellStart}
+use Rattle.meaning.specs.Bits.{isFree, taken}
 use Rattle.meaning.specs.State.{Ends}
 use Rattle.meaning.specs.Header.{headerAt}
 use Rattle.meaning.specs.Lists.{endsFit}
+use Rattle.meaning.proofs.BitsLaws.{taken-other}
 use Rattle.meaning.proofs.ListsLaws.{fit-marked, fit-empty}
 use Rattle.leaf_header.specs.Name.{numbered}
 use Rattle.mem_lists.specs.declared.Off.{Off}
@@ -145,13 +147,13 @@ module _ (k : Record) (cells links words : List ℕ) (joins : Bool) (entry : End
           ∙ ap (λ (y : ℕ). offAfter (k .n) (k .v) (k .kind) cells stored words (p .vci) (p .x) y (entry .tail)) head
 
 -- ---- a plan with its connection
-module _ (k : Record) (links : List ℕ) (entry : Ends) (o : Leave) (u : ℕ) (Is : Bool → Ends → Off → Type 0)
-    (plan : Planned k links entry o) (some : o .none ≡ false)
+module _ (k : Record) (links bits : List ℕ) (entry : Ends) (o : Leave) (u : ℕ) (Is : Bool → Ends → Off → Type 0)
+    (plan : Planned k links entry o) (some : o .none ≡ false) (held : isFree bits (o .space) ≡ false)
     (off : (joins : Bool) (e : Ends) → o .space ≡ joinedHead k e
     → Left (k .n) (linked joins (k .outtail) (e .head) links) (o .space) (e .tail) (o .next) (o .tail)
     → Is joins e (offAs true (o .space) u (endsOf (o .next) (o .tail))))
   where
-    goes-unmarked : entry .head ≡ empty → PlannedUnmarked k links o → Goes k entry (leaveWith o u) Is
+    goes-unmarked : entry .head ≡ empty → PlannedUnmarked k links o → Goes k bits entry (leaveWith o u) Is
     unfolding joinedHead linked
     goes-unmarked e p =
         let s = p .some some in
@@ -160,20 +162,22 @@ module _ (k : Record) (links : List ℕ) (entry : Ends) (o : Leave) (u : ℕ) (I
           unmarked = λ q.
               (e, s .0, p .follows, off false (endsOf 0 (k .outtail)) (s .1 ∙ rw (ne-eqb (k .outhead) empty (s .0)) refl) (s .2));
           space-low = p .space-low some;
+          not-free = held;
           left-fits = p .left-fits some;
         }
 
-    goes-marked : entry .head ≢ empty → PlannedMarked k links entry o → Goes k entry (leaveWith o u) Is
+    goes-marked : entry .head ≢ empty → PlannedMarked k links entry o → Goes k bits entry (leaveWith o u) Is
     unfolding joinedLinks
     goes-marked ne p =
         record {
           marked = λ q. (ne, p .follows, p .head, off (not (k .outhead =? empty)) entry (p .space) (p .rest));
           unmarked = λ q. found.no (sym q ∙ p .marked);
           space-low = p .space-low;
+          not-free = held;
           left-fits = p .left-fits;
         }
 
-    pub plan-leaves : Leaves k entry (leaveWith o u) Is
+    pub plan-leaves : Leaves k bits entry (leaveWith o u) Is
     plan-leaves =
         record {
           entry-fits = plan .entry-fits;
@@ -181,14 +185,14 @@ module _ (k : Record) (links : List ℕ) (entry : Ends) (o : Leave) (u : ℕ) (I
           some = λ q. go (ℕ-discrete (entry .head) empty);
         }
       where
-        go : Dec (entry .head ≡ empty) → Goes k entry (leaveWith o u) Is
+        go : Dec (entry .head ≡ empty) → Goes k bits entry (leaveWith o u) Is
         go (yes e) = goes-unmarked e (plan .unmarked e)
         go (no ne) = goes-marked ne (plan .marked ne)
 
 -- ---- a plan by which nothing departs
-pub plan-none : (k : Record) (links : List ℕ) (entry : Ends) (o : Leave) (Is : Bool → Ends → Off → Type 0)
-    → Planned k links entry o → o .none ≡ true → Leaves k entry o Is
-plan-none k links entry o Is plan none =
+pub plan-none : (k : Record) (links bits : List ℕ) (entry : Ends) (o : Leave) (Is : Bool → Ends → Off → Type 0)
+    → Planned k links entry o → o .none ≡ true → Leaves k bits entry o Is
+plan-none k links bits entry o Is plan none =
     record { entry-fits = plan .entry-fits; none = λ q. go (ℕ-discrete (entry .head) empty); some = λ q. found.no (sym q ∙ none) }
   where
     go : Dec (entry .head ≡ empty) → (entry .head ≡ empty) × (k .outhead ≡ empty)
@@ -207,22 +211,29 @@ plan-low k links entry o plan some = go (ℕ-discrete (entry .head) empty)
 some-vci : (u : ℕ) → not (u =? 0) ≡ true → u ≢ 0
 some-vci u e = eqb-false u 0 (not-true (u =? 0) e)
 
-module _ (k : Record) (cells links words : List ℕ) (entry : Ends) (o : Leave) (u : ℕ) (r : Leave)
-    (plan : Planned k links entry o) (some : o .none ≡ false)
+module _ (k : Record) (cells links words bits : List ℕ) (entry : Ends) (o : Leave) (u : ℕ) (r : Leave)
+    (plan : Planned k links entry o) (some : o .none ≡ false) (held : isFree bits (o .space) ≡ false)
     (is : leaverOf (k .n) (k .v) (k .kind) cells words (o .space) ≡ u) (e : r ≡ leaveWith o u) (ok : r .ok ≡ true)
   where
     is-vci : u ≢ 0
     is-vci = some-vci u (sym (ap (λ (q : Leave). q .ok) e) ∙ ok)
 
-    pub quiet-leaves : Leaves k entry r (OffHere k cells links words)
+    pub quiet-leaves : Leaves k bits entry r (OffHere k cells links words)
     quiet-leaves =
-        subst (λ (q : Leave). Leaves k entry q (OffHere k cells links words)) (sym e)
-        (plan-leaves k links entry o u (OffHere k cells links words) plan some
+        subst (λ (q : Leave). Leaves k bits entry q (OffHere k cells links words)) (sym e)
+        (plan-leaves k links bits entry o u (OffHere k cells links words) plan some held
         (λ joins f head l. off-here k cells links words joins f (o .space) (o .next) (o .tail) u is is-vci head l))
 
-    pub later-leaves : (p : Spot) → o .space < length links → o .space ≢ p .x
-        → Leaves k entry r (OffThen k p cells links words)
-    later-leaves p low far =
-        subst (λ (q : Leave). Leaves k entry q (OffThen k p cells links words)) (sym e)
-        (plan-leaves k links entry o u (OffThen k p cells links words) plan some
-        (λ joins f head l. off-then k cells links words joins f (o .space) (o .next) (o .tail) u is is-vci head l p low far))
+    -- where a cell has been accepted: its space was free, so it is another one than departs
+    module _ (p : Spot) (free : isFree bits (p .x) ≡ true) where
+      other : o .space ≢ p .x
+      other q = found.no (sym held ∙ ap (isFree bits) q ∙ free)
+
+      still-held : isFree (taken bits (p .x)) (o .space) ≡ false
+      still-held = taken-other bits (p .x) free (o .space) other ∙ held
+
+      pub later-leaves : o .space < length links → Leaves k (taken bits (p .x)) entry r (OffThen k p cells links words)
+      later-leaves low =
+          subst (λ (q : Leave). Leaves k (taken bits (p .x)) entry q (OffThen k p cells links words)) (sym e)
+          (plan-leaves k links (taken bits (p .x)) entry o u (OffThen k p cells links words) plan some still-held
+          (λ joins f head l. off-then k cells links words joins f (o .space) (o .next) (o .tail) u is is-vci head l p low other))

@@ -12,8 +12,10 @@ use lib.ListN.{length, set}
 use Rattle.meaning.specs.declared.Record.{Record}
 use Rattle.meaning.specs.Plain.{if_then_else_, _<?_, _=?_}
 use Rattle.meaning.specs.Numbers.{empty}
+use Rattle.meaning.specs.Bits.{isFree, taken}
 use Rattle.meaning.specs.State.{Ends}
 use Rattle.meaning.specs.Lists.{endsFit, entryAt, writeEntry}
+use Rattle.meaning.proofs.BitsLaws.{taken-own}
 use Rattle.meaning.proofs.ListsLaws.{fit-head, fit-tail, fit-marked, entry-read, entry-other}
 use Rattle.mem_lists.specs.Spaces.{endsOf, linked, offAs, entryOf}
 use Rattle.mem_lists.specs.Leaver.{leaverOf, offAfter}
@@ -31,13 +33,13 @@ use Rattle.burst_depart.proofs.PlanLaws.{joined-alone, joined-some, res
 fit-none : (N h t : ℕ) → N ≤ 1024 → endsFit N (endsOf h t) ≡ true → h ≡ empty → t ≡ empty
 fit-none N h t few f e = eqb-true t empty (pair-empty N h t (omega arith) e ∙ f)
 
-module _ (k : Record) (p : Spot) (cells links words : List ℕ)
+module _ (k : Record) (p : Spot) (cells links words bits : List ℕ)
     (n-high : k .n ≤ 1024) (long : length links ≡ k .n)
     (fits : endsFit (k .n) (endsOf (p .head) (p .tail)) ≡ true) (x-low : p .x < k .n)
-    (one : 1 ≤ p .vci)
+    (one : 1 ≤ p .vci) (free : isFree bits (p .x) ≡ true)
   where
     abbrev entry : Ends
-    entry = seatEnds (seatAt k p)
+    entry = seatEnds (seatAt p)
 
     tail-new : p .head ≡ empty → entry .tail ≡ p .x
     unfolding seatEnds
@@ -118,7 +120,7 @@ module _ (k : Record) (p : Spot) (cells links words : List ℕ)
         (k .v) (k .kind) cells words (p .vci) (p .x) (p .vci) (leaver-own (k .n) (k .v) (k .kind) (p .vci) (p .x) cells words (p .x) refl) (λ z. omega arith)
         ∙ ap (λ (y : ℕ). offAfter (k .n) (k .v) (k .kind) cells stored words (p .vci) (p .x) y (entry .tail)) (sym head-is ∙ joined-alone k entry q)
 
-    pub alone-leaves : k .outhead ≡ empty → not (p .tail =? p .x) ≡ true → Leaves k entry alone (OffThen k p cells links words)
+    pub alone-leaves : k .outhead ≡ empty → not (p .tail =? p .x) ≡ true → Leaves k (taken bits (p .x)) entry alone (OffThen k p cells links words)
     alone-leaves q ok =
         record {
           entry-fits = entry-fit;
@@ -128,11 +130,12 @@ module _ (k : Record) (p : Spot) (cells links words : List ℕ)
                 marked = λ m. (entry-some, sym (ap not (eq-eqb (k .outhead) empty q)), (λ f. found.no f), alone-off q ok);
                 unmarked = λ m. found.no (sym m);
                 space-low = x-low;
+                not-free = taken-own bits (p .x) free;
                 left-fits = fits;
               };
         }
 
-    module _ (some : k .outhead ≢ empty) (output : endsFit (k .n) (endsOf (k .outhead) (k .outtail)) ≡ true) (far : k .outhead ≢ p .x)
+    module _ (some : k .outhead ≢ empty) (output : endsFit (k .n) (endsOf (k .outhead) (k .outtail)) ≡ true) (held : isFree bits (k .outhead) ≡ false)
         (t next tail′ u : ℕ) (is-tail : t ≡ entry .tail)
         (l : Left (k .n) (set links (k .outtail) (p .x)) (k .outhead) t next tail′)
         (is : leaverOf (k .n) (k .v) (k .kind) cells words (k .outhead) ≡ u)
@@ -175,9 +178,9 @@ module _ (k : Record) (p : Spot) (cells links words : List ℕ)
                   };
             }
 
-        pub behind-leaves : not (u =? 0) ≡ true → Leaves k entry behind (OffThen k p cells links words)
+        pub behind-leaves : not (u =? 0) ≡ true → Leaves k (taken bits (p .x)) entry behind (OffThen k p cells links words)
         behind-leaves ok =
-            later-leaves k cells links words entry behind u behind planned refl is refl ok p (omega (arith, long, out-low)) far
+            later-leaves k cells links words bits entry behind u behind planned refl held is refl ok p free (omega (arith, long, out-low))
 
 -- ---- entry T once a cell has joined entry (T+D) modulo N
 module _ (N T D : ℕ) (low : T < N) where

@@ -4,7 +4,8 @@
 --
 --   Left N links x tail .. == what is left of a list from x to tail once x has gone
 --   Planned k links ..     == what departs, but for its connection
---   Leaves k entry o Is    == what departs, Is being what "departs" means in memory as it then is
+--   Leaves k bits entry .. == what departs, Is being what "departs" means in memory as it then is; bits are the words of free spaces as
+--                             step 3 left them, and its space is not free
 use Prim.Native.Nat.{ℕ, _*_, _≤_, _<_}
 use mathlib.Core.Path.{_≡_}
 use mathlib.Core.Logic.{_≢_}
@@ -14,6 +15,7 @@ use lib.ListN.{length, getD}
 use Rattle.meaning.specs.declared.Record.{Record}
 use Rattle.meaning.specs.Plain.{_=?_}
 use Rattle.meaning.specs.Numbers.{mostN, perEntry, empty}
+use Rattle.meaning.specs.Bits.{isFree}
 use Rattle.meaning.specs.State.{Ends}
 use Rattle.meaning.specs.Lists.{endsFit, entryAt, writeEntry}
 use Rattle.meaning.specs.Lent.{Slice, Lent}
@@ -74,19 +76,20 @@ leaveWith o vci =
 abbrev pub offAt : Leave → Off
 offAt o = offAs true (o .space) (o .vci) (endsOf (o .next) (o .tail))
 
-pub record Goes (k : Record) (entry : Ends) (o : Leave) (Is : Bool → Ends → Off → Type 0) : Type 0 where
+pub record Goes (k : Record) (bits : List ℕ) (entry : Ends) (o : Leave) (Is : Bool → Ends → Off → Type 0) : Type 0 where
   pub marked : o .marked ≡ true
       → (entry .head ≢ empty) × (o .follows ≡ not (k .outhead =? empty)) × (o .follows ≡ true → o .head ≡ entry .head)
       × Is (not (k .outhead =? empty)) entry (offAt o)
   pub unmarked : o .marked ≡ false
       → (entry .head ≡ empty) × (k .outhead ≢ empty) × (o .follows ≡ false) × Is false (endsOf 0 (k .outtail)) (offAt o)
   pub space-low : o .space < k .n
+  pub not-free : isFree bits (o .space) ≡ false
   pub left-fits : endsFit (k .n) (endsOf (o .next) (o .tail)) ≡ true
 
-pub record Leaves (k : Record) (entry : Ends) (o : Leave) (Is : Bool → Ends → Off → Type 0) : Type 0 where
+pub record Leaves (k : Record) (bits : List ℕ) (entry : Ends) (o : Leave) (Is : Bool → Ends → Off → Type 0) : Type 0 where
   pub entry-fits : endsFit (k .n) entry ≡ true
   pub none : o .none ≡ true → (entry .head ≡ empty) × (k .outhead ≡ empty)
-  pub some : o .none ≡ false → Goes k entry o Is
+  pub some : o .none ≡ false → Goes k bits entry o Is
 
 -- where no cell is accepted: memory is as it is, but for the chain of entry T that has joined the Output List, where joins
 abbrev pub OffHere : Record → List ℕ → List ℕ → List ℕ → Bool → Ends → Off → Type 0
@@ -95,11 +98,11 @@ OffHere k cells links words joins entry o =
 
 -- entry T once a cell has its seat
 abbrev pub entryThen : Record → Spot → List ℕ → Ends
-entryThen k p calendar = entryAt (writeEntry calendar (p .e) (seatEnds (seatAt k p))) (k .turn)
+entryThen k p calendar = entryAt (writeEntry calendar (p .e) (seatEnds (seatAt p))) (k .turn)
 
 -- where a cell is accepted into the seat of p
 abbrev pub OffThen : Record → Spot → List ℕ → List ℕ → List ℕ → Bool → Ends → Off → Type 0
-OffThen k p cells links words = OffStored k (judgedAt words p) (seatAt k p) cells links words
+OffThen k p cells links words = OffStored k (judgedAt words p) (seatAt p) cells links words
 
 -- ---- the same of lent memories, for contracts: w is the policer in the slot to come
 abbrev pub OffHereIn : Way → Lent → Lent → Lent → Bool → Ends → Off → Type 0

@@ -5,7 +5,8 @@ ghost use mathlib.Core.Path.{_≡_};
 ghost use mathlib.Core.Bool.{true, false};
 ghost use Prim.Native.Nat.{_+_, _*_, _≤_, _<_};
 ghost use lib.ListN.{length, set};
-ghost use Rattle.meaning.specs.Numbers.{mostN, mostV, octets, cellStart, perEntry, connectionsIn, wordsIn};
+ghost use Rattle.meaning.specs.Numbers.{mostN, mostV, octets, cellStart, perEntry, connectionsIn, wordsIn, bitWords};
+ghost use Rattle.meaning.specs.Bits.{isFree, taken};
 ghost use Rattle.meaning.specs.Lists.{endsFit, entryAt, writeEntry};
 ghost use Rattle.meaning.specs.Lent.{here};
 ghost use Rattle.mem_lists.specs.Spaces.{endsOf};
@@ -225,10 +226,18 @@ fn with_vci(o: Leave, vci: usize) -> Leave
 }
 
 // Steps 4 and 5 where no cell is accepted.
-pub fn off_quiet(w: Way, cells: &[u8], links: &[u16], calendar: &[u16], words: &[u32]) -> Leave
-    requires { ⌜ Sized (here (slotRecord w) cells links calendar words) ⌝ }
+pub fn off_quiet(
+    w: Way,
+    cells: &[u8],
+    links: &[u16],
+    calendar: &[u16],
+    words: &[u32],
+    bits: &[u64],
+) -> Leave
+    requires { ⌜ Sized (here (slotRecord w) cells links calendar words bits) ⌝ }
     requires { ⌜ endsFit (w .n) (endsOf (w .outhead) (w .outtail)) ≡ true ⌝ }
-    ensures { λ o. ⌜ (o .ok ≡ true → Leaves (slotRecord w) (entryAt (now (calendar .entry)) (w .turn)) o (OffHereIn w cells links words)) ⌝ }
+    ensures { λ o. ⌜ (o .ok ≡ true
+        → Leaves (slotRecord w) (now (bits .entry)) (entryAt (now (calendar .entry)) (w .turn)) o (OffHereIn w cells links words)) ⌝ }
 {
     let o = plan(w, links, calendar);
     if !o.ok {
@@ -237,17 +246,21 @@ pub fn off_quiet(w: Way, cells: &[u8], links: &[u16], calendar: &[u16], words: &
     if o.none {
         return o;
     }
+    if mem_bits::is_free(bits, o.space as u16) {
+        return stuck();
+    }
     let u = seen(w.n, w.v, w.kind, cells, words, o.space);
     with_vci(o, u)
 }
 
-// The cell has D 0 and joined entry T, which then joins the Output List: the cell itself departs if that is empty.
-fn off_now(w: Way, p: Spot, cells: &[u8], links: &[u16], words: &[u32]) -> Leave
+// The cell has D 0 and joined entry T, which then joins the Output List: the cell itself departs if that is empty. A space that is
+// free departs from no list; the cell's own, free before the cell came, is so told from any other.
+fn off_now(w: Way, p: Spot, cells: &[u8], links: &[u16], words: &[u32], bits: &[u64]) -> Leave
     requires { ⌜ (w .n ≤ mostN) × (w .v ≤ mostV) × (length (now cells) ≡ octets * w .n) × (length (now links) ≡ w .n)
-        × (length (now words) ≡ wordsIn (w .v)) ⌝ }
+        × (length (now words) ≡ wordsIn (w .v)) × (length (now bits) ≡ bitWords) ⌝ }
     requires { ⌜ (endsFit (w .n) (endsOf (w .outhead) (w .outtail)) ≡ true) × (endsFit (w .n) (endsOf (p .head) (p .tail)) ≡ true)
-        × (p .x < w .n) × (1 ≤ p .vci) × (p .vci < connectionsIn (w .v)) ⌝ }
-    ensures { λ o. ⌜ (o .ok ≡ true → Leaves (slotRecord w) (seatEnds (seatAt (slotRecord w) p)) o (OffThenIn w p cells links words)) ⌝ }
+        × (p .x < w .n) × (1 ≤ p .vci) × (p .vci < connectionsIn (w .v)) × (isFree (now bits) (p .x) ≡ true) ⌝ }
+    ensures { λ o. ⌜ (o .ok ≡ true → Leaves (slotRecord w) (taken (now (bits .entry)) (p .x)) (seatEnds (seatAt p)) o (OffThenIn w p cells links words)) ⌝ }
 {
     if w.outhead == 65535 {
         return Leave {
@@ -262,7 +275,7 @@ fn off_now(w: Way, p: Spot, cells: &[u8], links: &[u16], words: &[u32]) -> Leave
             head: 0,
         };
     }
-    if w.outhead == p.x {
+    if mem_bits::is_free(bits, w.outhead as u16) {
         return stuck();
     }
     let tail = if p.head == 65535 { p.x } else { p.tail };
@@ -285,10 +298,20 @@ fn off_now(w: Way, p: Spot, cells: &[u8], links: &[u16], words: &[u32]) -> Leave
 }
 
 // The cell has D above 0 and joined another entry than T; it does not depart in this slot.
-fn off_later(w: Way, p: Spot, cells: &[u8], links: &[u16], calendar: &[u16], words: &[u32]) -> Leave
-    requires { ⌜ Sized (here (slotRecord w) cells links calendar words) ⌝ }
-    requires { ⌜ (endsFit (w .n) (endsOf (w .outhead) (w .outtail)) ≡ true) × (1 ≤ p .vci) × (p .vci < connectionsIn (w .v)) ⌝ }
-    ensures { λ o. ⌜ (o .ok ≡ true → Leaves (slotRecord w) (entryAt (now (calendar .entry)) (w .turn)) o (OffThenIn w p cells links words)) ⌝ }
+fn off_later(
+    w: Way,
+    p: Spot,
+    cells: &[u8],
+    links: &[u16],
+    calendar: &[u16],
+    words: &[u32],
+    bits: &[u64],
+) -> Leave
+    requires { ⌜ Sized (here (slotRecord w) cells links calendar words bits) ⌝ }
+    requires { ⌜ (endsFit (w .n) (endsOf (w .outhead) (w .outtail)) ≡ true) × (1 ≤ p .vci) × (p .vci < connectionsIn (w .v))
+        × (isFree (now bits) (p .x) ≡ true) ⌝ }
+    ensures { λ o. ⌜ (o .ok ≡ true
+        → Leaves (slotRecord w) (taken (now (bits .entry)) (p .x)) (entryAt (now (calendar .entry)) (w .turn)) o (OffThenIn w p cells links words)) ⌝ }
 {
     let o = plan(w, links, calendar);
     if !o.ok {
@@ -297,7 +320,7 @@ fn off_later(w: Way, p: Spot, cells: &[u8], links: &[u16], calendar: &[u16], wor
     if o.none {
         return o;
     }
-    if o.space == p.x {
+    if mem_bits::is_free(bits, o.space as u16) {
         return stuck();
     }
     let u = seen(w.n, w.v, w.kind, cells, words, o.space);
@@ -312,15 +335,17 @@ pub fn off_accept(
     links: &[u16],
     calendar: &[u16],
     words: &[u32],
+    bits: &[u64],
 ) -> Leave
-    requires { ⌜ Sized (here (slotRecord w) cells links calendar words) ⌝ }
+    requires { ⌜ Sized (here (slotRecord w) cells links calendar words bits) ⌝ }
     requires { ⌜ endsFit (w .n) (endsOf (w .outhead) (w .outtail)) ≡ true ⌝ }
-    requires { ⌜ Seats (slotRecord w) (now links) (now calendar) p ⌝ }
+    requires { ⌜ Seats (slotRecord w) (now calendar) (now bits) p ⌝ }
     requires { ⌜ (p .d < w .n) × (1 ≤ p .vci) × (p .vci < connectionsIn (w .v)) ⌝ }
-    ensures { λ o. ⌜ (o .ok ≡ true → Leaves (slotRecord w) (entryThen (slotRecord w) p (now (calendar .entry))) o (OffThenIn w p cells links words)) ⌝ }
+    ensures { λ o. ⌜ (o .ok ≡ true
+        → Leaves (slotRecord w) (taken (now (bits .entry)) (p .x)) (entryThen (slotRecord w) p (now (calendar .entry))) o (OffThenIn w p cells links words)) ⌝ }
 {
     if p.d == 0 {
-        return off_now(w, p, cells, links, words);
+        return off_now(w, p, cells, links, words, bits);
     }
-    off_later(w, p, cells, links, calendar, words)
+    off_later(w, p, cells, links, calendar, words, bits)
 }

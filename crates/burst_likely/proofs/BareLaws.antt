@@ -1,6 +1,6 @@
 -- A slot in which no cell arrives, over plain lists: from what was found of step 2 and of what departs, and from what was
 -- written, to what the five steps leave.
-use Prim.Native.Nat.{ℕ, _*_, _/_, _≤_, _<_}
+use Prim.Native.Nat.{ℕ, _+_, _*_, _/_, _≤_, _<_}
 use mathlib.Core.Path.{_≡_, refl, sym, _∙_, ap}
 use mathlib.Core.Logic.{_≢_}
 use mathlib.Core.Bool.{Bool, true, false, not}
@@ -12,18 +12,20 @@ use Rattle.meaning.specs.declared.Record.{Record}
 use Rattle.meaning.specs.declared.Served.{Served}
 use Rattle.meaning.specs.Plain.{if_then_else_, _=?_, next, _andThen_}
 use Rattle.meaning.specs.Numbers.{connectionsIn, empty, nothing, excess, letsIn, sPlace, lastPlace, waitingPlace}
+use Rattle.meaning.specs.Bits.{spacesFit, lowestFree, given, unmarked}
 use Rattle.meaning.specs.State.{Ends, stateOf, recordWith, writeCell}
 use Rattle.meaning.specs.Lists.{emptyList, endsFit, entryAt, writeEntry}
 use Rattle.meaning.specs.Work.{Work, workOf, answerOf}
 use Rattle.meaning.specs.Slot.{step4, step5}
 use Rattle.meaning.specs.Line.{cellsAllowed}
-use Rattle.meaning.proofs.ListsLaws.{fit-head, fit-tail, fit-marked}
+use Rattle.meaning.proofs.BitsLaws.{given-fits}
+use Rattle.meaning.proofs.ListsLaws.{fit-head, fit-tail}
 use Rattle.slot_arrive.specs.declared.Fall.{Fall}
 use Rattle.slot_arrive.specs.declared.Judged.{Judged}
 use Rattle.slot_arrive.specs.Arrival.{broughtOf, judgedAs, judgedOf, fallen, oneLess}
 use Rattle.mem_lists.specs.declared.Off.{Off}
 use Rattle.mem_lists.specs.Spaces.{endsOf, linked, offOf}
-use Rattle.slot_plan.specs.Plan.{withEnds, freeEnds, outputEnds, freed, rotated, quietWork, joinedLinks, joinedHead}
+use Rattle.slot_plan.specs.Plan.{withEnds, outputEnds, rotated, quietWork, mayFree, joinedLinks, joinedHead}
 use Rattle.slot_plan.proofs.Steps.{arriving-quiet}
 use Rattle.slot_plan.proofs.Cases.{marked, output, none}
 use Rattle.slot_plan.proofs.QuietCases.{quiet-served, marked-goes, output-goes}
@@ -39,6 +41,7 @@ use Rattle.burst_rotate.specs.Turning.{Turned}
 use Rattle.burst_depart.specs.declared.Leave.{Leave}
 use Rattle.burst_depart.specs.Leaving.{Goes, offAt, OffHere}
 use Rattle.burst_likely.specs.Served.{from2, Ready, HandedTo, Done}
+use Rattle.burst_likely.proofs.ClearLaws.{clear-length, clear-free, clear-fits}
 use Rattle.burst_likely.proofs.WriteLaws.{waiting-kept}
 use Rattle.burst_likely.proofs.EitherLaws.{allowed-long, linked-same}
 
@@ -53,8 +56,8 @@ pub off-facts : (N z kind : ℕ) (cells links words : List ℕ) (x tail : ℕ) (
 off-facts N z kind cells links words x tail o is ok =
     rw is (off-shows N z kind cells links words x tail (ap (λ (y : Off). y .ok) (sym is) ∙ ok))
 
-module _ (w : Way) (r : Turn) (cells links calendar words departures answers : List ℕ) (i : ℕ)
-    (ready : Ready w cells links calendar words) (turned : Turned (slotRecord w) words r) (lent : HandedTo departures answers i) where
+module _ (w : Way) (r : Turn) (cells links calendar words bits departures answers : List ℕ) (i : ℕ)
+    (ready : Ready w cells links calendar words bits) (turned : Turned (slotRecord w) words r) (lent : HandedTo departures answers i) where
   abbrev k : Record
   k = slotRecord w
 
@@ -71,16 +74,16 @@ module _ (w : Way) (r : Turn) (cells links calendar words departures answers : L
   turning = set (set words (sPlace (w .rotation)) (r .s)) (lastPlace (w .rotation)) (r .last)
 
   abbrev work : Work
-  work = quietWork k j cells links calendar (rotated k b words)
+  work = quietWork k j cells links calendar (rotated k b words) bits
 
   absent : j ≡ judgedOf (k .n) (k .v) (k .kind) (k .t) words []
   unfolding judgedOf
   absent = refl
 
-  bare-is : from2 k [] cells links calendar words ≡ (step4 work andThen step5)
+  bare-is : from2 k [] cells links calendar words bits ≡ (step4 work andThen step5)
   unfolding letsIn
   bare-is =
-      arriving-quiet k [] cells links calendar words b refl j absent
+      arriving-quiet k (lowestFree bits) [] cells links calendar words bits b refl j absent
       (let s = ready .sized in omega (arith, s .words-long, s .rotation-low))
       (turned .brought)
       refl
@@ -102,7 +105,7 @@ module _ (w : Way) (r : Turn) (cells links calendar words departures answers : L
   unfolding quietWork
   none-is fits e out = none work entry entry-is fits (ready .output-fits) e out
 
-  same-ends : k ≡ withEnds k (freeEnds k) (outputEnds k)
+  same-ends : k ≡ withEnds k (k .free) (outputEnds k)
   unfolding withEnds recordWith
   same-ends = refl
 
@@ -110,24 +113,24 @@ module _ (w : Way) (r : Turn) (cells links calendar words departures answers : L
       → w′ ≡ w
       → words′ ≡ turning
       → answers′ ≡ writeAnswer answers i (answerOf 0 0 0 0 65535 0)
-      → Done k (from2 k [] cells links calendar words) w′ cells links calendar words′ departures departures answers answers′ i
+      → Done k (from2 k [] cells links calendar words bits) w′ cells links calendar words′ bits departures departures answers answers′ i
   none-done w′ words′ answers′ fits e same written told =
       rw same (record {
         answer = answerOf 0 0 0 0 65535 0;
         number = refl;
         is = bare-is ∙ none-is fits (e .0) (e .1)
-            ∙ ap next (sym (quiet-served k b j cells links calendar words (record { ctl = k; answer = answerOf 0 0 0 0 65535 0 }) words′ refl refl (written ∙ turning-is)));
+            ∙ ap next (sym (quiet-served k b j cells links calendar words bits (record { ctl = k; answer = answerOf 0 0 0 0 65535 0 }) words′ refl refl (written ∙ turning-is)));
         shown = sym (shown-none departures i (lent .departure) cells allowed 65535 refl);
         told = told;
-        free = freeEnds k;
+        free = k .free;
         output = outputEnds k;
         ends = same-ends;
-        free-fits = ready .free-fits;
+        spaces-fit = ready .spaces-fit;
         output-fits = ready .output-fits;
       })
 
   -- o departs
-  module _ (o : Leave) (fits : endsFit (w .n) entry ≡ true) (goes : Goes k entry o (OffHere k cells links words)) where
+  module _ (o : Leave) (fits : endsFit (w .n) entry ≡ true) (goes : Goes k bits entry o (OffHere k cells links words)) where
     abbrev left : Ends
     left = endsOf (o .next) (o .tail)
 
@@ -163,65 +166,57 @@ module _ (w : Way) (r : Turn) (cells links calendar words departures answers : L
             )
         go false e = no (sym (goes .unmarked e .2) ∙ f)
 
-    pub free-low : w .freehead ≢ empty → w .freetail < w .n
-    free-low ne = fit-tail (w .n) (freeEnds k) (ready .free-fits) ne
+    -- its space may be freed
+    may-free : mayFree (k .n) (k .free) bits (o .space) ≡ true
+    unfolding mayFree
+    may-free = rw (ready .spaces-fit, goes .not-free)
 
-    free-fits : endsFit (w .n) (freed k (o .space)) ≡ true
-    unfolding freed
-    free-fits = go (w .freehead =? empty) refl
-      where
-        go : (c : Bool) → (w .freehead =? empty) ≡ c → endsFit (w .n) (endsOf (if c then o .space else w .freehead) (o .space)) ≡ true
-        go true e = fit-marked (w .n) (o .space) (o .space) (goes .space-low) (goes .space-low)
-        go false e =
-            fit-marked (w .n) (w .freehead) (o .space)
-            (fit-head (w .n) (freeEnds k) (ready .free-fits) (eqb-false (w .freehead) empty e))
-            (goes .space-low)
-
-    leaves-ends : (freehead : ℕ) → freehead ≡ (if w .freehead =? empty then o .space else w .freehead)
-        → slotRecord (wayWith w (w .t) (w .turn) (w .rotation) freehead (o .space) (o .next) (o .tail)) ≡ withEnds k (freed k (o .space)) left
-    unfolding withEnds recordWith freed
-    leaves-ends freehead e = rw e
+    leaves-ends : slotRecord (wayWith w (w .t) (w .turn) (w .rotation) (w .free + 1) (o .next) (o .tail)) ≡ withEnds k (k .free + 1) left
+    unfolding withEnds recordWith
+    leaves-ends = refl
 
     abbrev leaver : Served
-    leaver = record { ctl = withEnds k (freed k (o .space)) left; answer = answerOf 0 0 0 0 (o .space) (o .vci) }
+    leaver = record { ctl = withEnds k (k .free + 1) left; answer = answerOf 0 0 0 0 (o .space) (o .vci) }
+
+    -- the work after step 5, from the links, the calendar and the bits as step 4 leaves them
+    abbrev gone : List ℕ → List ℕ → List ℕ → Work
+    gone links₁ calendar₁ bits₁ = workOf (stateOf (leaver .ctl) cells links₁ calendar₁ (oneLess (o .vci) turning) (given bits₁ (o .space))) (leaver .answer)
 
     marked-is : entry .head ≢ empty → OffHere k cells links words (not (k .outhead =? empty)) entry (offAt o)
         → (links₁ : List ℕ) → links₁ ≡ linked (not (k .outhead =? empty)) (k .outtail) (entry .head) links
-        → (step4 work andThen step5)
-        ≡ next (workOf (stateOf (leaver .ctl) cells (linked (not (k .freehead =? empty)) (k .freetail) (o .space) links₁) (writeEntry calendar (k .turn) emptyList) (oneLess (o .vci) turning)) (leaver .answer))
+        → (step4 work andThen step5) ≡ next (gone links₁ (writeEntry calendar (k .turn) emptyList) (unmarked bits (k .turn)))
     unfolding quietWork joinedLinks
     marked-is ne is links₁ e =
         marked work entry entry-is fits (ready .output-fits) ne
-        ∙ marked-goes k b j cells links calendar words (entry .head) (entry .tail) (offAt o) is refl (ready .free-fits)
+        ∙ marked-goes k b j cells links calendar words bits (entry .head) (entry .tail) (offAt o) is refl may-free
         ∙ ap next
-        (sym (quiet-left k b j (offAt o) cells links calendar words leaver _ _ (writeEntry calendar (k .turn) emptyList) turning _
+        (sym (quiet-left k b j (offAt o) cells links calendar words bits leaver _ links₁ (writeEntry calendar (k .turn) emptyList) turning _ _ _
         (refl, refl)
-        (ap (linked (not (k .freehead =? empty)) (k .freetail) (o .space)) e)
+        e
         turning-is
+        refl
         refl))
 
     output-is : entry .head ≡ empty → k .outhead ≢ empty → OffHere k cells links words false (endsOf 0 (k .outtail)) (offAt o)
         → (links₁ : List ℕ) → links₁ ≡ linked false (k .outtail) 0 links
-        → (step4 work andThen step5)
-        ≡ next (workOf (stateOf (leaver .ctl) cells (linked (not (k .freehead =? empty)) (k .freetail) (o .space) links₁) calendar (oneLess (o .vci) turning)) (leaver .answer))
+        → (step4 work andThen step5) ≡ next (gone links₁ calendar bits)
     unfolding quietWork
     output-is q ne is links₁ e =
         output work entry entry-is fits (ready .output-fits) q ne
-        ∙ output-goes k b j cells links calendar words (offAt o) (unmarked-off is ne) refl (ready .free-fits)
+        ∙ output-goes k b j cells links calendar words bits (offAt o) (unmarked-off is ne) refl may-free
         ∙ ap next
-        (sym (quiet-left k b j (offAt o) cells links calendar words leaver _ _ calendar turning _
+        (sym (quiet-left k b j (offAt o) cells links calendar words bits leaver _ links₁ calendar turning _ _ _
         (refl, refl)
-        (ap (linked (not (k .freehead =? empty)) (k .freetail) (o .space)) e)
+        e
         turning-is
+        refl
         refl))
 
-    leave-is : (step4 work andThen step5)
-        ≡ next (workOf (stateOf (leaver .ctl) cells (linked (not (k .freehead =? empty)) (k .freetail) (o .space) linking) (if o .marked then writeEntry calendar (k .turn) emptyList else calendar) (oneLess (o .vci) turning)) (leaver .answer))
+    leave-is : (step4 work andThen step5) ≡ next (gone linking (if o .marked then writeEntry calendar (k .turn) emptyList else calendar) (if o .marked then unmarked bits (k .turn) else bits))
     leave-is = go (o .marked) refl
       where
         go : (m : Bool) → o .marked ≡ m
-            → (step4 work andThen step5)
-            ≡ next (workOf (stateOf (leaver .ctl) cells (linked (not (k .freehead =? empty)) (k .freetail) (o .space) linking) (if m then writeEntry calendar (k .turn) emptyList else calendar) (oneLess (o .vci) turning)) (leaver .answer))
+            → (step4 work andThen step5) ≡ next (gone linking (if m then writeEntry calendar (k .turn) emptyList else calendar) (if m then unmarked bits (k .turn) else bits))
         go true e =
             let g = goes .marked e in
             marked-is (g .0) (g .3) linking (linked-same (o .follows) (not (k .outhead =? empty)) (k .outtail) (o .head) (entry .head) links (g .1) (g .2))
@@ -229,25 +224,34 @@ module _ (w : Way) (r : Turn) (cells links calendar words departures answers : L
             let g = goes .unmarked e in
             output-is (g .0) (g .1) (g .3) linking (linked-same (o .follows) false (k .outtail) (o .head) 0 links (g .2) (λ f. no (sym (g .2) ∙ f)))
 
-    pub leave-done : (w′ : Way) (freehead : ℕ) (links′ calendar′ words′ departures′ answers′ : List ℕ)
-        → w′ ≡ wayWith w (w .t) (w .turn) (w .rotation) freehead (o .space) (o .next) (o .tail)
-        → freehead ≡ (if w .freehead =? empty then o .space else w .freehead)
-        → links′ ≡ linked (not (w .freehead =? empty)) (w .freetail) (o .space) linking
+    given-fit : spacesFit (w .n) (w .free + 1) (given (if o .marked then unmarked bits (w .turn) else bits) (o .space)) ≡ true
+    given-fit =
+        let low = goes .space-low in
+        let most = ready .sized .n-high in
+        given-fits (if o .marked then unmarked bits (w .turn) else bits) (o .space) (omega (arith, low, most))
+        (clear-length bits (w .turn) (o .marked) ∙ ready .sized .bits-long)
+        (clear-free bits (w .turn) (o .marked) (o .space) ∙ goes .not-free) (w .n) (w .free) (goes .space-low)
+        (clear-fits bits (w .turn) (o .marked) (w .n) (w .free) ∙ ready .spaces-fit)
+
+    pub leave-done : (w′ : Way) (links′ calendar′ words′ bits′ departures′ answers′ : List ℕ)
+        → w′ ≡ wayWith w (w .t) (w .turn) (w .rotation) (w .free + 1) (o .next) (o .tail)
+        → links′ ≡ linking
         → calendar′ ≡ (if o .marked then writeEntry calendar (w .turn) emptyList else calendar)
         → words′ ≡ oneLess (o .vci) turning
+        → bits′ ≡ given (if o .marked then unmarked bits (w .turn) else bits) (o .space)
         → departures′ ≡ writeCell departures i (take 53 (drop (53 * o .space) cells))
         → answers′ ≡ writeAnswer answers i (answerOf 0 0 0 0 (o .space) (o .vci))
-        → Done k (from2 k [] cells links calendar words) w′ cells links′ calendar′ words′ departures departures′ answers answers′ i
-    leave-done w′ freehead links′ calendar′ words′ departures′ answers′ same h l e f d a =
+        → Done k (from2 k [] cells links calendar words bits) w′ cells links′ calendar′ words′ bits′ departures departures′ answers answers′ i
+    leave-done w′ links′ calendar′ words′ bits′ departures′ answers′ same l e f g d a =
         rw same (record {
           answer = answerOf 0 0 0 0 (o .space) (o .vci);
           number = refl;
-          is = bare-is ∙ leave-is ∙ rw (leaves-ends freehead h, l, e, f);
+          is = bare-is ∙ leave-is ∙ rw (leaves-ends, l, e, f, g);
           shown = d ∙ sym (shown-cell departures i (lent .departure) cells allowed (o .space) (below-long (w .n) (length cells) (o .space) (ready .sized .cells-long) (goes .space-low)));
           told = a;
-          free = freed k (o .space);
+          free = k .free + 1;
           output = left;
-          ends = leaves-ends freehead h;
-          free-fits = free-fits;
+          ends = leaves-ends;
+          spaces-fit = rw g given-fit;
           output-fits = goes .left-fits;
         })

@@ -2,11 +2,10 @@
 -- served slot share.
 use Prim.Native.Nat.{ℕ, _+_, _*_, _/_, _%_, _≤_}
 use mathlib.Core.Path.{_≡_, refl, sym, _∙_, ap}
-use mathlib.Core.Logic.{_≢_}
 use mathlib.Core.Bool.{Bool, true, false}
 use mathlib.Core.List.{List}
 use native.Mathlib.Omega.{arith}
-use borrow.Author.Tests.{eq-eqb, ne-eqb, le-leb}
+use borrow.Author.Tests.{eq-eqb, le-leb}
 use lib.ListN.{length, set, take}
 use Rattle.meaning.specs.declared.Record.{Record}
 use Rattle.meaning.specs.Plain.{if_then_else_, _=?_, Out}
@@ -36,27 +35,20 @@ unfolding linked
 linked-same true on′ i x x′ l e same = rw (sym e) (ap (set l i) (same refl))
 linked-same false on′ i x x′ l e same = rw (sym e)
 
--- the Free List's head, once the space has been given back
-pub head-empty : (h x f : ℕ) → h ≡ 65535 → f ≡ x → f ≡ (if h =? empty then x else h)
-head-empty h x f e q = simp (eq-eqb h 65535 e) q
-
-pub head-there : (h x f : ℕ) → h ≢ 65535 → f ≡ h → f ≡ (if h =? empty then x else h)
-head-there h x f ne q = simp (ne-eqb h 65535 ne) q
-
--- the record of a way with other ends
-pub ends-with : (w w′ : Way) (freehead freetail outhead outtail : ℕ)
-    → w′ ≡ wayWith w (w .t) (w .turn) (w .rotation) freehead freetail outhead outtail
-    → slotRecord w′ ≡ withEnds (slotRecord w) (endsOf freehead freetail) (endsOf outhead outtail)
+-- the record of a way with another number of free spaces and another Output List
+pub ends-with : (w w′ : Way) (free outhead outtail : ℕ)
+    → w′ ≡ wayWith w (w .t) (w .turn) (w .rotation) free outhead outtail
+    → slotRecord w′ ≡ withEnds (slotRecord w) free (endsOf outhead outtail)
 unfolding withEnds recordWith
-ends-with w w′ freehead freetail outhead outtail e = ap slotRecord e
+ends-with w w′ free outhead outtail e = ap slotRecord e
 
 -- where nothing departs, whatever departures there are stay
-pub silent-done : (k : Record) (target : Out Work) (w′ : Way) (cells′ links′ calendar′ words′ answers answers′ : List ℕ) (i : ℕ)
-    → Silent k target w′ cells′ links′ calendar′ words′ answers answers′ i
+pub silent-done : (k : Record) (target : Out Work) (w′ : Way) (cells′ links′ calendar′ words′ bits′ answers answers′ : List ℕ) (i : ℕ)
+    → Silent k target w′ cells′ links′ calendar′ words′ bits′ answers answers′ i
     → (departures : List ℕ)
     → 53 * i + 53 ≤ length departures
-    → Done k target w′ cells′ links′ calendar′ words′ departures departures answers answers′ i
-silent-done k target w′ cells′ links′ calendar′ words′ answers answers′ i s departures inside =
+    → Done k target w′ cells′ links′ calendar′ words′ bits′ departures departures answers answers′ i
+silent-done k target w′ cells′ links′ calendar′ words′ bits′ answers answers′ i s departures inside =
     record {
       answer = s .answer;
       number = s .number;
@@ -66,25 +58,25 @@ silent-done k target w′ cells′ links′ calendar′ words′ answers answers
       free = s .free;
       output = s .output;
       ends = s .ends;
-      free-fits = s .free-fits;
+      spaces-fit = s .spaces-fit;
       output-fits = s .output-fits;
     }
 
 -- ---- what a function gives back
-module _ (k : Record) (target : Out Work) (cells links calendar words departures answers : List ℕ) (i : ℕ) (g : Went) where
+module _ (k : Record) (target : Out Work) (cells links calendar words bits departures answers : List ℕ) (i : ℕ) (g : Went) where
   pub either-odd : g .ok ≡ false
-      → Either k target g cells links calendar words departures answers cells links calendar words departures answers i
-  either-odd e = record { went = λ q. no (sym e ∙ q); stayed = λ q. (refl, refl, refl, refl, refl, refl) }
+      → Either k target g cells links calendar words bits departures answers cells links calendar words bits departures answers i
+  either-odd e = record { went = λ q. no (sym e ∙ q); stayed = λ q. (refl, refl, refl, refl, refl, refl, refl) }
 
-  pub either-gone : (w′ : Way) (cells′ links′ calendar′ words′ departures′ answers′ : List ℕ) → (g .ok ≡ true) × (g .way ≡ w′)
-      → Done k target w′ cells′ links′ calendar′ words′ departures departures′ answers answers′ i
-      → Either k target g cells links calendar words departures answers cells′ links′ calendar′ words′ departures′ answers′ i
-  either-gone w′ cells′ links′ calendar′ words′ departures′ answers′ e d =
+  pub either-gone : (w′ : Way) (cells′ links′ calendar′ words′ bits′ departures′ answers′ : List ℕ) → (g .ok ≡ true) × (g .way ≡ w′)
+      → Done k target w′ cells′ links′ calendar′ words′ bits′ departures departures′ answers answers′ i
+      → Either k target g cells links calendar words bits departures answers cells′ links′ calendar′ words′ bits′ departures′ answers′ i
+  either-gone w′ cells′ links′ calendar′ words′ bits′ departures′ answers′ e d =
       record { went = λ q. rw (e .1) d; stayed = λ q. no (sym q ∙ e .0) }
 
 -- the cell has so many octets
-pub either-size : (k : Record) (size size′ : ℕ) (octets cells links calendar words departures answers cells′ links′ calendar′ words′ departures′ answers′ : List ℕ) (i : ℕ) (g : Went)
+pub either-size : (k : Record) (size size′ : ℕ) (octets cells links calendar words bits departures answers cells′ links′ calendar′ words′ bits′ departures′ answers′ : List ℕ) (i : ℕ) (g : Went)
     → size ≡ size′
-    → Either k (from2 k (take size′ octets) cells links calendar words) g cells links calendar words departures answers cells′ links′ calendar′ words′ departures′ answers′ i
-    → Either k (from2 k (take size octets) cells links calendar words) g cells links calendar words departures answers cells′ links′ calendar′ words′ departures′ answers′ i
-either-size k size size′ octets cells links calendar words departures answers cells′ links′ calendar′ words′ departures′ answers′ i g e h = rw e h
+    → Either k (from2 k (take size′ octets) cells links calendar words bits) g cells links calendar words bits departures answers cells′ links′ calendar′ words′ bits′ departures′ answers′ i
+    → Either k (from2 k (take size octets) cells links calendar words bits) g cells links calendar words bits departures answers cells′ links′ calendar′ words′ bits′ departures′ answers′ i
+either-size k size size′ octets cells links calendar words bits departures answers cells′ links′ calendar′ words′ bits′ departures′ answers′ i g e h = rw e h

@@ -3,15 +3,16 @@
 use Prim.Native.Nat.{ℕ, _+_, _*_, _≤_, _<_}
 use mathlib.Core.Path.{_≡_, refl, sym, _∙_, ap}
 use mathlib.Core.Logic.{_≢_}
-use mathlib.Core.Bool.{Bool, true, false, _&&_}
+use mathlib.Core.Bool.{Bool, true, false}
 use mathlib.Core.List.{List}
 use native.Mathlib.Omega.{arith}
 use lib.ListN.{length, getD, set}
 use lib.Seq.{getD-set-other}
 use Rattle.meaning.specs.declared.Record.{Record}
-use Rattle.meaning.specs.Plain.{if_then_else_, _<?_, _=?_}
+use Rattle.meaning.specs.Plain.{if_then_else_, _=?_}
 use Rattle.meaning.specs.Numbers.{empty, accepted, fPlace, sPlace, lastPlace, waitingPlace, secondSPlace}
-use Rattle.meaning.specs.State.{Ends, writeCell}
+use Rattle.meaning.specs.Bits.{lowestFree}
+use Rattle.meaning.specs.State.{writeCell}
 use Rattle.meaning.specs.Arrival.{sentAs}
 use Rattle.meaning.specs.Lists.{endsFit, entryAt, writeEntry}
 use Rattle.meaning.proofs.ListsLaws.{fit-head}
@@ -19,14 +20,14 @@ use Rattle.meaning.proofs.CellsLaws.{cell-length}
 use Rattle.slot_arrive.specs.Arrival.{broughtOf, filled}
 use Rattle.mem_lists.specs.declared.Seat.{Seat}
 use Rattle.mem_lists.specs.Spaces.{endsOf, seatAs, noSeat, seatAt, entryOf, seatOf}
-use Rattle.slot_plan.specs.Plan.{freeEnds, rotated, seatEnds}
-use Rattle.slot_plan.specs.Facts.{Seated}
-use Rattle.slot_plan.proofs.Found.{no, seat-shows}
+use Rattle.slot_plan.specs.Plan.{rotated, seatEnds}
+use Rattle.slot_plan.proofs.Found.{no}
 use Rattle.burst_rotate.specs.declared.Turn.{Turn}
 use Rattle.burst_rotate.specs.Turning.{Turned}
 use Rattle.burst_rotate.proofs.TurnLaws.{second-kept, none-second}
 use Rattle.burst_arrive.specs.declared.Spot.{Spot}
 use Rattle.burst_arrive.specs.Arriving.{Spotted}
+use Rattle.burst_arrive.proofs.SpotLaws.{entry-below}
 use Rattle.burst_likely.proofs.WriteLaws.{waiting-kept}
 
 -- ---- the cell in its space: the cell memory keeps its length, and an accepted cell is stored as it came
@@ -46,41 +47,29 @@ full-kept words r S t vci =
     ∙ getD-set-other words (sPlace r) (fPlace vci) S 0 (λ q. omega arith)
 
 -- the seat's entry is the calendar's
-module _ (N : ℕ) (links calendar : List ℕ) (T : ℕ) (free : Ends) (D : ℕ) where
+module _ (N : ℕ) (calendar : List ℕ) (T D x : ℕ) where
   abbrev e : ℕ
   e = entryOf N T D
 
-  entry-reads : seatOf N links calendar T free D .ok ≡ true
-      → (seatOf N links calendar T free D .head ≡ getD calendar (2 * seatOf N links calendar T free D .e) 0)
-      × (seatOf N links calendar T free D .tail ≡ getD calendar (2 * seatOf N links calendar T free D .e + 1) 0)
+  entry-reads : seatOf N calendar T D x .ok ≡ true
+      → (seatOf N calendar T D x .head ≡ getD calendar (2 * seatOf N calendar T D x .e) 0)
+      × (seatOf N calendar T D x .tail ≡ getD calendar (2 * seatOf N calendar T D x .e + 1) 0)
   unfolding seatOf seatAt entryAt
-  entry-reads =
-      go (free .head <? N && free .tail <? N) (endsFit N (entryAt calendar e)) (free .head =? free .tail) (getD links (free .head) 0 <? N)
+  entry-reads = go (endsFit N (entryAt calendar e))
     where
-      go : (a f q l : Bool)
-          → (let s = if a then (if f then (if q then seatAs true (free .head) (endsOf empty empty) e (entryAt calendar e) else if l then seatAs true (free .head) (endsOf (getD links (free .head) 0) (free .tail)) e (entryAt calendar e) else noSeat) else noSeat) else noSeat in
+      go : (f : Bool)
+          → (let s = if f then seatAs true x e (entryAt calendar e) else noSeat in
           s .ok ≡ true → (s .head ≡ getD calendar (2 * s .e) 0) × (s .tail ≡ getD calendar (2 * s .e + 1) 0))
-      go true true true l = λ ok. (refl, refl)
-      go true true false true = λ ok. (refl, refl)
-      go true true false false = λ ok. no ok
-      go true false q l = λ ok. no ok
-      go false f q l = λ ok. no ok
+      go true = λ ok. (refl, refl)
+      go false = λ ok. no ok
 
-  pub seat-reads : (a : Seat) → a ≡ seatOf N links calendar T free D → a .ok ≡ true
+  pub seat-reads : (a : Seat) → a ≡ seatOf N calendar T D x → a .ok ≡ true
       → (a .head ≡ getD calendar (2 * a .e) 0) × (a .tail ≡ getD calendar (2 * a .e + 1) 0)
   seat-reads a is ok = rw is (entry-reads (ap (λ (s : Seat). s .ok) (sym is) ∙ ok))
 
-pub seat-fits : (k : Record) (links calendar : List ℕ) (D : ℕ) (a : Seat) → a ≡ seatOf (k .n) links calendar (k .turn) (freeEnds k) D
-    → a .ok ≡ true
-    → k .turn < k .n
-    → D < k .n
-    → Seated k a
-seat-fits k links calendar D a is ok turn near =
-    rw is (seat-shows k links calendar D turn near (ap (λ (s : Seat). s .ok) (sym is) ∙ ok))
-
 -- ---- the likely way's own
-module _ (k : Record) (links calendar words cell : List ℕ) (small : k .n ≤ 1024) (r : Turn) (turned : Turned k words r) (p : Spot)
-    (spotted : Spotted k links calendar words cell p) where
+module _ (k : Record) (calendar words bits cell : List ℕ) (small : k .n ≤ 1024) (r : Turn) (turned : Turned k words r) (p : Spot)
+    (spotted : Spotted k calendar words bits cell p) where
   abbrev turning : List ℕ
   turning = set (set words (sPlace (k .rotation)) (r .s)) (lastPlace (k .rotation)) (r .last)
 
@@ -111,17 +100,16 @@ module _ (k : Record) (links calendar words cell : List ℕ) (small : k .n ≤ 1
       ∙ ap (filled (p .vci) (p .s + getD words (fPlace (p .vci)) 0) 0 (k .t) (getD words (waitingPlace (p .vci)) 0 + 1)) (turned .writes)
 
   abbrev seat : Seat
-  seat = seatAs true (p .x) (endsOf (p .link) (k .freetail)) (p .e) (endsOf (p .head) (p .tail))
+  seat = seatAs true (p .x) (p .e) (endsOf (p .head) (p .tail))
 
   reads : (p .head ≡ getD calendar (2 * p .e) 0) × (p .tail ≡ getD calendar (2 * p .e + 1) 0)
-  reads = seat-reads (k .n) links calendar (k .turn) (freeEnds k) (p .d) seat (spotted .seats .seat) refl
+  reads = seat-reads (k .n) calendar (k .turn) (p .d) (lowestFree bits) seat (spotted .seats .seat) refl
 
   pub head-read : p .head ≡ getD calendar (2 * p .e) 0
   head-read = reads .0
 
   pub entry-low : k .turn < k .n → p .e < k .n
-  entry-low turn =
-      seat-fits k links calendar (p .d) seat (spotted .seats .seat) refl turn (spotted .is-accepted .near) .e-low
+  entry-low turn = entry-below (k .n) (k .turn) (p .d) (p .e) turn (spotted .is-accepted .near) (spotted .seats .e-is)
 
   pub head-low : p .head ≢ empty → p .head < k .n
   head-low ne = fit-head (k .n) (endsOf (p .head) (p .tail)) (spotted .seats .entry-fits) ne

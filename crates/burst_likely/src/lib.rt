@@ -7,7 +7,8 @@ ghost use mathlib.Core.List.{List, []};
 ghost use Prim.Native.Nat.{ℕ, _+_, _*_, _≤_, _<_};
 ghost use lib.ListN.{length, getD, set, take, drop};
 ghost use Rattle.meaning.specs.Plain.{if_then_else_, _=?_};
-ghost use Rattle.meaning.specs.Numbers.{empty, fPlace, sPlace, lastPlace, waitingPlace, secondSPlace, octets, cellStart};
+ghost use Rattle.meaning.specs.Numbers.{mostN, empty, fPlace, sPlace, lastPlace, waitingPlace, secondSPlace, octets, cellStart, bitWords};
+ghost use Rattle.meaning.specs.Bits.{isFree, taken, given, marked, unmarked};
 ghost use Rattle.meaning.specs.State.{writeCell, HasConnection};
 ghost use Rattle.meaning.specs.Lists.{emptyList, endsFit, entryAt, writeEntry};
 ghost use Rattle.meaning.specs.Work.{answerOf};
@@ -114,14 +115,20 @@ fn put_cell(cells: &mut [u8], x: usize, arrivals: &[u8], i: usize)
     mem_cell::copy_cell(&mut cells[a..e], &arrivals[from..to]);
 }
 
-// What a departure writes to the links: entry T joined to the Output List, and the space given back.
-fn links_leave(w: Way, o: Leave, frees: bool, links: &mut [u16])
-    requires { ⌜ (o .follows ≡ true → (w .outtail < length (now links)) × (o .head ≤ 65535)) ⌝ }
-    requires { ⌜ (frees ≡ true → (w .freetail < length (now links)) × (o .space ≤ 65535)) ⌝ }
-    ensures { λ r. ⌜ now (links .exit) ≡ linked frees (w .freetail) (o .space) (linked (o .follows) (w .outtail) (o .head) (now (links .entry))) ⌝ }
+// A cell takes space x and joins entry e.
+fn take_up(bits: &mut [u64], x: usize, e: usize)
+    requires { ⌜ (x < mostN) × (length (now bits) ≡ bitWords) × (isFree (now bits) x ≡ true) × (e < mostN) ⌝ }
+    ensures { λ r. ⌜ now (bits .exit) ≡ marked (taken (now (bits .entry)) x) e ⌝ }
 {
-    put_link(links, o.follows, w.outtail, o.head);
-    put_link(links, frees, w.freetail, o.space);
+    mem_bits::occupy(bits, x as u16, e as u16);
+}
+
+// A cell leaves space x; where on, entry e was emptied before.
+fn give_back(bits: &mut [u64], x: usize, on: bool, e: usize)
+    requires { ⌜ (x < mostN) × (length (now bits) ≡ bitWords) × (isFree (now bits) x ≡ false) × (e < mostN) ⌝ }
+    ensures { λ r. ⌜ now (bits .exit) ≡ given (if on then unmarked (now (bits .entry)) e else now (bits .entry)) x ⌝ }
+{
+    mem_bits::release(bits, x as u16, on, e as u16);
 }
 
 fn odd(w: Way) -> Went
@@ -166,20 +173,22 @@ fn bare_leave(
     links: &mut [u16],
     calendar: &mut [u16],
     words: &mut [u32],
+    bits: &mut [u64],
     departures: &mut [u8],
     answers: &mut [u16],
     i: usize,
 ) -> Way
-    requires { ⌜ ReadyIn w cells links calendar words ⌝ }
+    requires { ⌜ ReadyIn w cells links calendar words bits ⌝ }
     requires { ⌜ Turned (slotRecord w) (now words) r ⌝ }
-    requires { ⌜ (o .none ≡ false) × Leaves (slotRecord w) (entryAt (now calendar) (w .turn)) o (OffHere (slotRecord w) (now cells) (now links) (now words)) ⌝ }
+    requires { ⌜ (o .none ≡ false) × Leaves (slotRecord w) (now bits) (entryAt (now calendar) (w .turn)) o (OffHere (slotRecord w) (now cells) (now links) (now words)) ⌝ }
     requires { ⌜ HandedTo (now departures) (now answers) i ⌝ }
-    ensures { λ s. ⌜ ServedBy w [] s cells links calendar words departures answers i ⌝ }
+    ensures { λ s. ⌜ ServedBy w [] s cells links calendar words bits departures answers i ⌝ }
 {
     put_turn(words, w.rotation, r.s, r.last);
     put_less(words, o.vci);
     clear_entry(calendar, o.marked, w.turn);
-    links_leave(w, o, w.freehead != 65535, links);
+    put_link(links, o.follows, w.outtail, o.head);
+    give_back(bits, o.space, o.marked, w.turn);
     burst_out::copy_departure(departures, i, cells, o.space);
     burst_out::put_answer(
         answers,
@@ -193,12 +202,7 @@ fn bare_leave(
             departing: o.vci as u16,
         },
     );
-    let freehead = if w.freehead == 65535 {
-        o.space
-    } else {
-        w.freehead
-    };
-    burst_way::with_ends(w, freehead, o.space, o.next, o.tail)
+    burst_way::with_ends(w, w.free + 1, o.next, o.tail)
 }
 
 // No cell arrived.
@@ -209,16 +213,17 @@ fn bare(
     links: &mut [u16],
     calendar: &mut [u16],
     words: &mut [u32],
+    bits: &mut [u64],
     departures: &mut [u8],
     answers: &mut [u16],
     i: usize,
 ) -> Went
-    requires { ⌜ ReadyIn w cells links calendar words ⌝ }
+    requires { ⌜ ReadyIn w cells links calendar words bits ⌝ }
     requires { ⌜ Turned (slotRecord w) (now words) r ⌝ }
     requires { ⌜ HandedTo (now departures) (now answers) i ⌝ }
-    ensures { λ g. ⌜ ServedOrLeft w [] g cells links calendar words departures answers i ⌝ }
+    ensures { λ g. ⌜ ServedOrLeft w [] g cells links calendar words bits departures answers i ⌝ }
 {
-    let o = burst_depart::off_quiet(w, cells, links, calendar, words);
+    let o = burst_depart::off_quiet(w, cells, links, calendar, words, bits);
     if !o.ok {
         return odd(w);
     }
@@ -234,6 +239,7 @@ fn bare(
         links,
         calendar,
         words,
+        bits,
         departures,
         answers,
         i,
@@ -241,7 +247,7 @@ fn bare(
     gone(after)
 }
 
-// An accepted cell: what steps 2 and 3 write.
+// An accepted cell: what steps 2 and 3 write; its space is free no longer, and its entry is marked.
 fn store(
     w: Way,
     r: Turn,
@@ -250,23 +256,26 @@ fn store(
     links: &mut [u16],
     calendar: &mut [u16],
     words: &mut [u32],
+    bits: &mut [u64],
     arrivals: &[u8],
     i: usize,
 )
-    requires { ⌜ ReadyIn w cells links calendar words ⌝ }
+    requires { ⌜ ReadyIn w cells links calendar words bits ⌝ }
     requires { ⌜ Turned (slotRecord w) (now words) r ⌝ }
-    requires { ⌜ SpottedIn w p links calendar words arrivals i ⌝ }
+    requires { ⌜ SpottedIn w p calendar words bits arrivals i ⌝ }
     requires { ⌜ cellStart i + octets ≤ length (now arrivals) ⌝ }
     ensures cells { λ u. ⌜ now (cells .exit) ≡ writeCell (now (cells .entry)) (p .x) (cellBefore arrivals i) ⌝ }
     ensures links { λ u. ⌜ now (links .exit) ≡ linked (not (p .head =? empty)) (p .x) (p .head) (now (links .entry)) ⌝ }
-    ensures calendar { λ u. ⌜ now (calendar .exit) ≡ writeEntry (now (calendar .entry)) (p .e) (seatEnds (seatAt (slotRecord w) p)) ⌝ }
+    ensures calendar { λ u. ⌜ now (calendar .exit) ≡ writeEntry (now (calendar .entry)) (p .e) (seatEnds (seatAt p)) ⌝ }
     ensures words { λ u. ⌜ now (words .exit) ≡ wordsFilled w p (now (words .entry)) ⌝ }
+    ensures bits { λ u. ⌜ now (bits .exit) ≡ marked (taken (now (bits .entry)) (p .x)) (p .e) ⌝ }
 {
     put_turn(words, w.rotation, r.s, r.last);
     put_fill(words, p.vci, p.s, w.t);
     put_cell(cells, p.x, arrivals, i);
     put_link(links, p.head != 65535, p.x, p.head);
     put_entry(calendar, p.e, p.x, p.head);
+    take_up(bits, p.x, p.e);
 }
 
 // An accepted cell, and nothing departs.
@@ -278,19 +287,20 @@ fn accept_none(
     links: &mut [u16],
     calendar: &mut [u16],
     words: &mut [u32],
+    bits: &mut [u64],
     arrivals: &[u8],
     answers: &mut [u16],
     i: usize,
 ) -> Way
-    requires { ⌜ ReadyIn w cells links calendar words ⌝ }
+    requires { ⌜ ReadyIn w cells links calendar words bits ⌝ }
     requires { ⌜ Turned (slotRecord w) (now words) r ⌝ }
-    requires { ⌜ SpottedIn w p links calendar words arrivals i ⌝ }
+    requires { ⌜ SpottedIn w p calendar words bits arrivals i ⌝ }
     requires { ⌜ (cellStart i + octets ≤ length (now arrivals)) × (6 * i + 6 ≤ length (now answers)) ⌝ }
     requires { ⌜ (endsFit (w .n) (entryThen (slotRecord w) p (now calendar)) ≡ true)
         × (entryThen (slotRecord w) p (now calendar) .head ≡ empty) × (w .outhead ≡ empty) ⌝ }
-    ensures { λ s. ⌜ ServedSilent w (cellBefore arrivals i) s cells links calendar words answers i ⌝ }
+    ensures { λ s. ⌜ ServedSilent w (cellBefore arrivals i) s cells links calendar words bits answers i ⌝ }
 {
-    store(w, r, p, cells, links, calendar, words, arrivals, i);
+    store(w, r, p, cells, links, calendar, words, bits, arrivals, i);
     burst_out::put_answer(
         answers,
         i,
@@ -303,10 +313,10 @@ fn accept_none(
             departing: 0,
         },
     );
-    burst_way::with_ends(w, p.link, w.freetail, w.outhead, w.outtail)
+    burst_way::with_ends(w, w.free - 1, w.outhead, w.outtail)
 }
 
-// An accepted cell, and o departs.
+// An accepted cell, and o departs: one space is taken and one given back, so their number stays.
 fn accept_leave(
     w: Way,
     r: Turn,
@@ -316,23 +326,25 @@ fn accept_leave(
     links: &mut [u16],
     calendar: &mut [u16],
     words: &mut [u32],
+    bits: &mut [u64],
     arrivals: &[u8],
     departures: &mut [u8],
     answers: &mut [u16],
     i: usize,
 ) -> Way
-    requires { ⌜ ReadyIn w cells links calendar words ⌝ }
+    requires { ⌜ ReadyIn w cells links calendar words bits ⌝ }
     requires { ⌜ Turned (slotRecord w) (now words) r ⌝ }
-    requires { ⌜ SpottedIn w p links calendar words arrivals i ⌝ }
+    requires { ⌜ SpottedIn w p calendar words bits arrivals i ⌝ }
     requires { ⌜ (o .none ≡ false)
-        × Leaves (slotRecord w) (entryThen (slotRecord w) p (now calendar)) o (OffThen (slotRecord w) p (now cells) (now links) (now words)) ⌝ }
+        × Leaves (slotRecord w) (taken (now bits) (p .x)) (entryThen (slotRecord w) p (now calendar)) o (OffThen (slotRecord w) p (now cells) (now links) (now words)) ⌝ }
     requires { ⌜ (cellStart i + octets ≤ length (now arrivals)) × HandedTo (now departures) (now answers) i ⌝ }
-    ensures { λ s. ⌜ ServedBy w (cellBefore arrivals i) s cells links calendar words departures answers i ⌝ }
+    ensures { λ s. ⌜ ServedBy w (cellBefore arrivals i) s cells links calendar words bits departures answers i ⌝ }
 {
-    store(w, r, p, cells, links, calendar, words, arrivals, i);
+    store(w, r, p, cells, links, calendar, words, bits, arrivals, i);
     put_less(words, o.vci);
     clear_entry(calendar, o.marked, w.turn);
-    links_leave(w, o, true, links);
+    put_link(links, o.follows, w.outtail, o.head);
+    give_back(bits, o.space, o.marked, w.turn);
     burst_out::copy_departure(departures, i, cells, o.space);
     burst_out::put_answer(
         answers,
@@ -346,7 +358,7 @@ fn accept_leave(
             departing: o.vci as u16,
         },
     );
-    burst_way::with_ends(w, p.link, o.space, o.next, o.tail)
+    burst_way::with_ends(w, w.free, o.next, o.tail)
 }
 
 // A cell arrived, and it is accepted.
@@ -358,23 +370,36 @@ fn accept(
     links: &mut [u16],
     calendar: &mut [u16],
     words: &mut [u32],
+    bits: &mut [u64],
     arrivals: &[u8],
     departures: &mut [u8],
     answers: &mut [u16],
     i: usize,
 ) -> Went
-    requires { ⌜ ReadyIn w cells links calendar words ⌝ }
+    requires { ⌜ ReadyIn w cells links calendar words bits ⌝ }
     requires { ⌜ Turned (slotRecord w) (now words) r ⌝ }
-    requires { ⌜ SpottedIn w p links calendar words arrivals i ⌝ }
+    requires { ⌜ SpottedIn w p calendar words bits arrivals i ⌝ }
     requires { ⌜ (cellStart i + octets ≤ length (now arrivals)) × HandedTo (now departures) (now answers) i ⌝ }
-    ensures { λ g. ⌜ ServedOrLeft w (cellBefore arrivals i) g cells links calendar words departures answers i ⌝ }
+    ensures { λ g. ⌜ ServedOrLeft w (cellBefore arrivals i) g cells links calendar words bits departures answers i ⌝ }
 {
-    let o = burst_depart::off_accept(w, p, cells, links, calendar, words);
+    let o = burst_depart::off_accept(w, p, cells, links, calendar, words, bits);
     if !o.ok {
         return odd(w);
     }
     if o.none {
-        let after = accept_none(w, r, p, cells, links, calendar, words, arrivals, answers, i);
+        let after = accept_none(
+            w,
+            r,
+            p,
+            cells,
+            links,
+            calendar,
+            words,
+            bits,
+            arrivals,
+            answers,
+            i,
+        );
         return gone(after);
     }
     let after = accept_leave(
@@ -386,6 +411,7 @@ fn accept(
         links,
         calendar,
         words,
+        bits,
         arrivals,
         departures,
         answers,
@@ -402,17 +428,18 @@ fn arrive(
     links: &mut [u16],
     calendar: &mut [u16],
     words: &mut [u32],
+    bits: &mut [u64],
     arrivals: &[u8],
     departures: &mut [u8],
     answers: &mut [u16],
     i: usize,
 ) -> Went
-    requires { ⌜ ReadyIn w cells links calendar words ⌝ }
+    requires { ⌜ ReadyIn w cells links calendar words bits ⌝ }
     requires { ⌜ Turned (slotRecord w) (now words) r ⌝ }
     requires { ⌜ (cellStart i + octets ≤ length (now arrivals)) × HandedTo (now departures) (now answers) i ⌝ }
-    ensures { λ g. ⌜ ServedOrLeft w (cellBefore arrivals i) g cells links calendar words departures answers i ⌝ }
+    ensures { λ g. ⌜ ServedOrLeft w (cellBefore arrivals i) g cells links calendar words bits departures answers i ⌝ }
 {
-    let p = burst_arrive::accepted_spot(w, links, calendar, words, arrivals, i);
+    let p = burst_arrive::accepted_spot(w, calendar, words, bits, arrivals, i);
     if !p.ok {
         return odd(w);
     }
@@ -424,6 +451,7 @@ fn arrive(
         links,
         calendar,
         words,
+        bits,
         arrivals,
         departures,
         answers,
@@ -439,23 +467,35 @@ pub fn slot(
     links: &mut [u16],
     calendar: &mut [u16],
     words: &mut [u32],
+    bits: &mut [u64],
     arrivals: &[u8],
     size: u8,
     departures: &mut [u8],
     answers: &mut [u16],
     i: usize,
 ) -> Went
-    requires { ⌜ ReadyIn w cells links calendar words ⌝ }
+    requires { ⌜ ReadyIn w cells links calendar words bits ⌝ }
     requires { ⌜ (cellStart i + octets ≤ length (now arrivals)) × HandedTo (now departures) (now answers) i ⌝ }
     ensures fits { λ g. ⌜ (g .ok ≡ true → (size ≡ 0) ⊎ (size ≡ 53)) ⌝ }
-    ensures is { λ g. ⌜ ServedOrLeft w (take size (drop (cellStart i) (now (arrivals .entry)))) g cells links calendar words departures answers i ⌝ }
+    ensures is { λ g. ⌜ ServedOrLeft w (take size (drop (cellStart i) (now (arrivals .entry)))) g cells links calendar words bits departures answers i ⌝ }
 {
     let r = burst_rotate::turned(w, words);
     if !r.ok {
         return odd(w);
     }
     if size == 0 {
-        return bare(w, r, cells, links, calendar, words, departures, answers, i);
+        return bare(
+            w,
+            r,
+            cells,
+            links,
+            calendar,
+            words,
+            bits,
+            departures,
+            answers,
+            i,
+        );
     }
     if size != 53 {
         return odd(w);
@@ -467,6 +507,7 @@ pub fn slot(
         links,
         calendar,
         words,
+        bits,
         arrivals,
         departures,
         answers,

@@ -13,13 +13,14 @@ wayAt r =
       t = r .t;
       turn = r .turn;
       rotation = r .rotation;
-      freehead = r .freehead;
-      freetail = r .freetail;
+      free = r .free;
       outhead = r .outhead;
       outtail = r .outtail;
       raw = r .raw;
       mode = r .mode;
       kind = r .kind;
+      splitvci = r .splitvci;
+      splitpath = r .splitpath;
     }
 
 pub way-once : (r : Record) (a b : Way) → slotRecord a ≡ clocked r → slotRecord b ≡ clocked r → a ≡ b

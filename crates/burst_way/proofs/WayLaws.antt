@@ -56,13 +56,14 @@ at w t turn rotation =
       t = t;
       turn = turn;
       rotation = rotation;
-      freehead = w .freehead;
-      freetail = w .freetail;
+      free = w .free;
       outhead = w .outhead;
       outtail = w .outtail;
       raw = w .raw;
       mode = w .mode;
       kind = w .kind;
+      splitvci = w .splitvci;
+      splitpath = w .splitpath;
     }
 
 same-clock : (w : Way) (t t′ turn turn′ rotation rotation′ : ℕ) → t ≡ t′ → turn ≡ turn′ → rotation ≡ rotation′

@@ -8,21 +8,22 @@ use Rattle.meaning.specs.Plain.{if_then_else_, _=?_}
 use Rattle.meaning.specs.Numbers.{mostN, mostV, connectionsIn, slotNumbers, empty}
 use Rattle.burst_way.specs.declared.Way.{Way}
 
-abbrev pub wayWith : Way → ℕ → ℕ → ℕ → ℕ → ℕ → ℕ → ℕ → Way
-wayWith w t turn rotation freehead freetail outhead outtail =
+abbrev pub wayWith : Way → ℕ → ℕ → ℕ → ℕ → ℕ → ℕ → Way
+wayWith w t turn rotation free outhead outtail =
     record {
       n = w .n;
       v = w .v;
       t = t;
       turn = turn;
       rotation = rotation;
-      freehead = freehead;
-      freetail = freetail;
+      free = free;
       outhead = outhead;
       outtail = outtail;
       raw = w .raw;
       mode = w .mode;
       kind = w .kind;
+      splitvci = w .splitvci;
+      splitpath = w .splitpath;
     }
 
 abbrev recordAt : Way → ℕ → ℕ → ℕ → Record
@@ -33,13 +34,14 @@ recordAt w t turn rotation =
       t = t;
       turn = turn;
       rotation = rotation;
-      freehead = w .freehead;
-      freetail = w .freetail;
+      free = w .free;
       outhead = w .outhead;
       outtail = w .outtail;
       raw = w .raw;
       mode = w .mode;
       kind = w .kind;
+      splitvci = w .splitvci;
+      splitpath = w .splitpath;
     }
 
 abbrev pub slotRecord : Way → Record
@@ -56,12 +58,12 @@ lastRecord w =
 -- a slot is over; T and rotation may then stand at N and V + 256
 abbrev pub steppedWay : Way → Way
 steppedWay w =
-    wayWith w ((w .t + 1) % slotNumbers) (w .turn + 1) (w .rotation + 1) (w .freehead) (w .freetail) (w .outhead) (w .outtail)
+    wayWith w ((w .t + 1) % slotNumbers) (w .turn + 1) (w .rotation + 1) (w .free) (w .outhead) (w .outtail)
 
 -- T and rotation step round
 abbrev pub roundedWay : Way → Way
 roundedWay w =
-    wayWith w (w .t) (if w .turn =? w .n then 0 else w .turn) (if w .rotation =? connectionsIn (w .v) then 0 else w .rotation) (w .freehead) (w .freetail) (w .outhead) (w .outtail)
+    wayWith w (w .t) (if w .turn =? w .n then 0 else w .turn) (if w .rotation =? connectionsIn (w .v) then 0 else w .rotation) (w .free) (w .outhead) (w .outtail)
 
 -- what fits into a record's narrower numbers
 pub record Fits (w : Way) : Type 0 where
@@ -70,7 +72,6 @@ pub record Fits (w : Way) : Type 0 where
   pub v-high : w .v ≤ mostV
   pub turn-low : w .turn ≤ w .n
   pub rotation-low : w .rotation ≤ connectionsIn (w .v)
-  pub freehead-low : w .freehead ≤ empty
-  pub freetail-low : w .freetail ≤ empty
+  pub free-low : w .free ≤ empty
   pub outhead-low : w .outhead ≤ empty
   pub outtail-low : w .outtail ≤ empty

@@ -16,27 +16,27 @@ pub struct Way {
     pub t: u32,
     pub turn: usize,
     pub rotation: usize,
-    pub freehead: usize,
-    pub freetail: usize,
+    pub free: usize,
     pub outhead: usize,
     pub outtail: usize,
     pub raw: u16,
     pub mode: u16,
     pub kind: u16,
+    pub splitvci: u16,
+    pub splitpath: u16,
 }
 
-// The same policer with another clock and other ends of its two lists: whatever else a way holds is kept here, in one place.
+// The same policer with another clock, another number of free spaces and another Output List: whatever else a way holds is kept here, in one place.
 fn way_with(
     w: Way,
     t: u32,
     turn: usize,
     rotation: usize,
-    freehead: usize,
-    freetail: usize,
+    free: usize,
     outhead: usize,
     outtail: usize,
 ) -> Way
-    ensures { λ r. ⌜ r ≡ wayWith w t turn rotation freehead freetail outhead outtail ⌝ }
+    ensures { λ r. ⌜ r ≡ wayWith w t turn rotation free outhead outtail ⌝ }
 {
     Way {
         n: w.n,
@@ -44,13 +44,14 @@ fn way_with(
         t: t,
         turn: turn,
         rotation: rotation,
-        freehead: freehead,
-        freetail: freetail,
+        free: free,
         outhead: outhead,
         outtail: outtail,
         raw: w.raw,
         mode: w.mode,
         kind: w.kind,
+        splitvci: w.splitvci,
+        splitpath: w.splitpath,
     }
 }
 
@@ -97,13 +98,14 @@ pub fn way_of(r: Record, n: usize) -> Way
         t: t,
         turn: turn,
         rotation: rotation,
-        freehead: r.freehead as usize,
-        freetail: r.freetail as usize,
+        free: r.free as usize,
         outhead: r.outhead as usize,
         outtail: r.outtail as usize,
         raw: r.raw,
         mode: r.mode,
         kind: r.kind,
+        splitvci: r.splitvci,
+        splitpath: r.splitpath,
     }
 }
 
@@ -122,13 +124,14 @@ pub fn record_of(w: Way) -> Record
         t: t,
         turn: turn as u16,
         rotation: rotation as u16,
-        freehead: w.freehead as u16,
-        freetail: w.freetail as u16,
+        free: w.free as u16,
         outhead: w.outhead as u16,
         outtail: w.outtail as u16,
         raw: w.raw,
         mode: w.mode,
         kind: w.kind,
+        splitvci: w.splitvci,
+        splitpath: w.splitpath,
     }
 }
 
@@ -140,16 +143,7 @@ pub fn stepped(w: Way) -> Way
     let t = std::num::wrapping_add_u32(w.t, 1);
     let turn = w.turn + 1;
     let rotation = w.rotation + 1;
-    way_with(
-        w,
-        t,
-        turn,
-        rotation,
-        w.freehead,
-        w.freetail,
-        w.outhead,
-        w.outtail,
-    )
+    way_with(w, t, turn, rotation, w.free, w.outhead, w.outtail)
 }
 
 // 0 for n.
@@ -167,30 +161,12 @@ pub fn rounded(w: Way) -> Way
     let turn = round(w.turn, w.n);
     let all = connections(w.v);
     let rotation = round(w.rotation, all);
-    way_with(
-        w,
-        w.t,
-        turn,
-        rotation,
-        w.freehead,
-        w.freetail,
-        w.outhead,
-        w.outtail,
-    )
+    way_with(w, w.t, turn, rotation, w.free, w.outhead, w.outtail)
 }
 
-// The same with other ends of the Free List and of the Output List.
-pub fn with_ends(w: Way, freehead: usize, freetail: usize, outhead: usize, outtail: usize) -> Way
-    ensures { λ r. ⌜ r ≡ wayWith w (w .t) (w .turn) (w .rotation) freehead freetail outhead outtail ⌝ }
+// The same with another number of free spaces and another Output List.
+pub fn with_ends(w: Way, free: usize, outhead: usize, outtail: usize) -> Way
+    ensures { λ r. ⌜ r ≡ wayWith w (w .t) (w .turn) (w .rotation) free outhead outtail ⌝ }
 {
-    way_with(
-        w,
-        w.t,
-        w.turn,
-        w.rotation,
-        freehead,
-        freetail,
-        outhead,
-        outtail,
-    )
+    way_with(w, w.t, w.turn, w.rotation, free, outhead, outtail)
 }

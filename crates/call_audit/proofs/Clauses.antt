@@ -1,7 +1,8 @@
 -- From what the walks establish to the clauses of document 01, and back (to-clauses, clauses-kept): the budgets are 1 for
--- each space and waiting for each open connection, so what uses them up is what the clauses count.
+-- each space that is not free and waiting for each open connection, so what uses them up is what the clauses count.
 use Prim.Native.Nat.{ℕ, zero, suc, _+_, _*_, _≤_, _<_}
 use mathlib.Core.Path.{_≡_, refl, sym, ap, _∙_}
+use mathlib.Core.Bool.{true}
 use mathlib.Core.List.{List, [], _∷_, _++_}
 use native.Mathlib.Omega.{arith}
 use native.Mathlib.Decide.{decLt}
@@ -9,9 +10,11 @@ use lib.ListN.{length, getD}
 use Rattle.meaning.specs.declared.Record.{Record}
 use Rattle.meaning.specs.Numbers.{connectionsIn, empty}
 use Rattle.meaning.specs.State.{Ends, stateOf}
+use Rattle.meaning.specs.Bits.{spacesFit}
 use Rattle.meaning.specs.Lists.{entryAt}
 use Rattle.meaning.specs.Audit.{Chain, count, joined, AuditHolds}
 use Rattle.call_audit.specs.Budgets.{inside, waitsAt, AllFit}
+use Rattle.call_audit.specs.Marks.{MarksAre}
 use Rattle.mem_walks.specs.Walk.{nameOf, endsOf}
 use Rattle.mem_walks.specs.Stored.{Queues, Stored}
 use Rattle.mem_walks.proofs.BudgetLaws.{is, is-same, count-append, count-joined}
@@ -47,26 +50,28 @@ module _ (l calendar : List ℕ) where
   head-of e [] c h = c .0
   head-of e (x ∷ xs) c h = absurd (omega (arith, ap length h))
 
-module _ (r : Record) (cells links calendar words : List ℕ) (s : AuditHolds (stateOf r cells links calendar words)) where
+module _ (r : Record) (cells links calendar words bits : List ℕ) (s : AuditHolds (stateOf r cells links calendar words bits)) where
   pub clauses-turn : getD calendar (2 * r .turn) 0 ≡ empty
   clauses-turn =
       sym (head-at calendar (r .turn))
       ∙ head-of links calendar (entryAt calendar (r .turn)) (getD (s .queues) (r .turn) [])
       (s .queues-are (r .turn) (s .turn-low)) (s .turn-empty)
 
-module _ (r : Record) (cells links calendar words b w : List ℕ)
-    (ones : (x : ℕ) → getD b x 0 ≡ inside x (r .n)) (waits : (k : ℕ) → getD w k 0 ≡ waitsAt words (r .v) k) where
+module _ (r : Record) (cells links calendar words bits b w : List ℕ)
+    (ones : (x : ℕ) → getD b x 0 ≡ inside bits x (r .n)) (waits : (k : ℕ) → getD w k 0 ≡ waitsAt words (r .v) k) where
   abbrev pub Kept : Type 0
   Kept =
-      Stored links calendar (nameOf (r .kind) (r .v) cells) (r .n) (endsOf (r .freehead) (r .freetail)) (endsOf (r .outhead) (r .outtail)) b w
+      Stored links calendar (nameOf (r .kind) (r .v) cells) (r .n) (endsOf (r .outhead) (r .outtail)) b w
 
-  pub to-clauses : Shaped r cells links calendar words
+  pub to-clauses : Shaped r cells links calendar words bits
+      → spacesFit (r .n) (r .free) bits ≡ true
+      → MarksAre (r .n) calendar bits
       → AllFit (r .n) (r .v) words
-      → getD calendar (2 * r .turn) 0 ≡ empty → Kept → AuditHolds (stateOf r cells links calendar words)
-  to-clauses h f e s =
+      → getD calendar (2 * r .turn) 0 ≡ empty → Kept → AuditHolds (stateOf r cells links calendar words bits)
+  to-clauses h fit marks f e s =
       let queued = s .output ++ joined (s .queues) in
-      let past : count empty (s .free ++ queued) ≡ 0 =
-      s .spaces empty ∙ ones empty ∙ inside-no empty (r .n) (omega (arith, h .n-most)) in
+      let past : count empty queued ≡ 0 =
+      s .spaces empty ∙ ones empty ∙ inside-no bits empty (r .n) (omega (arith, h .n-most)) in
       let small : connectionsIn (r .v) ≤ empty = omega (arith, h .v-most) in
       let at : (j : ℕ) → j < r .n → Chain links (entryAt calendar j) (getD (s .queues) j []) =
       λ j g. queues-at links calendar 0 j j (s .queues) (s .queues-are) (omega (arith, s .queues-many)) (omega arith) in
@@ -74,7 +79,6 @@ module _ (r : Record) (cells links calendar words b w : List ℕ)
       omega (
         arith,
         past,
-        count-append empty (s .free) queued,
         count-append empty (s .output) (joined (s .queues)),
         count-joined empty (s .queues) (r .turn),
       ) in
@@ -88,33 +92,32 @@ module _ (r : Record) (cells links calendar words b w : List ℕ)
         raw-low = h .raw-low;
         mode-low = h .mode-low;
         kind-low = h .kind-low;
+        splits = h .splits;
         connections-fit = f;
-        free = s .free;
+        spaces-fit = fit;
+        marks-are = marks;
         output = s .output;
         queues = s .queues;
-        free-is = s .free-is;
         output-is = s .output-is;
         queues-many = s .queues-many;
         queues-are = at;
-        once = λ x g. s .spaces x ∙ ones x ∙ inside-yes x (r .n) g;
-        no-other = λ x g. s .spaces x ∙ ones x ∙ inside-no x (r .n) g;
+        once = λ x g. s .spaces x ∙ ones x ∙ inside-yes bits x (r .n) g;
+        no-other = λ x g. s .spaces x ∙ ones x ∙ inside-no bits x (r .n) g;
         turn-empty = empty-of links calendar turn turn-queue (at (r .turn) (h .turn-low)) (head-at calendar (r .turn) ∙ e) none;
         named = named-of (r .kind) (r .v) cells words queued small (λ k. s .cells k ∙ waits k);
         waits = waits-of (r .kind) (r .v) cells words queued small (λ k. s .cells k ∙ waits k);
       }
 
-  module _ (s : AuditHolds (stateOf r cells links calendar words)) where
-    each : (x : ℕ) → Dec (x < r .n) → count x (s .free ++ (s .output ++ joined (s .queues))) ≡ getD b x 0
-    each x (yes g) = s .once x g ∙ sym (ones x ∙ inside-yes x (r .n) g)
-    each x (no g) = s .no-other x (omega arith) ∙ sym (ones x ∙ inside-no x (r .n) (omega arith))
+  module _ (s : AuditHolds (stateOf r cells links calendar words bits)) where
+    each : (x : ℕ) → Dec (x < r .n) → count x (s .output ++ joined (s .queues)) ≡ getD b x 0
+    each x (yes g) = s .once x g ∙ sym (ones x ∙ inside-yes bits x (r .n) g)
+    each x (no g) = s .no-other x (omega arith) ∙ sym (ones x ∙ inside-no bits x (r .n) (omega arith))
 
     pub clauses-kept : Kept
     clauses-kept =
         record {
-          free = s .free;
           output = s .output;
           queues = s .queues;
-          free-is = s .free-is;
           output-is = s .output-is;
           queues-many = s .queues-many;
           queues-are = queues-of links calendar 0 (s .queues)

@@ -7,7 +7,7 @@ use mathlib.Core.List.{List, [], _∷_, _++_}
 use native.Mathlib.Omega.{arith}
 use native.Mathlib.Decide.{ℕ-discrete, decLt}
 use lib.ListN.{getD}
-use Rattle.meaning.specs.State.{State, Ends, freeList, outputList}
+use Rattle.meaning.specs.State.{State, Ends, outputList}
 use Rattle.meaning.specs.Lists.{emptyList, endsFit, entryAt}
 use Rattle.meaning.specs.Audit.{Leads, Chain, count, joined, AuditHolds}
 use Rattle.meaning.proofs.ListsLaws.{fit-marked, fit-empty}
@@ -67,11 +67,8 @@ module _ (s : State) (h : AuditHolds s) where
   abbrev N : ℕ
   N = s .ctl .n
 
-  free-below : Below N (h .free)
-  free-below x g = omega (arith, h .no-other x g, count-append x (h .free) (h .output ++ joined (h .queues)))
-
   queued-below : Below N (h .output ++ joined (h .queues))
-  queued-below x g = omega (arith, h .no-other x g, count-append x (h .free) (h .output ++ joined (h .queues)))
+  queued-below = h .no-other
 
   output-below : Below N (h .output)
   output-below x g = omega (arith, queued-below x g, count-append x (h .output) (joined (h .queues)))
@@ -81,9 +78,6 @@ module _ (s : State) (h : AuditHolds s) where
       omega (arith, queued-below x g, count-append x (h .output) (joined (h .queues)), count-joined x (h .queues) e)
 
   -- "a head and tail are both below N or both 65,535"
-  pub free-fits : endsFit N (freeList s) ≡ true
-  free-fits = chain-ends (s .links) N (freeList s) (h .free) free-below (h .free-is)
-
   pub output-fits : endsFit N (outputList s) ≡ true
   output-fits = chain-ends (s .links) N (outputList s) (h .output) output-below (h .output-is)
 
@@ -92,9 +86,6 @@ module _ (s : State) (h : AuditHolds s) where
       chain-ends (s .links) N (entryAt (s .calendar) e) (getD (h .queues) e []) (queue-below e) (h .queues-are e g)
 
   -- "a link that is read is below N": the link of each space but the tail
-  pub free-links-fit : (x : ℕ) → 0 < count x (h .free) → (x ≡ freeList s .tail → ⊥) → getD (s .links) x 0 < N
-  free-links-fit = chain-links (s .links) N (freeList s) (h .free) free-below (h .free-is)
-
   pub output-links-fit : (x : ℕ) → 0 < count x (h .output) → (x ≡ outputList s .tail → ⊥) → getD (s .links) x 0 < N
   output-links-fit = chain-links (s .links) N (outputList s) (h .output) output-below (h .output-is)
 

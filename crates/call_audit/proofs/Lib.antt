@@ -3,3 +3,4 @@ pub mod ShapeLaws
 pub mod NameLaws
 pub mod Clauses
 pub mod EndsFit
+pub mod MarkLaws

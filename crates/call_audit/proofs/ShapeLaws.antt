@@ -8,7 +8,7 @@ use lib.ListN.{length}
 use borrow.Author.Tests.{lt-ltb, le-ltb, le-leb, lt-leb, eqb-true, ltb-true, leb-true, not-true, not-false}
 use Rattle.meaning.specs.declared.Record.{Record}
 use Rattle.meaning.specs.Plain.{_<?_, _≤?_, _=?_}
-use Rattle.meaning.specs.Numbers.{mostN, leastV, mostV, rangesHold, octets, perEntry, connectionsIn, kindFits, wordsIn}
+use Rattle.meaning.specs.Numbers.{mostN, leastV, mostV, rangesHold, octets, perEntry, connectionsIn, kindFits, wordsIn, bitWords, splitsHold}
 use Rattle.meaning.specs.State.{stateOf, wordsLong, lengthsHold}
 use Rattle.meaning.specs.Audit.{AuditHolds}
 use Rattle.call_audit.specs.Shape.{recordFits, shapeHolds}
@@ -25,17 +25,21 @@ module _ (N z : ℕ) where
       let d = both (1 ≤? N) (N ≤? mostN) (b .0) in
       (leb-true 1 N (d .0), leb-true N mostN (d .1), leb-true leastV z (b .1), leb-true z mostV (a .1))
 
--- The four lengths
+-- The five lengths
 
-module _ (N z : ℕ) (cells links calendar words : List ℕ) where
-  lengths-facts : lengthsHold N z cells links calendar words ≡ true
-      → (length calendar ≡ perEntry * N) × (length words ≡ wordsIn z)
+module _ (N z : ℕ) (cells links calendar words bits : List ℕ) where
+  lengths-facts : lengthsHold N z cells links calendar words bits ≡ true
+      → (length calendar ≡ perEntry * N) × (length words ≡ wordsIn z) × (length bits ≡ bitWords)
   unfolding lengthsHold wordsLong
   lengths-facts h =
       let first = length cells =? octets * N && length links =? N in
-      let a = both (first && length calendar =? perEntry * N) (length words =? wordsIn z) h in
-      let b = both first (length calendar =? perEntry * N) (a .0) in
-      (eqb-true (length calendar) (perEntry * N) (b .1), eqb-true (length words) (wordsIn z) (a .1))
+      let d = both (first && length calendar =? perEntry * N && length words =? wordsIn z) (length bits =? bitWords) h in
+      let a = both (first && length calendar =? perEntry * N) (length words =? wordsIn z) (d .0) in
+      let b = both first (length calendar =? perEntry * N) (a .0) in (
+        eqb-true (length calendar) (perEntry * N) (b .1),
+        eqb-true (length words) (wordsIn z) (a .1),
+        eqb-true (length bits) bitWords (d .1),
+      )
 
 -- The record's other numbers, as the code meets them
 
@@ -66,15 +70,31 @@ module _ (r : Record) where
               lt-leb (r .mode) 1 h,
             )
 
-        pub fits-rest : r .mode ≤ 1 → kindFits (r .kind) ≡ recordFits r
-        unfolding recordFits
-        fits-rest h =
-            rw (
-              lt-ltb (r .turn) (r .n) turn,
-              lt-ltb (r .rotation) (connectionsIn (r .v)) rotation,
-              le-leb (r .raw) 1 raw,
-              le-leb (r .mode) 1 h,
-            )
+        -- k is what the test of the line kind answers
+        module _ (mode : r .mode ≤ 1) (k : Bool) (kind : k ≡ kindFits (r .kind)) where
+          pub fits-no-kind : not k ≡ true → false ≡ recordFits r
+          unfolding recordFits
+          fits-no-kind h =
+              rw (
+                lt-ltb (r .turn) (r .n) turn,
+                lt-ltb (r .rotation) (connectionsIn (r .v)) rotation,
+                le-leb (r .raw) 1 raw,
+                le-leb (r .mode) 1 mode,
+                ← kind,
+                not-true k h,
+              )
+
+          pub fits-rest : not k ≡ false → splitsHold (r .v) (r .splitvci) (r .splitpath) ≡ recordFits r
+          unfolding recordFits
+          fits-rest h =
+              rw (
+                lt-ltb (r .turn) (r .n) turn,
+                lt-ltb (r .rotation) (connectionsIn (r .v)) rotation,
+                le-leb (r .raw) 1 raw,
+                le-leb (r .mode) 1 mode,
+                ← kind,
+                not-false k h,
+              )
 
   kind-facts : kindFits (r .kind) ≡ true → r .kind ≤ 1
   unfolding kindFits
@@ -82,11 +102,13 @@ module _ (r : Record) where
 
   fits-facts : recordFits r ≡ true
       → (r .turn < r .n) × (r .rotation < connectionsIn (r .v)) × (r .raw ≤ 1) × (r .mode ≤ 1) × (r .kind ≤ 1)
+      × (splitsHold (r .v) (r .splitvci) (r .splitpath) ≡ true)
   unfolding recordFits
   fits-facts h =
       let turn = r .turn <? r .n in
       let rotation = r .rotation <? connectionsIn (r .v) in
-      let a = both (turn && rotation && r .raw ≤? 1 && r .mode ≤? 1) (kindFits (r .kind)) h in
+      let f = both (turn && rotation && r .raw ≤? 1 && r .mode ≤? 1 && kindFits (r .kind)) (splitsHold (r .v) (r .splitvci) (r .splitpath)) h in
+      let a = both (turn && rotation && r .raw ≤? 1 && r .mode ≤? 1) (kindFits (r .kind)) (f .0) in
       let b = both (turn && rotation && r .raw ≤? 1) (r .mode ≤? 1) (a .0) in
       let d = both (turn && rotation) (r .raw ≤? 1) (b .0) in
       let e = both turn rotation (d .0) in (
@@ -95,23 +117,24 @@ module _ (r : Record) where
         leb-true (r .raw) 1 (d .1),
         leb-true (r .mode) 1 (b .1),
         kind-facts (a .1),
+        f .1,
       )
 
-abbrev lengthsTest : ℕ → ℕ → List ℕ → List ℕ → List ℕ → List ℕ → Bool
-lengthsTest N z cells links calendar words =
-    length cells =? octets * N && length links =? N && length calendar =? perEntry * N && length words =? wordsIn z
+abbrev lengthsTest : ℕ → ℕ → List ℕ → List ℕ → List ℕ → List ℕ → List ℕ → Bool
+lengthsTest N z cells links calendar words bits =
+    length cells =? octets * N && length links =? N && length calendar =? perEntry * N && length words =? wordsIn z && length bits =? bitWords
 
 -- All of it, as the code meets it: p and q are what the two tests answer
 
-module _ (r : Record) (cells links calendar words : List ℕ) (p : Bool) (ranges : p ≡ rangesHold (r .n) (r .v)) where
+module _ (r : Record) (cells links calendar words bits : List ℕ) (p : Bool) (ranges : p ≡ rangesHold (r .n) (r .v)) where
   abbrev shape : Bool
-  shape = shapeHolds (stateOf r cells links calendar words)
+  shape = shapeHolds (stateOf r cells links calendar words bits)
 
   pub shape-no-ranges : not p ≡ true → false ≡ shape
   unfolding shapeHolds
   shape-no-ranges h = rw (← ranges, not-true p h)
 
-  module _ (q : Bool) (lengths : q ≡ lengthsTest (r .n) (r .v) cells links calendar words) (ok : not p ≡ false) where
+  module _ (q : Bool) (lengths : q ≡ lengthsTest (r .n) (r .v) cells links calendar words bits) (ok : not p ≡ false) where
     pub shape-no-lengths : not q ≡ true → false ≡ shape
     unfolding shapeHolds lengthsHold wordsLong
     shape-no-lengths h = rw (← ranges, not-false p ok, ← lengths, not-true q h)
@@ -123,33 +146,35 @@ module _ (r : Record) (cells links calendar words : List ℕ) (p : Bool) (ranges
 -- What a yes means, and that it is given
 
 -- "lengths and ranges hold", but for the connections' words
-pub record Shaped (r : Record) (cells links calendar words : List ℕ) : Type 0 where
+pub record Shaped (r : Record) (cells links calendar words bits : List ℕ) : Type 0 where
   pub ranges : rangesHold (r .n) (r .v) ≡ true
-  pub lengths : lengthsHold (r .n) (r .v) cells links calendar words ≡ true
+  pub lengths : lengthsHold (r .n) (r .v) cells links calendar words bits ≡ true
   pub turn-low : r .turn < r .n
   pub rotation-low : r .rotation < connectionsIn (r .v)
   pub raw-low : r .raw ≤ 1
   pub mode-low : r .mode ≤ 1
   pub kind-low : r .kind ≤ 1
+  pub splits : splitsHold (r .v) (r .splitvci) (r .splitpath) ≡ true
   -- what the two tests say in plain numbers, as far as the code needs it
   pub n-most : r .n ≤ mostN
   pub v-least : leastV ≤ r .v
   pub v-most : r .v ≤ mostV
   pub calendar-long : length calendar ≡ perEntry * r .n
   pub words-long : length words ≡ wordsIn (r .v)
+  pub bits-long : length bits ≡ bitWords
 
-module _ (r : Record) (cells links calendar words : List ℕ) where
-  pub shape-of : (a : Bool) → a ≡ shapeHolds (stateOf r cells links calendar words) → a ≡ true
-      → Shaped r cells links calendar words
+module _ (r : Record) (cells links calendar words bits : List ℕ) where
+  pub shape-of : (a : Bool) → a ≡ shapeHolds (stateOf r cells links calendar words bits) → a ≡ true
+      → Shaped r cells links calendar words bits
   unfolding shapeHolds
   shape-of found e h =
       let ranges = rangesHold (r .n) (r .v) in
-      let lengths = lengthsHold (r .n) (r .v) cells links calendar words in
+      let lengths = lengthsHold (r .n) (r .v) cells links calendar words bits in
       let a = both (ranges && lengths) (recordFits r) (sym e ∙ h) in
       let d = both ranges lengths (a .0) in
       let k = fits-facts r (a .1) in
       let f = ranges-facts (r .n) (r .v) (d .0) in
-      let g = lengths-facts (r .n) (r .v) cells links calendar words (d .1) in
+      let g = lengths-facts (r .n) (r .v) cells links calendar words bits (d .1) in
       record {
         ranges = d .0;
         lengths = d .1;
@@ -158,15 +183,17 @@ module _ (r : Record) (cells links calendar words : List ℕ) where
         raw-low = k .2;
         mode-low = k .3;
         kind-low = k .4;
+        splits = k .5;
         n-most = f .1;
         v-least = f .2;
         v-most = f .3;
         calendar-long = g .0;
         words-long = g .1;
+        bits-long = g .2;
       }
 
-  pub clauses-shape : AuditHolds (stateOf r cells links calendar words)
-      → shapeHolds (stateOf r cells links calendar words) ≡ true
+  pub clauses-shape : AuditHolds (stateOf r cells links calendar words bits)
+      → shapeHolds (stateOf r cells links calendar words bits) ≡ true
   unfolding shapeHolds recordFits kindFits
   clauses-shape s =
       rw (
@@ -177,4 +204,5 @@ module _ (r : Record) (cells links calendar words : List ℕ) where
         le-leb (r .raw) 1 (s .raw-low),
         le-leb (r .mode) 1 (s .mode-low),
         le-leb (r .kind) 1 (s .kind-low),
+        s .splits,
       )

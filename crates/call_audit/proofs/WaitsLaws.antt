@@ -1,5 +1,5 @@
--- The two budgets that a state gives, filled one number at a time: 1 for each space, its waiting for each open connection, by the
--- cases of their definitions.
+-- The two budgets that a state gives, filled one number at a time: 1 for each space that is not free, its waiting for each open
+-- connection, by the cases of their definitions.
 use Prim.Native.Nat.{ℕ, _+_, _*_, _≤_, _<_}
 use mathlib.Core.Path.{_≡_, refl, sym, ap, _∙_}
 use mathlib.Core.Bool.{Bool, true, false, not, _&&_}
@@ -11,8 +11,9 @@ use lib.Seq.{getD-set-same, getD-set-other}
 use borrow.Author.Tests.{lt-ltb, le-ltb, le-leb, lt-leb, eq-eqb, ne-eqb, eqb-true, ltb-true, not-true}
 use Rattle.meaning.specs.Plain.{if_then_else_, _<?_, _≤?_, _=?_}
 use Rattle.meaning.specs.Numbers.{paths, connectionsIn, unused, wordsPerConnection}
+use Rattle.meaning.specs.Bits.{isFree}
 use Rattle.meaning.specs.Words.{connectionAt, connectionFits}
-use Rattle.call_audit.specs.Budgets.{inside, waitsOf, filledAt, waitsAt, FitFrom, AllFit}
+use Rattle.call_audit.specs.Budgets.{usesOf, inside, waitsOf, filledAt, waitsAt, FitFrom, AllFit}
 use Rattle.meaning.proofs.WordsLaws.{opened-at, waiting-at}
 use Rattle.meaning.proofs.NamesLaws.{used-is, used-not-0, used-not-z}
 use Rattle.mem_walks.specs.Budget.{Gone}
@@ -20,35 +21,44 @@ use Rattle.mem_walks.proofs.Choice.{if-elim, both}
 
 -- Spaces
 
-pub inside-yes : (k n : ℕ) → k < n → inside k n ≡ 1
-unfolding inside
-inside-yes k n h = rw (lt-ltb k n h)
+module _ (bits : List ℕ) where
+  pub uses-free : (x : ℕ) → isFree bits x ≡ true → 0 ≡ usesOf bits x
+  uses-free x e = rw e
 
-pub inside-no : (k n : ℕ) → n ≤ k → inside k n ≡ 0
-unfolding inside
-inside-no k n h = rw (le-ltb k n h)
+  pub uses-other : (x : ℕ) → isFree bits x ≡ false → 1 ≡ usesOf bits x
+  uses-other x e = rw e
 
-inside-on : (k i : ℕ) → (k ≡ i → ⊥) → inside k i ≡ inside k (i + 1)
-inside-on k i n = go (decLt k i)
-  where
-    more : (k i : ℕ) → i ≤ k → (k ≡ i → ⊥) → i < k
-    more k i m n = omega arith
+  pub inside-yes : (k n : ℕ) → k < n → inside bits k n ≡ usesOf bits k
+  unfolding inside
+  inside-yes k n h = rw (lt-ltb k n h)
 
-    go : Dec (k < i) → inside k i ≡ inside k (i + 1)
-    go (yes h) = inside-yes k i h ∙ sym (inside-yes k (i + 1) (omega arith))
-    go (no h) = inside-no k i (omega arith) ∙ sym (inside-no k (i + 1) (omega (arith, more k i (omega arith) n)))
+  pub inside-no : (k n : ℕ) → n ≤ k → inside bits k n ≡ 0
+  unfolding inside
+  inside-no k n h = rw (le-ltb k n h)
 
--- a turn of the loop that fills the spaces' budget
-pub inside-turn : (b : List ℕ) (i : ℕ) → i < length b → ((k : ℕ) → getD b k 0 ≡ inside k i) → (k : ℕ)
-    → getD (set b i 1) k 0 ≡ inside k (i + 1)
-inside-turn b i h f k = go (ℕ-discrete k i)
-  where
-    go : Dec (k ≡ i) → getD (set b i 1) k 0 ≡ inside k (i + 1)
-    go (yes e) =
-        ap (λ (j : ℕ). getD (set b i 1) j 0) e
-        ∙ getD-set-same b i 1 0 h
-        ∙ sym (inside-yes k (i + 1) (omega arith))
-    go (no n) = getD-set-other b i k 1 0 n ∙ f k ∙ inside-on k i n
+  inside-on : (k i : ℕ) → (k ≡ i → ⊥) → inside bits k i ≡ inside bits k (i + 1)
+  inside-on k i n = go (decLt k i)
+    where
+      more : (k i : ℕ) → i ≤ k → (k ≡ i → ⊥) → i < k
+      more k i m n = omega arith
+
+      go : Dec (k < i) → inside bits k i ≡ inside bits k (i + 1)
+      go (yes h) = inside-yes k i h ∙ sym (inside-yes k (i + 1) (omega arith))
+      go (no h) = inside-no k i (omega arith) ∙ sym (inside-no k (i + 1) (omega (arith, more k i (omega arith) n)))
+
+  -- a turn of the loop that fills the spaces' budget
+  pub inside-turn : (b : List ℕ) (i d : ℕ) → i < length b → d ≡ usesOf bits i → ((k : ℕ) → getD b k 0 ≡ inside bits k i) → (k : ℕ)
+      → getD (set b i d) k 0 ≡ inside bits k (i + 1)
+  inside-turn b i d h u f k = go (ℕ-discrete k i)
+    where
+      go : Dec (k ≡ i) → getD (set b i d) k 0 ≡ inside bits k (i + 1)
+      go (yes e) =
+          ap (λ (j : ℕ). getD (set b i d) j 0) e
+          ∙ getD-set-same b i d 0 h
+          ∙ u
+          ∙ ap (usesOf bits) (sym e)
+          ∙ sym (inside-yes k (i + 1) (omega arith))
+      go (no n) = getD-set-other b i k d 0 n ∙ f k ∙ inside-on k i n
 
 -- Waiting
 

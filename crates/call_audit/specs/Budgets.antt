@@ -1,6 +1,7 @@
--- The two budgets that a state gives the audit: each space may be met once, and each open connection as often as it says.
+-- The two budgets that a state gives the audit: a free space may not be met, any other space once, and each open connection as
+-- often as it says.
 --
---   inside x N            == 1 for a space, 0 for any other number
+--   inside bits x N       == 1 for a space that is not free, 0 for any other number
 --   waitsAt w z k         == the waiting of connection k where there is one and it is open, else 0
 --   AllFit N z w          == the words of all connections are in their ranges
 --   FitFrom N a b w       == those from a on below b are
@@ -12,11 +13,16 @@ use mathlib.Core.List.{List}
 use lib.ListN.{getD}
 use Rattle.meaning.specs.Plain.{if_then_else_, _<?_, _≤?_, _=?_}
 use Rattle.meaning.specs.Numbers.{connectionsIn, unused}
+use Rattle.meaning.specs.Bits.{isFree}
 use Rattle.meaning.specs.Words.{Connection, connectionAt, connectionFits}
 
--- "each space is in exactly one"
-unfoldable pub inside : ℕ → ℕ → ℕ
-inside x N = if x <? N then 1 else 0
+-- "each space is in exactly one of the Free List, the Output List and the time slot queues": one that is free by its bit is in
+-- neither of the other two
+abbrev pub usesOf : List ℕ → ℕ → ℕ
+usesOf bits x = if isFree bits x then 0 else 1
+
+unfoldable pub inside : List ℕ → ℕ → ℕ → ℕ
+inside bits x N = if x <? N then usesOf bits x else 0
 
 -- "each open VC's waiting is the number of its queued cells", and each open path's: a closed connection may have none
 unfoldable pub waitsOf : Connection → ℕ

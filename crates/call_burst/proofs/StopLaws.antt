@@ -9,10 +9,11 @@ use native.Mathlib.Omega.{arith}
 use borrow.Author.Tests.{eq-eqb, ne-eqb, eqb-true}
 use lib.ListN.{length, length-take, length-drop}
 use Rattle.meaning.specs.Plain.{if_then_else_, _=?_, Out, refused, next}
-use Rattle.meaning.specs.Numbers.{rangesHold, octets, wordsIn}
+use Rattle.meaning.specs.Numbers.{rangesHold, octets, wordsIn, bitWords}
+use Rattle.meaning.specs.Bits.{lowestFree}
 use Rattle.meaning.specs.State.{State, wordsLong, lengthsHold, withRecord, recordInMode, withMode}
 use Rattle.meaning.specs.Work.{Work, workOf, bareAnswer}
-use Rattle.meaning.specs.Slot.{finish, uncheckedSlot, slot}
+use Rattle.meaning.specs.Slot.{finish, uncheckedSlotAt, uncheckedSlot, slotAt, slot}
 use Rattle.meaning.proofs.CheckedLaws.{isLent, through-lent}
 use Rattle.base_hec.specs.Modes.{Arriving, arriving, arrivingFits}
 use Rattle.slot_steps.proofs.EndLaws.{AllOut, both-true, Ended, begun, five-ended}
@@ -25,18 +26,19 @@ use Rattle.call_burst.proofs.LengthLaws.{Long, five-long}
 -- a policer of which refusals 1 and 2 are not given
 pub record Fit (s : State) : Type 0 where
   pub ranges : rangesHold (s .ctl .n) (s .ctl .v) ≡ true
-  pub lengths : lengthsHold (s .ctl .n) (s .ctl .v) (s .cells) (s .links) (s .calendar) (s .words) ≡ true
+  pub lengths : lengthsHold (s .ctl .n) (s .ctl .v) (s .cells) (s .links) (s .calendar) (s .words) (s .bits) ≡ true
 
 -- served, and fit again; or refused with 3
 abbrev pub ServedOr3 : Work → Type 0
 ServedOr3 w = ((w .answer .number ≡ 0) × Fit (w .state)) ⊎ (w .answer .number ≡ 3)
 
-lengths-plain : (s : State) → lengthsHold (s .ctl .n) (s .ctl .v) (s .cells) (s .links) (s .calendar) (s .words) ≡ true
+lengths-plain : (s : State) → lengthsHold (s .ctl .n) (s .ctl .v) (s .cells) (s .links) (s .calendar) (s .words) (s .bits) ≡ true
     → Long (s .ctl .n) (s .ctl .v) (workOf s (bareAnswer 0))
 unfolding lengthsHold wordsLong
 lengths-plain s e =
     let N = s .ctl .n in
-    let w = both-true (length (s .cells) =? 53 * N && length (s .links) =? N && length (s .calendar) =? 2 * N) (length (s .words) =? wordsIn (s .ctl .v)) e in
+    let b = both-true (length (s .cells) =? 53 * N && length (s .links) =? N && length (s .calendar) =? 2 * N && length (s .words) =? wordsIn (s .ctl .v)) (length (s .bits) =? bitWords) e in
+    let w = both-true (length (s .cells) =? 53 * N && length (s .links) =? N && length (s .calendar) =? 2 * N) (length (s .words) =? wordsIn (s .ctl .v)) (b .0) in
     let c = both-true (length (s .cells) =? 53 * N && length (s .links) =? N) (length (s .calendar) =? 2 * N) (w .0) in
     let l = both-true (length (s .cells) =? 53 * N) (length (s .links) =? N) (c .0) in
     record {
@@ -46,10 +48,11 @@ lengths-plain s e =
       links-long = eqb-true _ _ (l .1);
       calendar-long = eqb-true _ _ (c .1);
       words-long = eqb-true _ _ (w .1);
+      bits-long = eqb-true _ _ (b .1);
     }
 
 lengths-again : (N z : ℕ) (w : Work) → Long N z w
-    → lengthsHold (w .state .ctl .n) (w .state .ctl .v) (w .state .cells) (w .state .links) (w .state .calendar) (w .state .words) ≡ true
+    → lengthsHold (w .state .ctl .n) (w .state .ctl .v) (w .state .cells) (w .state .links) (w .state .calendar) (w .state .words) (w .state .bits) ≡ true
 unfolding lengthsHold wordsLong
 lengths-again N z w h =
     rw (
@@ -59,6 +62,7 @@ lengths-again N z w h =
       eq-eqb _ _ (h .links-long),
       eq-eqb _ _ (h .calendar-long),
       eq-eqb _ _ (h .words-long),
+      eq-eqb _ _ (h .bits-long),
     )
 
 either : (a b : Bool) → a || b ≡ true → (a ≡ true) ⊎ (b ≡ true)
@@ -76,7 +80,7 @@ fit-in-mode s mode f = record { ranges = f .ranges; lengths = f .lengths }
 
 unfit-three : (s : State) (cell : List ℕ) → Fit s → isLent cell ≡ true → arrivingFits (s .ctl .raw) (s .ctl .mode) cell ≡ false
     → slot s cell .answer .number ≡ 3
-unfolding slot finish
+unfolding slot slotAt finish
 unfit-three s cell f c e = rw (f .ranges, f .lengths, c, e)
 
 ended : (s : State) → Fit s → (x : Out Work) → AllOut (Ended (s .ctl)) x → AllOut (Long (s .ctl .n) (s .ctl .v)) x → ServedOr3 (finish s x)
@@ -86,12 +90,12 @@ ended s f (next w) a l =
     inl (a .number, record { ranges = rw (l .n-is, l .v-is) (f .ranges); lengths = lengths-again (s .ctl .n) (s .ctl .v) w l })
 
 unchecked-or-3 : (s : State) (cell : List ℕ) → Fit s → isLent cell ≡ true → ServedOr3 (uncheckedSlot s cell)
-unfolding uncheckedSlot
+unfolding uncheckedSlot uncheckedSlotAt
 unchecked-or-3 s cell f c =
     rw (f .ranges, f .lengths, c)
     (ended s f _
-    (five-ended (s .ctl) cell (workOf s (bareAnswer 0)) (begun (s .ctl) s refl))
-    (five-long (s .ctl .n) (s .ctl .v) cell (long-of cell c) (workOf s (bareAnswer 0)) (lengths-plain s (f .lengths))))
+    (five-ended (s .ctl) (lowestFree (s .bits)) cell (workOf s (bareAnswer 0)) (begun (s .ctl) s refl))
+    (five-long (s .ctl .n) (s .ctl .v) (lowestFree (s .bits)) cell (long-of cell c) (workOf s (bareAnswer 0)) (lengths-plain s (f .lengths))))
 
 -- with the header check in front: told, or as it came
 back-or-3 : (s : State) (b : Bool) (w : Work) → ServedOr3 w → ServedOr3 (back s b w)
@@ -181,22 +185,22 @@ slots-stop arrivals (size ∷ sizes) b z f e =
 
 -- what the lengths of a burst's buffers say of a policer and of arrivals
 pub fit-burst : (s : State) (a d n : ℕ) (sizes : ℕ) → rangesHold (s .ctl .n) (s .ctl .v) ≡ true
-    → lengthsFit (s .ctl .n) (s .ctl .v) (length (s .cells)) (length (s .links)) (length (s .calendar)) (length (s .words)) a sizes d n ≡ true
+    → lengthsFit (s .ctl .n) (s .ctl .v) (length (s .cells)) (length (s .links)) (length (s .calendar)) (length (s .words)) (length (s .bits)) a sizes d n ≡ true
     → Fit s × (a ≡ 53 * sizes)
 unfolding lengthsFit lengthsHold wordsLong
 fit-burst s a d n sizes r e =
     let N = s .ctl .n in
-    let four = length (s .cells) =? 53 * N && length (s .links) =? N && length (s .calendar) =? 2 * N && length (s .words) =? wordsIn (s .ctl .v) in
-    let x = both-true (four && a =? 53 * sizes && d =? 53 * sizes) (n =? 6 * sizes) e in
-    let y = both-true (four && a =? 53 * sizes) (d =? 53 * sizes) (x .0) in
-    let m = both-true four (a =? 53 * sizes) (y .0) in
+    let five = length (s .cells) =? 53 * N && length (s .links) =? N && length (s .calendar) =? 2 * N && length (s .words) =? wordsIn (s .ctl .v) && length (s .bits) =? bitWords in
+    let x = both-true (five && a =? 53 * sizes && d =? 53 * sizes) (n =? 6 * sizes) e in
+    let y = both-true (five && a =? 53 * sizes) (d =? 53 * sizes) (x .0) in
+    let m = both-true five (a =? 53 * sizes) (y .0) in
     (record { ranges = r; lengths = m .0 }, eqb-true a (53 * sizes) (m .1))
 
 -- A burst that is not refused with 1 or 2 ends with 0, 9 or 3.
 pub later-stops : (s : State) (arrivals sizes departures answers : List ℕ)
     → (let r = burst s arrivals sizes departures answers in ((r .number ≡ 1) ⊎ (r .number ≡ 2)) ⊎ ((r .number ≡ 0) ⊎ Stops (r .number)))
 unfolding burst stopped
-later-stops s arrivals sizes departures answers = go (rangesHold (s .ctl .n) (s .ctl .v)) (lengthsFit (s .ctl .n) (s .ctl .v) (length (s .cells)) (length (s .links)) (length (s .calendar)) (length (s .words)) (length arrivals) (length sizes) (length departures) (length answers)) refl refl
+later-stops s arrivals sizes departures answers = go (rangesHold (s .ctl .n) (s .ctl .v)) (lengthsFit (s .ctl .n) (s .ctl .v) (length (s .cells)) (length (s .links)) (length (s .calendar)) (length (s .words)) (length (s .bits)) (length arrivals) (length sizes) (length departures) (length answers)) refl refl
   where
     begun : Stretch
     begun = stretchOf s departures answers 0 0
@@ -205,7 +209,7 @@ later-stops s arrivals sizes departures answers = go (rangesHold (s .ctl .n) (s 
     ends a b = if not a then stopped begun 1 else if not b then stopped begun 2 else slots arrivals sizes begun
 
     go : (a b : Bool) → rangesHold (s .ctl .n) (s .ctl .v) ≡ a
-        → lengthsFit (s .ctl .n) (s .ctl .v) (length (s .cells)) (length (s .links)) (length (s .calendar)) (length (s .words)) (length arrivals) (length sizes) (length departures) (length answers) ≡ b
+        → lengthsFit (s .ctl .n) (s .ctl .v) (length (s .cells)) (length (s .links)) (length (s .calendar)) (length (s .words)) (length (s .bits)) (length arrivals) (length sizes) (length departures) (length answers) ≡ b
         → ((ends a b .number ≡ 1) ⊎ (ends a b .number ≡ 2)) ⊎ ((ends a b .number ≡ 0) ⊎ Stops (ends a b .number))
     go false b ea eb = inl (inl refl)
     go true false ea eb = inl (inr refl)

@@ -5,7 +5,7 @@ use mathlib.Core.Bool.{Bool, not, _&&_, _||_}
 use mathlib.Core.List.{List, [], _∷_}
 use lib.ListN.{length, getD, take, drop}
 use Rattle.meaning.specs.Plain.{if_then_else_, _=?_}
-use Rattle.meaning.specs.Numbers.{rangesHold, octets, perEntry, wordsIn, cellStart}
+use Rattle.meaning.specs.Numbers.{rangesHold, octets, perEntry, wordsIn, bitWords, cellStart}
 use Rattle.meaning.specs.State.{State}
 use Rattle.meaning.specs.Work.{Work}
 use Rattle.meaning.specs.Slot.{slot}
@@ -59,20 +59,20 @@ slots arrivals (size ∷ sizes) b =
     let after = oneSlot arrivals size b in
     if after .number =? 0 then slots arrivals sizes after else after
 
--- buffers of these lengths, for N, V and so many sizes: the four memories, arrivals, departures and answers
-unfoldable pub lengthsFit : ℕ → ℕ → ℕ → ℕ → ℕ → ℕ → ℕ → ℕ → ℕ → ℕ → Bool
-lengthsFit N z cells links calendar words arrivals sizes departures answers =
-    cells =? octets * N && links =? N && calendar =? perEntry * N && words =? wordsIn z
+-- buffers of these lengths, for N, V and so many sizes: the five memories, arrivals, departures and answers
+unfoldable pub lengthsFit : ℕ → ℕ → ℕ → ℕ → ℕ → ℕ → ℕ → ℕ → ℕ → ℕ → ℕ → Bool
+lengthsFit N z cells links calendar words bits arrivals sizes departures answers =
+    cells =? octets * N && links =? N && calendar =? perEntry * N && words =? wordsIn z && bits =? bitWords
     && arrivals =? octets * sizes && departures =? octets * sizes && answers =? answerLong * sizes
 
 -- "Refusals, in this order: 1; 2 if one of the four memories, or arrivals, departures or answers for so many sizes, has
--- another length; each leaves everything as it came, `done` 0. Then slots"; "No sizes: 0, `done` 0"
+-- another length; each leaves everything as it came, `done` 0. Then slots"; "No sizes: 0, `done` 0"; document 02 (vii) lends a fifth memory
 unfoldable pub burst : State → List ℕ → List ℕ → List ℕ → List ℕ → Stretch
 burst s arrivals sizes departures answers =
     let N = s .ctl .n in
     let z = s .ctl .v in
     let begun = stretchOf s departures answers 0 0 in
     if not (rangesHold N z) then stopped begun 1
-    else if not (lengthsFit N z (length (s .cells)) (length (s .links)) (length (s .calendar)) (length (s .words)) (length arrivals) (length sizes) (length departures) (length answers))
+    else if not (lengthsFit N z (length (s .cells)) (length (s .links)) (length (s .calendar)) (length (s .words)) (length (s .bits)) (length arrivals) (length sizes) (length departures) (length answers))
     then stopped begun 2
     else slots arrivals sizes begun

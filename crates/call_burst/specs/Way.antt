@@ -1,7 +1,7 @@
 -- A burst on the likely ways: what is known of a policer there, and how far the burst has come.
 --
 --   Shaped r ..       == refusals 1 and 2 are not given
---   Tries r           == the likely ways may be tried from this record on
+--   Tries r bits      == the likely ways may be tried from this record on
 --   Held w ..         == what every slot keeps; T and rotation may stand at N and V + 256, where a run has ended
 --   Room w words k    == a run of k slots: neither T nor rotation steps round before it ends, nor does rotation come from the VCs to
 --                        the paths; and a record that is no connection's, its first at most, is not open
@@ -11,16 +11,17 @@ use mathlib.Core.Bool.{true}
 use mathlib.Core.List.{List}
 use lib.ListN.{length, getD, drop}
 use Rattle.meaning.specs.declared.Record.{Record}
-use Rattle.meaning.specs.Numbers.{mostN, leastV, mostV, octets, perEntry, connectionPlace, connectionsIn, unused, wordsIn, slotNumbers}
+use Rattle.meaning.specs.Numbers.{mostN, leastV, mostV, octets, perEntry, connectionPlace, connectionsIn, unused, wordsIn, bitWords, slotNumbers}
+use Rattle.meaning.specs.Bits.{spacesFit}
 use Rattle.meaning.specs.State.{State, stateOf}
 use Rattle.meaning.specs.Lent.{Slice, Lent}
 use Rattle.meaning.specs.Lists.{endsFit}
-use Rattle.slot_plan.specs.Plan.{freeEnds, outputEnds}
+use Rattle.slot_plan.specs.Plan.{outputEnds}
 use Rattle.burst_way.specs.declared.Way.{Way}
 use Rattle.burst_way.specs.Way.{slotRecord, lastRecord}
 use Rattle.call_burst.specs.Burst.{Stretch, stretchOf, slots}
 
-pub record Shaped (r : Record) (cells links calendar words : List ℕ) : Type 0 where
+pub record Shaped (r : Record) (cells links calendar words bits : List ℕ) : Type 0 where
   pub n-low : 1 ≤ r .n
   pub n-high : r .n ≤ mostN
   pub v-low : leastV ≤ r .v
@@ -29,20 +30,21 @@ pub record Shaped (r : Record) (cells links calendar words : List ℕ) : Type 0 
   pub links-long : length links ≡ r .n
   pub calendar-long : length calendar ≡ perEntry * r .n
   pub words-long : length words ≡ wordsIn (r .v)
+  pub bits-long : length bits ≡ bitWords
 
-pub record Tries (r : Record) : Type 0 where
+pub record Tries (r : Record) (bits : List ℕ) : Type 0 where
   pub not-raw : r .raw ≡ 0
   pub turn-low : r .turn < r .n
   pub rotation-low : r .rotation < connectionsIn (r .v)
-  pub free-fits : endsFit (r .n) (freeEnds r) ≡ true
+  pub spaces-fit : spacesFit (r .n) (r .free) bits ≡ true
   pub output-fits : endsFit (r .n) (outputEnds r) ≡ true
 
-pub record Held (w : Way) (cells links calendar words : List ℕ) : Type 0 where
-  pub shaped : Shaped (slotRecord w) cells links calendar words
+pub record Held (w : Way) (cells links calendar words bits : List ℕ) : Type 0 where
+  pub shaped : Shaped (slotRecord w) cells links calendar words bits
   pub t-low : w .t < slotNumbers
   pub turn-most : w .turn ≤ w .n
   pub rotation-most : w .rotation ≤ connectionsIn (w .v)
-  pub free-fits : endsFit (w .n) (freeEnds (slotRecord w)) ≡ true
+  pub spaces-fit : spacesFit (w .n) (w .free) bits ≡ true
   pub output-fits : endsFit (w .n) (outputEnds (slotRecord w)) ≡ true
   pub not-raw : w .raw ≡ 0
 
@@ -53,16 +55,17 @@ pub record Room (w : Way) (words : List ℕ) (k : ℕ) : Type 0 where
   pub unused-closed : 0 < k → unused (w .v) (w .rotation) ≡ true → getD words (connectionPlace (w .rotation)) 0 ≡ 0
 
 -- how far a burst has come, before slot i
-abbrev pub wayStretch : Way → List ℕ → List ℕ → List ℕ → List ℕ → List ℕ → List ℕ → ℕ → Stretch
-wayStretch w cells links calendar words departures answers i =
-    stretchOf (stateOf (lastRecord w) cells links calendar words) departures answers 0 i
+abbrev pub wayStretch : Way → List ℕ → List ℕ → List ℕ → List ℕ → List ℕ → List ℕ → List ℕ → ℕ → Stretch
+wayStretch w cells links calendar words bits departures answers i =
+    stretchOf (stateOf (lastRecord w) cells links calendar words bits) departures answers 0 i
 
 -- ---- the same of lent memories and buffers, for contracts
-abbrev pub HeldIn : Way → Slice → Slice → Slice → Slice → Type 0
-HeldIn w cells links calendar words = Held w (cells .now) (links .now) (calendar .now) (words .now)
+abbrev pub HeldIn : Way → Slice → Slice → Slice → Slice → Slice → Type 0
+HeldIn w cells links calendar words bits = Held w (cells .now) (links .now) (calendar .now) (words .now) (bits .now)
 
-abbrev pub HeldAfter : Way → Lent → Lent → Lent → Lent → Type 0
-HeldAfter w cells links calendar words = Held w (cells .exit .now) (links .exit .now) (calendar .exit .now) (words .exit .now)
+abbrev pub HeldAfter : Way → Lent → Lent → Lent → Lent → Lent → Type 0
+HeldAfter w cells links calendar words bits =
+    Held w (cells .exit .now) (links .exit .now) (calendar .exit .now) (words .exit .now) (bits .exit .now)
 
 -- how far a burst has come before slot i, s being its policer: as a function is handed it, and as it leaves it
 abbrev pub stretchBefore : State → Lent → Lent → ℕ → Stretch

@@ -5,7 +5,7 @@ ghost use mathlib.Core.Bool.{true};
 ghost use Prim.Native.Nat.{_+_, _-_, _*_, _≤_, _<_};
 ghost use lib.ListN.{length, drop};
 ghost use Rattle.meaning.specs.Plain.{_=?_};
-ghost use Rattle.meaning.specs.Numbers.{mostN, mostV, connectionsIn, unused, wordsIn};
+ghost use Rattle.meaning.specs.Numbers.{mostN, mostV, connectionsIn, unused, wordsIn, bitWords};
 ghost use Rattle.meaning.specs.Promises.{slotPromise};
 ghost use Rattle.meaning.specs.Lent.{before, after, servedAfter};
 ghost use Rattle.burst_way.specs.Way.{lastRecord};
@@ -62,13 +62,14 @@ fn copied(r: Record) -> Record
         t: r.t,
         turn: r.turn,
         rotation: r.rotation,
-        freehead: r.freehead,
-        freetail: r.freetail,
+        free: r.free,
         outhead: r.outhead,
         outtail: r.outtail,
         raw: r.raw,
         mode: r.mode,
         kind: r.kind,
+        splitvci: r.splitvci,
+        splitpath: r.splitpath,
     }
 }
 
@@ -87,13 +88,14 @@ fn copied_back(ctl: Record, s: Served) -> Served
             t: r.t,
             turn: r.turn,
             rotation: r.rotation,
-            freehead: r.freehead,
-            freetail: r.freetail,
+            free: r.free,
             outhead: r.outhead,
             outtail: r.outtail,
             raw: ctl.raw,
             mode: r.mode,
             kind: ctl.kind,
+            splitvci: r.splitvci,
+            splitpath: r.splitpath,
         },
         answer: Answer {
             number: a.number,
@@ -113,14 +115,15 @@ fn as_called(
     links: &mut [u16],
     calendar: &mut [u16],
     words: &mut [u32],
+    bits: &mut [u64],
     cell: &[u8],
 ) -> Served
-    ensures { λ s. ⌜ slotPromise (before ctl cells links calendar words) (now (cell .entry)) (servedAfter s cells links calendar words) ⌝ }
+    ensures { λ s. ⌜ slotPromise (before ctl cells links calendar words bits) (now (cell .entry)) (servedAfter s cells links calendar words bits) ⌝ }
 {
     if call_slot::is_checked(ctl.raw, cell.len()) {
-        return call_slot::checked(ctl, cells, links, calendar, words, cell);
+        return call_slot::checked(ctl, cells, links, calendar, words, bits, cell);
     }
-    slot_steps::slot(ctl, cells, links, calendar, words, cell)
+    slot_steps::slot(ctl, cells, links, calendar, words, bits, cell)
 }
 
 // The same, lent a copy of the record, since what it calls is not laid in place: the burst's own stays in registers.
@@ -130,12 +133,13 @@ fn serve_checked(
     links: &mut [u16],
     calendar: &mut [u16],
     words: &mut [u32],
+    bits: &mut [u64],
     cell: &[u8],
 ) -> Served
-    ensures { λ s. ⌜ slotPromise (before ctl cells links calendar words) (now (cell .entry)) (servedAfter s cells links calendar words) ⌝ }
+    ensures { λ s. ⌜ slotPromise (before ctl cells links calendar words bits) (now (cell .entry)) (servedAfter s cells links calendar words bits) ⌝ }
 {
     let k = copied(ctl);
-    let s = as_called(k, cells, links, calendar, words, cell);
+    let s = as_called(k, cells, links, calendar, words, bits, cell);
     copied_back(ctl, s)
 }
 
@@ -146,6 +150,7 @@ fn turn(
     links: &mut [u16],
     calendar: &mut [u16],
     words: &mut [u32],
+    bits: &mut [u64],
     arrivals: &[u8],
     size: u8,
     departures: &mut [u8],
@@ -153,8 +158,8 @@ fn turn(
     i: usize,
 ) -> BurstEnd
     requires { ⌜ SlotLent (now arrivals) (now departures) (now answers) i ⌝ }
-    ensures { λ r. ⌜ stretchAfter (after (r .ctl) cells links calendar words) departures answers (r .number) (r .done)
-        ≡ oneSlot (now (arrivals .entry)) size (stretchBefore (before ctl cells links calendar words) departures answers i) ⌝ }
+    ensures { λ r. ⌜ stretchAfter (after (r .ctl) cells links calendar words bits) departures answers (r .number) (r .done)
+        ≡ oneSlot (now (arrivals .entry)) size (stretchBefore (before ctl cells links calendar words bits) departures answers i) ⌝ }
 {
     if !size_fits(size) {
         return ended(ctl, 9, i);
@@ -162,7 +167,7 @@ fn turn(
     let a = 53 * i;
     let e = a + (size as usize);
     let done = i + 1;
-    let served = serve_checked(ctl, cells, links, calendar, words, &arrivals[a..e]);
+    let served = serve_checked(ctl, cells, links, calendar, words, bits, &arrivals[a..e]);
     let answer = served.answer;
     let after = served.ctl;
     if answer.number != 0 {
@@ -173,10 +178,11 @@ fn turn(
     ended(after, 0, done)
 }
 
-// Whether a likely way may be tried: the policer is not raw, T and rotation are in range, and so are both lists' ends.
-fn may_try(r: Record) -> bool
-    requires { ⌜ (r .n ≤ mostN) × (r .v ≤ mostV) ⌝ }
-    ensures { λ b. ⌜ (b ≡ true → Tries r) ⌝ }
+// Whether a likely way may be tried: the policer is not raw, T and rotation are in range, so are the Output List's ends, and the
+// words of free spaces fit. Those are judged here alone: each slot of a likely way keeps what it knows of them.
+fn may_try(r: Record, bits: &[u64]) -> bool
+    requires { ⌜ (r .n ≤ mostN) × (r .v ≤ mostV) × (length (now bits) ≡ bitWords) ⌝ }
+    ensures { λ b. ⌜ (b ≡ true → Tries r (now (bits .entry))) ⌝ }
 {
     if r.raw != 0 {
         return false;
@@ -187,10 +193,10 @@ fn may_try(r: Record) -> bool
     if r.rotation >= r.v + PATHS {
         return false;
     }
-    if !pair(r.n, r.freehead, r.freetail) {
+    if !pair(r.n, r.outhead, r.outtail) {
         return false;
     }
-    pair(r.n, r.outhead, r.outtail)
+    mem_bits::fits(r.n, r.free, bits)
 }
 
 fn least(a: usize, b: usize) -> usize
@@ -252,6 +258,7 @@ fn stretch(
     links: &mut [u16],
     calendar: &mut [u16],
     words: &mut [u32],
+    bits: &mut [u64],
     arrivals: &[u8],
     sizes: &[u8],
     departures: &mut [u8],
@@ -260,12 +267,12 @@ fn stretch(
     stop: usize,
 ) -> Far
     requires { ⌜ BurstLent (now arrivals) (now sizes) (now departures) (now answers) ⌝ }
-    requires { ⌜ HeldIn from cells links calendar words ⌝ }
+    requires { ⌜ HeldIn from cells links calendar words bits ⌝ }
     requires { ⌜ (begin ≤ stop) × (stop ≤ length (now sizes)) × Room from (now words) (stop - begin) ⌝ }
-    ensures held { λ f. ⌜ HeldAfter (f .way) cells links calendar words ⌝ }
+    ensures held { λ f. ⌜ HeldAfter (f .way) cells links calendar words bits ⌝ }
     ensures far { λ f. ⌜ (begin ≤ f .i) × (f .i ≤ stop) × (f .ok ≡ true → f .i ≡ stop) ⌝ }
-    ensures rest { λ f. ⌜ slotsFrom arrivals sizes (f .i) (stretchAfter (after (lastRecord (f .way)) cells links calendar words) departures answers 0 (f .i))
-        ≡ slotsFrom arrivals sizes begin (stretchBefore (before (lastRecord from) cells links calendar words) departures answers begin) ⌝ }
+    ensures rest { λ f. ⌜ slotsFrom arrivals sizes (f .i) (stretchAfter (after (lastRecord (f .way)) cells links calendar words bits) departures answers 0 (f .i))
+        ≡ slotsFrom arrivals sizes begin (stretchBefore (before (lastRecord from) cells links calendar words bits) departures answers begin) ⌝ }
 {
     let mut w = from;
     let mut i = begin;
@@ -277,6 +284,7 @@ fn stretch(
             links,
             calendar,
             words,
+            bits,
             arrivals,
             size,
             departures,
@@ -307,6 +315,7 @@ fn advance(
     links: &mut [u16],
     calendar: &mut [u16],
     words: &mut [u32],
+    bits: &mut [u64],
     arrivals: &[u8],
     sizes: &[u8],
     departures: &mut [u8],
@@ -314,12 +323,12 @@ fn advance(
     begin: usize,
 ) -> Far
     requires { ⌜ BurstLent (now arrivals) (now sizes) (now departures) (now answers) ⌝ }
-    requires { ⌜ HeldIn from cells links calendar words ⌝ }
+    requires { ⌜ HeldIn from cells links calendar words bits ⌝ }
     requires { ⌜ (begin ≤ length (now sizes)) × (from .turn < from .n) × (from .rotation < connectionsIn (from .v)) ⌝ }
-    ensures held { λ f. ⌜ HeldAfter (f .way) cells links calendar words ⌝ }
+    ensures held { λ f. ⌜ HeldAfter (f .way) cells links calendar words bits ⌝ }
     ensures far { λ f. ⌜ (begin ≤ f .i) × (f .i ≤ length (now (sizes .entry))) ⌝ }
-    ensures rest { λ f. ⌜ slotsFrom arrivals sizes (f .i) (stretchAfter (after (lastRecord (f .way)) cells links calendar words) departures answers 0 (f .i))
-        ≡ slotsFrom arrivals sizes begin (stretchBefore (before (lastRecord from) cells links calendar words) departures answers begin) ⌝ }
+    ensures rest { λ f. ⌜ slotsFrom arrivals sizes (f .i) (stretchAfter (after (lastRecord (f .way)) cells links calendar words bits) departures answers 0 (f .i))
+        ≡ slotsFrom arrivals sizes begin (stretchBefore (before (lastRecord from) cells links calendar words bits) departures answers begin) ⌝ }
 {
     let mut f = Far {
         ok: true,
@@ -343,6 +352,7 @@ fn advance(
             links,
             calendar,
             words,
+            bits,
             arrivals,
             sizes,
             departures,
@@ -361,6 +371,7 @@ fn try_likely(
     links: &mut [u16],
     calendar: &mut [u16],
     words: &mut [u32],
+    bits: &mut [u64],
     arrivals: &[u8],
     sizes: &[u8],
     departures: &mut [u8],
@@ -368,14 +379,14 @@ fn try_likely(
     begin: usize,
 ) -> BurstEnd
     requires { ⌜ BurstLent (now arrivals) (now sizes) (now departures) (now answers) ⌝ }
-    requires { ⌜ Shaped ctl (now cells) (now links) (now calendar) (now words) ⌝ }
+    requires { ⌜ Shaped ctl (now cells) (now links) (now calendar) (now words) (now bits) ⌝ }
     requires { ⌜ begin ≤ length (now sizes) ⌝ }
     ensures far { λ r. ⌜ (begin ≤ r .done) × (r .done ≤ length (now (sizes .entry))) × (r .number ≡ 0) ⌝ }
-    ensures shaped { λ r. ⌜ Shaped (r .ctl) (now (cells .exit)) (now (links .exit)) (now (calendar .exit)) (now (words .exit)) ⌝ }
-    ensures rest { λ r. ⌜ slotsFrom arrivals sizes (r .done) (stretchAfter (after (r .ctl) cells links calendar words) departures answers 0 (r .done))
-        ≡ slotsFrom arrivals sizes begin (stretchBefore (before ctl cells links calendar words) departures answers begin) ⌝ }
+    ensures shaped { λ r. ⌜ Shaped (r .ctl) (now (cells .exit)) (now (links .exit)) (now (calendar .exit)) (now (words .exit)) (now (bits .exit)) ⌝ }
+    ensures rest { λ r. ⌜ slotsFrom arrivals sizes (r .done) (stretchAfter (after (r .ctl) cells links calendar words bits) departures answers 0 (r .done))
+        ≡ slotsFrom arrivals sizes begin (stretchBefore (before ctl cells links calendar words bits) departures answers begin) ⌝ }
 {
-    if !may_try(ctl) {
+    if !may_try(ctl, bits) {
         return ended(ctl, 0, begin);
     }
     let from = burst_way::way_of(ctl, ctl.n as usize);
@@ -385,6 +396,7 @@ fn try_likely(
         links,
         calendar,
         words,
+        bits,
         arrivals,
         sizes,
         departures,
@@ -402,15 +414,16 @@ fn run(
     links: &mut [u16],
     calendar: &mut [u16],
     words: &mut [u32],
+    bits: &mut [u64],
     arrivals: &[u8],
     sizes: &[u8],
     departures: &mut [u8],
     answers: &mut [u16],
 ) -> BurstEnd
     requires { ⌜ BurstLent (now arrivals) (now sizes) (now departures) (now answers) ⌝ }
-    requires { ⌜ Shaped ctl (now cells) (now links) (now calendar) (now words) ⌝ }
-    ensures { λ r. ⌜ stretchAfter (after (r .ctl) cells links calendar words) departures answers (r .number) (r .done)
-        ≡ slots (now (arrivals .entry)) (now (sizes .entry)) (stretchBefore (before ctl cells links calendar words) departures answers 0) ⌝ }
+    requires { ⌜ Shaped ctl (now cells) (now links) (now calendar) (now words) (now bits) ⌝ }
+    ensures { λ r. ⌜ stretchAfter (after (r .ctl) cells links calendar words bits) departures answers (r .number) (r .done)
+        ≡ slots (now (arrivals .entry)) (now (sizes .entry)) (stretchBefore (before ctl cells links calendar words bits) departures answers 0) ⌝ }
 {
     let mut end = BurstEnd {
         ctl: ctl,
@@ -426,6 +439,7 @@ fn run(
             links,
             calendar,
             words,
+            bits,
             arrivals,
             sizes,
             departures,
@@ -443,6 +457,7 @@ fn run(
             links,
             calendar,
             words,
+            bits,
             arrivals,
             size,
             departures,
@@ -467,21 +482,22 @@ fn is_times(long: usize, each: usize, k: usize) -> bool
     long / each == k
 }
 
-// Whether all seven buffers have the lengths for N, V and so many sizes.
+// Whether all eight buffers have the lengths for N, V and so many sizes.
 fn lengths_fit(
     ctl: Record,
     cells: usize,
     links: usize,
     calendar: usize,
     words: usize,
+    bits: usize,
     arrivals: usize,
     sizes: usize,
     departures: usize,
     answers: usize,
 ) -> bool
-    ensures { λ r. ⌜ r ≡ lengthsFit (ctl .n) (ctl .v) cells links calendar words arrivals sizes departures answers ⌝ }
+    ensures { λ r. ⌜ r ≡ lengthsFit (ctl .n) (ctl .v) cells links calendar words bits arrivals sizes departures answers ⌝ }
 {
-    if !lengths_hold(ctl.n, ctl.v, cells, links, calendar, words) {
+    if !lengths_hold(ctl.n, ctl.v, cells, links, calendar, words, bits) {
         return false;
     }
     if !is_times(arrivals, 53, sizes) {
@@ -500,12 +516,13 @@ pub fn burst(
     links: &mut [u16],
     calendar: &mut [u16],
     words: &mut [u32],
+    bits: &mut [u64],
     arrivals: &[u8],
     sizes: &[u8],
     departures: &mut [u8],
     answers: &mut [u16],
 ) -> BurstEnd
-    ensures { λ r. ⌜ burstPromise (before ctl cells links calendar words) arrivals sizes departures answers r (after (r .ctl) cells links calendar words) ⌝ }
+    ensures { λ r. ⌜ burstPromise (before ctl cells links calendar words bits) arrivals sizes departures answers r (after (r .ctl) cells links calendar words bits) ⌝ }
 {
     let fit = lengths_fit(
         ctl,
@@ -513,6 +530,7 @@ pub fn burst(
         links.len(),
         calendar.len(),
         words.len(),
+        bits.len(),
         arrivals.len(),
         sizes.len(),
         departures.len(),
@@ -530,6 +548,7 @@ pub fn burst(
         links,
         calendar,
         words,
+        bits,
         arrivals,
         sizes,
         departures,

@@ -16,18 +16,18 @@ use Rattle.call_connection.specs.NotYet.{notYet}
 use Rattle.call_connection.specs.Own.{ownRefusal}
 
 -- ---- the shared ones
-module _ (r : Record) (words : List ℕ) (name : Name) (given : sharedRefusal r words name ≡ 0 → ⊥) where
-  pub open-shared : (m F C : ℕ) (x : Second) → calledOf (sharedRefusal r words name) words ≡ openCall r words name m F C x
+module _ (r : Record) (words : List ℕ) (who : ℕ) (name : Name) (given : sharedRefusal r words who name ≡ 0 → ⊥) where
+  pub open-shared : (m F C : ℕ) (x : Second) → calledOf (sharedRefusal r words who name) words ≡ openCall r words who name m F C x
   unfolding openCall
-  open-shared m F C x = simp (ne-eqb (sharedRefusal r words name) 0 given)
+  open-shared m F C x = simp (ne-eqb (sharedRefusal r words who name) 0 given)
 
-  pub close-shared : calledOf (sharedRefusal r words name) words ≡ closeCall r words name
+  pub close-shared : calledOf (sharedRefusal r words who name) words ≡ closeCall r words who name
   unfolding closeCall
-  close-shared = simp (ne-eqb (sharedRefusal r words name) 0 given)
+  close-shared = simp (ne-eqb (sharedRefusal r words who name) 0 given)
 
 -- ---- open
 -- c is the connection's number
-module _ (r : Record) (words : List ℕ) (name : Name) (c : ℕ) (is : c ≡ numberIn (r .v) name) (m F C : ℕ) (x : Second) where
+module _ (r : Record) (words : List ℕ) (who : ℕ) (name : Name) (c : ℕ) (is : c ≡ numberIn (r .v) name) (m F C : ℕ) (x : Second) where
   -- "already open"
   abbrev already : Bool
   already = connectionAt words c .opened =? 1
@@ -68,16 +68,16 @@ module _ (r : Record) (words : List ℕ) (name : Name) (c : ℕ) (is : c ≡ num
   three-none false false true h = absurd (omega arith)
   three-none false false false h = refl
 
-  pub open-refused : sharedRefusal r words name ≡ 0
+  pub open-refused : sharedRefusal r words who name ≡ 0
       → (own ≡ 0 → ⊥)
-      → calledOf own words ≡ openCall r words name m F C x
+      → calledOf own words ≡ openCall r words who name m F C x
   unfolding openCall
-  open-refused e h = rw (eq-eqb (sharedRefusal r words name) 0 e, ← is) (three-given already against beyond h)
+  open-refused e h = rw (eq-eqb (sharedRefusal r words who name) 0 e, ← is) (three-given already against beyond h)
 
-  pub open-done : sharedRefusal r words name ≡ 0 → own ≡ 0
-      → calledOf 0 (writeConnection words c (openedConnection (r .t) (bucketOf m F C 0) x)) ≡ openCall r words name m F C x
+  pub open-done : sharedRefusal r words who name ≡ 0 → own ≡ 0
+      → calledOf 0 (writeConnection words c (openedConnection (r .t) (bucketOf m F C 0) x)) ≡ openCall r words who name m F C x
   unfolding openCall
-  open-done e h = rw (eq-eqb (sharedRefusal r words name) 0 e, ← is) (three-none already against beyond h)
+  open-done e h = rw (eq-eqb (sharedRefusal r words who name) 0 e, ← is) (three-none already against beyond h)
 
 -- ---- close
 -- 8 is given exactly where one of its two halves is
@@ -94,27 +94,27 @@ halves-none true false h = absurd (omega arith)
 halves-none false true h = absurd (omega arith)
 halves-none false false h = absurd (omega arith)
 
-module _ (r : Record) (words : List ℕ) (name : Name) (c : ℕ) (is : c ≡ numberIn (r .v) name) where
+module _ (r : Record) (words : List ℕ) (who : ℕ) (name : Name) (c : ℕ) (is : c ≡ numberIn (r .v) name) where
   abbrev conn : Connection
   conn = connectionAt words c
 
-  pub close-closed : sharedRefusal r words name ≡ 0 → conn .opened ≡ 0 → calledOf 7 words ≡ closeCall r words name
+  pub close-closed : sharedRefusal r words who name ≡ 0 → conn .opened ≡ 0 → calledOf 7 words ≡ closeCall r words who name
   unfolding closeCall
-  close-closed e o = rw (eq-eqb (sharedRefusal r words name) 0 e, ← is, eq-eqb (conn .opened) 0 o)
+  close-closed e o = rw (eq-eqb (sharedRefusal r words who name) 0 e, ← is, eq-eqb (conn .opened) 0 o)
 
-  pub close-not-yet : sharedRefusal r words name ≡ 0 → (conn .opened ≡ 0 → ⊥) → (notYet (r .t) conn ≡ 0 → ⊥)
-      → calledOf (notYet (r .t) conn) words ≡ closeCall r words name
+  pub close-not-yet : sharedRefusal r words who name ≡ 0 → (conn .opened ≡ 0 → ⊥) → (notYet (r .t) conn ≡ 0 → ⊥)
+      → calledOf (notYet (r .t) conn) words ≡ closeCall r words who name
   unfolding closeCall
   close-not-yet e o h =
       let g = halves-given (conn .waiting =? 0) (debt (r .t) conn =? 0) h in
-      rw (eq-eqb (sharedRefusal r words name) 0 e, ← is, ne-eqb (conn .opened) 0 o, g .0, g .1)
+      rw (eq-eqb (sharedRefusal r words who name) 0 e, ← is, ne-eqb (conn .opened) 0 o, g .0, g .1)
 
-  pub close-done : sharedRefusal r words name ≡ 0 → (conn .opened ≡ 0 → ⊥) → notYet (r .t) conn ≡ 0
-      → calledOf 0 (writeConnection words c closedConnection) ≡ closeCall r words name
+  pub close-done : sharedRefusal r words who name ≡ 0 → (conn .opened ≡ 0 → ⊥) → notYet (r .t) conn ≡ 0
+      → calledOf 0 (writeConnection words c closedConnection) ≡ closeCall r words who name
   unfolding closeCall
   close-done e o h =
       rw (
-        eq-eqb (sharedRefusal r words name) 0 e,
+        eq-eqb (sharedRefusal r words who name) 0 e,
         ← is,
         ne-eqb (conn .opened) 0 o,
         halves-none (conn .waiting =? 0) (debt (r .t) conn =? 0) h,

@@ -1,10 +1,12 @@
-// Opening and closing a connection: a VC by its VCI, or a path by its VPI. One way for both; only the name differs.
+// Opening and closing a connection: a VC by its VCI, or a path by its VPI. One way for both; only the name differs. Each call is
+// made as one of the two operators, `owner`: 0 the first, 1 the second.
 ghost use mathlib.Core.Path.{_≡_};
 ghost use mathlib.Core.Bool.{true};
 ghost use Prim.Native.Nat.{_≤_};
 ghost use Rattle.meaning.specs.Numbers.{mostV};
 ghost use Rattle.meaning.specs.Header.{byVci, byVpi, named, numberIn};
 ghost use Rattle.meaning.specs.State.{HasConnection};
+ghost use Rattle.meaning.specs.Operators.{owns};
 ghost use Rattle.meaning.specs.Words.{secondOf, noSecond, connectionAt, debt};
 ghost use Rattle.meaning.specs.Calls.{sharedRefusal};
 ghost use Rattle.meaning.specs.Promises.{openPromise, closePromise};
@@ -17,6 +19,7 @@ use leaf_bucket::obeys_second;
 use leaf_refusal::first;
 use leaf_refusal::ranges_hold;
 use leaf_refusal::refuse;
+use leaf_refusal::splits_hold;
 use leaf_refusal::words_in;
 use meaning::AT_LAST;
 use meaning::AT_M;
@@ -52,15 +55,35 @@ fn number_of(v: u16, path: bool, number: u16) -> u16
     number
 }
 
-// Refusals 1, 2, 4 and 3, in this order, or 0. The connection's words are read only where they are lent.
-fn shared_refusal(ctl: Record, words: &[u32], path: bool, number: u16) -> u16
-    ensures { λ r. ⌜ r ≡ sharedRefusal ctl (now (words .entry)) (nameOf path number) ⌝ }
+// "Connections below a split VCI and a split path number .. are the first's, the others the second's."
+fn is_owned(ctl: Record, owner: u16, path: bool, number: u16) -> bool
+    ensures { λ r. ⌜ r ≡ owns ctl owner (nameOf path number) ⌝ }
+{
+    if path {
+        if number < ctl.splitpath {
+            return owner == 0;
+        }
+        return owner == 1;
+    }
+    if number < ctl.splitvci {
+        return owner == 0;
+    }
+    owner == 1
+}
+
+// Refusals 1, 2, 4, 16 and 3, in this order, or 0. The connection's words are read only where they are lent, and are the caller's.
+fn shared_refusal(ctl: Record, words: &[u32], owner: u16, path: bool, number: u16) -> u16
+    ensures { λ r. ⌜ r ≡ sharedRefusal ctl (now (words .entry)) owner (nameOf path number) ⌝ }
 {
     let ranges = refuse(1, !ranges_hold(ctl.n, ctl.v));
+    let splits = refuse(1, !splits_hold(ctl.v, ctl.splitvci, ctl.splitpath));
     let lengths = refuse(2, words.len() != words_in(ctl.v));
     let name = refuse(4, !is_named(ctl.v, path, number));
-    let early = first(ranges, lengths);
-    let k = first(early, name);
+    let whose = refuse(16, !is_owned(ctl, owner, path, number));
+    let one = first(ranges, splits);
+    let two = first(one, lengths);
+    let four = first(two, name);
+    let k = first(four, whose);
     if k != 0 {
         return k;
     }
@@ -83,6 +106,7 @@ fn own_refusal(n: u16, opened: u32, m: u8, f: u32, c: u32, m2: u8, f2: u32, c2: 
 fn open_named(
     ctl: Record,
     words: &mut [u32],
+    owner: u16,
     path: bool,
     number: u16,
     m: u8,
@@ -93,9 +117,9 @@ fn open_named(
     c2: u32,
     tag: u8,
 ) -> u16
-    ensures { λ r. ⌜ openPromise ctl (now (words .entry)) (nameOf path number) m f c (secondOf m2 f2 c2 tag) r (now (words .exit)) ⌝ }
+    ensures { λ r. ⌜ openPromise ctl (now (words .entry)) owner (nameOf path number) m f c (secondOf m2 f2 c2 tag) r (now (words .exit)) ⌝ }
 {
-    let shared = shared_refusal(ctl, words, path, number);
+    let shared = shared_refusal(ctl, words, owner, path, number);
     if shared != 0 {
         return shared;
     }
@@ -125,6 +149,7 @@ fn open_named(
 pub fn open_sustained(
     ctl: Record,
     words: &mut [u32],
+    owner: u16,
     vci: u16,
     m: u8,
     f: u32,
@@ -134,22 +159,23 @@ pub fn open_sustained(
     c2: u32,
     tag: u8,
 ) -> u16
-    ensures { λ r. ⌜ openPromise ctl (now (words .entry)) (byVci vci) m f c (secondOf m2 f2 c2 tag) r (now (words .exit)) ⌝ }
+    ensures { λ r. ⌜ openPromise ctl (now (words .entry)) owner (byVci vci) m f c (secondOf m2 f2 c2 tag) r (now (words .exit)) ⌝ }
 {
-    open_named(ctl, words, false, vci, m, f, c, m2, f2, c2, tag)
+    open_named(ctl, words, owner, false, vci, m, f, c, m2, f2, c2, tag)
 }
 
 // A VC without a second bucket.
-pub fn open(ctl: Record, words: &mut [u32], vci: u16, m: u8, f: u32, c: u32) -> u16
-    ensures { λ r. ⌜ openPromise ctl (now (words .entry)) (byVci vci) m f c noSecond r (now (words .exit)) ⌝ }
+pub fn open(ctl: Record, words: &mut [u32], owner: u16, vci: u16, m: u8, f: u32, c: u32) -> u16
+    ensures { λ r. ⌜ openPromise ctl (now (words .entry)) owner (byVci vci) m f c noSecond r (now (words .exit)) ⌝ }
 {
-    open_named(ctl, words, false, vci, m, f, c, 0, 0, 0, 0)
+    open_named(ctl, words, owner, false, vci, m, f, c, 0, 0, 0, 0)
 }
 
 // A path with a second bucket, or none.
 pub fn open_path(
     ctl: Record,
     words: &mut [u32],
+    owner: u16,
     vpi: u16,
     m: u8,
     f: u32,
@@ -159,9 +185,9 @@ pub fn open_path(
     c2: u32,
     tag: u8,
 ) -> u16
-    ensures { λ r. ⌜ openPromise ctl (now (words .entry)) (byVpi vpi) m f c (secondOf m2 f2 c2 tag) r (now (words .exit)) ⌝ }
+    ensures { λ r. ⌜ openPromise ctl (now (words .entry)) owner (byVpi vpi) m f c (secondOf m2 f2 c2 tag) r (now (words .exit)) ⌝ }
 {
-    open_named(ctl, words, true, vpi, m, f, c, m2, f2, c2, tag)
+    open_named(ctl, words, owner, true, vpi, m, f, c, m2, f2, c2, tag)
 }
 
 // What is left in the connection's bucket once it is brought up to date as of t. It is worked out, not stored.
@@ -189,10 +215,10 @@ fn not_yet(words: &[u32], conn: u16, t: u32) -> u16
 }
 
 // "Closing clears all seven words.", and the second bucket's five. Of a closed connection only the open word is read.
-fn close_named(ctl: Record, words: &mut [u32], path: bool, number: u16) -> u16
-    ensures { λ r. ⌜ closePromise ctl (now (words .entry)) (nameOf path number) r (now (words .exit)) ⌝ }
+fn close_named(ctl: Record, words: &mut [u32], owner: u16, path: bool, number: u16) -> u16
+    ensures { λ r. ⌜ closePromise ctl (now (words .entry)) owner (nameOf path number) r (now (words .exit)) ⌝ }
 {
-    let shared = shared_refusal(ctl, words, path, number);
+    let shared = shared_refusal(ctl, words, owner, path, number);
     if shared != 0 {
         return shared;
     }
@@ -209,14 +235,14 @@ fn close_named(ctl: Record, words: &mut [u32], path: bool, number: u16) -> u16
     0
 }
 
-pub fn close(ctl: Record, words: &mut [u32], vci: u16) -> u16
-    ensures { λ r. ⌜ closePromise ctl (now (words .entry)) (byVci vci) r (now (words .exit)) ⌝ }
+pub fn close(ctl: Record, words: &mut [u32], owner: u16, vci: u16) -> u16
+    ensures { λ r. ⌜ closePromise ctl (now (words .entry)) owner (byVci vci) r (now (words .exit)) ⌝ }
 {
-    close_named(ctl, words, false, vci)
+    close_named(ctl, words, owner, false, vci)
 }
 
-pub fn close_path(ctl: Record, words: &mut [u32], vpi: u16) -> u16
-    ensures { λ r. ⌜ closePromise ctl (now (words .entry)) (byVpi vpi) r (now (words .exit)) ⌝ }
+pub fn close_path(ctl: Record, words: &mut [u32], owner: u16, vpi: u16) -> u16
+    ensures { λ r. ⌜ closePromise ctl (now (words .entry)) owner (byVpi vpi) r (now (words .exit)) ⌝ }
 {
-    close_named(ctl, words, true, vpi)
+    close_named(ctl, words, owner, true, vpi)
 }

@@ -1,58 +1,45 @@
--- From a setup that answered 0 the audit's clauses hold: all spaces stand in the Free List, in order, and no connection is open.
-use Prim.Native.Nat.{ℕ, zero, suc, _+_, _-_, _*_, _≤_, _<_}
+-- From a setup that answered 0 the audit's clauses hold: all spaces are free and stand in no list, and no connection is open.
+use Prim.Native.Nat.{ℕ, _+_, _-_, _*_, _≤_, _<_}
 use mathlib.Core.Path.{_≡_, refl, sym, _∙_, ap, subst}
-use mathlib.Core.Bool.{Bool, true, false, not}
-use mathlib.Core.List.{List, [], _∷_, _++_, append-nil}
+use mathlib.Core.Bool.{Bool, true, false, not, _&&_}
+use mathlib.Core.List.{List, [], _++_}
+use native.Mathlib.Decide.{decLt}
 use native.Mathlib.Omega.{arith}
-use borrow.Author.Tests.{eq-eqb}
-use lib.ListN.{length, getD, replicate, length-replicate, getD-replicate, length-append, List·getD-append}
+use borrow.Author.Tests.{eq-eqb, lt-ltb, le-ltb}
+use lib.ListN.{getD, replicate, length-replicate, getD-replicate}
 use Rattle.meaning.specs.declared.Fresh.{Fresh}
-use Rattle.meaning.specs.Plain.{if_then_else_}
-use Rattle.meaning.specs.Numbers.{rangesHold, wordsIn, openPlace, kindFits}
-use Rattle.meaning.specs.State.{stateOf, wordsLong, lengthsHold}
+use Rattle.meaning.specs.Plain.{if_then_else_, _<?_}
+use Rattle.meaning.specs.Numbers.{mostN, rangesHold, wordsIn, openPlace, kindFits, splitsHold}
+use Rattle.meaning.specs.Bits.{isFree, isMarked, allFree}
+use Rattle.meaning.specs.State.{stateOf, wordsLong, lengthsHold, State, withRecord}
 use Rattle.meaning.specs.Words.{connectionAt, connectionFits}
-use Rattle.meaning.specs.Lists.{entryAt}
-use Rattle.meaning.specs.Calls.{SetUp, setUpOf, zeros, rawNumber, Kind, UNI, NNI, kindNumber, kindOf, Options, optionsOf, setup, countUp, freshRecord, freshState}
+use Rattle.meaning.specs.Lists.{isEmpty, entryAt}
+use Rattle.meaning.specs.Calls.{SetUp, setUpOf, zeros, rawNumber, Kind, UNI, NNI, kindNumber, kindOf, Options, optionsOf, setup, freshRecord, freshState, Asked, chosen}
 use Rattle.meaning.specs.Promises.{setupPromise}
 use Rattle.meaning.specs.Audit.{Chain, count, joined, AuditHolds}
 use Rattle.leaf_refusal.proofs.Ranges.{InRange, ranges-facts}
-use Rattle.call_setup.proofs.Chains.{length-countUp}
-use Rattle.call_setup.proofs.Counts.{getD-countUp, count-past, count-once, leads-up, joined-none, getD-zeros}
+use Rattle.meaning.proofs.BitsLaws.{all-length, all-fit, all-free}
+use Rattle.meaning.proofs.MarksLaws.{no-marks}
+use Rattle.call_setup.proofs.Counts.{joined-none, getD-zeros}
 
 module _ (N z : ℕ) (r : InRange N z) where
   abbrev links : List ℕ
-  links = countUp (N - 1) 1 ++ (0 ∷ [])
+  links = replicate N 0
 
   -- no cell is queued
   abbrev queued : List ℕ
   queued = [] ++ joined (replicate N [])
 
-  links-long : length links ≡ N
-  links-long = length-append (countUp (N - 1) 1) (0 ∷ []) ∙ rw (length-countUp (N - 1) 1) (omega (arith, r .N-least))
-
-  lengths-hold : lengthsHold N z (replicate (53 * N) 0) links (replicate (2 * N) 65535) (replicate (wordsIn z) 0) ≡ true
+  lengths-hold : lengthsHold N z (replicate (53 * N) 0) links (replicate (2 * N) 65535) (replicate (wordsIn z) 0) (allFree N) ≡ true
   unfolding lengthsHold wordsLong
   lengths-hold =
       simp (
         eq-eqb _ _ (length-replicate {A = ℕ} (53 * N) 0),
-        eq-eqb _ _ links-long,
+        eq-eqb _ _ (length-replicate {A = ℕ} N 0),
         eq-eqb _ _ (length-replicate {A = ℕ} (2 * N) 65535),
         eq-eqb _ _ (length-replicate {A = ℕ} (wordsIn z) 0),
+        eq-eqb _ _ (all-length N),
       )
-
-  -- each space below N-1 is followed by the next
-  link-next : (j : ℕ) → j < N - 1 → getD links j 0 ≡ j + 1
-  link-next j h =
-      List·getD-append (countUp (N - 1) 1) (0 ∷ []) 0 j (rw (length-countUp (N - 1) 1) h)
-      ∙ (getD-countUp (N - 1) 1 j h ∙ omega arith)
-
-  free-chain : Chain links (record { head = 0; tail = N - 1 }) (0 ∷ countUp (N - 1) 1)
-  free-chain = (refl, leads-up links (N - 1) (N - 1) 0 (omega arith) link-next)
-
-  from-first : (n : ℕ) → 1 ≤ n → countUp n 0 ≡ 0 ∷ countUp (n - 1) 1
-  unfolding countUp
-  from-first zero h = absurd (omega arith)
-  from-first (suc n) h = let e : n ≡ suc n - 1 = omega arith in ap (λ (k : ℕ). 0 ∷ countUp k 1) e
 
   entry-empty : (e : ℕ) → e < N → Chain links (entryAt (replicate (2 * N) 65535) e) (getD (replicate N []) e [])
   unfolding entryAt
@@ -60,11 +47,21 @@ module _ (N z : ℕ) (r : InRange N z) where
       rw (getD-replicate {A = List ℕ} N e [] [] h)
       (getD-replicate {A = ℕ} (2 * N) (2 * e) 65535 0 (omega arith), getD-replicate {A = ℕ} (2 * N) (2 * e + 1) 65535 0 (omega arith))
 
-  counted : (x : ℕ) → count x (countUp N 0 ++ queued) ≡ count x (countUp N 0)
-  counted x = ap (λ (l : List ℕ). count x (countUp N 0 ++ l)) (joined-none N) ∙ ap (count x) (append-nil (countUp N 0))
+  no-cell : (e : ℕ) → Dec (e < N) → (e <? N && not (isEmpty (entryAt (replicate (2 * N) 65535) e))) ≡ false
+  unfolding entryAt
+  no-cell e (yes h) = rw (lt-ltb e N h, eq-eqb _ _ (getD-replicate {A = ℕ} (2 * N) (2 * e) 65535 0 (omega arith)))
+  no-cell e (no h) = rw (le-ltb e N (omega arith))
 
-  nothing-queued : (x : ℕ) → 0 < count x queued → ⊥
-  nothing-queued x h = omega (arith, ap (count x) (joined-none N))
+  -- no entry is marked
+  marks-are : (e : ℕ) → e < mostN → isMarked (allFree N) e ≡ (e <? N && not (isEmpty (entryAt (replicate (2 * N) 65535) e)))
+  marks-are e l = no-marks N e (r .N-most) l ∙ sym (no-cell e (decLt e N))
+
+  counted : (x : ℕ) → count x queued ≡ 0
+  counted x = ap (count x) (joined-none N)
+
+  -- each space is free, and in no list
+  free-once : (x : ℕ) → x < N → count x queued ≡ (if isFree (allFree N) x then 0 else 1)
+  free-once x l = rw (all-free N x (r .N-most) ∙ lt-ltb x N l) (counted x)
 
   closed : (c : ℕ) → connectionAt (replicate (wordsIn z) 0) c .opened ≡ 0
   unfolding connectionAt
@@ -84,9 +81,9 @@ kind-low : (kind : Kind) → kindNumber kind ≤ 1
 kind-low UNI = omega arith
 kind-low NNI = omega arith
 
-pub fresh-audit : (N z : ℕ) (o : Options) → rangesHold N z ≡ true → AuditHolds (freshState N z o)
+pub fresh-audit : (N z : ℕ) (o : Options) → rangesHold N z ≡ true → splitsHold z (o .splitvci) (o .splitpath) ≡ true → AuditHolds (freshState N z o)
 unfolding freshState freshRecord
-fresh-audit N z o h =
+fresh-audit N z o h split =
     let r = ranges-facts N z h in
     record {
       ranges = h;
@@ -96,49 +93,55 @@ fresh-audit N z o h =
       raw-low = raw-low (o .raw);
       mode-low = omega arith;
       kind-low = kind-low (o .kind);
+      splits = split;
       connections-fit = λ c a b. fits N z r c;
-      free = countUp N 0;
+      spaces-fit = all-fit N (r .N-most);
+      marks-are = marks-are N z r;
       output = [];
       queues = replicate N [];
-      free-is = rw (from-first N z r N (r .N-least)) (free-chain N z r);
       output-is = (refl, refl);
       queues-many = length-replicate {A = List ℕ} N [];
       queues-are = entry-empty N z r;
-      once = λ x l. counted N z r x ∙ count-once N 0 x (omega arith) (omega arith);
-      no-other = λ x l. counted N z r x ∙ count-past N 0 x (omega arith);
+      once = free-once N z r;
+      no-other = λ x l. counted N z r x;
       turn-empty = getD-replicate {A = List ℕ} N (N - 1) [] [] (omega (arith, r .N-least));
-      named = λ x p. absurd (nothing-queued N z r x p);
+      named = λ x p. absurd (omega (arith, counted N z r x));
       waits = λ c a b o. absurd (omega (arith, o, closed N z r c));
     }
 
 -- what setup's promise allows with number 0 meets the audit's clauses
-pub setup-audit : (N z : ℕ) (raw : Bool) (kind : ℕ) (cells links calendar words : List ℕ) (r : Fresh) (cells′ links′ calendar′ words′ : List ℕ)
-    → setupPromise N z raw kind (stateOf zeros cells links calendar words) (setUpOf (r .number) (stateOf (r .ctl) cells′ links′ calendar′ words′))
+pub setup-audit : (N z : ℕ) (asked : Asked) (lent : State) (r : Fresh) (cells′ links′ calendar′ words′ bits′ : List ℕ)
+    → setupPromise N z asked lent (setUpOf (r .number) (stateOf (r .ctl) cells′ links′ calendar′ words′ bits′))
     → r .number ≡ 0
-    → AuditHolds (stateOf (r .ctl) cells′ links′ calendar′ words′)
+    → AuditHolds (stateOf (r .ctl) cells′ links′ calendar′ words′ bits′)
 unfolding setup
-setup-audit N z raw kind cells links calendar words r cells′ links′ calendar′ words′ p e =
-    subst AuditHolds (sym (ap (λ (s : SetUp). s .state) p)) (go inRange known long refl (sym (ap (λ (s : SetUp). s .number) p) ∙ e))
+setup-audit N z asked lent r cells′ links′ calendar′ words′ bits′ p e =
+    subst AuditHolds (sym (ap (λ (s : SetUp). s .state) p)) (go inRange splits known long refl refl (sym (ap (λ (s : SetUp). s .number) p) ∙ e))
   where
     inRange : Bool
     inRange = rangesHold N z
 
+    splits : Bool
+    splits = splitsHold z (asked .splitvci) (asked .splitpath)
+
     known : Bool
-    known = kindFits kind
+    known = kindFits (asked .kind)
 
     long : Bool
-    long = lengthsHold N z cells links calendar words
+    long = lengthsHold N z (lent .cells) (lent .links) (lent .calendar) (lent .words) (lent .bits)
 
-    after : Bool → Bool → Bool → SetUp
-    after a b d =
-        let asItCame = stateOf zeros cells links calendar words in
+    after : Bool → Bool → Bool → Bool → SetUp
+    after a s b d =
+        let asItCame = withRecord lent zeros in
         if not a then setUpOf 1 asItCame
+        else if not s then setUpOf 1 asItCame
         else if not b then setUpOf 13 asItCame
         else if not d then setUpOf 2 asItCame
-        else setUpOf 0 (freshState N z (optionsOf raw (kindOf kind)))
+        else setUpOf 0 (freshState N z (chosen asked))
 
-    go : (a b d : Bool) → inRange ≡ a → after a b d .number ≡ 0 → AuditHolds (after a b d .state)
-    go true true true h k = fresh-audit N z (optionsOf raw (kindOf kind)) h
-    go true true false h k = absurd (omega arith)
-    go true false d h k = absurd (omega arith)
-    go false b d h k = absurd (omega arith)
+    go : (a s b d : Bool) → inRange ≡ a → splits ≡ s → after a s b d .number ≡ 0 → AuditHolds (after a s b d .state)
+    go true true true true h g k = fresh-audit N z (chosen asked) h g
+    go true true true false h g k = absurd (omega arith)
+    go true true false d h g k = absurd (omega arith)
+    go true false b d h g k = absurd (omega arith)
+    go false s b d h g k = absurd (omega arith)

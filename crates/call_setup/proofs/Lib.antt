@@ -1,5 +1,5 @@
 pub mod Fills
-pub mod Chains
+pub mod Fulls
 pub mod Refusals
 pub mod Counts
 pub mod FreshAudit

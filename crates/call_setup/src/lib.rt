@@ -1,12 +1,12 @@
-// Setting up a policer: all lent memory cleared, the Free List chained, the calendar and the Output List emptied.
+// Setting up a policer: cells, links and words cleared, all N spaces free by their bits, the calendar and the Output List emptied.
 ghost use mathlib.Core.Path.{_≡_};
 ghost use mathlib.Core.Bool.{_&&_};
-ghost use mathlib.Core.List.{[], _∷_, _++_};
-ghost use Prim.Native.Nat.{_+_, _-_, _*_, _≤_, _<_};
+ghost use Prim.Native.Nat.{_*_, _<_};
 ghost use lib.ListN.{length, replicate};
 ghost use Rattle.meaning.specs.Plain.{_=?_};
-ghost use Rattle.meaning.specs.Numbers.{rangesHold, kindFits, octets, perEntry, wordsIn};
-ghost use Rattle.meaning.specs.Calls.{zeros, countUp};
+ghost use Rattle.meaning.specs.Numbers.{rangesHold, kindFits, octets, perEntry, wordsIn, bitWords, splitsHold};
+ghost use Rattle.meaning.specs.Bits.{fullWord, allFree};
+ghost use Rattle.meaning.specs.Calls.{zeros, askedOf};
 ghost use Rattle.meaning.specs.Promises.{setupPromise};
 ghost use Rattle.meaning.specs.Lent.{before, setUpAfter};
 ghost use Rattle.call_setup.specs.Order.{inOrder};
@@ -15,6 +15,7 @@ use leaf_refusal::kind_fits;
 use leaf_refusal::lengths_hold;
 use leaf_refusal::ranges_hold;
 use leaf_refusal::refuse;
+use leaf_refusal::splits_hold;
 use meaning::Fresh;
 use meaning::fresh_record;
 use meaning::no_record;
@@ -52,60 +53,97 @@ fn empty_calendar(calendar: &mut [u16])
     }
 }
 
-// Each space's link names the next space; the last one's is cleared.
-fn chain_links(links: &mut [u16])
-    requires { ⌜ (1 ≤ length (now links)) × (length (now links) ≤ 1024) ⌝ }
-    ensures { λ r. ⌜ now (links .exit) ≡ countUp (length (now (links .entry)) - 1) 1 ++ (0 ∷ []) ⌝ }
+// All links 0.
+fn clear_links(links: &mut [u16])
+    ensures { λ r. ⌜ now (links .exit) ≡ replicate (length (now (links .entry))) 0 ⌝ }
 {
-    let last = links.len() - 1;
     let mut space = 0;
-    while space < last {
-        links[space] = (space + 1) as u16;
+    while space < links.len() {
+        links[space] = 0;
         space += 1;
     }
-    links[last] = 0;
 }
 
-// "Order: setup 1, 2", and "13, line kind unknown, after 1": the first of the three, or 0.
+// Word w of the bits where spaces 0 to N-1 are free and no entry is marked: no bit, all 64, or those below the cut.
+fn full_word(n: u16, w: u16) -> u64
+    requires { ⌜ w < bitWords ⌝ }
+    ensures { λ r. ⌜ r ≡ fullWord n w ⌝ }
+{
+    let first = 64 * w;
+    if n <= first {
+        return 0;
+    }
+    let here = n - first;
+    if here >= 64 {
+        return 18446744073709551615;
+    }
+    (1u64 << here) - 1
+}
+
+// Spaces 0 to N-1 are free, and no other; no entry is marked.
+fn free_all(n: u16, bits: &mut [u64])
+    requires { ⌜ length (now bits) ≡ bitWords ⌝ }
+    ensures { λ r. ⌜ now (bits .exit) ≡ allFree n ⌝ }
+{
+    let mut w = 0u16;
+    while w < 32 {
+        bits[w as usize] = full_word(n, w);
+        w += 1;
+    }
+}
+
+// "Order: setup 1, 2", 1 also for a split out of its range, and "13, line kind unknown, after 1": the first of them, or 0.
 fn setup_refusal(
     n: u16,
     v: u16,
     kind: u16,
+    splitvci: u16,
+    splitpath: u16,
     cells: usize,
     links: usize,
     calendar: usize,
     words: usize,
+    bits: usize,
 ) -> u16
-    ensures { λ r. ⌜ r ≡ inOrder (rangesHold n v) (kindFits kind) (cells =? octets * n && links =? n && calendar =? perEntry * n && words =? wordsIn v) ⌝ }
+    ensures { λ r. ⌜ r ≡ inOrder (rangesHold n v) (splitsHold v splitvci splitpath) (kindFits kind) (cells =? octets * n && links =? n && calendar =? perEntry * n && words =? wordsIn v && bits =? bitWords) ⌝ }
 {
     let ranges = refuse(1, !ranges_hold(n, v));
+    let splits = refuse(1, !splits_hold(v, splitvci, splitpath));
     let line = refuse(13, !kind_fits(kind));
-    let lengths = refuse(2, !lengths_hold(n, v, cells, links, calendar, words));
-    let early = first(ranges, line);
+    let lengths = refuse(2, !lengths_hold(n, v, cells, links, calendar, words, bits));
+    let one = first(ranges, splits);
+    let early = first(one, line);
     first(early, lengths)
 }
 
-// "Setup clears all lent memory, then chains spaces 0 to N-1 into the Free List in that order and empties the calendar".
+// "Setup clears all lent memory, then chains spaces 0 to N-1 into the Free List in that order and empties the calendar"; now they are
+// free by their bits.
 pub fn setup(
     n: u16,
     v: u16,
     raw: bool,
     kind: u16,
+    splitvci: u16,
+    splitpath: u16,
     cells: &mut [u8],
     links: &mut [u16],
     calendar: &mut [u16],
     words: &mut [u32],
+    bits: &mut [u64],
 ) -> Fresh
-    ensures { λ r. ⌜ setupPromise n v raw kind (before zeros cells links calendar words) (setUpAfter r cells links calendar words) ⌝ }
+    ensures { λ r. ⌜ setupPromise n v (askedOf raw kind splitvci splitpath) (before zeros cells links calendar words bits) (setUpAfter r cells links calendar words bits) ⌝ }
 {
     let number = setup_refusal(
         n,
         v,
         kind,
+        splitvci,
+        splitpath,
         cells.len(),
         links.len(),
         calendar.len(),
         words.len(),
+        bits.len(),
     );
     if number != 0 {
         let none = no_record();
@@ -115,10 +153,11 @@ pub fn setup(
         };
     }
     clear_cells(cells);
-    chain_links(links);
+    clear_links(links);
     empty_calendar(calendar);
     clear_words(words);
-    let fresh = fresh_record(n, v, raw, kind);
+    free_all(n, bits);
+    let fresh = fresh_record(n, v, raw, kind, splitvci, splitpath);
     Fresh {
         number: 0,
         ctl: fresh,

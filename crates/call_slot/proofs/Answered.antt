@@ -1,18 +1,19 @@
 -- What a slot answers and keeps, for every state, with the header check in front: as the slot without it does, since what
 -- the check changes is the mode and the verdict.
-use Prim.Native.Nat.{ℕ, _<_}
-use mathlib.Core.Path.{_≡_, refl, sym, ap, _∙_, subst}
+use Prim.Native.Nat.{ℕ}
+use mathlib.Core.Path.{_≡_, refl, sym, ap, subst}
 use mathlib.Core.Logic.{_≢_}
 use mathlib.Core.Bool.{Bool, true, false, not}
 use mathlib.Core.List.{List}
 use native.Mathlib.Omega.{arith}
-use borrow.Author.Tests.{eqb-true, eqb-false, ne-eqb}
+use borrow.Author.Tests.{eqb-true, eqb-false}
 use Rattle.base_hec.specs.Modes.{Arriving, arriving, arrivingFits}
 use Rattle.meaning.specs.Plain.{if_then_else_, _=?_}
-use Rattle.meaning.specs.Numbers.{rangesHold, empty}
-use Rattle.meaning.specs.State.{State, stateOf, lengthsHold, withRecord, recordInMode, withMode}
+use Rattle.meaning.specs.Numbers.{rangesHold}
+use Rattle.meaning.specs.Bits.{lowestFree}
+use Rattle.meaning.specs.State.{State, stateOf, sizesHold, withRecord, recordInMode, withMode}
 use Rattle.meaning.specs.Work.{Work, workOf, bareAnswer}
-use Rattle.meaning.specs.Slot.{finish, uncheckedSlot, told, slot}
+use Rattle.meaning.specs.Slot.{finish, uncheckedSlot, told, slotAt, slot}
 use Rattle.meaning.proofs.CheckedLaws.{isLent, unlent}
 use Rattle.slot_steps.proofs.EndLaws.{Answered, refused-with, unchecked-answered}
 use Rattle.call_slot.specs.Back.{back}
@@ -49,7 +50,7 @@ module _ (s : State) (mode : ℕ) (b : Bool) (w : Work) (h : Answered (withMode 
   unfolding withMode withRecord recordInMode
   as-it-came ne =
       record {
-        as-came = λ _. ap (λ (x : State). stateOf (s .ctl) (x .cells) (x .links) (x .calendar) (x .words)) (h .as-came ne);
+        as-came = λ _. ap (λ (x : State). stateOf (s .ctl) (x .cells) (x .links) (x .calendar) (x .words) (x .bits)) (h .as-came ne);
         ranges = λ e. absurd (ne e);
         lengths = λ e. absurd (ne e);
         n-is = refl;
@@ -71,11 +72,11 @@ module _ (s : State) (mode : ℕ) (b : Bool) (w : Work) (h : Answered (withMode 
 -- raw or mode unfit: 1, 2 or 3
 unfit-answered : (s : State) (cell : List ℕ) → isLent cell ≡ true → arrivingFits (s .ctl .raw) (s .ctl .mode) cell ≡ false
     → Answered s (slot s cell)
-unfolding slot finish
+unfolding slot slotAt finish
 unfit-answered s cell lent fits =
     rw (lent, fits)
     (go (rangesHold (s .ctl .n) (s .ctl .v))
-    (lengthsHold (s .ctl .n) (s .ctl .v) (s .cells) (s .links) (s .calendar) (s .words)))
+    (sizesHold s))
   where
     go : (p q : Bool)
         → Answered s
@@ -85,13 +86,14 @@ unfit-answered s cell lent fits =
     go true true = refused-with s 3 (λ e. omega arith)
 
 pub slot-answered : (s : State) (cell : List ℕ) → Answered s (slot s cell)
+unfolding slot uncheckedSlot
 slot-answered s cell = go (isLent cell) (arrivingFits (s .ctl .raw) (s .ctl .mode) cell) refl refl
   where
     a : Arriving
     a = arriving (s .ctl .raw) (s .ctl .mode) cell
 
     go : (p q : Bool) → isLent cell ≡ p → arrivingFits (s .ctl .raw) (s .ctl .mode) cell ≡ q → Answered s (slot s cell)
-    go false q e f = subst (Answered s) (sym (unlent s cell e)) (unchecked-answered s cell)
+    go false q e f = subst (Answered s) (sym (unlent (lowestFree (s .bits)) s cell e)) (unchecked-answered s cell)
     go true false e f = unfit-answered s cell e f
     go true true e f =
         subst (Answered s) (sym (by-unchecked s cell e f))

@@ -3,8 +3,8 @@
 use Prim.Native.Nat.{ℕ, _≤_, _<_}
 use mathlib.Core.Path.{_≡_, refl, sym, ap, _∙_}
 use mathlib.Core.Logic.{_≢_}
-use mathlib.Core.Bool.{Bool, true, false, not, cond, _&&_, _||_}
-use mathlib.Core.List.{List, [], _++_}
+use mathlib.Core.Bool.{Bool, true, false, not, cond, _&&_}
+use mathlib.Core.List.{List, _++_}
 use native.Mathlib.Decide.{ℕ-discrete}
 use native.Mathlib.Omega.{arith}
 use borrow.Author.Tests.{eqb-true, eqb-false, not-true, not-false, ne-eqb, le-leb, lt-leb}
@@ -17,44 +17,45 @@ use Rattle.base_hec.specs.declared.Checked.{Checked}
 use Rattle.base_hec.specs.Word.{octetsOf, arrivingOf}
 use Rattle.meaning.specs.declared.Record.{Record}
 use Rattle.meaning.specs.declared.Served.{Served}
-use Rattle.meaning.specs.Plain.{if_then_else_, _=?_, Out, refused, next, needs, _andThen_}
+use Rattle.meaning.specs.Plain.{if_then_else_, _=?_, Out, refused, next, _andThen_}
 use Rattle.meaning.specs.Numbers.{rangesHold, octets}
-use Rattle.meaning.specs.State.{State, stateOf, lengthsHold, withRecord, recordInMode, withMode}
+use Rattle.meaning.specs.Bits.{lowestFree}
+use Rattle.meaning.specs.State.{State, stateOf, sizesHold, withRecord, recordInMode, withMode}
 use Rattle.meaning.specs.Work.{Work, workOf, bareAnswer}
-use Rattle.meaning.specs.Slot.{fiveSteps, finish, uncheckedSlot, told, slot}
+use Rattle.meaning.specs.Slot.{fiveSteps, finish, uncheckedSlotAt, uncheckedSlot, told, slotAt, slot}
 use Rattle.meaning.proofs.CheckedLaws.{isLent, through-lent, unlent, not-raw, none-lent}
 use Rattle.slot_steps.proofs.EndLaws.{AllOut, both-true, Ended, begun, five-ended}
 use Rattle.call_slot.specs.Back.{isChecked, servedOf, toldServed, backServed, back, unfitOf}
 
 -- record and answer, and the whole work
-back-work : (a b : Bool) (r : Record) (s : Served) (cells links calendar words : List ℕ)
+back-work : (a b : Bool) (r : Record) (s : Served) (cells links calendar words bits : List ℕ)
     → (s .answer .number =? 0) ≡ a
     → let t = if a then toldServed b s else servedOf r (s .answer) in
-    workOf (stateOf (t .ctl) cells links calendar words) (t .answer)
-    ≡ (if a then told b (workOf (stateOf (s .ctl) cells links calendar words) (s .answer))
-    else workOf (stateOf r cells links calendar words) (s .answer))
-back-work true true r s cells links calendar words e = refl
-back-work true false r s cells links calendar words e = refl
-back-work false b r s cells links calendar words e = refl
+    workOf (stateOf (t .ctl) cells links calendar words bits) (t .answer)
+    ≡ (if a then told b (workOf (stateOf (s .ctl) cells links calendar words bits) (s .answer))
+    else workOf (stateOf r cells links calendar words bits) (s .answer))
+back-work true true r s cells links calendar words bits e = refl
+back-work true false r s cells links calendar words bits e = refl
+back-work false b r s cells links calendar words bits e = refl
 
-pub back-is : (r : Record) (b : Bool) (s : Served) (S : State) (cells links calendar words : List ℕ) → S .ctl ≡ r
-    → workOf (stateOf (backServed r b s .ctl) cells links calendar words) (backServed r b s .answer)
-    ≡ back S b (workOf (stateOf (s .ctl) cells links calendar words) (s .answer))
+pub back-is : (r : Record) (b : Bool) (s : Served) (S : State) (cells links calendar words bits : List ℕ) → S .ctl ≡ r
+    → workOf (stateOf (backServed r b s .ctl) cells links calendar words bits) (backServed r b s .answer)
+    ≡ back S b (workOf (stateOf (s .ctl) cells links calendar words bits) (s .answer))
 unfolding backServed back withRecord
-back-is r b s S cells links calendar words e = rw e (back-work (s .answer .number =? 0) b r s cells links calendar words refl)
+back-is r b s S cells links calendar words bits e = rw e (back-work (s .answer .number =? 0) b r s cells links calendar words bits refl)
 
 -- the slot without the check, in another mode, and back
-pub backed : (r k : Record) (mode : ℕ) (b : Bool) (x s : Served) (cells links calendar words cell C L K W : List ℕ)
+pub backed : (r k : Record) (mode : ℕ) (b : Bool) (x s : Served) (cells links calendar words bits cell C L K W B : List ℕ)
     → k ≡ recordInMode r mode → x ≡ backServed r b s
-    → workOf (stateOf (s .ctl) C L K W) (s .answer) ≡ uncheckedSlot (stateOf k cells links calendar words) cell
-    → workOf (stateOf (x .ctl) C L K W) (x .answer)
-    ≡ back (stateOf r cells links calendar words) b
-    (uncheckedSlot (stateOf (recordInMode r mode) cells links calendar words) cell)
-backed r k mode b x s cells links calendar words cell C L K W e f g =
-    ap (λ (y : Served). workOf (stateOf (y .ctl) C L K W) (y .answer)) f
-    ∙ back-is r b s (stateOf r cells links calendar words) C L K W refl
-    ∙ ap (back (stateOf r cells links calendar words) b)
-    (g ∙ ap (λ (q : Record). uncheckedSlot (stateOf q cells links calendar words) cell) e)
+    → workOf (stateOf (s .ctl) C L K W B) (s .answer) ≡ uncheckedSlot (stateOf k cells links calendar words bits) cell
+    → workOf (stateOf (x .ctl) C L K W B) (x .answer)
+    ≡ back (stateOf r cells links calendar words bits) b
+    (uncheckedSlot (stateOf (recordInMode r mode) cells links calendar words bits) cell)
+backed r k mode b x s cells links calendar words bits cell C L K W B e f g =
+    ap (λ (y : Served). workOf (stateOf (y .ctl) C L K W B) (y .answer)) f
+    ∙ back-is r b s (stateOf r cells links calendar words bits) C L K W B refl
+    ∙ ap (back (stateOf r cells links calendar words bits) b)
+    (g ∙ ap (λ (q : Record). uncheckedSlot (stateOf q cells links calendar words bits) cell) e)
 
 -- ── by the slot without the check ──
 module _ (s : State) (cell : List ℕ) where
@@ -71,33 +72,33 @@ module _ (s : State) (cell : List ℕ) where
   ended (next w) h = rw (h .number)
 
   by-cases : (p q : Bool) → rangesHold (s .ctl .n) (s .ctl .v) ≡ p
-      → lengthsHold (s .ctl .n) (s .ctl .v) (s .cells) (s .links) (s .calendar) (s .words) ≡ q
+      → sizesHold s ≡ q
       → isLent cell ≡ true → arrivingFits (s .ctl .raw) (s .ctl .mode) cell ≡ true
       → slot s cell ≡ back s (a .dropped) (uncheckedSlot s′ (a .cell))
-  unfolding slot uncheckedSlot back withMode withRecord recordInMode
+  unfolding slot slotAt uncheckedSlot uncheckedSlotAt back withMode withRecord recordInMode
   by-cases false q e f lent fits = rw e
   by-cases true false e f lent fits = rw (e, f)
   by-cases true true e f lent fits =
       rw (e, f, lent, fits, through-lent (s .ctl .raw) (s .ctl .mode) cell lent)
-      (ended (fiveSteps (a .cell) (workOf s′ (bareAnswer 0)))
-      (five-ended (s′ .ctl) (a .cell) (workOf s′ (bareAnswer 0)) (begun (s′ .ctl) s′ refl)))
+      (ended (fiveSteps (lowestFree (s .bits)) (a .cell) (workOf s′ (bareAnswer 0)))
+      (five-ended (s′ .ctl) (lowestFree (s .bits)) (a .cell) (workOf s′ (bareAnswer 0)) (begun (s′ .ctl) s′ refl)))
 
   pub by-unchecked : isLent cell ≡ true → arrivingFits (s .ctl .raw) (s .ctl .mode) cell ≡ true
       → slot s cell ≡ back s (a .dropped) (uncheckedSlot s′ (a .cell))
   by-unchecked =
       by-cases (rangesHold (s .ctl .n) (s .ctl .v))
-      (lengthsHold (s .ctl .n) (s .ctl .v) (s .cells) (s .links) (s .calendar) (s .words)) refl refl
+      (sizesHold s) refl refl
 
 -- ── raw and mode out of range ──
 pub unfit-is : (s : State) (cell : List ℕ) (x : Served) → isLent cell ≡ true
     → arrivingFits (s .ctl .raw) (s .ctl .mode) cell ≡ false
-    → x ≡ unfitOf (s .ctl) (s .cells) (s .links) (s .calendar) (s .words)
-    → workOf (stateOf (x .ctl) (s .cells) (s .links) (s .calendar) (s .words)) (x .answer) ≡ slot s cell
-unfolding slot unfitOf finish
+    → x ≡ unfitOf (s .ctl) (s .cells) (s .links) (s .calendar) (s .words) (s .bits)
+    → workOf (stateOf (x .ctl) (s .cells) (s .links) (s .calendar) (s .words) (s .bits)) (x .answer) ≡ slot s cell
+unfolding slot slotAt unfitOf finish
 unfit-is s cell x lent fits e =
     rw (e, lent, fits)
     (go (rangesHold (s .ctl .n) (s .ctl .v))
-    (lengthsHold (s .ctl .n) (s .ctl .v) (s .cells) (s .links) (s .calendar) (s .words)))
+    (sizesHold s))
   where
     go : (p q : Bool)
         → workOf s (bareAnswer (if not p then 1 else if not q then 2 else 3))
@@ -153,14 +154,14 @@ unfolding arrivingOf
 answer-dropped c cell e = rw e
 
 -- a raw policer's slot, by what the check answers
-pub raw-is : (r : Record) (cells links calendar words cell : List ℕ) (w : Work) (a : Arriving) → r .raw ≡ 1 → r .mode ≤ 1
+pub raw-is : (r : Record) (cells links calendar words bits cell : List ℕ) (w : Work) (a : Arriving) → r .raw ≡ 1 → r .mode ≤ 1
     → length cell ≡ 53 → checked (r .mode) cell ≡ a
-    → w ≡ back (stateOf r cells links calendar words) (a .dropped)
-    (uncheckedSlot (stateOf (recordInMode r (a .mode)) cells links calendar words) (a .cell))
-    → w ≡ slot (stateOf r cells links calendar words) cell
+    → w ≡ back (stateOf r cells links calendar words bits) (a .dropped)
+    (uncheckedSlot (stateOf (recordInMode r (a .mode)) cells links calendar words bits) (a .cell))
+    → w ≡ slot (stateOf r cells links calendar words bits) cell
 unfolding withMode withRecord
-raw-is r cells links calendar words cell w a e m l f g =
-    let s = stateOf r cells links calendar words in
+raw-is r cells links calendar words bits cell w a e m l f g =
+    let s = stateOf r cells links calendar words bits in
     g
     ∙ ap (λ (x : Arriving). back s (x .dropped) (uncheckedSlot (withMode s (x .mode)) (x .cell)))
     (sym (arriving-raw (r .raw) (r .mode) cell e l ∙ f))
@@ -181,11 +182,12 @@ unfit-mode raw mode cell ne h l = rw (l, ne-eqb raw 0 ne, lt-leb mode 1 h) (go (
 
 -- lent no cell, or another length: as document 01 has it
 pub not-lent : (s : State) (cell : List ℕ) → (length cell ≡ 53 → ⊥) → slot s cell ≡ uncheckedSlot s cell
+unfolding slot uncheckedSlot
 not-lent s cell ne = go (ℕ-discrete (length cell) 0)
   where
     go : Dec (length cell ≡ 0) → slot s cell ≡ uncheckedSlot s cell
-    go (yes e) = none-lent s cell e
-    go (no f) = unlent s cell (rw (ne-eqb (length cell) 0 f, ne-eqb (length cell) 53 ne))
+    go (yes e) = none-lent (lowestFree (s .bits)) s cell e
+    go (no f) = unlent (lowestFree (s .bits)) s cell (rw (ne-eqb (length cell) 0 f, ne-eqb (length cell) 53 ne))
 
 -- ── whether the check comes in front ──
 pub no-cell : (raw long : ℕ) → (long ≡ 53 → ⊥) → false ≡ isChecked raw long
@@ -206,11 +208,11 @@ pub raw-one : (raw : ℕ) → raw ≤ 1 → (raw ≡ 0 → ⊥) → raw ≡ 1
 raw-one raw h ne = omega (arith, h, ne)
 
 pub unchecked-is : (s : State) (cell : List ℕ) → isChecked (s .ctl .raw) (length cell) ≡ false → slot s cell ≡ uncheckedSlot s cell
-unfolding isChecked
+unfolding isChecked slot uncheckedSlot
 unchecked-is s cell h = go (ℕ-discrete (length cell) 53)
   where
     go : Dec (length cell ≡ 53) → slot s cell ≡ uncheckedSlot s cell
     go (no f) = not-lent s cell f
     go (yes e) =
-        not-raw s cell
+        not-raw (lowestFree (s .bits)) s cell
         (eqb-true (s .ctl .raw) 0 (not-false (s .ctl .raw =? 0) (rw e at h)))

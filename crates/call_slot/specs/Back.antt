@@ -5,12 +5,15 @@
 --   backServed r drop s   == of record and answer
 --   back s drop w         == of the whole work, w being the slot without the check
 --   backFrom s mode ..    == the same, s having been served in this mode with this cell
+--   mendedBy c cell       == the cell with the header that the check answers
 --   headWritten head l    == l with its first four octets from one number
 --   unfitOf r ..          == what is given where raw or mode is neither 0 nor 1; unfitIn s the same of a state
 use Prim.Native.Nat.{ℕ, _/_, _%_, _^_}
 use mathlib.Core.Bool.{Bool, not, _&&_}
-use mathlib.Core.List.{List}
-use lib.ListN.{set}
+use mathlib.Core.List.{List, _++_}
+use lib.ListN.{set, drop}
+use Rattle.base_hec.specs.declared.Checked.{Checked}
+use Rattle.base_hec.specs.Word.{octetsOf}
 use Rattle.meaning.specs.declared.Record.{Record}
 use Rattle.meaning.specs.declared.Answer.{Answer}
 use Rattle.meaning.specs.declared.Served.{Served}
@@ -42,19 +45,22 @@ back s drop w =
 abbrev pub backFrom : State → ℕ → Bool → List ℕ → Work
 backFrom s mode drop cell =
     back s drop
-    (uncheckedSlot (stateOf (recordInMode (s .ctl) mode) (s .cells) (s .links) (s .calendar) (s .words)) cell)
+    (uncheckedSlot (stateOf (recordInMode (s .ctl) mode) (s .cells) (s .links) (s .calendar) (s .words) (s .bits)) cell)
 
 -- a raw or a mode out of its range: 1 and 2 come before 3
-unfoldable pub unfitOf : Record → List ℕ → List ℕ → List ℕ → List ℕ → Served
-unfitOf r cells links calendar words =
+unfoldable pub unfitOf : Record → List ℕ → List ℕ → List ℕ → List ℕ → List ℕ → Served
+unfitOf r cells links calendar words bits =
     servedOf r
     (bareAnswer
     (if not (rangesHold (r .n) (r .v)) then 1
-    else if not (lengthsHold (r .n) (r .v) cells links calendar words) then 2
+    else if not (lengthsHold (r .n) (r .v) cells links calendar words bits) then 2
     else 3))
 
 abbrev pub unfitIn : State → Served
-unfitIn s = unfitOf (s .ctl) (s .cells) (s .links) (s .calendar) (s .words)
+unfitIn s = unfitOf (s .ctl) (s .cells) (s .links) (s .calendar) (s .words) (s .bits)
+
+abbrev pub mendedBy : Checked → List ℕ → List ℕ
+mendedBy c cell = octetsOf (c .head) (c .fifth) ++ drop 5 cell
 
 -- the first four octets written from one number
 unfoldable pub headWritten : ℕ → List ℕ → List ℕ

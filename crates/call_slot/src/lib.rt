@@ -7,7 +7,7 @@ ghost use lib.ListN.{length, drop};
 ghost use Rattle.base_hec.specs.Word.{octetsOf};
 ghost use Rattle.meaning.specs.Promises.{slotPromise};
 ghost use Rattle.meaning.specs.Lent.{before, servedAfter};
-ghost use Rattle.call_slot.specs.Back.{isChecked, backServed, backFrom, unfitIn, headWritten};
+ghost use Rattle.call_slot.specs.Back.{isChecked, backServed, backFrom, unfitIn, mendedBy, headWritten};
 use base_hec::Checked;
 use meaning::Answer;
 use meaning::Record;
@@ -67,16 +67,17 @@ fn mended_slot(
     links: &mut [u16],
     calendar: &mut [u16],
     words: &mut [u32],
+    bits: &mut [u64],
     cell: &[u8],
 ) -> Served
     requires { ⌜ length (now cell) ≡ 53 ⌝ }
-    ensures { λ s. ⌜ servedAfter s cells links calendar words ≡ backFrom (before r cells links calendar words) (c .mode) false (octetsOf (c .head) (c .fifth) ++ drop 5 (now (cell .entry))) ⌝ }
+    ensures { λ s. ⌜ servedAfter s cells links calendar words bits ≡ backFrom (before r cells links calendar words bits) (c .mode) false (mendedBy c (now (cell .entry))) ⌝ }
 {
     let mut held = [0u8; 53];
     mem_cell::copy_cell(&mut held, cell);
     put_header(&mut held, c.head, c.fifth);
     let k = record_in_mode(r, c.mode);
-    let s = slot_steps::slot(k, cells, links, calendar, words, &held);
+    let s = slot_steps::slot(k, cells, links, calendar, words, bits, &held);
     back_to(r, false, s)
 }
 
@@ -88,12 +89,13 @@ fn dropped_slot(
     links: &mut [u16],
     calendar: &mut [u16],
     words: &mut [u32],
+    bits: &mut [u64],
     cell: &[u8],
 ) -> Served
-    ensures { λ s. ⌜ servedAfter s cells links calendar words ≡ backFrom (before r cells links calendar words) mode true [] ⌝ }
+    ensures { λ s. ⌜ servedAfter s cells links calendar words bits ≡ backFrom (before r cells links calendar words bits) mode true [] ⌝ }
 {
     let k = record_in_mode(r, mode);
-    let s = slot_steps::slot(k, cells, links, calendar, words, &cell[0..0]);
+    let s = slot_steps::slot(k, cells, links, calendar, words, bits, &cell[0..0]);
     back_to(r, true, s)
 }
 
@@ -104,12 +106,13 @@ fn clean_slot(
     links: &mut [u16],
     calendar: &mut [u16],
     words: &mut [u32],
+    bits: &mut [u64],
     cell: &[u8],
 ) -> Served
-    ensures { λ s. ⌜ servedAfter s cells links calendar words ≡ backFrom (before r cells links calendar words) 0 false (now (cell .entry)) ⌝ }
+    ensures { λ s. ⌜ servedAfter s cells links calendar words bits ≡ backFrom (before r cells links calendar words bits) 0 false (now (cell .entry)) ⌝ }
 {
     let k = record_in_mode(r, 0);
-    let s = slot_steps::slot(k, cells, links, calendar, words, cell);
+    let s = slot_steps::slot(k, cells, links, calendar, words, bits, cell);
     back_to(r, false, s)
 }
 
@@ -120,19 +123,20 @@ fn raw_slot(
     links: &mut [u16],
     calendar: &mut [u16],
     words: &mut [u32],
+    bits: &mut [u64],
     cell: &[u8],
 ) -> Served
     requires { ⌜ (r .raw ≡ 1) × (r .mode ≤ 1) × (length (now cell) ≡ 53) ⌝ }
-    ensures { λ s. ⌜ slotPromise (before r cells links calendar words) (now (cell .entry)) (servedAfter s cells links calendar words) ⌝ }
+    ensures { λ s. ⌜ slotPromise (before r cells links calendar words bits) (now (cell .entry)) (servedAfter s cells links calendar words bits) ⌝ }
 {
     let c = base_hec::check_cell(r.mode, cell);
     if c.mode == 0 {
-        return clean_slot(r, cells, links, calendar, words, cell);
+        return clean_slot(r, cells, links, calendar, words, bits, cell);
     }
     if c.through {
-        return mended_slot(r, c, cells, links, calendar, words, cell);
+        return mended_slot(r, c, cells, links, calendar, words, bits, cell);
     }
-    dropped_slot(r, c.mode, cells, links, calendar, words, cell)
+    dropped_slot(r, c.mode, cells, links, calendar, words, bits, cell)
 }
 
 // A raw or a mode that is neither 0 nor 1: 3, after 1 and 2.
@@ -142,12 +146,13 @@ fn unfit_slot(
     links: &[u16],
     calendar: &[u16],
     words: &[u32],
+    bits: &[u64],
     cell: &[u8],
 ) -> Served
     requires { ⌜ length (now cell) ≡ 53 ⌝ }
-    ensures { λ s. ⌜ s ≡ unfitIn (before r cells links calendar words) ⌝ }
+    ensures { λ s. ⌜ s ≡ unfitIn (before r cells links calendar words bits) ⌝ }
 {
-    let number = slot_steps::shape(r, cells, links, calendar, words, cell);
+    let number = slot_steps::shape(r, cells, links, calendar, words, bits, cell);
     if number != 0 {
         return slot_depart::refuse(r, number);
     }
@@ -171,18 +176,19 @@ pub fn checked(
     links: &mut [u16],
     calendar: &mut [u16],
     words: &mut [u32],
+    bits: &mut [u64],
     cell: &[u8],
 ) -> Served
     requires { ⌜ isChecked (r .raw) (length (now cell)) ≡ true ⌝ }
-    ensures { λ s. ⌜ slotPromise (before r cells links calendar words) (now (cell .entry)) (servedAfter s cells links calendar words) ⌝ }
+    ensures { λ s. ⌜ slotPromise (before r cells links calendar words bits) (now (cell .entry)) (servedAfter s cells links calendar words bits) ⌝ }
 {
     if r.raw > 1 {
-        return unfit_slot(r, cells, links, calendar, words, cell);
+        return unfit_slot(r, cells, links, calendar, words, bits, cell);
     }
     if r.mode > 1 {
-        return unfit_slot(r, cells, links, calendar, words, cell);
+        return unfit_slot(r, cells, links, calendar, words, bits, cell);
     }
-    raw_slot(r, cells, links, calendar, words, cell)
+    raw_slot(r, cells, links, calendar, words, bits, cell)
 }
 
 // "One slot, in this order", of a cell of 0 or 53 octets. raw is read only where a cell is lent, mode only where raw is 1.
@@ -192,12 +198,13 @@ pub fn slot(
     links: &mut [u16],
     calendar: &mut [u16],
     words: &mut [u32],
+    bits: &mut [u64],
     cell: &[u8],
 ) -> Served
-    ensures { λ s. ⌜ slotPromise (before r cells links calendar words) (now (cell .entry)) (servedAfter s cells links calendar words) ⌝ }
+    ensures { λ s. ⌜ slotPromise (before r cells links calendar words bits) (now (cell .entry)) (servedAfter s cells links calendar words bits) ⌝ }
 {
     if is_checked(r.raw, cell.len()) {
-        return checked(r, cells, links, calendar, words, cell);
+        return checked(r, cells, links, calendar, words, bits, cell);
     }
-    slot_steps::slot(r, cells, links, calendar, words, cell)
+    slot_steps::slot(r, cells, links, calendar, words, bits, cell)
 }

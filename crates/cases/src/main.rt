@@ -17,6 +17,7 @@ fn one_case(k: u8) -> bool {
     let mut links = [0u16; 1024];
     let mut calendar = [0u16; 2048];
     let mut words = [0u32; 15360];
+    let mut bits = [0u64; 32];
     let mut out = [0u8; 65536];
     list_write::list(
         1,
@@ -25,6 +26,7 @@ fn one_case(k: u8) -> bool {
         &mut links,
         &mut calendar,
         &mut words,
+        &mut bits,
         &mut out,
     );
     true

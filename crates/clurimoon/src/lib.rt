@@ -4,7 +4,8 @@ ghost use mathlib.Core.Path.{_≡_};
 ghost use lib.ListN.{length};
 ghost use Rattle.meaning.specs.Header.{byVci, byVpi};
 ghost use Rattle.meaning.specs.Words.{secondOf, noSecond};
-ghost use Rattle.meaning.specs.Calls.{zeros};
+ghost use Rattle.meaning.specs.Calls.{zeros, askedOf};
+ghost use Rattle.meaning.specs.Next.{waitFor};
 ghost use Rattle.meaning.specs.Promises.{setupPromise, openPromise, closePromise, slotPromise, AuditPromise};
 ghost use Rattle.meaning.specs.Lent.{before, after, setUpAfter, servedAfter};
 ghost use Rattle.call_burst.specs.Promise.{burstPromise};
@@ -17,6 +18,7 @@ use call_time::Timed;
 use meaning::Fresh;
 use meaning::Record;
 use meaning::Served;
+use meaning::Wait;
 
 #[no_mangle]
 pub extern "C" fn clurimoon_setup(
@@ -24,34 +26,51 @@ pub extern "C" fn clurimoon_setup(
     v: u16,
     raw: bool,
     kind: u16,
+    splitvci: u16,
+    splitpath: u16,
     cells: &mut [u8],
     links: &mut [u16],
     calendar: &mut [u16],
     words: &mut [u32],
+    bits: &mut [u64],
 ) -> Fresh
-    ensures { λ r. ⌜ setupPromise n v raw kind (before zeros cells links calendar words) (setUpAfter r cells links calendar words) ⌝ }
+    ensures { λ r. ⌜ setupPromise n v (askedOf raw kind splitvci splitpath) (before zeros cells links calendar words bits) (setUpAfter r cells links calendar words bits) ⌝ }
 {
-    call_setup::setup(n, v, raw, kind, cells, links, calendar, words)
+    call_setup::setup(
+        n,
+        v,
+        raw,
+        kind,
+        splitvci,
+        splitpath,
+        cells,
+        links,
+        calendar,
+        words,
+        bits,
+    )
 }
 
 #[no_mangle]
 pub extern "C" fn clurimoon_open(
     ctl: Record,
     words: &mut [u32],
+    owner: u16,
     vci: u16,
     m: u8,
     f: u32,
     c: u32,
 ) -> u16
-    ensures { λ r. ⌜ openPromise ctl (now (words .entry)) (byVci vci) m f c noSecond r (now (words .exit)) ⌝ }
+    ensures { λ r. ⌜ openPromise ctl (now (words .entry)) owner (byVci vci) m f c noSecond r (now (words .exit)) ⌝ }
 {
-    call_connection::open(ctl, words, vci, m, f, c)
+    call_connection::open(ctl, words, owner, vci, m, f, c)
 }
 
 #[no_mangle]
 pub extern "C" fn clurimoon_open_sustained(
     ctl: Record,
     words: &mut [u32],
+    owner: u16,
     vci: u16,
     m: u8,
     f: u32,
@@ -61,16 +80,16 @@ pub extern "C" fn clurimoon_open_sustained(
     c2: u32,
     tag: u8,
 ) -> u16
-    ensures { λ r. ⌜ openPromise ctl (now (words .entry)) (byVci vci) m f c (secondOf m2 f2 c2 tag) r (now (words .exit)) ⌝ }
+    ensures { λ r. ⌜ openPromise ctl (now (words .entry)) owner (byVci vci) m f c (secondOf m2 f2 c2 tag) r (now (words .exit)) ⌝ }
 {
-    call_connection::open_sustained(ctl, words, vci, m, f, c, m2, f2, c2, tag)
+    call_connection::open_sustained(ctl, words, owner, vci, m, f, c, m2, f2, c2, tag)
 }
 
 #[no_mangle]
-pub extern "C" fn clurimoon_close(ctl: Record, words: &mut [u32], vci: u16) -> u16
-    ensures { λ r. ⌜ closePromise ctl (now (words .entry)) (byVci vci) r (now (words .exit)) ⌝ }
+pub extern "C" fn clurimoon_close(ctl: Record, words: &mut [u32], owner: u16, vci: u16) -> u16
+    ensures { λ r. ⌜ closePromise ctl (now (words .entry)) owner (byVci vci) r (now (words .exit)) ⌝ }
 {
-    call_connection::close(ctl, words, vci)
+    call_connection::close(ctl, words, owner, vci)
 }
 
 // A whole path, by its VPI, with a second bucket or none.
@@ -78,6 +97,7 @@ pub extern "C" fn clurimoon_close(ctl: Record, words: &mut [u32], vci: u16) -> u
 pub extern "C" fn clurimoon_open_path(
     ctl: Record,
     words: &mut [u32],
+    owner: u16,
     vpi: u16,
     m: u8,
     f: u32,
@@ -87,16 +107,16 @@ pub extern "C" fn clurimoon_open_path(
     c2: u32,
     tag: u8,
 ) -> u16
-    ensures { λ r. ⌜ openPromise ctl (now (words .entry)) (byVpi vpi) m f c (secondOf m2 f2 c2 tag) r (now (words .exit)) ⌝ }
+    ensures { λ r. ⌜ openPromise ctl (now (words .entry)) owner (byVpi vpi) m f c (secondOf m2 f2 c2 tag) r (now (words .exit)) ⌝ }
 {
-    call_connection::open_path(ctl, words, vpi, m, f, c, m2, f2, c2, tag)
+    call_connection::open_path(ctl, words, owner, vpi, m, f, c, m2, f2, c2, tag)
 }
 
 #[no_mangle]
-pub extern "C" fn clurimoon_close_path(ctl: Record, words: &mut [u32], vpi: u16) -> u16
-    ensures { λ r. ⌜ closePromise ctl (now (words .entry)) (byVpi vpi) r (now (words .exit)) ⌝ }
+pub extern "C" fn clurimoon_close_path(ctl: Record, words: &mut [u32], owner: u16, vpi: u16) -> u16
+    ensures { λ r. ⌜ closePromise ctl (now (words .entry)) owner (byVpi vpi) r (now (words .exit)) ⌝ }
 {
-    call_connection::close_path(ctl, words, vpi)
+    call_connection::close_path(ctl, words, owner, vpi)
 }
 
 #[no_mangle]
@@ -106,11 +126,12 @@ pub extern "C" fn clurimoon_slot(
     links: &mut [u16],
     calendar: &mut [u16],
     words: &mut [u32],
+    bits: &mut [u64],
     cell: &[u8],
 ) -> Served
-    ensures { λ s. ⌜ slotPromise (before ctl cells links calendar words) (now (cell .entry)) (servedAfter s cells links calendar words) ⌝ }
+    ensures { λ s. ⌜ slotPromise (before ctl cells links calendar words bits) (now (cell .entry)) (servedAfter s cells links calendar words bits) ⌝ }
 {
-    call_slot::slot(ctl, cells, links, calendar, words, cell)
+    call_slot::slot(ctl, cells, links, calendar, words, bits, cell)
 }
 
 // No slice can be handed back to C: the answer says where the line's part lies.
@@ -128,10 +149,11 @@ pub extern "C" fn clurimoon_audit(
     links: &[u16],
     calendar: &[u16],
     words: &[u32],
+    bits: &[u64],
 ) -> bool
-    ensures { λ a. ⌜ AuditPromise (before ctl cells links calendar words) a ⌝ }
+    ensures { λ a. ⌜ AuditPromise (before ctl cells links calendar words bits) a ⌝ }
 {
-    call_audit::audit(ctl, cells, links, calendar, words)
+    call_audit::audit(ctl, cells, links, calendar, words, bits)
 }
 
 #[no_mangle]
@@ -141,12 +163,13 @@ pub extern "C" fn clurimoon_burst(
     links: &mut [u16],
     calendar: &mut [u16],
     words: &mut [u32],
+    bits: &mut [u64],
     arrivals: &[u8],
     sizes: &[u8],
     departures: &mut [u8],
     answers: &mut [u16],
 ) -> BurstEnd
-    ensures { λ r. ⌜ burstPromise (before ctl cells links calendar words) arrivals sizes departures answers r (after (r .ctl) cells links calendar words) ⌝ }
+    ensures { λ r. ⌜ burstPromise (before ctl cells links calendar words bits) arrivals sizes departures answers r (after (r .ctl) cells links calendar words bits) ⌝ }
 {
     call_burst::burst(
         ctl,
@@ -154,11 +177,20 @@ pub extern "C" fn clurimoon_burst(
         links,
         calendar,
         words,
+        bits,
         arrivals,
         sizes,
         departures,
         answers,
     )
+}
+
+// How long until something leaves: nothing is written.
+#[no_mangle]
+pub extern "C" fn clurimoon_next(ctl: Record, calendar: &[u16], bits: &[u64]) -> Wait
+    ensures { λ w. ⌜ w ≡ waitFor ctl (now (calendar .entry)) (now (bits .entry)) ⌝ }
+{
+    call_next::next(ctl, calendar, bits)
 }
 
 // The generator's own rule: it stands beside the policer and needs none of its memory.

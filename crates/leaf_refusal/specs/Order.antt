@@ -1,5 +1,5 @@
 -- Document 01, "Refusal numbers": "Order: setup 1, 2; open 1, 2, 4, 3, 5, 6; close 1, 2, 4, 3, 7, 8; slot 1, 2, 9, 3."
--- Document 02 (vi): "13, line kind unknown, after 1 at setup".
+-- Document 02 (vi): "13, line kind unknown, after 1 at setup"; (xi): "16, not this operator's connection, after 4".
 use Prim.Native.Nat.{ℕ}
 use mathlib.Core.Bool.{Bool}
 use Rattle.meaning.specs.Plain.{if_then_else_, _=?_}

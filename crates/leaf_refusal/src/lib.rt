@@ -3,7 +3,7 @@ ghost use mathlib.Core.Path.{_≡_};
 ghost use mathlib.Core.Bool.{_&&_};
 ghost use Prim.Native.Nat.{_*_};
 ghost use Rattle.meaning.specs.Plain.{_=?_};
-ghost use Rattle.meaning.specs.Numbers.{rangesHold, kindFits, octets, perEntry, wordsIn};
+ghost use Rattle.meaning.specs.Numbers.{rangesHold, kindFits, octets, perEntry, wordsIn, bitWords, splitsHold};
 ghost use Rattle.leaf_refusal.specs.Order.{refuseOf, firstOf};
 use meaning::PATHS;
 use meaning::WORDS_PER_CONNECTION;
@@ -24,6 +24,22 @@ pub fn ranges_hold(n: u16, v: u16) -> bool
     v <= 1024
 }
 
+// Refusal 1 too: a split VCI is 1 to V-1, a split path number 1 to 255.
+pub fn splits_hold(v: u16, splitvci: u16, splitpath: u16) -> bool
+    ensures { λ r. ⌜ r ≡ splitsHold v splitvci splitpath ⌝ }
+{
+    if splitvci < 1 {
+        return false;
+    }
+    if splitvci >= v {
+        return false;
+    }
+    if splitpath < 1 {
+        return false;
+    }
+    splitpath < PATHS
+}
+
 // Refusal 13: the line kind is 0, UNI, or 1, NNI.
 pub fn kind_fits(kind: u16) -> bool
     ensures { λ r. ⌜ r ≡ kindFits kind ⌝ }
@@ -38,7 +54,8 @@ pub fn words_in(v: u16) -> usize
     WORDS_PER_CONNECTION * (v as usize + PATHS as usize)
 }
 
-// Refusal 2: "53 × N octets of cells; N links; 2 × N calendar numbers; 7 × V words", of which document 02 made 12 × (V + 256).
+// Refusal 2: "53 × N octets of cells; N links; 2 × N calendar numbers; 7 × V words", of which document 02 made 12 × (V + 256); and its
+// words of bits, 16 of spaces and 16 of entries.
 pub fn lengths_hold(
     n: u16,
     v: u16,
@@ -46,8 +63,9 @@ pub fn lengths_hold(
     links: usize,
     calendar: usize,
     words: usize,
+    bits: usize,
 ) -> bool
-    ensures { λ r. ⌜ r ≡ (cells =? octets * n && links =? n && calendar =? perEntry * n && words =? wordsIn v) ⌝ }
+    ensures { λ r. ⌜ r ≡ (cells =? octets * n && links =? n && calendar =? perEntry * n && words =? wordsIn v && bits =? bitWords) ⌝ }
 {
     if cells != 53 * (n as usize) {
         return false;
@@ -58,7 +76,10 @@ pub fn lengths_hold(
     if calendar != 2 * (n as usize) {
         return false;
     }
-    words == words_in(v)
+    if words != words_in(v) {
+        return false;
+    }
+    bits == 32
 }
 
 // The number of a refusal, or 0 where it isn't given.

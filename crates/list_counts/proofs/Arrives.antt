@@ -1,5 +1,5 @@
 -- Steps 1 to 3 of a slot: a cell that is let in, accepted or tagged, is one more that waits, and no other waiting word changes.
-use Prim.Native.Nat.{ℕ, _+_, _-_, _%_, _≤_, _<_}
+use Prim.Native.Nat.{ℕ, _+_, _-_, _%_, _<_}
 use mathlib.Core.Path.{_≡_, refl, sym, ap, subst, _∙_}
 use mathlib.Core.Bool.{Bool, true, false, not, _&&_}
 use mathlib.Core.Logic.{_≢_}
@@ -8,14 +8,15 @@ use native.Mathlib.Omega.{arith}
 use borrow.Author.Tests.{eqb-false}
 use lib.ListN.{length}
 use Rattle.meaning.specs.declared.Answer.{Answer}
-use Rattle.meaning.specs.Plain.{if_then_else_, _<?_, _=?_, Out, refused, next, needs, _andThen_}
+use Rattle.meaning.specs.Plain.{if_then_else_, _<?_, _=?_, next, needs}
 use Rattle.meaning.specs.Numbers.{connectionsIn, unused, kindFits, excess, letsIn}
-use Rattle.meaning.specs.State.{State, freeList, withRecord, withCells, withLinks, withCalendar, withWords, recordWith, withClock, withFreeList, writeCell}
+use Rattle.meaning.specs.State.{State, withRecord, withCells, withLinks, withCalendar, withWords, withBits, recordWith, withClock, withFree, writeCell}
+use Rattle.meaning.specs.Bits.{isFree, spacesFit, taken, marked}
 use Rattle.meaning.specs.Bucket.{isExcess, delay, fill, elapsed}
 use Rattle.meaning.specs.Header.{headerAt, clpIn, noUserCell, namesConnection, connection}
 use Rattle.meaning.proofs.NamesLaws.{names-low}
 use Rattle.meaning.specs.Words.{Connection, connectionAt, writeConnection, withWaiting, withBuckets, fallenTo, upToDate, openWordFits, bucketsFit}
-use Rattle.meaning.specs.Lists.{isEmpty, Taken, takeHead, entryAt, writeEntry, joinHead, endsFit}
+use Rattle.meaning.specs.Lists.{entryAt, writeEntry, joinHead, endsFit}
 use Rattle.meaning.specs.Work.{Work, withState, withConnection, withArrival}
 use Rattle.meaning.specs.Arrival.{place, verdictOn, secondAfter, sentAs, accept, judge}
 use Rattle.meaning.specs.Slot.{step1, step2, step3}
@@ -89,22 +90,22 @@ module _ (all base : ℕ) where
   unfolding withWords
   unknown-quiet w verdict vci f e = not-accepted w (w .state .words) verdict vci f (f .words) e
 
-  place-quiet : (cell : List ℕ) (D : ℕ) (w : Work) (t : Taken) → Quiet all base w → Holds (Quiet all base) (place cell D w t)
-  unfolding place withCells withLinks withCalendar withFreeList withRecord recordWith
-  place-quiet cell D w t q =
+  place-quiet : (cell : List ℕ) (D x : ℕ) (w : Work) → Quiet all base w → Holds (Quiet all base) (place cell D x w)
+  unfolding place withCells withLinks withCalendar withBits withFree withRecord recordWith
+  place-quiet cell D x w q =
       let s = w .state in
       let e = (s .ctl .turn + D) % s .ctl .n in
       let entry = entryAt (s .calendar) e in
-      let grown = joinHead (s .links) entry (t .space) in
-      let s3 = withLinks (withCells (withFreeList s (t .left)) (writeCell (s .cells) (t .space) cell)) (grown .links) in
+      let grown = joinHead (s .links) entry x in
+      let s3 = withLinks (withCells (withFree s (s .ctl .free - 1) (marked (taken (s .bits) x) e)) (writeCell (s .cells) x cell)) (grown .links) in
       let s4 : State = withCalendar s3 (writeEntry (s .calendar) e (grown .ends)) in
       let q′ : Quiet all base (withState w s4) = record { v-is = q .v-is; words = q .words; unsent = q .unsent; number = q .number } in
       holds-needs (Quiet all base) (endsFit (s .ctl .n) entry) (next (withState w s4)) (λ _. q′)
 
-  accept-quiet : (cell : List ℕ) (verdict vci : ℕ) (w : Work) (vc : Connection) → Fresh all base w → vci < all → Kept (connectionAt (w .state .words) vci) vc
-      → vc .opened ≢ 0 → letsIn verdict ≡ true → Holds (Quiet all base) (accept cell verdict vci w vc)
+  accept-quiet : (x : ℕ) (cell : List ℕ) (verdict vci : ℕ) (w : Work) (vc : Connection) → Fresh all base w → vci < all
+      → Kept (connectionAt (w .state .words) vci) vc → vc .opened ≢ 0 → letsIn verdict ≡ true → Holds (Quiet all base) (accept x cell verdict vci w vc)
   unfolding accept withWords
-  accept-quiet cell verdict vci w vc f low k o in′ =
+  accept-quiet x cell verdict vci w vc f low k o in′ =
       let second = secondAfter (clpIn cell) verdict (vc .second) in
       let filled = withWaiting (withBuckets vc (fill (vc .bucket)) second) (vc .waiting + 1) in
       let s = w .state in
@@ -116,18 +117,15 @@ module _ (all base : ℕ) where
         v-is = f .v-is;
         words = subst (Words all base (writeConnection (s .words) vci filled)) (sym (ap (λ (b : Bool). base + one b) in′))
             (write-words all base (s .words) base vci (base + 1) filled (f .words) low o (omega (arith, k .1)));
-        unsent = ap (λ (x : Answer). x .space) (f .bare);
-        number = ap (λ (x : Answer). x .number) (f .bare);
+        unsent = ap (λ (y : Answer). y .space) (f .bare);
+        number = ap (λ (y : Answer). y .number) (f .bare);
       } in
-      let rest = takeHead N (s .links) (freeList s) andThen place (sentAs verdict cell) D w1 in
-      holds-needs (Quiet all base) (vc .waiting <? N) (needs (endsFit N (freeList s) && not (isEmpty (freeList s))) rest)
-      (λ _. holds-needs (Quiet all base) (endsFit N (freeList s) && not (isEmpty (freeList s))) rest
-      (λ _. holds-then (λ (t : Taken). 0 ≤ 0) (Quiet all base) (takeHead N (s .links) (freeList s)) (place (sentAs verdict cell) D w1) (taken (takeHead N (s .links) (freeList s)))
-      (λ t _. place-quiet (sentAs verdict cell) D w1 t q)))
-    where
-      taken : (x : Out Taken) → Holds (λ (t : Taken). 0 ≤ 0) x
-      taken refused = omega arith
-      taken (next t) = omega arith
+      let fits = spacesFit N (s .ctl .free) (s .bits) && not (s .ctl .free =? 0) in
+      let free = isFree (s .bits) x in
+      let rest = place (sentAs verdict cell) D x w1 in
+      holds-needs (Quiet all base) (vc .waiting <? N) (needs fits (needs free rest))
+      (λ _. holds-needs (Quiet all base) fits (needs free rest)
+      (λ _. holds-needs (Quiet all base) free rest (λ _. place-quiet (sentAs verdict cell) D x w1 q)))
 
   -- what is not excess is let in
   lets-in : (clp : ℕ) (vc : Connection) → verdictOn clp vc =? excess ≡ false → letsIn (verdictOn clp vc) ≡ true
@@ -141,18 +139,18 @@ module _ (all base : ℕ) where
       go false true false e = refl
       go false false c e = refl
 
-  judge-quiet : (cell : List ℕ) (vci : ℕ) (w : Work) (vc : Connection) → Fresh all base w → vci < all → Kept (connectionAt (w .state .words) vci) vc
-      → vc .opened ≢ 0 → Holds (Quiet all base) (judge cell vci w vc)
+  judge-quiet : (x : ℕ) (cell : List ℕ) (vci : ℕ) (w : Work) (vc : Connection) → Fresh all base w → vci < all
+      → Kept (connectionAt (w .state .words) vci) vc → vc .opened ≢ 0 → Holds (Quiet all base) (judge x cell vci w vc)
   unfolding judge letsIn
-  judge-quiet cell vci w vc f low k o =
+  judge-quiet x cell vci w vc f low k o =
       let verdict = verdictOn (clpIn cell) vc in
       holds-if (Holds (Quiet all base)) (verdict =? excess) _ _
       (λ _. not-accepted w (writeConnection (w .state .words) vci vc) 2 vci f (write-same all base (w .state .words) base vci vc (f .words) (k .0) (k .1)) refl)
-      (λ e. accept-quiet cell verdict vci w vc f low k o (lets-in (clpIn cell) vc e))
+      (λ e. accept-quiet x cell verdict vci w vc f low k o (lets-in (clpIn cell) vc e))
 
-  pub step3-even : (cell : List ℕ) (w : Work) → Fresh all base w → Holds (Quiet all base) (step3 cell w)
+  pub step3-even : (x : ℕ) (cell : List ℕ) (w : Work) → Fresh all base w → Holds (Quiet all base) (step3 x cell w)
   unfolding step3 letsIn
-  step3-even cell w f =
+  step3-even x cell w f =
       let s = w .state in
       let h = headerAt (s .ctl .kind) cell 0 in
       let c = connection (s .ctl .v) h in
@@ -164,6 +162,6 @@ module _ (all base : ℕ) where
       (λ n. holds-needs (Quiet all base) (openWordFits conn) _
       (λ _. holds-if (Holds (Quiet all base)) (conn .opened =? 0) _ _ (λ _. unknown-quiet w 3 (h .vci) f refl)
       (λ o. holds-then (Kept conn) (Quiet all base) (upToDate (s .ctl .n) (s .ctl .t) conn) _ (date-kept (s .ctl .n) (s .ctl .t) conn)
-      (λ now k. judge-quiet cell c w now f
-      (subst (λ (x : ℕ). c < x) (f .v-is) (names-low (s .ctl .v) h (not-not (namesConnection (s .ctl .v) h) n)))
+      (λ now k. judge-quiet x cell c w now f
+      (subst (λ (k : ℕ). c < k) (f .v-is) (names-low (s .ctl .v) h (not-not (namesConnection (s .ctl .v) h) n)))
       k (λ q. eqb-false _ _ o (sym (k .0) ∙ q)))))))))

@@ -11,14 +11,15 @@ use lib.ListN.{length, replicate, getD}
 use Rattle.meaning.specs.declared.Answer.{Answer}
 use Rattle.meaning.specs.declared.Record.{Record}
 use Rattle.meaning.specs.Plain.{if_then_else_, _≤?_, _=?_}
-use Rattle.meaning.specs.Numbers.{rangesHold, slotNumbers, wordsPerConnection, wordsIn, connectionsIn, kindFits, waitingPlace}
-use Rattle.meaning.specs.State.{State, stateOf, withWords, wordsLong, lengthsHold}
+use Rattle.meaning.specs.Numbers.{rangesHold, splitsHold, slotNumbers, wordsPerConnection, wordsIn, connectionsIn, kindFits, waitingPlace}
+use Rattle.meaning.specs.State.{State, withRecord, withWords, wordsLong, lengthsHold}
+use Rattle.meaning.specs.Operators.{secondOperator, owns}
 use Rattle.meaning.specs.Bucket.{bucketOf, obeysRules}
 use Rattle.meaning.specs.Words.{Connection, connectionAt, writeConnection, openedConnection, closedConnection, openWordFits, bucketsFit, connectionFits, secondObeys, Second, debt}
 use Rattle.meaning.specs.Header.{Name, named, numberIn}
 use Rattle.meaning.proofs.WordsLaws.{write-read, write-read-other}
 use Rattle.meaning.proofs.NamesLaws.{number-low}
-use Rattle.meaning.specs.Calls.{Options, optionsOf, kindNumber, kindOf, SetUp, zeros, freshRecord, freshState, setup, Called, sharedRefusal, openCall, closeCall}
+use Rattle.meaning.specs.Calls.{Asked, Options, chosen, askedFor, SetUp, zeros, freshRecord, freshState, setup, Called, sharedRefusal, openCall, closeCall}
 use Rattle.list_lines.specs.Lines.{stopLine}
 use Rattle.list_meaning.specs.Trace.{Call, setUp, openConnection, closeConnection, serve, Calls, finished, stopped, call, callsOf}
 use Rattle.list_meaning.specs.Listing.{manyOf, isAccepted, hasSent, recount, lessModulo, endOf, lineOf, stateAfter, answersAfter, endsRun, linesOf, lentFor, listingOf}
@@ -61,7 +62,7 @@ module _ (s : State) (h : List Answer) (c : ℕ) (conn : Connection) (b : Balanc
             (same-or-not u c (eqb u c) refl);
       }
 
--- what is known of connection c where neither 1, 2, 4 nor 3 is given
+-- what is known of connection c where neither 1, 2, 4, 16 nor 3 is given
 pub record Passed (r : Record) (words : List ℕ) (c : ℕ) : Type 0 where
   pub inside : wordsPerConnection * c + wordsPerConnection ≤ length words
   pub low : c < recordsOf (r .v)
@@ -71,13 +72,15 @@ refusal-zero : (b : Bool) (k x : ℕ) → 0 < k → (if not b then k else x) ≡
 refusal-zero true k x p e = (refl, e)
 refusal-zero false k x p e = absurd (omega arith)
 
-passed : (r : Record) (words : List ℕ) (name : Name) → sharedRefusal r words name ≡ 0 → Passed r words (numberIn (r .v) name)
+passed : (r : Record) (words : List ℕ) (who : ℕ) (name : Name) → sharedRefusal r words who name ≡ 0 → Passed r words (numberIn (r .v) name)
 unfolding sharedRefusal wordsLong
-passed r words name e =
+passed r words who name e =
     let a = refusal-zero (rangesHold (r .n) (r .v)) 1 _ (omega arith) e in
-    let b = refusal-zero (length words =? wordsIn (r .v)) 2 _ (omega arith) (a .1) in
+    let s = refusal-zero (splitsHold (r .v) (r .splitvci) (r .splitpath)) 1 _ (omega arith) (a .1) in
+    let b = refusal-zero (length words =? wordsIn (r .v)) 2 _ (omega arith) (s .1) in
     let c = refusal-zero (named (r .v) name) 4 _ (omega arith) (b .1) in
-    let d = refusal-zero (connectionFits (r .n) (connectionAt words (numberIn (r .v) name))) 3 0 (omega arith) (c .1) in
+    let o = refusal-zero (owns r who name) 16 _ (omega arith) (c .1) in
+    let d = refusal-zero (connectionFits (r .n) (connectionAt words (numberIn (r .v) name))) 3 0 (omega arith) (o .1) in
     let l : numberIn (r .v) name < connectionsIn (r .v) = number-low (r .v) name (c .0) in
     let long : length words ≡ wordsIn (r .v) = eqb-true _ _ (b .0) in
     record {
@@ -109,17 +112,17 @@ zero-opened N vc f o = go (vc .opened =? 0) refl
         let n : vc .opened ≢ 1 = eqb-false _ _ o in
         omega (arith, l, n)
 
-open-balanced : (s : State) (h : List Answer) (name : Name) (m F C : ℕ) (x : Second) → Balanced s h
-    → Balanced (withWords s (openCall (s .ctl) (s .words) name m F C x .words)) h
+open-balanced : (s : State) (h : List Answer) (who : ℕ) (name : Name) (m F C : ℕ) (x : Second) → Balanced s h
+    → Balanced (withWords s (openCall (s .ctl) (s .words) who name m F C x .words)) h
 unfolding openCall openedConnection
-open-balanced s h name m F C x b =
+open-balanced s h who name m F C x b =
     let r = s .ctl in
     let c = numberIn (r .v) name in
-    let k = sharedRefusal r (s .words) name in
+    let k = sharedRefusal r (s .words) who name in
     let P : Called → Type 0 = λ k. Balanced (withWords s (k .words)) h in
     let kept = kept-balanced s h b in
     choose-called P (not (k =? 0)) _ _ (λ _. kept) (λ e.
-    let p = passed r (s .words) name (eqb-true k 0 (not-not (k =? 0) e)) in
+    let p = passed r (s .words) who name (eqb-true k 0 (not-not (k =? 0) e)) in
     choose-called P (connectionAt (s .words) c .opened =? 1) _ _ (λ _. kept) (λ o.
     choose-called P (not (obeysRules (r .n) (bucketOf m F C 0))) _ _ (λ _. kept) (λ _.
     choose-called P (not (secondObeys (bucketOf (x .m) (x .F) (x .C) 0) (x .tag))) _ _ (λ _. kept) (λ _.
@@ -129,17 +132,17 @@ open-balanced s h name m F C x b =
     opened-none : (r : Record) → openedConnection (r .t) (bucketOf m F C 0) x .waiting ≡ 0
     opened-none r = refl
 
-close-balanced : (s : State) (h : List Answer) (name : Name) → Balanced s h
-    → Balanced (withWords s (closeCall (s .ctl) (s .words) name .words)) h
+close-balanced : (s : State) (h : List Answer) (who : ℕ) (name : Name) → Balanced s h
+    → Balanced (withWords s (closeCall (s .ctl) (s .words) who name .words)) h
 unfolding closeCall closedConnection
-close-balanced s h name b =
+close-balanced s h who name b =
     let r = s .ctl in
     let c = numberIn (r .v) name in
-    let k = sharedRefusal r (s .words) name in
+    let k = sharedRefusal r (s .words) who name in
     let P : Called → Type 0 = λ x. Balanced (withWords s (x .words)) h in
     let kept = kept-balanced s h b in
     choose-called P (not (k =? 0)) _ _ (λ _. kept) (λ e.
-    let p = passed r (s .words) name (eqb-true k 0 (not-not (k =? 0) e)) in
+    let p = passed r (s .words) who name (eqb-true k 0 (not-not (k =? 0) e)) in
     choose-called P (connectionAt (s .words) c .opened =? 0) _ _ (λ _. kept) (λ _.
     let none = connectionAt (s .words) c .waiting =? 0 in
     let paid = debt (r .t) (connectionAt (s .words) c) =? 0 in
@@ -147,9 +150,9 @@ close-balanced s h name b =
     written-balanced s h c closedConnection b (p .inside) (p .low) (sym (eqb-true _ 0 (both none paid (not-not (none && paid) w) .0))) (λ _. refl))))
 
 -- no connection, no cell: a record of zeros
-zeros-balanced : (cells links calendar words : List ℕ) → Balanced (stateOf zeros cells links calendar words) []
-unfolding zeros recordsOf sumWaiting manyOf
-zeros-balanced cells links calendar words = record { even = refl; closed = λ c l o. absurd (omega arith) }
+zeros-balanced : (lent : State) → Balanced (withRecord lent zeros) []
+unfolding zeros withRecord recordsOf sumWaiting manyOf
+zeros-balanced lent = record { even = refl; closed = λ c l o. absurd (omega arith) }
 
 cleared-connection : (k c : ℕ) → connectionAt (replicate k 0) c .waiting ≡ 0
 unfolding connectionAt
@@ -169,29 +172,30 @@ choose-set-up : (P : SetUp → Type 0) (b : Bool) (x y : SetUp) → P x → P y 
 choose-set-up P true x y p q = p
 choose-set-up P false x y p q = q
 
-pub setup-balanced : (N z : ℕ) (raw : Bool) (kind : ℕ) (cells links calendar words : List ℕ)
-    → Balanced (setup N z raw kind cells links calendar words .state) []
+pub setup-balanced : (N z : ℕ) (a : Asked) (lent : State)
+    → Balanced (setup N z a lent .state) []
 unfolding setup
-setup-balanced N z raw kind cells links calendar words =
+setup-balanced N z a lent =
     let P : SetUp → Type 0 = λ x. Balanced (x .state) [] in
-    choose-set-up P (not (rangesHold N z)) _ _ (zeros-balanced cells links calendar words)
-    (choose-set-up P (not (kindFits kind)) _ _ (zeros-balanced cells links calendar words)
-    (choose-set-up P (not (lengthsHold N z cells links calendar words)) _ _ (zeros-balanced cells links calendar words)
-    (fresh-balanced N z (optionsOf raw (kindOf kind)))))
+    choose-set-up P (not (rangesHold N z)) _ _ (zeros-balanced lent)
+    (choose-set-up P (not (splitsHold z (a .splitvci) (a .splitpath))) _ _ (zeros-balanced lent)
+    (choose-set-up P (not (kindFits (a .kind))) _ _ (zeros-balanced lent)
+    (choose-set-up P (not (lengthsHold N z (lent .cells) (lent .links) (lent .calendar) (lent .words) (lent .bits))) _ _ (zeros-balanced lent)
+    (fresh-balanced N z (chosen a)))))
 
 -- ---- every listing
 
 pub call-balanced : (s : State) (h : List Answer) (c : Call) → Balanced s h → Balanced (stateAfter s c) (answersAfter s h c)
 unfolding stateAfter answersAfter
-call-balanced s h (setUp N z o) b = setup-balanced N z (o .raw) (kindNumber (o .kind)) (s .cells) (s .links) (s .calendar) (s .words)
-call-balanced s h (openConnection name m F C x) b = open-balanced s h name m F C x b
-call-balanced s h (closeConnection name) b = close-balanced s h name b
+call-balanced s h (setUp N z o) b = setup-balanced N z (askedFor o) s
+call-balanced s h (openConnection name m F C x) b = open-balanced s h secondOperator name m F C x b
+call-balanced s h (closeConnection name) b = close-balanced s h secondOperator name b
 call-balanced s h (serve cell) b = slot-balanced s cell h b
 
 -- a run that ends with a call ends with a refused setup: no slot was served
 ends-balanced : (s : State) (h : List Answer) (c : Call) → Balanced s h → endsRun s c ≡ true → Balanced (stateAfter s c) []
 unfolding endsRun stateAfter
-ends-balanced s h (setUp N z o) b e = setup-balanced N z (o .raw) (kindNumber (o .kind)) (s .cells) (s .links) (s .calendar) (s .words)
+ends-balanced s h (setUp N z o) b e = setup-balanced N z (askedFor o) s
 ends-balanced s h (openConnection name m F C x) b e = absurd (let z : _≡_ {A = ℕ} 0 1 = cc in omega arith)
 ends-balanced s h (closeConnection name) b e = absurd (let z : _≡_ {A = ℕ} 0 1 = cc in omega arith)
 ends-balanced s h (serve cell) b e = absurd (let z : _≡_ {A = ℕ} 0 1 = cc in omega arith)
@@ -218,13 +222,13 @@ lines-ended s h (call c rest) b = go (endsRun s c) refl (lines-ended (stateAfter
         }
 
 lent-balanced : (cs : Calls) → Balanced (lentFor cs) []
-unfolding lentFor
-lent-balanced finished = zeros-balanced [] [] [] []
-lent-balanced (stopped place) = zeros-balanced [] [] [] []
-lent-balanced (call (setUp N z o) rest) = zeros-balanced _ _ _ _
-lent-balanced (call (openConnection name m F C x) rest) = zeros-balanced [] [] [] []
-lent-balanced (call (closeConnection name) rest) = zeros-balanced [] [] [] []
-lent-balanced (call (serve cell) rest) = zeros-balanced [] [] [] []
+unfolding lentFor withRecord
+lent-balanced finished = zeros-balanced (lentFor finished)
+lent-balanced (stopped place) = zeros-balanced (lentFor (stopped place))
+lent-balanced (call (setUp N z o) rest) = zeros-balanced (lentFor (call (setUp N z o) rest))
+lent-balanced (call (openConnection name m F C x) rest) = zeros-balanced (lentFor (call (openConnection name m F C x) rest))
+lent-balanced (call (closeConnection name) rest) = zeros-balanced (lentFor (call (closeConnection name) rest))
+lent-balanced (call (serve cell) rest) = zeros-balanced (lentFor (call (serve cell) rest))
 
 -- THE END LINE of every input's listing
 pub record EndLine (input : List ℕ) : Type 0 where

@@ -10,14 +10,15 @@ use lib.ListN.{length, getD}
 use Rattle.base_hec.specs.Modes.{Arriving, arriving, arrivingFits}
 use Rattle.meaning.specs.declared.Answer.{Answer}
 use Rattle.meaning.specs.Plain.{if_then_else_, _<?_, _≤?_, _=?_, Out, refused, next, needs, _andThen_}
-use Rattle.meaning.specs.Numbers.{octets, perEntry, wordsIn, connectionsIn, kindFits, empty, letsIn, rangesHold, cellStart, leastV, mostN, mostV}
-use Rattle.meaning.specs.State.{State, Ends, freeList, outputList, lengthsHold, wordsLong, withRecord, withLinks, withCalendar, withWords, recordWith, withFreeList, withOutputList, recordInMode, withMode}
+use Rattle.meaning.specs.Numbers.{octets, perEntry, wordsIn, bitWords, connectionsIn, kindFits, empty, letsIn, rangesHold, cellStart, leastV, mostN, mostV}
+use Rattle.meaning.specs.State.{State, Ends, outputList, lengthsHold, sizesHold, wordsLong, withRecord, withLinks, withCalendar, withWords, withBits, recordWith, withFree, withOutputList, recordInMode, withMode}
+use Rattle.meaning.specs.Bits.{isFree, spacesFit, lowestFree, given, unmarked}
 use Rattle.meaning.specs.Header.{headerAt, namesConnection, namesOpen, connection}
 use Rattle.meaning.proofs.NamesLaws.{names-low}
 use Rattle.meaning.specs.Words.{connectionAt, withWaiting}
-use Rattle.meaning.specs.Lists.{emptyList, isEmpty, Taken, takeHead, entryAt, writeEntry, joinTail, addTail, endsFit}
+use Rattle.meaning.specs.Lists.{emptyList, isEmpty, Taken, takeHead, entryAt, writeEntry, joinTail, endsFit}
 use Rattle.meaning.specs.Work.{Work, workOf, bareAnswer, withState, withConnection, withDeparture}
-use Rattle.meaning.specs.Slot.{step1, step2, step3, step4, depart, step5, fiveSteps, finish, told, slot}
+use Rattle.meaning.specs.Slot.{step1, step2, step3, step4, depart, step5, fiveSteps, finish, told, slotAt, slot}
 use Rattle.meaning.proofs.CheckedLaws.{dropped-none}
 use Rattle.list_meaning.specs.Listing.{manyOf, isAccepted, hasSent}
 use Rattle.list_counts.specs.Waiting.{recordsOf, sumWaiting, Balanced}
@@ -30,13 +31,13 @@ module _ (all base : ℕ) where
   -- ---- steps 4 and 5
 
   step4-even : (w : Work) → Quiet all base w → Holds (Quiet all base) (step4 w)
-  unfolding step4 withLinks withCalendar withOutputList withRecord recordWith
+  unfolding step4 withBits withLinks withCalendar withOutputList withRecord recordWith
   step4-even w q =
       let s = w .state in
       let entry = entryAt (s .calendar) (s .ctl .turn) in
       let grown = joinTail (s .links) (outputList s) entry in
       let s1 = withLinks (withOutputList s (grown .ends)) (grown .links) in
-      let s2 : State = withCalendar s1 (writeEntry (s .calendar) (s .ctl .turn) emptyList) in
+      let s2 : State = withBits (withCalendar s1 (writeEntry (s .calendar) (s .ctl .turn) emptyList)) (unmarked (s .bits) (s .ctl .turn)) in
       let q′ : Quiet all base (withState w s2) = record { v-is = q .v-is; words = q .words; unsent = q .unsent; number = q .number } in
       holds-needs (Quiet all base) (endsFit (s .ctl .n) entry && endsFit (s .ctl .n) (outputList s)) (if isEmpty entry then next w else next (withState w s2))
       (λ _. holds-if (Holds (Quiet all base)) (isEmpty entry) (next w) (next (withState w s2)) (λ _. q) (λ _. q′))
@@ -60,18 +61,17 @@ module _ (all base : ℕ) where
       nothing-more = omega arith
 
   depart-even : (w : Work) (t : Taken) → Quiet all base w → t .space ≢ empty → Holds (Done all base) (depart w t)
-  unfolding depart namesOpen withLinks withFreeList withOutputList withRecord recordWith withWords connectionAt
+  unfolding depart namesOpen withFree withBits withOutputList withRecord recordWith withWords connectionAt
   depart-even w t q x =
       let s = w .state in
       let h = headerAt (s .ctl .kind) (s .cells) (cellStart (t .space)) in
       let c = connection (s .ctl .v) h in
       let conn = connectionAt (s .words) c in
-      let grown = addTail (s .links) (freeList s) (t .space) in
-      let s2 : State = withLinks (withFreeList (withOutputList s (t .left)) (grown .ends)) (grown .links) in
+      let s2 : State = withFree (withOutputList s (t .left)) (s .ctl .free + 1) (given (s .bits) (t .space)) in
       let w2 : Work = withDeparture (withConnection (withState w s2) c (withWaiting conn (conn .waiting - 1))) (t .space) c in
       let named = kindFits (s .ctl .kind) && namesOpen (s .ctl .v) (s .words) h in
       let waits = 1 ≤? conn .waiting && conn .waiting ≤? s .ctl .n in
-      let fits = endsFit (s .ctl .n) (freeList s) in
+      let fits = spacesFit (s .ctl .n) (s .ctl .free) (s .bits) && not (isFree (s .bits) (t .space)) in
       let many = base + one (isAccepted (w .answer)) in
       let left : named ≡ true → waits ≡ true → Done all base w2 = λ n m.
       let names = both (namesConnection (s .ctl .v) h) (conn .opened =? 1) (both (kindFits (s .ctl .kind)) (namesOpen (s .ctl .v) (s .words) h) n .1) in
@@ -101,22 +101,23 @@ module _ (all base : ℕ) where
       (head-taken (w .state .ctl .n) (w .state .links) (outputList (w .state)))
       (λ t e. depart-even w t q (λ k. eqb-false (w .state .ctl .outhead) empty n (sym e ∙ k))))
 
-  five-even : (cell : List ℕ) (w : Work) → Fresh all base w → Holds (Done all base) (fiveSteps cell w)
+  five-even : (x : ℕ) (cell : List ℕ) (w : Work) → Fresh all base w → Holds (Done all base) (fiveSteps x cell w)
   unfolding fiveSteps
-  five-even cell w f =
-      holds-then (Quiet all base) (Done all base) (step1 w andThen step2 andThen step3 cell andThen step4) step5
-      (holds-then (Quiet all base) (Quiet all base) (step1 w andThen step2 andThen step3 cell) step4
-      (holds-then (Fresh all base) (Quiet all base) (step1 w andThen step2) (step3 cell) (holds-then (Fresh all base) (Fresh all base) (step1 w) step2 (step1-even all base w f) (step2-even all base)) (step3-even all base cell))
+  five-even x cell w f =
+      holds-then (Quiet all base) (Done all base) (step1 w andThen step2 andThen step3 x cell andThen step4) step5
+      (holds-then (Quiet all base) (Quiet all base) (step1 w andThen step2 andThen step3 x cell) step4
+      (holds-then (Fresh all base) (Quiet all base) (step1 w andThen step2) (step3 x cell) (holds-then (Fresh all base) (Fresh all base) (step1 w) step2 (step1-even all base w f) (step2-even all base)) (step3-even all base x cell))
       step4-even)
       step5-even
 
 -- ---- the slot
 
-lengths-words : (N z : ℕ) (cells links calendar words : List ℕ) → lengthsHold N z cells links calendar words ≡ true → length words ≡ wordsIn z
+lengths-words : (N z : ℕ) (cells links calendar words bits : List ℕ) → lengthsHold N z cells links calendar words bits ≡ true → length words ≡ wordsIn z
 unfolding lengthsHold wordsLong
-lengths-words N z cells links calendar words l =
+lengths-words N z cells links calendar words bits l =
+    let first = length cells =? octets * N && length links =? N && length calendar =? perEntry * N in
     eqb-true (length words) (wordsIn z)
-    (both (length cells =? octets * N && length links =? N && length calendar =? perEntry * N) (length words =? wordsIn z) l .1)
+    (both first (length words =? wordsIn z) (both (first && length words =? wordsIn z) (length bits =? bitWords) l .0) .1)
 
 one-more : (test : Answer → Bool) (a : Answer) (h : List Answer) → manyOf test (a ∷ h) ≡ manyOf test h + one (test a)
 unfolding manyOf
@@ -166,7 +167,7 @@ choose-work P false x y p f = f refl
 
 -- the header check, the five steps over what it lets through, and the verdict of a dropped cell
 module _ (s : State) (cell : List ℕ) (h : List Answer) (p : 0 < s .ctl .v) (b : Balanced s h)
-    (l : lengthsHold (s .ctl .n) (s .ctl .v) (s .cells) (s .links) (s .calendar) (s .words) ≡ true) where
+    (x : ℕ) (l : sizesHold s ≡ true) where
   abbrev a : Arriving
   a = arriving (s .ctl .raw) (s .ctl .mode) cell
 
@@ -178,30 +179,30 @@ module _ (s : State) (cell : List ℕ) (h : List Answer) (p : 0 < s .ctl .v) (b 
   entered-even =
       record {
         v-is = refl;
-        words = record { long = lengths-words (s .ctl .n) (s .ctl .v) (s .cells) (s .links) (s .calendar) (s .words) l; sum = refl; closed = λ c k. b .closed c (subst (λ (n : ℕ). c < n) (sym (records-all (s .ctl .v) p)) k) };
+        words = record { long = lengths-words (s .ctl .n) (s .ctl .v) (s .cells) (s .links) (s .calendar) (s .words) (s .bits) l; sum = refl; closed = λ c k. b .closed c (subst (λ (n : ℕ). c < n) (sym (records-all (s .ctl .v) p)) k) };
         bare = refl;
       }
 
   abbrev checkedSteps : Out Work
-  checkedSteps = needs (arrivingFits (s .ctl .raw) (s .ctl .mode) cell) (fiveSteps (a .cell) entered andThen λ w. next (told (a .dropped) w))
+  checkedSteps = needs (arrivingFits (s .ctl .raw) (s .ctl .mode) cell) (fiveSteps x (a .cell) entered andThen λ w. next (told (a .dropped) w))
 
   pub checked-even : Holds (Done (connectionsIn (s .ctl .v)) (sumWaiting (connectionsIn (s .ctl .v)) (s .words))) checkedSteps
   checked-even =
       let all = connectionsIn (s .ctl .v) in
       let base = sumWaiting all (s .words) in
       holds-needs (Done all base) (arrivingFits (s .ctl .raw) (s .ctl .mode) cell) _
-      (λ _. told-holds all base (a .dropped) (fiveSteps (a .cell) entered) (five-even all base (a .cell) entered entered-even)
-      (λ e. subst (λ (c : List ℕ). Holds Silent (fiveSteps c entered)) (sym (dropped-none (s .ctl .raw) (s .ctl .mode) cell e)) (five-silent entered refl)))
+      (λ _. told-holds all base (a .dropped) (fiveSteps x (a .cell) entered) (five-even all base x (a .cell) entered entered-even)
+      (λ e. subst (λ (c : List ℕ). Holds Silent (fiveSteps x c entered)) (sym (dropped-none (s .ctl .raw) (s .ctl .mode) cell e)) (five-silent x entered refl)))
 
 pub slot-balanced : (s : State) (cell : List ℕ) (h : List Answer) → Balanced s h
     → Balanced (slot s cell .state) (slot s cell .answer ∷ h)
-unfolding slot
+unfolding slot slotAt
 slot-balanced s cell h b =
     let N = s .ctl .n in
     let z = s .ctl .v in
     let P : Work → Type 0 = λ w. Balanced (w .state) (w .answer ∷ h) in
     choose-work P (not (rangesHold N z)) _ _ (stay-balanced s h 1 b) (λ r.
     let p : 0 < z = ranges-some N z (not-not (rangesHold N z) r) in
-    choose-work P (not (lengthsHold N z (s .cells) (s .links) (s .calendar) (s .words))) _ _ (stay-balanced s h 2 b) (λ l.
+    choose-work P (not (sizesHold s)) _ _ (stay-balanced s h 2 b) (λ l.
     choose-work P (not (length cell =? 0 || length cell =? octets)) _ _ (stay-balanced s h 9 b) (λ _.
-    finish-balanced s h _ p b (checked-even s cell h p b (not-not _ l)))))
+    finish-balanced s h _ p b (checked-even s cell h p b (lowestFree (s .bits)) (not-not _ l)))))

@@ -6,8 +6,8 @@ ghost use lib.ListN.{length};
 ghost use Rattle.meaning.specs.Numbers.{mostN, mostV};
 ghost use Rattle.trace_record.specs.Trace.{saidOf};
 ghost use Rattle.list_meaning.specs.Trace.{limit};
-ghost use Rattle.list_whole.specs.Fill.{room, FillPromise, startRun, sizesAt, sizesOf};
-ghost use Rattle.list_whole.specs.Lent.{worldBefore, worldAfter, RanLent, AdvancedLent, FillLent};
+ghost use Rattle.list_whole.specs.Fill.{room, startRun, sizesAt, sizesOf};
+ghost use Rattle.list_whole.specs.Lent.{RanLent, AdvancedLent, FillLent, FilledLent};
 use list_meaning::Tally;
 use list_whole::Filled;
 use list_whole::Run;
@@ -23,13 +23,14 @@ fn pause(
     links: &mut [u16],
     calendar: &mut [u16],
     words: &mut [u32],
+    bits: &mut [u64],
     out: &mut [u8],
     used: usize,
     count: usize,
 ) -> Filled
     requires { ⌜ (count ≤ run .left) × (run .done ≡ false) ⌝ }
     requires { ⌜ used + count * 64 + 96 ≤ length (now out) ⌝ }
-    ensures { λ r. ⌜ ((more : Bool) → RanLent more (now (trace .entry)) count run cells links calendar words out used r) ⌝ }
+    ensures { λ r. ⌜ ((more : Bool) → RanLent more (now (trace .entry)) count run cells links calendar words bits out used r) ⌝ }
     ensures { λ r. ⌜ r .used ≤ used + count * 64 ⌝ }
 {
     let none = 0usize;
@@ -45,6 +46,7 @@ fn pause(
             links,
             calendar,
             words,
+            bits,
             &trace[..none],
             out,
             end,
@@ -74,18 +76,41 @@ fn advance(
     links: &mut [u16],
     calendar: &mut [u16],
     words: &mut [u32],
+    bits: &mut [u64],
     out: &mut [u8],
     used: usize,
 ) -> Filled
     requires { ⌜ (used + room ≤ length (now out)) × (run .done ≡ false) ⌝ }
     requires { ⌜ length (now trace) ≤ limit ⌝ }
-    ensures { λ r. ⌜ AdvancedLent more (now (trace .entry)) run cells links calendar words out used r ⌝ }
+    ensures { λ r. ⌜ AdvancedLent more (now (trace .entry)) run cells links calendar words bits out used r ⌝ }
 {
     if 0 < run.left {
         let count = least(run.left as usize, (out.len() - used - 96) / 64);
-        return pause(trace, run, cells, links, calendar, words, out, used, count);
+        return pause(
+            trace,
+            run,
+            cells,
+            links,
+            calendar,
+            words,
+            bits,
+            out,
+            used,
+            count,
+        );
     }
-    list_step::one(trace, more, run, cells, links, calendar, words, out, used)
+    list_step::one(
+        trace,
+        more,
+        run,
+        cells,
+        links,
+        calendar,
+        words,
+        bits,
+        out,
+        used,
+    )
 }
 
 // Steps until the run is done or a step's lines might not fit.
@@ -97,10 +122,11 @@ fn fill_trace(
     links: &mut [u16],
     calendar: &mut [u16],
     words: &mut [u32],
+    bits: &mut [u64],
     out: &mut [u8],
 ) -> Filled
     requires { ⌜ length (now trace) ≤ limit ⌝ }
-    ensures { λ r. ⌜ FillLent more (now (trace .entry)) run cells links calendar words out r ⌝ }
+    ensures { λ r. ⌜ FillLent more (now (trace .entry)) run cells links calendar words bits out r ⌝ }
 {
     let mut now = run;
     let mut used = 0usize;
@@ -108,7 +134,18 @@ fn fill_trace(
         if now.done {
             return Filled { run: now, used };
         }
-        let f = advance(trace, more, now, cells, links, calendar, words, out, used);
+        let f = advance(
+            trace,
+            more,
+            now,
+            cells,
+            links,
+            calendar,
+            words,
+            bits,
+            out,
+            used,
+        );
         used = f.used;
         now = f.run;
     }
@@ -123,13 +160,24 @@ pub fn fill(
     links: &mut [u16],
     calendar: &mut [u16],
     words: &mut [u32],
+    bits: &mut [u64],
     out: &mut [u8],
 ) -> Filled
-    ensures { λ r. ⌜ FillPromise (now (input .entry)) (worldBefore run cells links calendar words) (now (out .entry)) (worldAfter (r .run) cells links calendar words) (now (out .exit)) (r .used) ⌝ }
+    ensures { λ r. ⌜ FilledLent input run cells links calendar words bits out r ⌝ }
 {
     let end = least(input.len(), 65536);
     let more = 65536 < input.len();
-    fill_trace(&input[..end], more, run, cells, links, calendar, words, out)
+    fill_trace(
+        &input[..end],
+        more,
+        run,
+        cells,
+        links,
+        calendar,
+        words,
+        bits,
+        out,
+    )
 }
 
 // Where a run begins.

@@ -9,10 +9,11 @@ use mathlib.Core.List.{List, [], _∷_, _++_}
 use lib.ListN.{replicate}
 use Rattle.meaning.specs.declared.Answer.{Answer}
 use Rattle.meaning.specs.Plain.{if_then_else_, _=?_}
-use Rattle.meaning.specs.Numbers.{octets, perEntry, wordsIn, empty, slotNumbers, excess, unknown, letsIn}
+use Rattle.meaning.specs.Numbers.{octets, perEntry, wordsIn, bitWords, empty, slotNumbers, excess, unknown, letsIn}
 use Rattle.meaning.specs.State.{State, stateOf, withWords}
 use Rattle.meaning.specs.Header.{numberIn}
-use Rattle.meaning.specs.Calls.{Options, kindNumber, SetUp, zeros, setup, openCall, closeCall}
+use Rattle.meaning.specs.Operators.{secondOperator}
+use Rattle.meaning.specs.Calls.{Options, askedFor, SetUp, zeros, setup, openCall, closeCall}
 use Rattle.meaning.specs.Slot.{slot}
 use Rattle.list_lines.specs.Lines.{setupLine, openLine, closeLine, slotLine, stopLine, endLine}
 use Rattle.list_meaning.specs.declared.Tally.{Tally}
@@ -55,20 +56,20 @@ unfoldable pub endOf : Tally → List ℕ
 endOf t = endLine (t .accepted) (t .excess) (t .unknown) (t .sent) (lessModulo (t .accepted) (t .sent))
 
 abbrev pub setupOn : State → ℕ → ℕ → Options → SetUp
-setupOn s N z o = setup N z (o .raw) (kindNumber (o .kind)) (s .cells) (s .links) (s .calendar) (s .words)
+setupOn s N z o = setup N z (askedFor o) s
 
 -- the line of a call in state s; whether a policer is raw, and its line kind, don't show. Document 02 (vi): "listed with V + VPI"
 unfoldable pub lineOf : State → Call → List ℕ
 lineOf s (setUp N z o) = setupLine N z (setupOn s N z o .number)
 lineOf s (openConnection name m F C x) =
-    openLine (numberIn (s .ctl .v) name) (openCall (s .ctl) (s .words) name m F C x .number)
-lineOf s (closeConnection name) = closeLine (numberIn (s .ctl .v) name) (closeCall (s .ctl) (s .words) name .number)
+    openLine (numberIn (s .ctl .v) name) (openCall (s .ctl) (s .words) secondOperator name m F C x .number)
+lineOf s (closeConnection name) = closeLine (numberIn (s .ctl .v) name) (closeCall (s .ctl) (s .words) secondOperator name .number)
 lineOf s (serve cell) = slotLine (slot s cell .state .ctl .t) (slot s cell .answer)
 
 unfoldable pub stateAfter : State → Call → State
 stateAfter s (setUp N z o) = setupOn s N z o .state
-stateAfter s (openConnection name m F C x) = withWords s (openCall (s .ctl) (s .words) name m F C x .words)
-stateAfter s (closeConnection name) = withWords s (closeCall (s .ctl) (s .words) name .words)
+stateAfter s (openConnection name m F C x) = withWords s (openCall (s .ctl) (s .words) secondOperator name m F C x .words)
+stateAfter s (closeConnection name) = withWords s (closeCall (s .ctl) (s .words) secondOperator name .words)
 stateAfter s (serve cell) = slot s cell .state
 
 -- the answers of the slots since setup, newest first
@@ -91,7 +92,7 @@ linesOf s h (stopped place) = stopLine place ++ endOf (recount h)
 linesOf s h (call c rest) =
     lineOf s c ++ (if endsRun s c then endOf (recount []) else linesOf (stateAfter s c) (answersAfter s h c) rest)
 
--- memory as document 01 sizes it for the setup that comes first
+-- memory as document 01 sizes it for the setup that comes first, with the 32 words of bits of document 02
 unfoldable pub lentFor : Calls → State
 lentFor (call (setUp N z o) rest) =
     stateOf zeros
@@ -99,11 +100,12 @@ lentFor (call (setUp N z o) rest) =
     (replicate N 0)
     (replicate (perEntry * N) 0)
     (replicate (wordsIn z) 0)
-lentFor (call (openConnection name m F C x) rest) = stateOf zeros [] [] [] []
-lentFor (call (closeConnection name) rest) = stateOf zeros [] [] [] []
-lentFor (call (serve cell) rest) = stateOf zeros [] [] [] []
-lentFor finished = stateOf zeros [] [] [] []
-lentFor (stopped place) = stateOf zeros [] [] [] []
+    (replicate bitWords 0)
+lentFor (call (openConnection name m F C x) rest) = stateOf zeros [] [] [] [] []
+lentFor (call (closeConnection name) rest) = stateOf zeros [] [] [] [] []
+lentFor (call (serve cell) rest) = stateOf zeros [] [] [] [] []
+lentFor finished = stateOf zeros [] [] [] [] []
+lentFor (stopped place) = stateOf zeros [] [] [] [] []
 
 unfoldable pub listingOf : List ℕ → List ℕ
 listingOf input = linesOf (lentFor (callsOf input)) [] (callsOf input)

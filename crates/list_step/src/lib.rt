@@ -14,7 +14,7 @@ ghost use Rattle.list_meaning.specs.Trace.{setUp, openConnection, closeConnecti
 ghost use Rattle.list_meaning.specs.Trace.{serve as Trace·serve};
 ghost use Rattle.list_meaning.specs.Listing.{endOf};
 ghost use Rattle.list_whole.specs.Run.{World, onward, countedIf, called, ended, recordStep, readStep};
-ghost use Rattle.list_whole.specs.declared.Run.{Run as declared·Run};
+ghost use Rattle.list_whole.specs.declared.Run.{Run as AnyRun};
 ghost use Rattle.list_whole.specs.Run.{counted as Run·counted};
 ghost use Rattle.list_whole.specs.Fill.{room, CellWithin};
 ghost use Rattle.list_whole.specs.Lent.{worldBefore, DidLent, DidWords, DidAlone};
@@ -57,14 +57,15 @@ pub fn serve(
     links: &mut [u16],
     calendar: &mut [u16],
     words: &mut [u32],
+    bits: &mut [u64],
     cell: &[u8],
     out: &mut [u8],
     used: usize,
 ) -> Filled
     requires { ⌜ used + 64 ≤ length (now out) ⌝ }
-    ensures { λ r. ⌜ DidLent (called (worldBefore run cells links calendar words) (Trace·serve (now (cell .entry))) at left) 64 cells links calendar words out used r ⌝ }
+    ensures { λ r. ⌜ DidLent (called (worldBefore run cells links calendar words bits) (Trace·serve (now (cell .entry))) at left) 64 cells links calendar words bits out used r ⌝ }
 {
-    let served = call_slot::slot(run.ctl, cells, links, calendar, words, cell);
+    let served = call_slot::slot(run.ctl, cells, links, calendar, words, bits, cell);
     let ctl = served.ctl;
     let answer = served.answer;
     let end = list_lines::slot_line(out, used, ctl.t, answer);
@@ -113,7 +114,8 @@ fn line_kind(head: Head) -> u16
     }
 }
 
-// A setup as the trace's head has it, with its line; a refused one ends the run.
+// A setup as the trace's head has it, with its line; a refused one ends the run. A trace has no split: with both 1 every connection is
+// the second operator's, as whom all calls are made.
 fn set_up(
     n: u16,
     v: u16,
@@ -123,15 +125,16 @@ fn set_up(
     links: &mut [u16],
     calendar: &mut [u16],
     words: &mut [u32],
+    bits: &mut [u64],
     out: &mut [u8],
     used: usize,
 ) -> Filled
     requires { ⌜ used + room ≤ length (now out) ⌝ }
-    ensures { λ r. ⌜ ((run : declared·Run) → DidLent (called (worldBefore run cells links calendar words) (setUp n v (headOptions head)) next 0) room cells links calendar words out used r) ⌝ }
+    ensures { λ r. ⌜ ((run : AnyRun) → DidLent (called (worldBefore run cells links calendar words bits) (setUp n v (headOptions head)) next 0) room cells links calendar words bits out used r) ⌝ }
 {
     let raw = is_raw(head);
     let kind = line_kind(head);
-    let fresh = call_setup::setup(n, v, raw, kind, cells, links, calendar, words);
+    let fresh = call_setup::setup(n, v, raw, kind, 1, 1, cells, links, calendar, words, bits);
     let ctl = fresh.ctl;
     let line = list_lines::setup_line(out, used, n, v, fresh.number);
     let tally = Tally {
@@ -199,7 +202,7 @@ fn open_connection(
     requires { ⌜ (used + room ≤ length (now out)) × (run .done ≡ false) ⌝ }
     ensures { λ r. ⌜ DidWords (λ (w : World). called w (openConnection (byVci vci) m f c (secondOf m2 f2 c2 tag)) next 0) room run words out used r ⌝ }
 {
-    let answer = call_connection::open_sustained(run.ctl, words, vci, m, f, c, m2, f2, c2, tag);
+    let answer = call_connection::open_sustained(run.ctl, words, 1, vci, m, f, c, m2, f2, c2, tag);
     let line = list_lines::open_line(out, used, vci as u32, answer);
     let next_run = moved(run, next, 0);
     Filled {
@@ -231,7 +234,7 @@ fn open_path(
     ensures { λ r. ⌜ DidWords (λ (w : World). called w (openConnection (byVpi vpi) m f c noSecond) next 0) room run words out used r ⌝ }
 {
     let number = path_number(run.ctl.v, vpi);
-    let answer = call_connection::open_path(run.ctl, words, vpi, m, f, c, 0, 0, 0, 0);
+    let answer = call_connection::open_path(run.ctl, words, 1, vpi, m, f, c, 0, 0, 0, 0);
     let line = list_lines::open_line(out, used, number, answer);
     let next_run = moved(run, next, 0);
     Filled {
@@ -252,7 +255,7 @@ fn close_connection(
     requires { ⌜ (used + room ≤ length (now out)) × (run .done ≡ false) ⌝ }
     ensures { λ r. ⌜ DidWords (λ (w : World). called w (closeConnection (byVci vci)) next 0) room run words out used r ⌝ }
 {
-    let answer = call_connection::close(run.ctl, words, vci);
+    let answer = call_connection::close(run.ctl, words, 1, vci);
     let line = list_lines::close_line(out, used, vci as u32, answer);
     let next_run = moved(run, next, 0);
     Filled {
@@ -274,7 +277,7 @@ fn close_path(
     ensures { λ r. ⌜ DidWords (λ (w : World). called w (closeConnection (byVpi vpi)) next 0) room run words out used r ⌝ }
 {
     let number = path_number(run.ctl.v, vpi);
-    let answer = call_connection::close_path(run.ctl, words, vpi);
+    let answer = call_connection::close_path(run.ctl, words, 1, vpi);
     let line = list_lines::close_line(out, used, number, answer);
     let next_run = moved(run, next, 0);
     Filled {
@@ -333,16 +336,29 @@ fn happen(
     links: &mut [u16],
     calendar: &mut [u16],
     words: &mut [u32],
+    bits: &mut [u64],
     out: &mut [u8],
     used: usize,
 ) -> Filled
     requires { ⌜ (used + room ≤ length (now out)) × (run .done ≡ false) ⌝ }
     requires { ⌜ CellWithin (now trace) (recordOf event) ⌝ }
-    ensures { λ r. ⌜ DidLent (recordStep (now (trace .entry)) (worldBefore run cells links calendar words) (recordOf event) next) room cells links calendar words out used r ⌝ }
+    ensures { λ r. ⌜ DidLent (recordStep (now (trace .entry)) (worldBefore run cells links calendar words bits) (recordOf event) next) room cells links calendar words bits out used r ⌝ }
 {
     match event {
         Event::Setup { n, v, head } => {
-            set_up(n, v, head, next, cells, links, calendar, words, out, used)
+            set_up(
+                n,
+                v,
+                head,
+                next,
+                cells,
+                links,
+                calendar,
+                words,
+                bits,
+                out,
+                used,
+            )
         }
         Event::Open { vci, m, f, c } => open_connection(
             run,
@@ -370,6 +386,7 @@ fn happen(
                 links,
                 calendar,
                 words,
+                bits,
                 &trace[start..end],
                 out,
                 used,
@@ -406,12 +423,13 @@ pub fn one(
     links: &mut [u16],
     calendar: &mut [u16],
     words: &mut [u32],
+    bits: &mut [u64],
     out: &mut [u8],
     used: usize,
 ) -> Filled
     requires { ⌜ (used + room ≤ length (now out)) × (run .done ≡ false) ⌝ }
     requires { ⌜ length (now trace) ≤ limit ⌝ }
-    ensures { λ r. ⌜ DidLent (readStep more (now (trace .entry)) (worldBefore run cells links calendar words)) room cells links calendar words out used r ⌝ }
+    ensures { λ r. ⌜ DidLent (readStep more (now (trace .entry)) (worldBefore run cells links calendar words bits)) room cells links calendar words bits out used r ⌝ }
 {
     let found = trace_record::event_at(trace, run.at as usize);
     let Found::Read { event, next } = found else {
@@ -432,6 +450,7 @@ pub fn one(
         links,
         calendar,
         words,
+        bits,
         out,
         used,
     )

@@ -9,9 +9,10 @@ use borrow.Author.Tests.{eq-eqb}
 use lib.Dec.{ltb}
 use lib.ListN.{length, take, replicate, length-take, length-replicate}
 use Rattle.meaning.specs.Plain.{if_then_else_, _=?_}
-use Rattle.meaning.specs.Numbers.{rangesHold, kindFits, octets, perEntry, wordsIn}
-use Rattle.meaning.specs.State.{State, stateOf, lengthsHold, wordsLong}
-use Rattle.meaning.specs.Calls.{Kind, UNI, NNI, kindNumber, kindOf, Options, SetUp, setUpOf, zeros, setup, freshState}
+use Rattle.meaning.specs.Numbers.{rangesHold, kindFits, octets, perEntry, wordsIn, bitWords, splitsHold}
+use Rattle.meaning.specs.State.{State, stateOf, lengthsHold, wordsLong, withRecord}
+use Rattle.meaning.specs.Calls.{Kind, UNI, NNI, kindNumber, kindOf, Options, SetUp, setUpOf, zeros, setup, freshState, askedFor}
+use Rattle.meaning.proofs.OperatorsLaws.{alone-holds}
 use Rattle.list_lines.specs.Lines.{setupLine}
 use Rattle.list_lines.specs.Put.{Put}
 use Rattle.list_lines.proofs.Puts.{put-front, put-once}
@@ -29,16 +30,16 @@ use Rattle.list_whole.proofs.Weight.{weight, Onward, weight-falls, step
 
 -- ---- memory of the right sizes
 
-lent-holds : (N z : ℕ) (cells links calendar words : List ℕ)
-    → LentFor (record { n = N; v = z }) (worldOf startRun cells links calendar words)
-    → lengthsHold N z cells links calendar words ≡ true
+lent-holds : (N z : ℕ) (cells links calendar words bits : List ℕ)
+    → LentFor (record { n = N; v = z }) (worldOf startRun cells links calendar words bits)
+    → lengthsHold N z cells links calendar words bits ≡ true
 unfolding lengthsHold wordsLong
-lent-holds N z cells links calendar words s =
-    simp (eq-eqb _ _ (s .cells-long), eq-eqb _ _ (s .links-long), eq-eqb _ _ (s .calendar-long), eq-eqb _ _ (s .words-long))
+lent-holds N z cells links calendar words bits s =
+    simp (eq-eqb _ _ (s .cells-long), eq-eqb _ _ (s .links-long), eq-eqb _ _ (s .calendar-long), eq-eqb _ _ (s .words-long), eq-eqb _ _ (s .bits-long))
 
 -- setup as a trace's head has it
-setupAs : (N z : ℕ) → Options → (cells links calendar words : List ℕ) → SetUp
-setupAs N z o cells links calendar words = setup N z (o .raw) (kindNumber (o .kind)) cells links calendar words
+setupAs : (N z : ℕ) → Options → State → SetUp
+setupAs N z o lent = setup N z (askedFor o) lent
 
 -- the number of a line kind is that of a line kind, and of no other
 kind-fits : (k : Kind) → kindFits (kindNumber k) ≡ true
@@ -51,16 +52,15 @@ kind-again UNI = refl
 kind-again NNI = refl
 
 -- setup on any memory of the right sizes
-setup-fresh : (N z : ℕ) (o : Options) (cells links calendar words : List ℕ) → rangesHold N z ≡ true
-    → lengthsHold N z cells links calendar words ≡ true
-    → setupAs N z o cells links calendar words ≡ setUpOf 0 (freshState N z o)
+setup-fresh : (N z : ℕ) (o : Options) (lent : State) → rangesHold N z ≡ true → splitsHold z (o .splitvci) (o .splitpath) ≡ true
+    → lengthsHold N z (lent .cells) (lent .links) (lent .calendar) (lent .words) (lent .bits) ≡ true
+    → setupAs N z o lent ≡ setUpOf 0 (freshState N z o)
 unfolding setup setupAs
-setup-fresh N z o cells links calendar words r l = simp (r, l, kind-fits (o .kind), kind-again (o .kind))
+setup-fresh N z o lent r t l = simp (r, t, l, kind-fits (o .kind), kind-again (o .kind))
 
-setup-ranges : (N z : ℕ) (o : Options) (cells links calendar words : List ℕ) → rangesHold N z ≡ false
-    → setupAs N z o cells links calendar words ≡ setUpOf 1 (stateOf zeros cells links calendar words)
+setup-ranges : (N z : ℕ) (o : Options) (lent : State) → rangesHold N z ≡ false → setupAs N z o lent ≡ setUpOf 1 (withRecord lent zeros)
 unfolding setup setupAs
-setup-ranges N z o cells links calendar words r = simp r
+setup-ranges N z o lent r = simp r
 
 -- the lines of a setup and of what follows, by what setup gives back
 setupLines : (N z : ℕ) → Calls → SetUp → List ℕ
@@ -68,7 +68,7 @@ setupLines N z rest x =
     setupLine N z (x .number) ++ (if not (x .number =? 0) then endOf (recount []) else linesOf (x .state) [] rest)
 
 lines-setup : (s : State) (N z : ℕ) (o : Options) (rest : Calls)
-    → linesOf s [] (call (setUp N z o) rest) ≡ setupLines N z rest (setupAs N z o (s .cells) (s .links) (s .calendar) (s .words))
+    → linesOf s [] (call (setUp N z o) rest) ≡ setupLines N z rest (setupAs N z o s)
 unfolding linesOf lineOf endsRun stateAfter answersAfter setupLines setupAs
 lines-setup s N z o rest = refl
 
@@ -76,42 +76,47 @@ refused-lines : (N z : ℕ) (rest : Calls) (a b : State) → setupLines N z rest
 unfolding setupLines
 refused-lines N z rest a b = refl
 
-module _ (cells links calendar words : List ℕ) where
-  setup-lines : (N z : ℕ) (o : Options) (rest : Calls) (b : Bool) → rangesHold N z ≡ b
-      → LentFor (if b then record { n = N; v = z } else record { n = 0; v = 0 }) (worldOf startRun cells links calendar words)
-      → linesOf (stateOf zeros cells links calendar words) [] (call (setUp N z o) rest) ≡ linesOf (lentFor (call (setUp N z o) rest)) [] (call (setUp N z o) rest)
+module _ (cells links calendar words bits : List ℕ) where
+  setup-lines : (N z : ℕ) (o : Options) (split : rangesHold N z ≡ true → splitsHold z (o .splitvci) (o .splitpath) ≡ true) (rest : Calls) (b : Bool)
+      → rangesHold N z ≡ b
+      → LentFor (if b then record { n = N; v = z } else record { n = 0; v = 0 }) (worldOf startRun cells links calendar words bits)
+      → linesOf (stateOf zeros cells links calendar words bits) [] (call (setUp N z o) rest) ≡ linesOf (lentFor (call (setUp N z o) rest)) [] (call (setUp N z o) rest)
   unfolding lentFor
-  setup-lines N z o rest true r s =
+  setup-lines N z o split rest true r s =
       let c : List ℕ = replicate (octets * N) 0 in
       let l : List ℕ = replicate N 0 in
       let k : List ℕ = replicate (perEntry * N) 0 in
       let w : List ℕ = replicate (wordsIn z) 0 in
-      let h : LentFor (record { n = N; v = z }) (worldOf startRun c l k w) =
+      let g : List ℕ = replicate bitWords 0 in
+      let h : LentFor (record { n = N; v = z }) (worldOf startRun c l k w g) =
       record {
         cells-long = length-replicate {A = ℕ} (octets * N) 0;
         links-long = length-replicate {A = ℕ} N 0;
         calendar-long = length-replicate {A = ℕ} (perEntry * N) 0;
         words-long = length-replicate {A = ℕ} (wordsIn z) 0;
+        bits-long = length-replicate {A = ℕ} bitWords 0;
       } in
-      lines-setup (stateOf zeros cells links calendar words) N z o rest
-      ∙ ap (setupLines N z rest) (setup-fresh N z o cells links calendar words r (lent-holds N z cells links calendar words s) ∙ sym (setup-fresh N z o c l k w r (lent-holds N z c l k w h)))
-      ∙ sym (lines-setup (stateOf zeros c l k w) N z o rest)
-  setup-lines N z o rest false r s =
+      lines-setup (stateOf zeros cells links calendar words bits) N z o rest
+      ∙ ap (setupLines N z rest) (setup-fresh N z o (stateOf zeros cells links calendar words bits) r (split r) (lent-holds N z cells links calendar words bits s)
+      ∙ sym (setup-fresh N z o (stateOf zeros c l k w g) r (split r) (lent-holds N z c l k w g h)))
+      ∙ sym (lines-setup (stateOf zeros c l k w g) N z o rest)
+  setup-lines N z o split rest false r s =
       let c : List ℕ = replicate (octets * N) 0 in
       let l : List ℕ = replicate N 0 in
       let k : List ℕ = replicate (perEntry * N) 0 in
       let w : List ℕ = replicate (wordsIn z) 0 in
-      lines-setup (stateOf zeros cells links calendar words) N z o rest
-      ∙ ap (setupLines N z rest) (setup-ranges N z o cells links calendar words r)
-      ∙ refused-lines N z rest (stateOf zeros cells links calendar words) (stateOf zeros c l k w)
-      ∙ sym (ap (setupLines N z rest) (setup-ranges N z o c l k w r))
-      ∙ sym (lines-setup (stateOf zeros c l k w) N z o rest)
+      let g : List ℕ = replicate bitWords 0 in
+      lines-setup (stateOf zeros cells links calendar words bits) N z o rest
+      ∙ ap (setupLines N z rest) (setup-ranges N z o (stateOf zeros cells links calendar words bits) r)
+      ∙ refused-lines N z rest _ _
+      ∙ sym (ap (setupLines N z rest) (setup-ranges N z o (stateOf zeros c l k w g) r))
+      ∙ sym (lines-setup (stateOf zeros c l k w g) N z o rest)
 
   stands-lines : (more : Bool) (trace : List ℕ) (go : ℕ → Calls) (s : Stands) → Fits trace 0 s
-      → LentFor (sizesAt s) (worldOf startRun cells links calendar words)
-      → linesOf (stateOf zeros cells links calendar words) [] (callsAt more trace go 0 s) ≡ linesOf (lentFor (callsAt more trace go 0 s)) [] (callsAt more trace go 0 s)
+      → LentFor (sizesAt s) (worldOf startRun cells links calendar words bits)
+      → linesOf (stateOf zeros cells links calendar words bits) [] (callsAt more trace go 0 s) ≡ linesOf (lentFor (callsAt more trace go 0 s)) [] (callsAt more trace go 0 s)
   unfolding callsAt recordCalls sizesAt linesOf
-  stands-lines more trace go (event (GM N z head) next) f s = setup-lines N z (headOptions head) (go next) (rangesHold N z) refl s
+  stands-lines more trace go (event (GM N z head) next) f s = setup-lines N z (headOptions head) (alone-holds N z) (go next) (rangesHold N z) refl s
   stands-lines more trace go (event (VO vci m F C) next) f s = absurd (omega (arith, f .2))
   stands-lines more trace go (event (VS vci m F C x) next) f s = absurd (omega (arith, f .2))
   stands-lines more trace go (event (VX vci) next) f s = absurd (omega (arith, f .2))
@@ -122,18 +127,18 @@ module _ (cells links calendar words : List ℕ) where
   stands-lines more trace go finish f s = absurd (omega (arith, f .0))
   stands-lines more trace go (refusal number place) f s = stop-lines place
     where
-      stop-lines : (p : ℕ) → linesOf (stateOf zeros cells links calendar words) [] (stopped p) ≡ linesOf (lentFor (stopped p)) [] (stopped p)
+      stop-lines : (p : ℕ) → linesOf (stateOf zeros cells links calendar words bits) [] (stopped p) ≡ linesOf (lentFor (stopped p)) [] (stopped p)
       stop-lines p = refl
 
   -- on memory of the right sizes the listing is that of the input, whatever the memory holds
-  pub lines-are : (input : List ℕ) → LentFor (sizesOf input) (worldOf startRun cells links calendar words)
-      → linesOf (stateOf zeros cells links calendar words) [] (callsOf input) ≡ listingOf input
+  pub lines-are : (input : List ℕ) → LentFor (sizesOf input) (worldOf startRun cells links calendar words bits)
+      → linesOf (stateOf zeros cells links calendar words bits) [] (callsOf input) ≡ listingOf input
   unfolding listingOf callsOf callsFrom sizesOf
   lines-are input s =
       stands-lines (goesOn input) (take limit input) _ (standsAt (take limit input) 0) (stands-fits (take limit input) 0) s
 
-  pub start-rest : (input : List ℕ) → LentFor (sizesOf input) (worldOf startRun cells links calendar words)
-      → Rest (goesOn input) (take limit input) (worldOf startRun cells links calendar words) (listingOf input)
+  pub start-rest : (input : List ℕ) → LentFor (sizesOf input) (worldOf startRun cells links calendar words bits)
+      → Rest (goesOn input) (take limit input) (worldOf startRun cells links calendar words bits) (listingOf input)
   unfolding startRun callsOf pauses
   start-rest input s =
       record {
@@ -170,21 +175,21 @@ fills-left input t r (fillMore {t = u} {out″ = out″} {w′ = w′} used fs g
     }
 
 -- what fills put is a beginning of the listing
-pub fills-begin : (input cells links calendar words : List ℕ) {k : ℕ} {out out′ u : List ℕ} {w : World}
-    → LentFor (sizesOf input) (worldOf startRun cells links calendar words)
-    → Fills input (worldOf startRun cells links calendar words) out k u w out′ → Begun input (listingOf input) u w
-fills-begin input cells links calendar words s f =
-    fills-left input (listingOf input) (start-rest cells links calendar words input s) f
+pub fills-begin : (input cells links calendar words bits : List ℕ) {k : ℕ} {out out′ u : List ℕ} {w : World}
+    → LentFor (sizesOf input) (worldOf startRun cells links calendar words bits)
+    → Fills input (worldOf startRun cells links calendar words bits) out k u w out′ → Begun input (listingOf input) u w
+fills-begin input cells links calendar words bits s f =
+    fills-left input (listingOf input) (start-rest cells links calendar words bits input s) f
 
 pub begun-done : (input : List ℕ) {t u : List ℕ} {w : World} → (b : Begun input t u w) → w .done ≡ true → b .later ≡ []
 begun-done input {w = w} b d = done-left (goesOn input) (take limit input) w (b .later) d (b .rest)
 
 -- THE LISTING: whatever the buffer, fills from the start to the end put together are `listingOf` the input
-pub fills-list : (input cells links calendar words : List ℕ) {k : ℕ} {out out′ u : List ℕ} {w : World}
-    → LentFor (sizesOf input) (worldOf startRun cells links calendar words)
-    → Fills input (worldOf startRun cells links calendar words) out k u w out′ → w .done ≡ true → u ≡ listingOf input
-fills-list input cells links calendar words {u = u} s f d =
-    let b = fills-begin input cells links calendar words s f in
+pub fills-list : (input cells links calendar words bits : List ℕ) {k : ℕ} {out out′ u : List ℕ} {w : World}
+    → LentFor (sizesOf input) (worldOf startRun cells links calendar words bits)
+    → Fills input (worldOf startRun cells links calendar words bits) out k u w out′ → w .done ≡ true → u ≡ listingOf input
+fills-list input cells links calendar words bits {u = u} s f d =
+    let b = fills-begin input cells links calendar words bits s f in
     sym (b .cut ∙ ap (λ (x : List ℕ). u ++ x) (begun-done input b d) ∙ append-nil u)
 
 -- ---- one fill

@@ -8,7 +8,7 @@ use mathlib.Core.Logic.{_⊎_}
 use lib.ListN.{length, take}
 use Rattle.list_lines.specs.Put.{Put}
 use Rattle.meaning.specs.Plain.{if_then_else_}
-use Rattle.meaning.specs.Numbers.{octets, perEntry, wordsIn, rangesHold}
+use Rattle.meaning.specs.Numbers.{octets, perEntry, wordsIn, bitWords, rangesHold}
 use Rattle.meaning.specs.Calls.{zeros}
 use Rattle.trace_record.specs.Trace.{TraceRecord, GM, VO, VX, CA, SL, VS, PO, PX, Stands, event, finish, refusal, standsAt}
 use Rattle.list_whole.specs.declared.Run.{Run}
@@ -91,9 +91,10 @@ unfoldable pub sizesOf : List ℕ → Sizes
 sizesOf input = sizesAt (standsAt (take limit input) 0)
 
 -- "Lent memory: 53 × N octets of cells; N links of 16 bits; 2 × N calendar numbers of 16 bits; 7 × V words", of which
--- document 02 made 12 × (V + 256)
+-- document 02 made 12 × (V + 256), and its 32 words of bits
 pub record LentFor (n : Sizes) (w : World) : Type 0 where
   pub cells-long : length (w .state .cells) ≡ octets * n .n
   pub links-long : length (w .state .links) ≡ n .n
   pub calendar-long : length (w .state .calendar) ≡ perEntry * n .n
   pub words-long : length (w .state .words) ≡ wordsIn (n .v)
+  pub bits-long : length (w .state .bits) ≡ bitWords

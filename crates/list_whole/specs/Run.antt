@@ -32,11 +32,11 @@ pub record World : Type 0 where
 abbrev pub onward : Record → (at left : ℕ) → Bool → Tally → Run
 onward r at left done tally = record { ctl = r; at = at; left = left; done = done; tally = tally }
 
--- a run's numbers and the four memories
-abbrev pub worldOf : Run → List ℕ → List ℕ → List ℕ → List ℕ → World
-worldOf r cells links calendar words =
+-- a run's numbers and the five memories
+abbrev pub worldOf : Run → List ℕ → List ℕ → List ℕ → List ℕ → List ℕ → World
+worldOf r cells links calendar words bits =
     record {
-      state = stateOf (r .ctl) cells links calendar words;
+      state = stateOf (r .ctl) cells links calendar words bits;
       at = r .at;
       left = r .left;
       done = r .done;

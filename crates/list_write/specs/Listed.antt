@@ -1,7 +1,8 @@
 -- What it means that a listing was handed over: fill after fill from where a run begins, each handed to the writer before the
 -- next is made. Which octets were then written, and what the writer answers, is outside every contract.
 --
---   frontOf z w   == the world w with those parts of the memories that N and V of z ask for;  behindOf z w == the other parts
+--   frontOf z w   == the world w with those parts of the memories that N and V of z ask for;  behindOf z w == the other parts;
+--                    the words of bits are 32 whatever N is, and are lent whole
 --   Handed        == so many fills were handed over, and what they left
 --   Listed        == the same out of the front parts of larger memories
 use Prim.Native.Nat.{ℕ, _*_, _<_, _≤_}
@@ -9,13 +10,14 @@ use mathlib.Core.Path.{_≡_}
 use mathlib.Core.Bool.{Bool, true}
 use mathlib.Core.List.{List, [], _++_}
 use lib.ListN.{length, take, drop}
-use Rattle.meaning.specs.Numbers.{mostN, mostV, octets, perEntry, wordsIn}
+use Rattle.meaning.specs.Numbers.{mostN, mostV, octets, perEntry, wordsIn, bitWords}
 use Rattle.meaning.specs.State.{State, stateOf}
 use Rattle.list_meaning.specs.Listing.{listingOf}
 use Rattle.list_whole.specs.declared.Run.{Run}
 use Rattle.list_whole.specs.declared.Sizes.{Sizes}
 use Rattle.list_whole.specs.Run.{World}
 use Rattle.list_whole.specs.Fill.{Fills, startRun, sizesOf}
+use Rattle.list_whole.specs.Lent.{Lent, worldBefore, worldAfter}
 
 -- what a call leaves: the memories after it hold, with the run that is named, this world
 abbrev pub Left : Type 0
@@ -41,7 +43,8 @@ frontOf z w =
           (take (octets * z .n) (w .state .cells))
           (take (z .n) (w .state .links))
           (take (perEntry * z .n) (w .state .calendar))
-          (take (wordsIn (z .v)) (w .state .words));
+          (take (wordsIn (z .v)) (w .state .words))
+          (w .state .bits);
       at = w .at;
       left = w .left;
       done = w .done;
@@ -55,15 +58,28 @@ behindOf z w =
     (drop (z .n) (w .state .links))
     (drop (perEntry * z .n) (w .state .calendar))
     (drop (wordsIn (z .v)) (w .state .words))
+    []
 
--- long enough for every N and V
+-- long enough for every N and V; the words of free spaces as they are for each
 pub record Ample (w : World) : Type 0 where
   pub cells-long : octets * mostN ≤ length (w .state .cells)
   pub links-long : mostN ≤ length (w .state .links)
   pub calendar-long : perEntry * mostN ≤ length (w .state .calendar)
   pub words-long : wordsIn mostV ≤ length (w .state .words)
+  pub bits-long : length (w .state .bits) ≡ bitWords
 
 -- the same, out of memories of which only the front is used
 pub record Listed (input : List ℕ) (w : World) (out : List ℕ) (left : Left) (out′ : List ℕ) (answer : Bool) : Type 0 where
   pub handed : Handed input (frontOf (sizesOf input) w) out (λ (run : Run). frontOf (sizesOf input) (left run)) out′ answer
   pub kept : behindOf (sizesOf input) (left startRun) ≡ behindOf (sizesOf input) w
+
+-- both of what is lent from where a run begins, for contracts
+abbrev pub HandedLent : (input cells links calendar words bits out : Lent) → Bool → Type 0
+HandedLent input cells links calendar words bits out answer =
+    Handed (input .entry .now) (worldBefore startRun cells links calendar words bits) (out .entry .now)
+    (λ (run : Run). worldAfter run cells links calendar words bits) (out .exit .now) answer
+
+abbrev pub ListedLent : (input cells links calendar words bits out : Lent) → Bool → Type 0
+ListedLent input cells links calendar words bits out answer =
+    Listed (input .entry .now) (worldBefore startRun cells links calendar words bits) (out .entry .now)
+    (λ (run : Run). worldAfter run cells links calendar words bits) (out .exit .now) answer

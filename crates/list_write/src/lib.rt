@@ -2,9 +2,8 @@
 // what is left in the lent memories is promised; whether the operating system takes it is outside every contract.
 ghost use Prim.Native.Nat.{_≤_};
 ghost use lib.ListN.{length};
-ghost use Rattle.list_write.specs.Listed.{Handed, Ample, Listed};
-ghost use Rattle.list_whole.specs.declared.Run.{Run};
-ghost use Rattle.list_whole.specs.Lent.{worldHere, worldBefore, worldAfter};
+ghost use Rattle.list_write.specs.Listed.{HandedLent, Ample, ListedLent};
+ghost use Rattle.list_whole.specs.Lent.{worldHere};
 ghost use Rattle.list_whole.specs.Fill.{room, LentFor, startRun, sizesOf};
 use meaning::PATHS;
 use meaning::WORDS_PER_CONNECTION;
@@ -17,15 +16,16 @@ fn hand_over(
     links: &mut [u16],
     calendar: &mut [u16],
     words: &mut [u32],
+    bits: &mut [u64],
     out: &mut [u8],
 ) -> bool
-    requires { ⌜ LentFor (sizesOf (now input)) (worldHere startRun cells links calendar words) ⌝ }
+    requires { ⌜ LentFor (sizesOf (now input)) (worldHere startRun cells links calendar words bits) ⌝ }
     requires { ⌜ room ≤ length (now out) ⌝ }
-    ensures { λ r. ⌜ Handed (now (input .entry)) (worldBefore startRun cells links calendar words) (now (out .entry)) (λ (run : Run). worldAfter run cells links calendar words) (now (out .exit)) r ⌝ }
+    ensures { λ r. ⌜ HandedLent input cells links calendar words bits out r ⌝ }
 {
     let mut run = list_fill::start();
     while !run.done {
-        let filled = list_fill::fill(input, run, cells, links, calendar, words, out);
+        let filled = list_fill::fill(input, run, cells, links, calendar, words, bits, out);
         let used = filled.used;
         if !io::write_all(fd, &out[..used]) {
             return false;
@@ -43,11 +43,12 @@ fn lend(
     links: &mut [u16],
     calendar: &mut [u16],
     words: &mut [u32],
+    bits: &mut [u64],
     out: &mut [u8],
 ) -> bool
-    requires { ⌜ Ample (worldHere startRun cells links calendar words) ⌝ }
+    requires { ⌜ Ample (worldHere startRun cells links calendar words bits) ⌝ }
     requires { ⌜ room ≤ length (now out) ⌝ }
-    ensures { λ r. ⌜ Listed (now (input .entry)) (worldBefore startRun cells links calendar words) (now (out .entry)) (λ (run : Run). worldAfter run cells links calendar words) (now (out .exit)) r ⌝ }
+    ensures { λ r. ⌜ ListedLent input cells links calendar words bits out r ⌝ }
 {
     let sizes = list_fill::sizes_of(input);
     let n = sizes.n as usize;
@@ -62,6 +63,7 @@ fn lend(
         &mut links[..n],
         &mut calendar[..ends],
         &mut words[..many],
+        bits,
         out,
     )
 }
@@ -75,9 +77,10 @@ pub fn list(
     links: &mut [u16; 1024],
     calendar: &mut [u16; 2048],
     words: &mut [u32; 15360],
+    bits: &mut [u64; 32],
     out: &mut [u8; 65536],
 ) -> bool
-    ensures { λ r. ⌜ Listed (now (input .entry)) (worldBefore startRun cells links calendar words) (now (out .entry)) (λ (run : Run). worldAfter run cells links calendar words) (now (out .exit)) r ⌝ }
+    ensures { λ r. ⌜ ListedLent input cells links calendar words bits out r ⌝ }
 {
-    lend(fd, input, cells, links, calendar, words, out)
+    lend(fd, input, cells, links, calendar, words, bits, out)
 }

@@ -1,4 +1,4 @@
--- The header check in front of a slot: what it lets through is nothing or a cell, so the slot is document 01's over that,
+-- The header check in front of a slot, whatever space x a cell takes: what it lets through is nothing or a cell, so the slot is document 01's over that,
 -- with the mode moved and the verdict told. A policer that is not raw serves as before.
 use Prim.Native.Nat.{ℕ, _-_, _/_, _%_, _^_, _≤_}
 use mathlib.Core.Path.{_≡_, refl, sym, ap, _∙_}
@@ -15,9 +15,9 @@ use Rattle.base_hec.specs.WrongBit.{noError, wrongBit, flipped}
 use Rattle.base_hec.specs.Modes.{correction, detection, Arriving, passes, drops, checked, arriving, arrivingFits}
 use Rattle.meaning.specs.Plain.{if_then_else_, _=?_, Out, refused, next, needs, _andThen_}
 use Rattle.meaning.specs.Numbers.{rangesHold, octets}
-use Rattle.meaning.specs.State.{State, lengthsHold, withRecord, recordInMode, withMode}
+use Rattle.meaning.specs.State.{State, sizesHold, withRecord, recordInMode, withMode}
 use Rattle.meaning.specs.Work.{Work, workOf, bareAnswer}
-use Rattle.meaning.specs.Slot.{fiveSteps, finish, uncheckedSlot, told, slot}
+use Rattle.meaning.specs.Slot.{fiveSteps, finish, uncheckedSlotAt, told, slotAt}
 
 -- no cell, or one of 53 octets
 abbrev pub isLent : List ℕ → Bool
@@ -49,23 +49,23 @@ then-next refused = refl
 then-next (next a) = refl
 
 -- "A policer that is not raw behaves octet for octet as before"
-pub not-raw : (s : State) (cell : List ℕ) → s .ctl .raw ≡ 0 → slot s cell ≡ uncheckedSlot s cell
-unfolding slot uncheckedSlot withMode withRecord recordInMode
-not-raw s cell e =
+pub not-raw : (x : ℕ) (s : State) (cell : List ℕ) → s .ctl .raw ≡ 0 → slotAt x s cell ≡ uncheckedSlotAt x s cell
+unfolding slotAt uncheckedSlotAt withMode withRecord recordInMode
+not-raw x s cell e =
     rw (
       arriving-plain (s .ctl .raw) (s .ctl .mode) cell e,
       fits-plain (s .ctl .raw) (s .ctl .mode) cell e,
-      then-next (fiveSteps cell (workOf s (bareAnswer 0))),
+      then-next (fiveSteps x cell (workOf s (bareAnswer 0))),
     )
 
 -- nor does a slot that is lent no cell look at a header
-pub none-lent : (s : State) (cell : List ℕ) → length cell ≡ 0 → slot s cell ≡ uncheckedSlot s cell
-unfolding slot uncheckedSlot withMode withRecord recordInMode
-none-lent s cell e =
+pub none-lent : (x : ℕ) (s : State) (cell : List ℕ) → length cell ≡ 0 → slotAt x s cell ≡ uncheckedSlotAt x s cell
+unfolding slotAt uncheckedSlotAt withMode withRecord recordInMode
+none-lent x s cell e =
     rw (
       arriving-none (s .ctl .raw) (s .ctl .mode) cell e,
       fits-none (s .ctl .raw) (s .ctl .mode) cell e,
-      then-next (fiveSteps cell (workOf s (bareAnswer 0))),
+      then-next (fiveSteps x cell (workOf s (bareAnswer 0))),
     )
 
 -- ── what the check lets through ──
@@ -143,9 +143,9 @@ fits-low raw mode cell r m = fits-by (eqb (length cell) 0) raw mode r m
 
 -- ── the slot by document 01's ──
 -- nine, one or two: as document 01 has it
-pub unlent : (s : State) (cell : List ℕ) → isLent cell ≡ false → slot s cell ≡ uncheckedSlot s cell
-unfolding slot uncheckedSlot
-unlent s cell e = rw e
+pub unlent : (x : ℕ) (s : State) (cell : List ℕ) → isLent cell ≡ false → slotAt x s cell ≡ uncheckedSlotAt x s cell
+unfolding slotAt uncheckedSlotAt
+unlent x s cell e = rw e
 
 finished : (s s′ : State) (x : Out Work) (f : Work → Work) → finish s′ x .answer .number ≡ 0
     → finish s (x andThen λ v. next (f v)) ≡ f (finish s′ x)
@@ -154,7 +154,7 @@ finished s s′ refused f e = absurd (omega arith)
 finished s s′ (next w) f e = refl
 
 -- a slot that is served: document 01's slot over what the check lets through, in the mode that it leads to
-module _ (s : State) (cell : List ℕ) where
+module _ (x : ℕ) (s : State) (cell : List ℕ) where
   abbrev N : ℕ
   N = s .ctl .n
 
@@ -165,21 +165,21 @@ module _ (s : State) (cell : List ℕ) where
   a = arriving (s .ctl .raw) (s .ctl .mode) cell
 
   abbrev pub after : Work
-  after = uncheckedSlot (withMode s (a .mode)) (a .cell)
+  after = uncheckedSlotAt x (withMode s (a .mode)) (a .cell)
 
-  served-by : (p q : Bool) → rangesHold N z ≡ p → lengthsHold N z (s .cells) (s .links) (s .calendar) (s .words) ≡ q
+  served-by : (p q : Bool) → rangesHold N z ≡ p → sizesHold s ≡ q
       → isLent cell ≡ true → arrivingFits (s .ctl .raw) (s .ctl .mode) cell ≡ true
-      → after .answer .number ≡ 0 → slot s cell ≡ told (a .dropped) after
-  unfolding slot uncheckedSlot withMode withRecord recordInMode
+      → after .answer .number ≡ 0 → slotAt x s cell ≡ told (a .dropped) after
+  unfolding slotAt uncheckedSlotAt withMode withRecord recordInMode
   served-by false q e f lent fits n = absurd (omega (arith, (rw e at n)))
   served-by true false e f lent fits n = absurd (omega (arith, (rw (e, f) at n)))
   served-by true true e f lent fits n =
       let l = through-lent (s .ctl .raw) (s .ctl .mode) cell lent in
       rw (e, f, lent, fits, l)
-      (finished s (withMode s (a .mode)) (fiveSteps (a .cell) (workOf (withMode s (a .mode)) (bareAnswer 0)))
+      (finished s (withMode s (a .mode)) (fiveSteps x (a .cell) (workOf (withMode s (a .mode)) (bareAnswer 0)))
       (told (a .dropped)) (rw (e, f, l) at n))
 
   pub served-is : isLent cell ≡ true → arrivingFits (s .ctl .raw) (s .ctl .mode) cell ≡ true → after .answer .number ≡ 0
-      → slot s cell ≡ told (a .dropped) after
+      → slotAt x s cell ≡ told (a .dropped) after
   served-is =
-      served-by (rangesHold N z) (lengthsHold N z (s .cells) (s .links) (s .calendar) (s .words)) refl refl
+      served-by (rangesHold N z) (sizesHold s) refl refl

@@ -11,7 +11,7 @@ use lib.Seq.{getD-set-same, getD-set-other}
 use Rattle.meaning.specs.Plain.{_<?_, _=?_}
 use Rattle.meaning.specs.Numbers.{empty, headPlace, tailPlace}
 use Rattle.meaning.specs.State.{Ends}
-use Rattle.meaning.specs.Lists.{emptyList, isEmpty, endsFit, entryAt, writeEntry, joinHead, joinTail, addTail}
+use Rattle.meaning.specs.Lists.{emptyList, isEmpty, endsFit, entryAt, writeEntry, joinHead, joinTail}
 
 -- "a head and tail are both below N or both 65,535"
 marked : (a b c d : Bool) → (a && b) || (c && d) ≡ true → c ≡ false → (a ≡ true) × (b ≡ true)

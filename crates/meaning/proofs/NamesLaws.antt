@@ -11,7 +11,7 @@ use Rattle.meaning.specs.Plain.{_<?_, _≤?_, _=?_}
 use Rattle.meaning.specs.Numbers.{paths, connectionsIn, unused}
 use Rattle.meaning.specs.Header.{Header, headerOf, headerAt, clpIn, Name, byVci, byVpi, named, numberIn, nameIn, connection, namesConnection}
 
-both : (a b : Bool) → a && b ≡ true → (a ≡ true) × (b ≡ true)
+pub both : (a b : Bool) → a && b ≡ true → (a ≡ true) × (b ≡ true)
 both true b e = (refl, e)
 both false b e = absurd (let z : _≡_ {A = ℕ} 0 1 = cc in omega arith)
 

@@ -8,25 +8,24 @@ use Rattle.meaning.specs.declared.Record.{Record}
 use Rattle.meaning.specs.State.{State}
 use Rattle.meaning.specs.Header.{Name}
 use Rattle.meaning.specs.Words.{Second}
-use Rattle.meaning.specs.Calls.{SetUp, Called}
+use Rattle.meaning.specs.Calls.{Asked, SetUp, Called}
 use Rattle.meaning.specs.Work.{Work}
 use Rattle.meaning.specs.Promises.{setupPromise, openPromise, closePromise, slotPromise, LinePromise, AuditPromise}
 
-pub setup-once : (N z : ℕ) (raw : Bool) (kind : ℕ) (s : State) (a b : SetUp) → setupPromise N z raw kind s a → setupPromise N z raw kind s b
-    → a ≡ b
-setup-once N z raw kind s a b p q = p ∙ sym q
+pub setup-once : (N z : ℕ) (asked : Asked) (lent : State) (a b : SetUp) → setupPromise N z asked lent a → setupPromise N z asked lent b → a ≡ b
+setup-once N z asked lent a b p q = p ∙ sym q
 
-pub open-once : (r : Record) (words : List ℕ) (name : Name) (m F C : ℕ) (x : Second) (a b : Called)
-    → openPromise r words name m F C x (a .number) (a .words)
-    → openPromise r words name m F C x (b .number) (b .words)
+pub open-once : (r : Record) (words : List ℕ) (who : ℕ) (name : Name) (m F C : ℕ) (x : Second) (a b : Called)
+    → openPromise r words who name m F C x (a .number) (a .words)
+    → openPromise r words who name m F C x (b .number) (b .words)
     → a ≡ b
-open-once r words name m F C x a b p q = p ∙ sym q
+open-once r words who name m F C x a b p q = p ∙ sym q
 
-pub close-once : (r : Record) (words : List ℕ) (name : Name) (a b : Called)
-    → closePromise r words name (a .number) (a .words)
-    → closePromise r words name (b .number) (b .words)
+pub close-once : (r : Record) (words : List ℕ) (who : ℕ) (name : Name) (a b : Called)
+    → closePromise r words who name (a .number) (a .words)
+    → closePromise r words who name (b .number) (b .words)
     → a ≡ b
-close-once r words name a b p q = p ∙ sym q
+close-once r words who name a b p q = p ∙ sym q
 
 pub slot-once : (s : State) (cell : List ℕ) (a b : Work) → slotPromise s cell a → slotPromise s cell b → a ≡ b
 slot-once s cell a b p q = p ∙ sym q

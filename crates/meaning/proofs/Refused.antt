@@ -22,22 +22,22 @@ told-keeps [] words after h = absurd (h refl)
 told-keeps ((k, true) ∷ ks) words after h = refl
 told-keeps ((k, false) ∷ ks) words after h = told-keeps ks words after h
 
-pub open-refused-keeps : (r : Record) (words : List ℕ) (name : Name) (m F C : ℕ) (x : Second) → openCall r words name m F C x .number ≢ 0
-    → openCall r words name m F C x .words ≡ words
+pub open-refused-keeps : (r : Record) (words : List ℕ) (who : ℕ) (name : Name) (m F C : ℕ) (x : Second) → openCall r words who name m F C x .number ≢ 0
+    → openCall r words who name m F C x .words ≡ words
 unfolding openCall
-open-refused-keeps r words name m F C x =
+open-refused-keeps r words who name m F C x =
     let b = bucketOf m F C 0 in
-    told-keeps ((sharedRefusal r words name, not (sharedRefusal r words name =? 0))
+    told-keeps ((sharedRefusal r words who name, not (sharedRefusal r words who name =? 0))
     ∷ (5, connectionAt words (numberIn (r .v) name) .opened =? 1)
     ∷ (6, not (obeysRules (r .n) b))
     ∷ (11, not (secondObeys (bucketOf (x .m) (x .F) (x .C) 0) (x .tag)))
     ∷ []) words (writeConnection words (numberIn (r .v) name) (openedConnection (r .t) b x))
 
-pub close-refused-keeps : (r : Record) (words : List ℕ) (name : Name) → closeCall r words name .number ≢ 0
-    → closeCall r words name .words ≡ words
+pub close-refused-keeps : (r : Record) (words : List ℕ) (who : ℕ) (name : Name) → closeCall r words who name .number ≢ 0
+    → closeCall r words who name .words ≡ words
 unfolding closeCall
-close-refused-keeps r words name =
-    told-keeps ((sharedRefusal r words name, not (sharedRefusal r words name =? 0))
+close-refused-keeps r words who name =
+    told-keeps ((sharedRefusal r words who name, not (sharedRefusal r words who name =? 0))
     ∷ (7, connectionAt words (numberIn (r .v) name) .opened =? 0)
     ∷ (8, not (connectionAt words (numberIn (r .v) name) .waiting =? 0 && debt (r .t) (connectionAt words (numberIn (r .v) name)) =? 0))
     ∷ []) words (writeConnection words (numberIn (r .v) name) closedConnection)

@@ -1,26 +1,26 @@
 -- Document 01, step 3 of a slot, from the point where the cell's VC is open and up to date. Read from the bottom up.
-use Prim.Native.Nat.{ℕ, _+_, _%_}
+use Prim.Native.Nat.{ℕ, _+_, _-_, _%_}
 use mathlib.Core.Bool.{not, _&&_}
 use mathlib.Core.List.{List}
-use Rattle.meaning.specs.Plain.{if_then_else_, _<?_, _=?_, Out, next, needs, _andThen_}
+use Rattle.meaning.specs.Plain.{if_then_else_, _<?_, _=?_, Out, next, needs}
 use Rattle.meaning.specs.Numbers.{accepted, excess, tagged}
-use Rattle.meaning.specs.State.{freeList, withCells, withLinks, withCalendar, withFreeList, writeCell}
+use Rattle.meaning.specs.Bits.{isFree, spacesFit, taken, marked}
+use Rattle.meaning.specs.State.{withCells, withLinks, withCalendar, withFree, writeCell}
 use Rattle.meaning.specs.Bucket.{Bucket, isExcess, delay, fill}
 use Rattle.meaning.specs.Words.{Connection, withWaiting, withBuckets}
 use Rattle.meaning.specs.Header.{clpIn, taggedCell}
-use Rattle.meaning.specs.Lists.{isEmpty, endsFit, entryAt, writeEntry, Taken, takeHead, joinHead}
+use Rattle.meaning.specs.Lists.{endsFit, entryAt, writeEntry, joinHead}
 use Rattle.meaning.specs.Work.{Work, withState, withConnection, withArrival}
 
--- 3, once a space is taken: "The cell is written into its own 53 octets .. It joins calendar entry (T+D) modulo N at
--- the head"
-unfoldable pub place : List ℕ → ℕ → Work → Taken → Out Work
-place cell D w taken =
+-- 3, space x being the cell's: "The cell is written into its own 53 octets .. It joins calendar entry (T+D) modulo N at
+-- the head"; document 02 (ix): the entry's bit is set
+unfoldable pub place : List ℕ → ℕ → ℕ → Work → Out Work
+place cell D x w =
     let s = w .state in
-    let x = taken .space in
     let e = (s .ctl .turn + D) % s .ctl .n in
     let entry = entryAt (s .calendar) e in
     let grown = joinHead (s .links) entry x in
-    let s1 = withFreeList s (taken .left) in
+    let s1 = withFree s (s .ctl .free - 1) (marked (taken (s .bits) x) e) in
     let s2 = withCells s1 (writeCell (s .cells) x cell) in
     let s3 = withLinks s2 (grown .links) in
     let s4 = withCalendar s3 (writeEntry (s .calendar) e (grown .ends)) in
@@ -42,10 +42,11 @@ secondAfter clp verdict b = if clp =? 0 && verdict =? accepted then fill b else 
 unfoldable pub sentAs : ℕ → List ℕ → List ℕ
 sentAs verdict cell = if verdict =? tagged then taggedCell cell else cell
 
--- 3, not excess: "D = floor(S/L), S grows by F, waiting by one. The head of the Free List is taken." "waiting .. below
--- N when a cell is accepted"; "the Free List isn't empty when a space is taken". Document 02 (iv): "D from the peak bucket"
-unfoldable pub accept : List ℕ → ℕ → ℕ → Work → Connection → Out Work
-accept cell verdict c w conn =
+-- 3, not excess: "D = floor(S/L), S grows by F, waiting by one. The head of the Free List is taken.", now space x, which is free;
+-- "waiting .. below N when a cell is accepted". Document 02 (iv): "D from the peak bucket"; (vii): 3 for "a bit at or above N, a
+-- number other than the ones, none free for a cell"
+unfoldable pub accept : ℕ → List ℕ → ℕ → ℕ → Work → Connection → Out Work
+accept x cell verdict c w conn =
     let s = w .state in
     let N = s .ctl .n in
     let D = delay (conn .bucket) in
@@ -53,12 +54,12 @@ accept cell verdict c w conn =
     let filled = withWaiting (withBuckets conn (fill (conn .bucket)) second) (conn .waiting + 1) in
     let w1 = withArrival (withConnection w c filled) verdict c D in
     needs (conn .waiting <? N)
-    (needs (endsFit N (freeList s) && not (isEmpty (freeList s)))
-    (takeHead N (s .links) (freeList s) andThen place (sentAs verdict cell) D w1))
+    (needs (spacesFit N (s .ctl .free) (s .bits) && not (s .ctl .free =? 0))
+    (needs (isFree (s .bits) x) (place (sentAs verdict cell) D x w1)))
 
 -- 3, the VC being up to date: "If S is above C-F the cell is excess and this step changes no more."
-unfoldable pub judge : List ℕ → ℕ → Work → Connection → Out Work
-judge cell c w conn =
+unfoldable pub judge : ℕ → List ℕ → ℕ → Work → Connection → Out Work
+judge x cell c w conn =
     let verdict = verdictOn (clpIn cell) conn in
     if verdict =? excess then next (withArrival (withConnection w c conn) excess c 0)
-    else accept cell verdict c w conn
+    else accept x cell verdict c w conn

@@ -54,7 +54,3 @@ unfoldable pub joinTail : List ℕ → Ends → Ends → Grown
 joinTail links e more =
     if isEmpty e then record { ends = more; links = links }
     else record { ends = record { head = e .head; tail = more .tail }; links = set links (e .tail) (more .head) }
-
--- "Its space goes to the tail of the Free List."
-unfoldable pub addTail : List ℕ → Ends → ℕ → Grown
-addTail links e x = joinTail links e (record { head = x; tail = x })

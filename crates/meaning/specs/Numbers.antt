@@ -3,7 +3,7 @@
 -- of a connection.
 use Prim.Native.Nat.{ℕ, _+_, _*_, _^_}
 use mathlib.Core.Bool.{Bool, _&&_, _||_}
-use Rattle.meaning.specs.Plain.{_≤?_, _=?_}
+use Rattle.meaning.specs.Plain.{_<?_, _≤?_, _=?_}
 
 -- "N cell spaces, 1 to 1,024."
 abbrev pub mostN : ℕ
@@ -58,6 +58,10 @@ connectionsIn z = z + paths
 
 unfoldable pub unused : ℕ → ℕ → Bool
 unused z c = c =? 0 || c =? z
+
+-- document 02 (xi), refusal 1: "a split VCI outside 1 to V-1 or a split path number outside 1 to 255 is 1"
+unfoldable pub splitsHold : ℕ → ℕ → ℕ → Bool
+splitsHold z splitvci splitpath = 1 ≤? splitvci && splitvci <? z && 1 ≤? splitpath && splitpath <? paths
 
 -- "for a line kind chosen at setup": 0 UNI, 1 NNI
 abbrev pub uni : ℕ
@@ -117,6 +121,16 @@ secondSPlace c = connectionPlace c + 10
 
 abbrev pub tagPlace : ℕ → ℕ
 tagPlace c = connectionPlace c + 11
+
+-- document 02 (vii): "a bit for each space, sixteen words of 64 bits"; (ix): "one bit for each entry", in as many words behind them
+abbrev pub freeWords : ℕ
+freeWords = 16
+
+abbrev pub bitWords : ℕ
+bitWords = 32
+
+abbrev pub wordBits : ℕ
+wordBits = 64
 
 -- "65,535 marks an empty head or tail"; also "departing space (65,535 for none)"
 abbrev pub empty : ℕ

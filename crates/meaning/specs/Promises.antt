@@ -9,22 +9,22 @@ use lib.ListN.{length}
 use Rattle.meaning.specs.declared.Record.{Record}
 use Rattle.meaning.specs.State.{State}
 use Rattle.meaning.specs.Header.{Name}
-use Rattle.meaning.specs.Calls.{SetUp, setup, Called, calledOf, openCall, closeCall}
+use Rattle.meaning.specs.Calls.{Asked, SetUp, setup, Called, calledOf, openCall, closeCall}
 use Rattle.meaning.specs.Words.{Second}
 use Rattle.meaning.specs.Work.{Work}
 use Rattle.meaning.specs.Slot.{slot}
 use Rattle.meaning.specs.Line.{Slice, cellMemory, idleCell, linePart, lineCell}
 use Rattle.meaning.specs.Audit.{AuditHolds}
 
--- "Setup is handed no record": of s, what is lent, the memories alone matter
-abbrev pub setupPromise : ℕ → ℕ → Bool → ℕ → State → SetUp → Type 0
-setupPromise N z raw kind s r = r ≡ setup N z raw kind (s .cells) (s .links) (s .calendar) (s .words)
+-- "Setup is handed no record": of what is lent the memories alone matter
+abbrev pub setupPromise : ℕ → ℕ → Asked → State → SetUp → Type 0
+setupPromise N z a lent r = r ≡ setup N z a lent
 
-abbrev pub openPromise : Record → List ℕ → Name → ℕ → ℕ → ℕ → Second → ℕ → List ℕ → Type 0
-openPromise r words name m F C x number words′ = calledOf number words′ ≡ openCall r words name m F C x
+abbrev pub openPromise : Record → List ℕ → ℕ → Name → ℕ → ℕ → ℕ → Second → ℕ → List ℕ → Type 0
+openPromise r words who name m F C x number words′ = calledOf number words′ ≡ openCall r words who name m F C x
 
-abbrev pub closePromise : Record → List ℕ → Name → ℕ → List ℕ → Type 0
-closePromise r words name number words′ = calledOf number words′ ≡ closeCall r words name
+abbrev pub closePromise : Record → List ℕ → ℕ → Name → ℕ → List ℕ → Type 0
+closePromise r words who name number words′ = calledOf number words′ ≡ closeCall r words who name
 
 abbrev pub slotPromise : State → List ℕ → Work → Type 0
 slotPromise s cell w = w ≡ slot s cell

@@ -4,7 +4,7 @@ ghost use mathlib.Core.Path.{_≡_};
 ghost use Prim.Native.Nat.{_≤_};
 ghost use Rattle.meaning.specs.Numbers.{mostV, nni, letsIn};
 ghost use Rattle.meaning.specs.State.{endsOf, recordWith, recordInMode};
-ghost use Rattle.meaning.specs.Calls.{zeros, kindOf, optionsOf, freshRecord};
+ghost use Rattle.meaning.specs.Calls.{zeros, askedOf, chosen, freshRecord};
 
 // The path records, which stand after the V records; a path's connection number is V + VPI.
 pub const PATHS: u16 = 256;
@@ -38,8 +38,9 @@ pub const AT_TAG: usize = 11;
 // The mode of the header check in which a single wrong bit is mended.
 const CORRECTION: u16 = 0;
 
-// The control record: N, V, t, T (turn), rotation, head and tail of the Free List and of the Output List; whether cells
-// come raw, 0 or 1, and the mode of the header check, 0 correction, 1 detection; the line kind, 0 UNI, 1 NNI.
+// The control record: N, V, t, T (turn), rotation, the number of free spaces, head and tail of the Output List; whether cells
+// come raw, 0 or 1, and the mode of the header check, 0 correction, 1 detection; the line kind, 0 UNI, 1 NNI; the VCI and the path
+// number from which on connections are the second operator's.
 #[repr(C)]
 pub struct Record {
     pub n: u16,
@@ -47,13 +48,14 @@ pub struct Record {
     pub t: u32,
     pub turn: u16,
     pub rotation: u16,
-    pub freehead: u16,
-    pub freetail: u16,
+    pub free: u16,
     pub outhead: u16,
     pub outtail: u16,
     pub raw: u16,
     pub mode: u16,
     pub kind: u16,
+    pub splitvci: u16,
+    pub splitpath: u16,
 }
 
 // The answer to one slot: number, verdict, VCI, D, departing space, departing VCI.
@@ -81,19 +83,25 @@ pub struct Served {
     pub answer: Answer,
 }
 
+// What the call next gives back: the refusal number, and how many slots until a cell leaves; 0 for none.
+#[repr(C)]
+pub struct Wait {
+    pub number: u16,
+    pub slots: u16,
+}
+
 // A record is built here: as setup leaves it, from another one, and of zeros. A further field is one more line in each.
-// The record with another clock and other lists; whatever else it holds is kept.
+// The record with another clock, number of free spaces and Output List; whatever else it holds is kept.
 pub fn record_with(
     r: Record,
     t: u32,
     turn: u16,
     rotation: u16,
-    freehead: u16,
-    freetail: u16,
+    free: u16,
     outhead: u16,
     outtail: u16,
 ) -> Record
-    ensures { λ k. ⌜ k ≡ recordWith r t turn rotation (endsOf freehead freetail) (endsOf outhead outtail) ⌝ }
+    ensures { λ k. ⌜ k ≡ recordWith r t turn rotation free (endsOf outhead outtail) ⌝ }
 {
     Record {
         n: r.n,
@@ -101,13 +109,14 @@ pub fn record_with(
         t: t,
         turn: turn,
         rotation: rotation,
-        freehead: freehead,
-        freetail: freetail,
+        free: free,
         outhead: outhead,
         outtail: outtail,
         raw: r.raw,
         mode: r.mode,
         kind: r.kind,
+        splitvci: r.splitvci,
+        splitpath: r.splitpath,
     }
 }
 
@@ -121,13 +130,14 @@ pub fn record_in_mode(r: Record, mode: u16) -> Record
         t: r.t,
         turn: r.turn,
         rotation: r.rotation,
-        freehead: r.freehead,
-        freetail: r.freetail,
+        free: r.free,
         outhead: r.outhead,
         outtail: r.outtail,
         raw: r.raw,
         mode: mode,
         kind: r.kind,
+        splitvci: r.splitvci,
+        splitpath: r.splitpath,
     }
 }
 
@@ -141,20 +151,21 @@ pub fn no_record() -> Record
         t: 0,
         turn: 0,
         rotation: 0,
-        freehead: 0,
-        freetail: 0,
+        free: 0,
         outhead: 0,
         outtail: 0,
         raw: 0,
         mode: 0,
         kind: 0,
+        splitvci: 0,
+        splitpath: 0,
     }
 }
 
 // "t is 2^32-1, T is N-1", rotation is V + 255; "correction mode, the first"
-pub fn fresh_record(n: u16, v: u16, raw: bool, kind: u16) -> Record
+pub fn fresh_record(n: u16, v: u16, raw: bool, kind: u16, splitvci: u16, splitpath: u16) -> Record
     requires { ⌜ (1 ≤ n) × (v ≤ mostV) × (kind ≤ nni) ⌝ }
-    ensures { λ r. ⌜ r ≡ freshRecord n v (optionsOf raw (kindOf kind)) ⌝ }
+    ensures { λ r. ⌜ r ≡ freshRecord n v (chosen (askedOf raw kind splitvci splitpath)) ⌝ }
 {
     Record {
         n: n,
@@ -162,13 +173,14 @@ pub fn fresh_record(n: u16, v: u16, raw: bool, kind: u16) -> Record
         t: 4294967295,
         turn: n - 1,
         rotation: v + 255,
-        freehead: 0,
-        freetail: n - 1,
+        free: n,
         outhead: 65535,
         outtail: 65535,
         raw: raw as u16,
         mode: CORRECTION,
         kind: kind,
+        splitvci: splitvci,
+        splitpath: splitpath,
     }
 }
 

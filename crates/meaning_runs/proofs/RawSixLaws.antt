@@ -11,8 +11,8 @@ use Rattle.meaning_runs.specs.Computed.{byComputation}
 -- verdict, VCI, D and departing VCI of each slot, the newest first
 abbrev answered : List Event → List (List ℕ)
 answered [] = []
-answered (opened vci m F C x number ∷ h) = answered h
-answered (closed vci number ∷ h) = answered h
+answered (opened who vci m F C x number ∷ h) = answered h
+answered (closed who vci number ∷ h) = answered h
 answered (ran cell a out ∷ h) = (a .verdict ∷ a .vci ∷ a .d ∷ a .departing ∷ []) ∷ answered h
 
 raw-answers : answered rawEvents

@@ -94,7 +94,7 @@ afterCell t clp verdict (some o) =
 -- an open or close that answered 0 begins and ends it; a cell that is let in moves it on, any other cell does not
 unfoldable pub openingOf : ℕ → List Event → Option Opening
 openingOf c [] = none
-openingOf c (opened k m F C x number ∷ h) = if number =? 0 && k =? c then some (newOpening m F C x) else openingOf c h
-openingOf c (closed k number ∷ h) = if number =? 0 && k =? c then none else openingOf c h
+openingOf c (opened who k m F C x number ∷ h) = if number =? 0 && k =? c then some (newOpening m F C x) else openingOf c h
+openingOf c (closed who k number ∷ h) = if number =? 0 && k =? c then none else openingOf c h
 openingOf c (ran cell a out ∷ h) =
     if accepts c a then afterCell (served h) (clpIn cell) (a .verdict) (openingOf c h) else openingOf c h

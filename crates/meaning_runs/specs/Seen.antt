@@ -43,8 +43,8 @@ cellUnder t a octets (some o) = cellWith t a octets (dueTime o t) (dueSlot o t)
 
 unfoldable pub cellsIn : List Event → List Cell
 cellsIn [] = []
-cellsIn (opened c m F C x number ∷ h) = cellsIn h
-cellsIn (closed c number ∷ h) = cellsIn h
+cellsIn (opened who c m F C x number ∷ h) = cellsIn h
+cellsIn (closed who c number ∷ h) = cellsIn h
 cellsIn (ran octets a out ∷ h) =
     if letsIn (a .verdict) then cellsIn h ++ (cellUnder (served h) a (sentAs (a .verdict) octets) (openingOf (a .vci) h) ∷ [])
     else cellsIn h
@@ -52,8 +52,8 @@ cellsIn (ran octets a out ∷ h) =
 -- "departing space (65,535 for none)"
 unfoldable pub departuresIn : List Event → List Departure
 departuresIn [] = []
-departuresIn (opened c m F C x number ∷ h) = departuresIn h
-departuresIn (closed c number ∷ h) = departuresIn h
+departuresIn (opened who c m F C x number ∷ h) = departuresIn h
+departuresIn (closed who c number ∷ h) = departuresIn h
 departuresIn (ran octets a out ∷ h) =
     if a .space =? empty then departuresIn h
     else departuresIn h ++ (record { slot = served h; vci = a .departing; octets = out } ∷ [])

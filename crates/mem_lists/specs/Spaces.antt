@@ -1,7 +1,7 @@
 -- What steps 3, 4 and 5 of a slot find in heads, tails, links and headers, as numbers: nothing is written yet.
 --
 --   linked on i x l   == the links l, with link i naming x where on
---   seatOf            == where an accepted cell goes: its space, the Free List without it, its entry and that entry's ends
+--   seatOf            == where an accepted cell goes: its space, its entry and that entry's ends
 --   offOf             == what departs from a list of spaces: space, connection, and what is left of the list
 use Prim.Native.Nat.{ℕ, _+_, _-_, _≤_}
 use mathlib.Core.Path.{_≡_}
@@ -23,47 +23,24 @@ use Rattle.mem_lists.specs.declared.Off.{Off}
 unfoldable pub linked : Bool → ℕ → ℕ → List ℕ → List ℕ
 linked on i x l = if on then set l i x else l
 
-abbrev pub seatAs : Bool → ℕ → Ends → ℕ → Ends → Seat
-seatAs ok x free e entry =
-    record {
-      ok = ok;
-      x = x;
-      freehead = free .head;
-      freetail = free .tail;
-      e = e;
-      head = entry .head;
-      tail = entry .tail;
-    }
+abbrev pub seatAs : Bool → ℕ → ℕ → Ends → Seat
+seatAs ok x e entry = record { ok = ok; x = x; e = e; head = entry .head; tail = entry .tail }
 
 abbrev pub noSeat : Seat
-noSeat = seatAs false 0 (endsOf 0 0) 0 (endsOf 0 0)
+noSeat = seatAs false 0 0 (endsOf 0 0)
 
--- the Free List has two ends below N; the cell joins entry e, whose ends fit
-unfoldable pub seatIn : ℕ → List ℕ → Ends → ℕ → Ends → Seat
-seatIn N links free e entry =
-    let follower = getD links (free .head) 0 in
-    if free .head =? free .tail then seatAs true (free .head) (endsOf empty empty) e entry
-    else if follower <? N then seatAs true (free .head) (endsOf follower (free .tail)) e entry
-    else noSeat
-
--- the same, whether they fit or not
-unfoldable pub seatAt : ℕ → List ℕ → List ℕ → Ends → ℕ → Seat
-seatAt N links calendar free e =
+-- a cell that takes space x joins entry e, if that entry's ends fit
+unfoldable pub seatAt : ℕ → List ℕ → ℕ → ℕ → Seat
+seatAt N calendar e x =
     let entry = entryAt calendar e in
-    let follower = getD links (free .head) 0 in
-    if endsFit N entry
-    then (if free .head =? free .tail then seatAs true (free .head) (endsOf empty empty) e entry
-    else if follower <? N then seatAs true (free .head) (endsOf follower (free .tail)) e entry
-    else noSeat)
-    else noSeat
+    if endsFit N entry then seatAs true x e entry else noSeat
 
 -- (T + D) modulo N, where both are below N
 unfoldable pub entryOf : ℕ → ℕ → ℕ → ℕ
 entryOf N T D = if T + D <? N then T + D else T + D - N
 
-unfoldable pub seatOf : ℕ → List ℕ → List ℕ → ℕ → Ends → ℕ → Seat
-seatOf N links calendar T free D =
-    if free .head <? N && free .tail <? N then seatAt N links calendar free (entryOf N T D) else noSeat
+unfoldable pub seatOf : ℕ → List ℕ → ℕ → ℕ → ℕ → Seat
+seatOf N calendar T D x = seatAt N calendar (entryOf N T D) x
 
 abbrev pub offAs : Bool → ℕ → ℕ → Ends → Off
 offAs ok space vci left = record { ok = ok; space = space; vci = vci; head = left .head; tail = left .tail }

@@ -8,17 +8,15 @@ ghost use Rattle.meaning.specs.State.{HasConnection};
 ghost use Rattle.meaning.specs.Header.{headerAt};
 ghost use Rattle.meaning.specs.Lists.{endsFit, writeEntry};
 ghost use Rattle.leaf_header.specs.Name.{numbered};
-ghost use Rattle.mem_lists.specs.Spaces.{endsOf, linked, noSeat, seatIn, seatAt, seatOf, offOf};
+ghost use Rattle.mem_lists.specs.Spaces.{endsOf, linked, noSeat, seatAt, seatOf, offOf};
 ghost use Rattle.mem_lists.specs.Leaver.{mayGo, goesAs, leaverOf, offFrom, leaverAfter, offAfter};
 use meaning::AT_WAITING;
 use meaning::WORDS_PER_CONNECTION;
 
-// Where an accepted cell goes: its space x, the Free List without it, its entry e and that entry's head and tail.
+// Where an accepted cell goes: its space x, its entry e and that entry's head and tail.
 pub struct Seat {
     pub ok: bool,
     pub x: u16,
-    pub freehead: u16,
-    pub freetail: u16,
     pub e: u16,
     pub head: u16,
     pub tail: u16,
@@ -53,104 +51,49 @@ fn no_seat() -> Seat
     Seat {
         ok: false,
         x: 0,
-        freehead: 0,
-        freetail: 0,
         e: 0,
         head: 0,
         tail: 0,
     }
 }
 
-// The seat of a cell that joins entry e, from head to tail, which fit, where the Free List is not empty.
-fn seat_in(
-    n: u16,
-    links: &[u16],
-    freehead: u16,
-    freetail: u16,
-    e: u16,
-    head: u16,
-    tail: u16,
-) -> Seat
-    requires { ⌜ (length (now links) ≡ n) × (freehead < n) ⌝ }
-    ensures { λ r. ⌜ r ≡ seatIn n (now (links .entry)) (endsOf freehead freetail) e (endsOf head tail) ⌝ }
-{
-    if freehead == freetail {
-        return Seat {
-            ok: true,
-            x: freehead,
-            freehead: 65535,
-            freetail: 65535,
-            e: e,
-            head: head,
-            tail: tail,
-        };
-    }
-    let after = links[freehead as usize];
-    if after < n {
-        return Seat {
-            ok: true,
-            x: freehead,
-            freehead: after,
-            freetail: freetail,
-            e: e,
-            head: head,
-            tail: tail,
-        };
-    }
-    no_seat()
-}
-
-// The same, the entry's head and tail read and judged: one number after the other, since a pair's test as one truth value
-// costs twice as much.
-pub fn seat_at(
-    n: u16,
-    links: &[u16],
-    calendar: &[u16],
-    freehead: u16,
-    freetail: u16,
-    e: u16,
-) -> Seat
-    requires { ⌜ (n ≤ mostN) × (length (now links) ≡ n) × (length (now calendar) ≡ perEntry * n) × (e < n) × (freehead < n) ⌝ }
-    ensures { λ r. ⌜ r ≡ seatAt n (now (links .entry)) (now (calendar .entry)) (endsOf freehead freetail) e ⌝ }
+// The seat of a cell that takes space x and joins entry e, whose head and tail are read and judged: one number after the other,
+// since a pair's test as one truth value costs twice as much.
+pub fn seat_at(n: u16, calendar: &[u16], e: u16, x: u16) -> Seat
+    requires { ⌜ (n ≤ mostN) × (length (now calendar) ≡ perEntry * n) × (e < n) ⌝ }
+    ensures { λ r. ⌜ r ≡ seatAt n (now (calendar .entry)) e x ⌝ }
 {
     let head = calendar[2 * (e as usize)];
     let tail = calendar[2 * (e as usize) + 1];
     if head == 65535 {
-        if tail == 65535 {
-            return seat_in(n, links, freehead, freetail, e, head, tail);
+        if tail != 65535 {
+            return no_seat();
         }
-        return no_seat();
+    } else {
+        if head >= n {
+            return no_seat();
+        }
+        if tail >= n {
+            return no_seat();
+        }
     }
-    if head >= n {
-        return no_seat();
+    Seat {
+        ok: true,
+        x: x,
+        e: e,
+        head: head,
+        tail: tail,
     }
-    if tail >= n {
-        return no_seat();
-    }
-    seat_in(n, links, freehead, freetail, e, head, tail)
 }
 
 // The seat of a cell with delay d: it joins entry (T+D) modulo N, which one comparison gives.
-pub fn seat_for(
-    n: u16,
-    links: &[u16],
-    calendar: &[u16],
-    turn: u16,
-    freehead: u16,
-    freetail: u16,
-    d: u16,
-) -> Seat
-    requires { ⌜ (n ≤ mostN) × (length (now links) ≡ n) × (length (now calendar) ≡ perEntry * n) × (turn < n) × (d < n) ⌝ }
-    ensures { λ r. ⌜ r ≡ seatOf n (now (links .entry)) (now (calendar .entry)) turn (endsOf freehead freetail) d ⌝ }
+pub fn seat_for(n: u16, calendar: &[u16], turn: u16, d: u16, x: u16) -> Seat
+    requires { ⌜ (n ≤ mostN) × (length (now calendar) ≡ perEntry * n) × (turn < n) × (d < n) ⌝ }
+    ensures { λ r. ⌜ r ≡ seatOf n (now (calendar .entry)) turn d x ⌝ }
 {
-    if freehead < n {
-        if freetail < n {
-            let far = turn + d;
-            let e = if far < n { far } else { far - n };
-            return seat_at(n, links, calendar, freehead, freetail, e);
-        }
-    }
-    no_seat()
+    let far = turn + d;
+    let e = if far < n { far } else { far - n };
+    seat_at(n, calendar, e, x)
 }
 
 // The connection u is open and has 1 to N cells waiting.

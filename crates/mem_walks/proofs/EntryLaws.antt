@@ -23,12 +23,12 @@ module _ (l calendar : List ℕ) (nm : ℕ → ℕ) where
   unfolding entriesOf
   entries-none e b w = refl
 
-  entries-on : (k e : ℕ) (b w : List ℕ) (r : Walked) → r ≡ listOf l nm true (entryAt calendar e) b w → r .ok ≡ true
+  entries-on : (k e : ℕ) (b w : List ℕ) (r : Walked) → r ≡ listOf l nm (entryAt calendar e) b w → r .ok ≡ true
       → entriesOf l calendar nm (suc k) e b w ≡ entriesOf l calendar nm k (suc e) (r .spaces) (r .waits)
   unfolding entriesOf
   entries-on k e b w r p o = rw (← p) (rw o)
 
-  entries-stop : (k e : ℕ) (b w : List ℕ) (r : Walked) → r ≡ listOf l nm true (entryAt calendar e) b w → r .ok ≡ false
+  entries-stop : (k e : ℕ) (b w : List ℕ) (r : Walked) → r ≡ listOf l nm (entryAt calendar e) b w → r .ok ≡ false
       → entriesOf l calendar nm (suc k) e b w ≡ r
   unfolding entriesOf
   entries-stop k e b w r p o = rw (← p) (rw o)
@@ -50,10 +50,10 @@ module _ (l calendar : List ℕ) (nm : ℕ → ℕ) where
         takes = record { fits-spaces = tt; fits-cells = tt; spaces-left = refl; cells-left = refl };
       }
   entries-sound (suc k) e b w =
-      let r : Walked = listOf l nm true (entryAt calendar e) b w in
+      let r : Walked = listOf l nm (entryAt calendar e) b w in
       if-elim (λ (s : Walked). s .ok ≡ true → Entries (suc k) e b w s) (r .ok) _ _
       (λ h o.
-      let f = list-sound l nm true (entryAt calendar e) b w h in
+      let f = list-sound l nm (entryAt calendar e) b w h in
       let i = entries-sound k (suc e) (r .spaces) (r .waits) o in
       let later = joined (i .queues) in
       record {
@@ -76,7 +76,7 @@ module _ (l calendar : List ℕ) (nm : ℕ → ℕ) where
       let u = map nm (joined qs) in
       let g2 : Covers w (v ++ u) = rw (← map-append nm q (joined qs)) g in
       let here = covers-left b q (joined qs) d in
-      let first = list-complete l nm true (entryAt calendar e) q b w n (c .0) here (covers-left w v u g2) in
+      let first = list-complete l nm (entryAt calendar e) q b w n (c .0) here (covers-left w v u g2) in
       entries-on (length qs) e b w (walked true (spendAll b q) (spendAll w v)) (sym first) refl
       ∙ entries-complete (suc e) qs (spendAll b q) (spendAll w v) (no-mark-left b q here n) (c .1)
       (covers-right b q (joined qs) d) (covers-right w v u g2)
@@ -85,12 +85,12 @@ module _ (l calendar : List ℕ) (nm : ℕ → ℕ) where
   -- one turn of the loop over the entries, as the code meets it: h and t are the head and tail that it reads
   module _ (n e h t : ℕ) (b w : List ℕ) (r : Walked) (low : e < n)
       (head : h ≡ getD calendar (2 * e) 0) (tail : t ≡ getD calendar (2 * e + 1) 0)
-      (met : r ≡ listOf l nm true (endsOf h t) b w) where
+      (met : r ≡ listOf l nm (endsOf h t) b w) where
     more : n - e ≡ suc (n - (e + 1))
     more = omega arith
 
-    listed : r ≡ listOf l nm true (entryAt calendar e) b w
-    listed = met ∙ ap (λ (z : Ends). listOf l nm true z b w) (ends-entry calendar e h t head tail)
+    listed : r ≡ listOf l nm (entryAt calendar e) b w
+    listed = met ∙ ap (λ (z : Ends). listOf l nm z b w) (ends-entry calendar e h t head tail)
 
     pub entry-turn : r .ok ≡ true
         → entriesOf l calendar nm (n - (e + 1)) (e + 1) (r .spaces) (r .waits) ≡ entriesOf l calendar nm (n - e) e b w

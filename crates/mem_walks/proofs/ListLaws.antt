@@ -2,8 +2,8 @@
 -- budgets cover gets a yes (list-sound, list-complete).
 use Prim.Native.Nat.{ℕ, _+_, _*_}
 use mathlib.Core.Path.{_≡_, refl, sym, ap, _∙_}
-use mathlib.Core.Bool.{Bool, true}
-use mathlib.Core.List.{List, [], _∷_, _++_}
+use mathlib.Core.Bool.{true}
+use mathlib.Core.List.{List, [], _∷_, _++_, map}
 use native.Mathlib.Omega.{arith}
 use lib.ListN.{getD}
 use borrow.Author.Tests.{eqb-true, eq-eqb, ne-eqb}
@@ -13,11 +13,11 @@ use Rattle.meaning.specs.State.{Ends}
 use Rattle.meaning.specs.Lists.{isEmpty, entryAt}
 use Rattle.meaning.specs.Audit.{Chain}
 use Rattle.mem_walks.specs.Budget.{spendAll, Covers}
-use Rattle.mem_walks.specs.Walk.{names, Walked, walked, endsOf, walk, listOf}
+use Rattle.mem_walks.specs.Walk.{Walked, walked, endsOf, walk, listOf}
 use Rattle.mem_walks.specs.Stored.{NoMark}
 use Rattle.mem_walks.proofs.Choice.{if-elim}
 use Rattle.mem_walks.proofs.BudgetLaws.{paid, covers-append, spend-append}
-use Rattle.mem_walks.proofs.WalkLaws.{no-names, walk-sound, walk-complete}
+use Rattle.mem_walks.proofs.WalkLaws.{walk-sound, walk-complete}
 
 -- the spaces xs and the VCs vs are taken, and what r says is left
 pub record Takes (b w xs vs : List ℕ) (r : Walked) : Type 0 where
@@ -39,13 +39,13 @@ takes-more b w xs vs ys us r s p n =
 pub no-mark-left : (b xs : List ℕ) → Covers b xs → NoMark b → NoMark (spendAll b xs)
 no-mark-left b xs c n = omega (arith, paid b xs c empty)
 
-module _ (l : List ℕ) (nm : ℕ → ℕ) (q : Bool) where
+module _ (l : List ℕ) (nm : ℕ → ℕ) where
   pub record Listed (e : Ends) (b w : List ℕ) (r : Walked) : Type 0 where
     pub spaces-of : List ℕ
     pub chain : Chain l e spaces-of
-    pub takes : Takes b w spaces-of (names q nm spaces-of) r
+    pub takes : Takes b w spaces-of (map nm spaces-of) r
 
-  pub list-sound : (e : Ends) (b w : List ℕ) → listOf l nm q e b w .ok ≡ true → Listed e b w (listOf l nm q e b w)
+  pub list-sound : (e : Ends) (b w : List ℕ) → listOf l nm e b w .ok ≡ true → Listed e b w (listOf l nm e b w)
   unfolding listOf
   list-sound e b w =
       let P : Walked → Type 0 = λ r. r .ok ≡ true → Listed e b w r in
@@ -55,13 +55,13 @@ module _ (l : List ℕ) (nm : ℕ → ℕ) (q : Bool) where
         chain = (eqb-true (e .head) empty h, eqb-true (e .tail) empty o);
         takes = record {
           fits-spaces = tt;
-          fits-cells = rw (no-names nm q) tt;
+          fits-cells = tt;
           spaces-left = refl;
-          cells-left = rw (no-names nm q);
+          cells-left = refl;
         };
       })
       (λ h o.
-      let g = walk-sound l nm q (e .tail) (e .head) b w o in
+      let g = walk-sound l nm (e .tail) (e .head) b w o in
       record {
         spaces-of = e .head ∷ g .rest;
         chain = (refl, g .leads);
@@ -73,23 +73,23 @@ module _ (l : List ℕ) (nm : ℕ → ℕ) (q : Bool) where
         };
       })
 
-  pub list-complete : (e : Ends) (xs b w : List ℕ) → NoMark b → Chain l e xs → Covers b xs → Covers w (names q nm xs)
-      → listOf l nm q e b w ≡ walked true (spendAll b xs) (spendAll w (names q nm xs))
+  pub list-complete : (e : Ends) (xs b w : List ℕ) → NoMark b → Chain l e xs → Covers b xs → Covers w (map nm xs)
+      → listOf l nm e b w ≡ walked true (spendAll b xs) (spendAll w (map nm xs))
   unfolding listOf
-  list-complete e [] b w n c d f = rw (eq-eqb (e .head) empty (c .0), eq-eqb (e .tail) empty (c .1), no-names nm q)
+  list-complete e [] b w n c d f = rw (eq-eqb (e .head) empty (c .0), eq-eqb (e .tail) empty (c .1))
   list-complete e (x ∷ xs) b w n c d f =
       let some : e .head ≡ empty → ⊥ =
       λ z. omega (arith, d .0, ap (λ (k : ℕ). getD b k 0) (sym (c .0) ∙ z)) in
       rw (ne-eqb (e .head) empty some)
-      (ap (λ (k : ℕ). walk l nm q (e .tail) k b w) (c .0) ∙ walk-complete l nm q (e .tail) x xs b w (c .1) d f)
+      (ap (λ (k : ℕ). walk l nm (e .tail) k b w) (c .0) ∙ walk-complete l nm (e .tail) x xs b w (c .1) d f)
 
   -- the two ways through the code of a list
-  pub list-empty : (h t : ℕ) (b w : List ℕ) → h ≡ empty → walked (t =? empty) b w ≡ listOf l nm q (endsOf h t) b w
+  pub list-empty : (h t : ℕ) (b w : List ℕ) → h ≡ empty → walked (t =? empty) b w ≡ listOf l nm (endsOf h t) b w
   unfolding listOf
   list-empty h t b w e = rw (eq-eqb h empty e)
 
   pub list-some : (h t : ℕ) (b w : List ℕ) → (h ≡ empty → ⊥)
-      → walk l nm q t h b w ≡ listOf l nm q (endsOf h t) b w
+      → walk l nm t h b w ≡ listOf l nm (endsOf h t) b w
   unfolding listOf
   list-some h t b w e = rw (ne-eqb h empty e)
 

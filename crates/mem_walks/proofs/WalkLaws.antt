@@ -10,7 +10,7 @@ use borrow.Author.Tests.{ltb-true, lt-ltb, eqb-true, eqb-false, eq-eqb, ne-eqb}
 use Rattle.meaning.specs.Plain.{_<?_, _=?_}
 use Rattle.meaning.specs.Audit.{Leads}
 use Rattle.mem_walks.specs.Budget.{spent, spendAll, Covers, sum}
-use Rattle.mem_walks.specs.Walk.{names, Walked, walked, mayWait, lessWait, walkOf, walk}
+use Rattle.mem_walks.specs.Walk.{Walked, walked, walkOf, walk}
 use Rattle.mem_walks.proofs.Choice.{if-elim, false-true}
 use Rattle.mem_walks.proofs.BudgetLaws.{sum-spent}
 
@@ -20,137 +20,104 @@ map-append nm (x ∷ xs) ys = ap (λ (l : List ℕ). nm x ∷ l) (map-append nm 
 
 -- The four ways through one turn
 
-module _ (l : List ℕ) (nm : ℕ → ℕ) (q : Bool) (t x : ℕ) (b w : List ℕ) where
-  walk-taken : 0 <? getD b x 0 ≡ false → walk l nm q t x b w ≡ walked false (spent b x) w
+module _ (l : List ℕ) (nm : ℕ → ℕ) (t x : ℕ) (b w : List ℕ) where
+  walk-taken : 0 <? getD b x 0 ≡ false → walk l nm t x b w ≡ walked false (spent b x) w
   unfolding walk walkOf
   walk-taken h = rw h
 
-  walk-named : 0 <? getD b x 0 ≡ true → mayWait q w (nm x) ≡ false
-      → walk l nm q t x b w ≡ walked false (spent b x) (lessWait q w (nm x))
+  walk-named : 0 <? getD b x 0 ≡ true → 0 <? getD w (nm x) 0 ≡ false
+      → walk l nm t x b w ≡ walked false (spent b x) (spent w (nm x))
   unfolding walk walkOf
   walk-named h g = rw (h, g)
 
-  walk-end : 0 <? getD b x 0 ≡ true → mayWait q w (nm x) ≡ true → x ≡ t
-      → walk l nm q t x b w ≡ walked true (spent b x) (lessWait q w (nm x))
+  walk-end : 0 <? getD b x 0 ≡ true → 0 <? getD w (nm x) 0 ≡ true → x ≡ t
+      → walk l nm t x b w ≡ walked true (spent b x) (spent w (nm x))
   unfolding walk walkOf
   walk-end h g e = rw (h, g, eq-eqb x t e)
 
-  walk-on : 0 <? getD b x 0 ≡ true → mayWait q w (nm x) ≡ true → (x ≡ t → ⊥)
-      → walk l nm q t x b w ≡ walk l nm q t (getD l x 0) (spent b x) (lessWait q w (nm x))
+  walk-on : 0 <? getD b x 0 ≡ true → 0 <? getD w (nm x) 0 ≡ true → (x ≡ t → ⊥)
+      → walk l nm t x b w ≡ walk l nm t (getD l x 0) (spent b x) (spent w (nm x))
   unfolding walk walkOf
   walk-on h g e =
       let less : sum b ≡ suc (sum (spent b x)) = omega (arith, sum-spent b x (ltb-true 0 (getD b x 0) h)) in
       rw (h, g, ne-eqb x t e)
-      (ap (λ (f : ℕ). walkOf l nm q t f (getD l x 0) (spent b x) (lessWait q w (nm x))) less)
+      (ap (λ (f : ℕ). walkOf l nm t f (getD l x 0) (spent b x) (spent w (nm x))) less)
 
 -- The same, as the code meets them: r and p are what the two takings answer, b′ and w′ what they leave
 
-module _ (l : List ℕ) (nm : ℕ → ℕ) (q : Bool) (t x : ℕ) (b w b′ : List ℕ) (r : Bool)
+module _ (l : List ℕ) (nm : ℕ → ℕ) (t x : ℕ) (b w b′ : List ℕ) (r : Bool)
     (taken : (r ≡ 0 <? getD b x 0) × (b′ ≡ spent b x)) where
-  pub turn-taken : r ≡ false → walked false b′ w ≡ walk l nm q t x b w
+  pub turn-taken : r ≡ false → walked false b′ w ≡ walk l nm t x b w
   turn-taken h =
-      ap (λ (z : List ℕ). walked false z w) (taken .1) ∙ sym (walk-taken l nm q t x b w (sym (taken .0) ∙ h))
+      ap (λ (z : List ℕ). walked false z w) (taken .1) ∙ sym (walk-taken l nm t x b w (sym (taken .0) ∙ h))
 
-  module _ (w′ : List ℕ) (p : Bool) (named : (p ≡ mayWait q w (nm x)) × (w′ ≡ lessWait q w (nm x))) (h : r ≡ true) where
-    left : (a : Bool) → walked a b′ w′ ≡ walked a (spent b x) (lessWait q w (nm x))
+  module _ (w′ : List ℕ) (p : Bool) (named : (p ≡ 0 <? getD w (nm x) 0) × (w′ ≡ spent w (nm x))) (h : r ≡ true) where
+    left : (a : Bool) → walked a b′ w′ ≡ walked a (spent b x) (spent w (nm x))
     left a = rw (taken .1, named .1)
 
-    pub turn-named : p ≡ false → walked false b′ w′ ≡ walk l nm q t x b w
-    turn-named g = left false ∙ sym (walk-named l nm q t x b w (sym (taken .0) ∙ h) (sym (named .0) ∙ g))
+    pub turn-named : p ≡ false → walked false b′ w′ ≡ walk l nm t x b w
+    turn-named g = left false ∙ sym (walk-named l nm t x b w (sym (taken .0) ∙ h) (sym (named .0) ∙ g))
 
-    pub turn-end : p ≡ true → x ≡ t → walked true b′ w′ ≡ walk l nm q t x b w
-    turn-end g e = left true ∙ sym (walk-end l nm q t x b w (sym (taken .0) ∙ h) (sym (named .0) ∙ g) e)
+    pub turn-end : p ≡ true → x ≡ t → walked true b′ w′ ≡ walk l nm t x b w
+    turn-end g e = left true ∙ sym (walk-end l nm t x b w (sym (taken .0) ∙ h) (sym (named .0) ∙ g) e)
 
-    pub turn-on : p ≡ true → (x ≡ t → ⊥) → (y : ℕ) → y ≡ getD l x 0 → walk l nm q t y b′ w′ ≡ walk l nm q t x b w
+    pub turn-on : p ≡ true → (x ≡ t → ⊥) → (y : ℕ) → y ≡ getD l x 0 → walk l nm t y b′ w′ ≡ walk l nm t x b w
     turn-on g e y n =
-        rw (taken .1, named .1, n) (sym (walk-on l nm q t x b w (sym (taken .0) ∙ h) (sym (named .0) ∙ g) e))
+        rw (taken .1, named .1, n) (sym (walk-on l nm t x b w (sym (taken .0) ∙ h) (sym (named .0) ∙ g) e))
 
 pub turn-less : (x : ℕ) (b b′ : List ℕ) (r : Bool) → (r ≡ 0 <? getD b x 0) × (b′ ≡ spent b x) → r ≡ true → sum b′ < sum b
 turn-less x b b′ r taken h =
     rw (taken .1) (omega (arith, sum-spent b x (ltb-true 0 (getD b x 0) (sym (taken .0) ∙ h))))
 
--- The cells' budget, queued or not
-
-module _ (nm : ℕ → ℕ) where
-  pub no-names : (q : Bool) → names q nm [] ≡ []
-  no-names true = refl
-  no-names false = refl
-
-  covers-names : (q : Bool) (x : ℕ) (xs w : List ℕ) → mayWait q w (nm x) ≡ true
-      → Covers (lessWait q w (nm x)) (names q nm xs) → Covers w (names q nm (x ∷ xs))
-  unfolding mayWait lessWait
-  covers-names true x xs w h c = (ltb-true 0 (getD w (nm x) 0) h, c)
-  covers-names false x xs w h c = tt
-
-  spend-names : (q : Bool) (x : ℕ) (xs w : List ℕ)
-      → spendAll (lessWait q w (nm x)) (names q nm xs) ≡ spendAll w (names q nm (x ∷ xs))
-  unfolding lessWait
-  spend-names true x xs w = refl
-  spend-names false x xs w = refl
-
-  may-names : (q : Bool) (x : ℕ) (xs w : List ℕ) → Covers w (names q nm (x ∷ xs)) → mayWait q w (nm x) ≡ true
-  unfolding mayWait
-  may-names true x xs w c = lt-ltb 0 (getD w (nm x) 0) (c .0)
-  may-names false x xs w c = refl
-
-  less-names : (q : Bool) (x : ℕ) (xs w : List ℕ) → Covers w (names q nm (x ∷ xs))
-      → Covers (lessWait q w (nm x)) (names q nm xs)
-  unfolding lessWait
-  less-names true x xs w c = c .1
-  less-names false x xs w c = tt
-
 -- What a yes means, and that it is given
 
-module _ (l : List ℕ) (nm : ℕ → ℕ) (q : Bool) (t : ℕ) where
+module _ (l : List ℕ) (nm : ℕ → ℕ) (t : ℕ) where
   pub record Goes (x : ℕ) (b w : List ℕ) (r : Walked) : Type 0 where
     pub rest : List ℕ
     pub leads : Leads l t x rest
     pub fits-spaces : Covers b (x ∷ rest)
-    pub fits-cells : Covers w (names q nm (x ∷ rest))
+    pub fits-cells : Covers w (map nm (x ∷ rest))
     pub spaces-left : r .spaces ≡ spendAll b (x ∷ rest)
-    pub cells-left : r .waits ≡ spendAll w (names q nm (x ∷ rest))
+    pub cells-left : r .waits ≡ spendAll w (map nm (x ∷ rest))
 
-  goes : (f x : ℕ) (b w : List ℕ) → walkOf l nm q t f x b w .ok ≡ true → Goes x b w (walkOf l nm q t f x b w)
+  goes : (f x : ℕ) (b w : List ℕ) → walkOf l nm t f x b w .ok ≡ true → Goes x b w (walkOf l nm t f x b w)
   unfolding walkOf
   goes zero x b w = λ h. false-true h
   goes (suc f) x b w =
       let P : Walked → Type 0 = λ r. r .ok ≡ true → Goes x b w r in
       if-elim P (0 <? getD b x 0) _ _
-      (λ h. if-elim P (mayWait q w (nm x)) _ _
+      (λ h. if-elim P (0 <? getD w (nm x) 0) _ _
       (λ g. if-elim P (x =? t) _ _
       (λ e o. record {
         rest = [];
         leads = eqb-true x t e;
         fits-spaces = (ltb-true 0 (getD b x 0) h, tt);
-        fits-cells = covers-names nm q x [] w g (rw (no-names nm q) tt);
+        fits-cells = (ltb-true 0 (getD w (nm x) 0) g, tt);
         spaces-left = refl;
-        cells-left = sym (ap (spendAll (lessWait q w (nm x))) (no-names nm q)) ∙ spend-names nm q x [] w;
+        cells-left = refl;
       })
       (λ e o.
-      let i = goes f (getD l x 0) (spent b x) (lessWait q w (nm x)) o in
+      let i = goes f (getD l x 0) (spent b x) (spent w (nm x)) o in
       record {
         rest = getD l x 0 ∷ i .rest;
         leads = (eqb-false x t e, refl, i .leads);
         fits-spaces = (ltb-true 0 (getD b x 0) h, i .fits-spaces);
-        fits-cells = covers-names nm q x (getD l x 0 ∷ i .rest) w g (i .fits-cells);
+        fits-cells = (ltb-true 0 (getD w (nm x) 0) g, i .fits-cells);
         spaces-left = i .spaces-left;
-        cells-left = i .cells-left ∙ spend-names nm q x (getD l x 0 ∷ i .rest) w;
+        cells-left = i .cells-left;
       }))
       (λ g o. false-true o))
       (λ h o. false-true o)
 
-  pub walk-sound : (x : ℕ) (b w : List ℕ) → walk l nm q t x b w .ok ≡ true → Goes x b w (walk l nm q t x b w)
+  pub walk-sound : (x : ℕ) (b w : List ℕ) → walk l nm t x b w .ok ≡ true → Goes x b w (walk l nm t x b w)
   unfolding walk
   walk-sound x b w h = goes (suc (sum b)) x b w h
 
-  pub walk-complete : (x : ℕ) (xs b w : List ℕ) → Leads l t x xs → Covers b (x ∷ xs) → Covers w (names q nm (x ∷ xs))
-      → walk l nm q t x b w ≡ walked true (spendAll b (x ∷ xs)) (spendAll w (names q nm (x ∷ xs)))
+  pub walk-complete : (x : ℕ) (xs b w : List ℕ) → Leads l t x xs → Covers b (x ∷ xs) → Covers w (map nm (x ∷ xs))
+      → walk l nm t x b w ≡ walked true (spendAll b (x ∷ xs)) (spendAll w (map nm (x ∷ xs)))
   walk-complete x [] b w e c d =
-      walk-end l nm q t x b w (lt-ltb 0 (getD b x 0) (c .0)) (may-names nm q x [] w d) e
-      ∙ ap (λ (z : List ℕ). walked true (spent b x) z)
-      (sym (ap (spendAll (lessWait q w (nm x))) (no-names nm q)) ∙ spend-names nm q x [] w)
+      walk-end l nm t x b w (lt-ltb 0 (getD b x 0) (c .0)) (lt-ltb 0 (getD w (nm x) 0) (d .0)) e
   walk-complete x (y ∷ ys) b w e c d =
-      walk-on l nm q t x b w (lt-ltb 0 (getD b x 0) (c .0)) (may-names nm q x (y ∷ ys) w d) (e .0)
-      ∙ ap (λ (k : ℕ). walk l nm q t k (spent b x) (lessWait q w (nm x))) (e .1)
-      ∙ walk-complete y ys (spent b x) (lessWait q w (nm x)) (e .2) (c .1) (less-names nm q x (y ∷ ys) w d)
-      ∙ ap (λ (z : List ℕ). walked true (spendAll b (x ∷ y ∷ ys)) z) (spend-names nm q x (y ∷ ys) w)
+      walk-on l nm t x b w (lt-ltb 0 (getD b x 0) (c .0)) (lt-ltb 0 (getD w (nm x) 0) (d .0)) (e .0)
+      ∙ ap (λ (k : ℕ). walk l nm t k (spent b x) (spent w (nm x))) (e .1)
+      ∙ walk-complete y ys (spent b x) (spent w (nm x)) (e .2) (c .1) (d .1)

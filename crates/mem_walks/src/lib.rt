@@ -7,7 +7,7 @@ ghost use Prim.Native.Nat.{ℕ, _<_};
 ghost use lib.ListN.{getD};
 ghost use Rattle.meaning.specs.Plain.{_<?_};
 ghost use Rattle.mem_walks.specs.Budget.{spent, Gone};
-ghost use Rattle.mem_walks.specs.Walk.{headerIn, nameIn, walkedAfter, endsOf, mayWait, lessWait, walk, listOf, entriesOf, listsIn};
+ghost use Rattle.mem_walks.specs.Walk.{headerIn, nameIn, walkedAfter, endsOf, walk, listOf, entriesOf, listsIn};
 ghost use Rattle.mem_walks.specs.Stored.{NoMark, StoredIn};
 use meaning::PATHS;
 use meaning::Record;
@@ -101,15 +101,12 @@ fn name_at(cells: &[u8], kind: u16, v: u16, x: u16) -> u32
     if vci < v as u32 { vci } else { 65535 }
 }
 
-// In a queue, the connection that the cell of space x names is taken off the cells' budget.
-fn visit(cells: &[u8], kind: u16, v: u16, waits: &mut [u32], queued: bool, x: u16) -> bool
-    ensures { λ a. ⌜ (a ≡ mayWait queued (now (waits .entry)) (nameIn kind v cells x)) × (now (waits .exit) ≡ lessWait queued (now (waits .entry)) (nameIn kind v cells x)) ⌝ }
+// The connection that the cell of space x names is taken off the cells' budget.
+fn visit(cells: &[u8], kind: u16, v: u16, waits: &mut [u32], x: u16) -> bool
+    ensures { λ a. ⌜ (a ≡ 0 <? getD (now (waits .entry)) (nameIn kind v cells x) 0) × (now (waits .exit) ≡ spent (now (waits .entry)) (nameIn kind v cells x)) ⌝ }
 {
-    if queued {
-        let name = name_at(cells, kind, v, x);
-        return take(waits, name as usize);
-    }
-    true
+    let name = name_at(cells, kind, v, x);
+    take(waits, name as usize)
 }
 
 // A chain walked from its head to its tail. The sum of the spaces' budget falls at each turn, so the walk ends.
@@ -120,16 +117,15 @@ fn walk(
     v: u16,
     spaces: &mut [u32],
     waits: &mut [u32],
-    queued: bool,
     tail: u16,
     head: u16,
 ) -> bool
-    ensures { λ a. ⌜ walkedAfter a spaces waits ≡ walk (now (links .entry)) (nameIn kind v cells) queued tail head (now (spaces .entry)) (now (waits .entry)) ⌝ }
+    ensures { λ a. ⌜ walkedAfter a spaces waits ≡ walk (now (links .entry)) (nameIn kind v cells) tail head (now (spaces .entry)) (now (waits .entry)) ⌝ }
 {
     let mut x = head;
     loop {
         if take(spaces, x as usize) {
-            if visit(cells, kind, v, waits, queued, x) {
+            if visit(cells, kind, v, waits, x) {
                 if x == tail {
                     return true;
                 }
@@ -151,16 +147,15 @@ fn list(
     v: u16,
     spaces: &mut [u32],
     waits: &mut [u32],
-    queued: bool,
     head: u16,
     tail: u16,
 ) -> bool
-    ensures { λ a. ⌜ walkedAfter a spaces waits ≡ listOf (now (links .entry)) (nameIn kind v cells) queued (endsOf head tail) (now (spaces .entry)) (now (waits .entry)) ⌝ }
+    ensures { λ a. ⌜ walkedAfter a spaces waits ≡ listOf (now (links .entry)) (nameIn kind v cells) (endsOf head tail) (now (spaces .entry)) (now (waits .entry)) ⌝ }
 {
     if head == 65535 {
         return tail == 65535;
     }
-    walk(links, cells, kind, v, spaces, waits, queued, tail, head)
+    walk(links, cells, kind, v, spaces, waits, tail, head)
 }
 
 // The time slot queues of all n calendar entries.
@@ -181,7 +176,7 @@ fn entries(
         let i = 2 * (e as usize);
         let head = number_at(calendar, i);
         let tail = number_at(calendar, i + 1);
-        if list(links, cells, kind, v, spaces, waits, true, head, tail) {
+        if list(links, cells, kind, v, spaces, waits, head, tail) {
             e += 1;
         } else {
             return false;
@@ -190,7 +185,7 @@ fn entries(
     true
 }
 
-// The Free List, the Output List and the time slot queues, one after the other.
+// The Output List and the time slot queues, one after the other.
 fn lists(
     r: Record,
     cells: &[u8],
@@ -208,23 +203,10 @@ fn lists(
         r.v,
         spaces,
         waits,
-        false,
-        r.freehead,
-        r.freetail,
+        r.outhead,
+        r.outtail,
     ) {
-        if list(
-            links,
-            cells,
-            r.kind,
-            r.v,
-            spaces,
-            waits,
-            true,
-            r.outhead,
-            r.outtail,
-        ) {
-            return entries(links, cells, calendar, r.kind, r.v, spaces, waits, r.n);
-        }
+        return entries(links, cells, calendar, r.kind, r.v, spaces, waits, r.n);
     }
     false
 }

@@ -11,10 +11,12 @@ use borrow.Author.Tests.{eq-eqb, ne-eqb}
 use Rattle.meaning.specs.declared.Answer.{Answer}
 use Rattle.meaning.specs.Plain.{if_then_else_, _=?_}
 use Rattle.meaning.specs.Numbers.{slotNumbers}
+use Rattle.meaning.specs.State.{State}
 use Rattle.meaning.specs.Header.{Name, numberIn}
 use Rattle.meaning.specs.Words.{Second, noSecond}
-use Rattle.meaning.specs.Calls.{setup}
-use Rattle.meaning_runs.specs.Run.{Call, onOpenWith, onClose, onSlot, Event, opened, closed, ran, Run, runOf, call, calls, served}
+use Rattle.meaning.specs.Calls.{Asked, setup}
+use Rattle.meaning.specs.Slot.{slot}
+use Rattle.meaning_runs.specs.Run.{Call, onOpenWith, onClose, onSlot, Event, opened, closed, ran, Run, runOf, callAt, call, calls, served}
 use Rattle.meaning_runs.specs.Leak.{newOpening, openingOf}
 use Rattle.theory_queues.specs.Queue.{All}
 use Rattle.theory_invariant.proofs.RunLaws.{Kept, call-kept}
@@ -29,14 +31,14 @@ use Rattle.promise_agreed.proofs.SlotLaws.{went}
 -- slots are only ever added
 one-more : (h : List Event) (e : Event) → served h ≤ served (e ∷ h)
 unfolding served
-one-more h (opened vci m F C x number) = omega arith
-one-more h (closed vci number) = omega arith
+one-more h (opened who vci m F C x number) = omega arith
+one-more h (closed who vci number) = omega arith
 one-more h (ran cell a out) = omega arith
 
 call-more : (r : Run) (c : Call) → served (r .events) ≤ served (call r c .events)
-unfolding call
-call-more r (onOpenWith name m F C x) = one-more (r .events) _
-call-more r (onClose name) = one-more (r .events) _
+unfolding call callAt slot
+call-more r (onOpenWith who name m F C x) = one-more (r .events) _
+call-more r (onClose who name) = one-more (r .events) _
 call-more r (onSlot cell) = one-more (r .events) _
 
 calls-more : (r : Run) (cs : List Call) → served (r .events) ≤ served (calls r cs .events)
@@ -55,15 +57,15 @@ module _ (w : Watched) where
     pub tied : Tied w (r .events)
     pub agrees : Agrees w (r .events)
 
-  tied-open : (h : List Event) (vci m F C : ℕ) (x : Second) (number : ℕ) → vci ≢ w .conn → Tied w h
-      → Tied w (opened vci m F C x number ∷ h)
+  tied-open : (h : List Event) (who vci m F C : ℕ) (x : Second) (number : ℕ) → vci ≢ w .conn → Tied w h
+      → Tied w (opened who vci m F C x number ∷ h)
   unfolding openingOf served engineAfter
-  tied-open h vci m F C x number n k =
+  tied-open h who vci m F C x number n k =
       record { previous = k .previous; sustained = k .sustained; is = rw (other-connection (w .conn) vci number n) (k .is); state = k .state }
 
-  tied-close : (h : List Event) (vci number : ℕ) → vci ≢ w .conn → Tied w h → Tied w (closed vci number ∷ h)
+  tied-close : (h : List Event) (who vci number : ℕ) → vci ≢ w .conn → Tied w h → Tied w (closed who vci number ∷ h)
   unfolding openingOf served engineAfter
-  tied-close h vci number n k =
+  tied-close h who vci number n k =
       record { previous = k .previous; sustained = k .sustained; is = rw (other-connection (w .conn) vci number n) (k .is); state = k .state }
 
   -- the number of the connection that a call names
@@ -71,17 +73,17 @@ module _ (w : Watched) where
   at-z r g name = ap (λ (v : ℕ). numberIn v name) (sym (g .kept .inv .stage .v-is))
 
   one-call : (r : Run) (c : Call) → Together r → Apart (w .z) (w .conn) c → served (call r c .events) ≤ slotNumbers → Together (call r c)
-  unfolding call Agrees
-  one-call r (onOpenWith name m F C x) g n low =
+  unfolding call callAt slot Agrees
+  one-call r (onOpenWith who name m F C x) g n low =
       record {
-        kept = call-kept (w .N) (w .z) (w .kind) r (onOpenWith name m F C x) (g .kept);
-        tied = tied-open (r .events) (numberIn (r .state .ctl .v) name) m F C x _ (λ e. n (at-z r g name ∙ e)) (g .tied);
+        kept = call-kept (w .N) (w .z) (w .kind) r (onOpenWith who name m F C x) (g .kept);
+        tied = tied-open (r .events) who (numberIn (r .state .ctl .v) name) m F C x _ (λ e. n (at-z r g name ∙ e)) (g .tied);
         agrees = g .agrees;
       }
-  one-call r (onClose name) g n low =
+  one-call r (onClose who name) g n low =
       record {
-        kept = call-kept (w .N) (w .z) (w .kind) r (onClose name) (g .kept);
-        tied = tied-close (r .events) (numberIn (r .state .ctl .v) name) _ (λ e. n (at-z r g name ∙ e)) (g .tied);
+        kept = call-kept (w .N) (w .z) (w .kind) r (onClose who name) (g .kept);
+        tied = tied-close (r .events) who (numberIn (r .state .ctl .v) name) _ (λ e. n (at-z r g name ∙ e)) (g .tied);
         agrees = g .agrees;
       }
   one-call r (onSlot cell) g n low =
@@ -112,8 +114,8 @@ unserved h cell a out e = (λ n. omega (arith, first n), omega (arith, e))
 asleep : (w : Watched) (h : List Event) → served h ≡ 0 → (engineAfter w h ≡ notStarted) × Agrees w h
 unfolding engineAfter Agrees served
 asleep w [] e = (refl, tt)
-asleep w (opened vci m F C x number ∷ h) e = asleep w h e
-asleep w (closed vci number ∷ h) e = asleep w h e
+asleep w (opened who vci m F C x number ∷ h) e = asleep w h e
+asleep w (closed who vci number ∷ h) e = asleep w h e
 asleep w (ran cell a out ∷ h) e =
     let u = unserved h cell a out e in
     let x = not-served w h cell a out (u .0) in
@@ -136,39 +138,39 @@ at-first w r k e o =
       agrees = asleep w (r .events) e .1;
     }
 
-kept-after : (N z : ℕ) (raw : Bool) (kind : ℕ) (cells links calendar words : List ℕ)
-    → setup N z raw kind cells links calendar words .number ≡ 0
-    → (cs : List Call) → Kept N z kind (calls (runOf (setup N z raw kind cells links calendar words .state) []) cs)
+kept-after : (N z : ℕ) (a : Asked) (lent : State)
+    → setup N z a lent .number ≡ 0
+    → (cs : List Call) → Kept N z (a .kind) (calls (runOf (setup N z a lent .state) []) cs)
 kept-after = from-setup (λ N z kind r. Kept N z kind r) (λ N z kind r k. k)
 
 -- REQUEST (v)
 pub agreed : AgreedAlways
-agreed N z raw kind cells links calendar words e before v m F C none-served is-open after apart low =
-    let r = calls (runOf (setup N z raw kind cells links calendar words .state) []) before in
-    let w = watch N z kind v m F C in
+agreed N z a lent e before v m F C none-served is-open after apart low =
+    let r = calls (runOf (setup N z a lent .state) []) before in
+    let w = watch N z (a .kind) v m F C in
     all-calls w r after
-    (at-first w r (kept-after N z raw kind cells links calendar words e before) none-served is-open) apart low .agrees
+    (at-first w r (kept-after N z a lent e before) none-served is-open) apart low .agrees
 
 -- and of one connection alone
-only-slots : (z v : ℕ) (lent : List (List ℕ)) → All (Apart z v) (map onSlot lent)
+only-slots : (z v : ℕ) (cells : List (List ℕ)) → All (Apart z v) (map onSlot cells)
 only-slots z v [] = tt
-only-slots z v (cell ∷ lent) = (tt, only-slots z v lent)
+only-slots z v (cell ∷ cells) = (tt, only-slots z v cells)
 
 -- the number under which the first open is noted
-open-noted : (N z : ℕ) (raw : Bool) (kind : ℕ) (cells links calendar words : List ℕ)
-    → setup N z raw kind cells links calendar words .number ≡ 0
-    → (name : Name) → numberIn (setup N z raw kind cells links calendar words .state .ctl .v) name ≡ numberIn z name
+open-noted : (N z : ℕ) (a : Asked) (lent : State)
+    → setup N z a lent .number ≡ 0
+    → (name : Name) → numberIn (setup N z a lent .state .ctl .v) name ≡ numberIn z name
 unfolding calls
-open-noted N z raw kind cells links calendar words e name =
-    ap (λ (v : ℕ). numberIn v name) (kept-after N z raw kind cells links calendar words e [] .inv .stage .v-is)
+open-noted N z a lent e name =
+    ap (λ (v : ℕ). numberIn v name) (kept-after N z a lent e [] .inv .stage .v-is)
 
 pub agreed-one-connection : AgreedOneConnection
-unfolding call calls served openingOf
-agreed-one-connection N z raw kind cells links calendar words e name m F C zero lent low =
-    agreed N z raw kind cells links calendar words e (onOpenWith name m F C noSecond ∷ []) (numberIn z name) m F C refl
+unfolding call callAt slot calls served openingOf
+agreed-one-connection N z a lent e who name m F C zero cells low =
+    agreed N z a lent e (onOpenWith who name m F C noSecond ∷ []) (numberIn z name) m F C refl
     (rw (
       eq-eqb _ 0 (zero .0),
-      eq-eqb (numberIn (setup N z raw kind cells links calendar words .state .ctl .v) name) (numberIn z name)
-          (open-noted N z raw kind cells links calendar words e name),
+      eq-eqb (numberIn (setup N z a lent .state .ctl .v) name) (numberIn z name)
+          (open-noted N z a lent e name),
     ) refl)
-    (map onSlot lent) (only-slots z (numberIn z name) lent) low
+    (map onSlot cells) (only-slots z (numberIn z name) cells) low

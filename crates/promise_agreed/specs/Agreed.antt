@@ -26,8 +26,9 @@ use Rattle.meaning.specs.declared.Answer.{Answer}
 use Rattle.meaning.specs.Plain.{if_then_else_, _=?_}
 use Rattle.meaning.specs.Numbers.{slotNumbers, accepted}
 use Rattle.meaning.specs.Header.{headerAt, Name, numberIn, connection, namesConnection}
+use Rattle.meaning.specs.State.{State}
 use Rattle.meaning.specs.Words.{noSecond}
-use Rattle.meaning.specs.Calls.{setup}
+use Rattle.meaning.specs.Calls.{Asked, setup}
 use Rattle.meaning_runs.specs.Run.{Call, onOpenWith, onClose, onSlot, Event, opened, closed, ran, numberOf, runOf, call, calls, served}
 use Rattle.meaning_runs.specs.Leak.{Opening, newOpening, dueTime, openingOf}
 use Rattle.theory_queues.specs.Queue.{All}
@@ -58,8 +59,8 @@ ask w s t = timed s (w .N) (w .m) (w .F) (w .C) t
 
 unfoldable pub engineAfter : Watched → List Event → Tat
 engineAfter w [] = notStarted
-engineAfter w (opened vci m F C x number ∷ h) = engineAfter w h
-engineAfter w (closed vci number ∷ h) = engineAfter w h
+engineAfter w (opened who vci m F C x number ∷ h) = engineAfter w h
+engineAfter w (closed who vci number ∷ h) = engineAfter w h
 engineAfter w (ran cell a out ∷ h) =
     if isFor w cell a then ask w (engineAfter w h) (served h) .tat else engineAfter w h
 
@@ -74,35 +75,35 @@ pub record Same (w : Watched) (h : List Event) (a : Answer) (r : Timed) : Type 0
 
 unfoldable pub Agrees : Watched → List Event → Type 0
 Agrees w [] = Unit {0}
-Agrees w (opened vci m F C x number ∷ h) = Agrees w h
-Agrees w (closed vci number ∷ h) = Agrees w h
+Agrees w (opened who vci m F C x number ∷ h) = Agrees w h
+Agrees w (closed who vci number ∷ h) = Agrees w h
 Agrees w (ran cell a out ∷ h) =
     Agrees w h × (isFor w cell a ≡ true → Same w h a (ask w (engineAfter w h) (served h)))
 
 abbrev pub Apart : ℕ → ℕ → Call → Type 0
-Apart z v (onOpenWith name m F C x) = numberIn z name ≢ v
-Apart z v (onClose name) = numberIn z name ≢ v
+Apart z v (onOpenWith who name m F C x) = numberIn z name ≢ v
+Apart z v (onClose who name) = numberIn z name ≢ v
 Apart z v (onSlot cell) = Unit {0}
 
 -- Whatever else is called, also for other connections: before the first slot v is open, and no later call opens or closes it.
 abbrev pub AgreedAlways : Type 0
-AgreedAlways = (N z : ℕ) (raw : Bool) (kind : ℕ) (cells links calendar words : List ℕ)
-    → setup N z raw kind cells links calendar words .number ≡ 0
+AgreedAlways = (N z : ℕ) (a : Asked) (lent : State)
+    → setup N z a lent .number ≡ 0
     → (before : List Call) (v m F C : ℕ)
-    → let r = calls (runOf (setup N z raw kind cells links calendar words .state) []) before in
+    → let r = calls (runOf (setup N z a lent .state) []) before in
     served (r .events) ≡ 0
     → openingOf v (r .events) ≡ some (newOpening m F C noSecond)
     → (after : List Call) → All (Apart z v) after
     → served (calls r after .events) ≤ slotNumbers
-    → Agrees (watch N z kind v m F C) (calls r after .events)
+    → Agrees (watch N z (a .kind) v m F C) (calls r after .events)
 
 -- The request's own case: setup, one open that answers 0, then slots and nothing else.
 abbrev pub AgreedOneConnection : Type 0
-AgreedOneConnection = (N z : ℕ) (raw : Bool) (kind : ℕ) (cells links calendar words : List ℕ)
-    → setup N z raw kind cells links calendar words .number ≡ 0
-    → (name : Name) (m F C : ℕ)
-    → let r = call (runOf (setup N z raw kind cells links calendar words .state) []) (onOpenWith name m F C noSecond) in
+AgreedOneConnection = (N z : ℕ) (a : Asked) (lent : State)
+    → setup N z a lent .number ≡ 0
+    → (who : ℕ) (name : Name) (m F C : ℕ)
+    → let r = call (runOf (setup N z a lent .state) []) (onOpenWith who name m F C noSecond) in
     All (λ e. numberOf e ≡ 0) (r .events)
-    → (lent : List (List ℕ))
-    → served (calls r (map onSlot lent) .events) ≤ slotNumbers
-    → Agrees (watch N z kind (numberIn z name) m F C) (calls r (map onSlot lent) .events)
+    → (cells : List (List ℕ))
+    → served (calls r (map onSlot cells) .events) ≤ slotNumbers
+    → Agrees (watch N z (a .kind) (numberIn z name) m F C) (calls r (map onSlot cells) .events)

@@ -14,7 +14,7 @@ use Rattle.meaning.specs.Numbers.{nothing, unknown, dropped, letsIn}
 use Rattle.meaning.specs.Header.{Header, headerAt, clpIn, noUserCell, connection, namesConnection}
 use Rattle.meaning.specs.Work.{Work}
 use Rattle.meaning.specs.Slot.{slot}
-use Rattle.meaning_runs.specs.Run.{Call, onOpenWith, onClose, onSlot, Event, opened, closed, ran, Run, letIn, call, calls, served}
+use Rattle.meaning_runs.specs.Run.{Call, onOpenWith, onClose, onSlot, Event, opened, closed, ran, Run, letIn, callAt, call, calls, served}
 use Rattle.meaning_runs.specs.Leak.{Opening, openingOf}
 use Rattle.meaning_runs.specs.Judged.{Judged, judgedOf, judgedUnder, judgedBy, judgedAs}
 use Rattle.theory_invariant.proofs.CheckLaws.{slot-refused}
@@ -68,8 +68,8 @@ judged-open kind z h a = go (a .dropped)
 -- ── of a run ──
 abbrev pub AcceptedOpen : List Event → Type 0
 AcceptedOpen [] = Unit {0}
-AcceptedOpen (opened vci m F C x number ∷ h) = AcceptedOpen h
-AcceptedOpen (closed vci number ∷ h) = AcceptedOpen h
+AcceptedOpen (opened who vci m F C x number ∷ h) = AcceptedOpen h
+AcceptedOpen (closed who vci number ∷ h) = AcceptedOpen h
 AcceptedOpen (ran cell a out ∷ h) = (letsIn (a .verdict) ≡ true → IsOpen (openingOf (a .vci) h)) × AcceptedOpen h
 
 module _ (N z kind : ℕ) where
@@ -94,9 +94,9 @@ module _ (N z kind : ℕ) where
           ∙ n)
 
   call-open : (r : Run) (c : Call) → Kept N z kind r → AcceptedOpen (r .events) → AcceptedOpen (call r c .events)
-  unfolding call
-  call-open r (onOpenWith v m F C x) k p = p
-  call-open r (onClose v) k p = p
+  unfolding call callAt slot
+  call-open r (onOpenWith who v m F C x) k p = p
+  call-open r (onClose who v) k p = p
   call-open r (onSlot cell) k p = (slot-open r cell k, p)
 
   pub calls-open : (r : Run) (cs : List Call) → Kept N z kind r → AcceptedOpen (r .events) → AcceptedOpen (calls r cs .events)

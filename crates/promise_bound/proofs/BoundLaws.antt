@@ -53,15 +53,15 @@ few-between N m F x w n s t p q low1 lowF apart late early from to =
 -- ── the rules that each open kept to ──
 abbrev pub OpensObey : List Event → Type 0
 OpensObey [] = Unit {0}
-OpensObey (opened vci m F C x number ∷ h) = (number ≡ 0 → 2 ^ m ≤ F) × OpensObey h
-OpensObey (closed vci number ∷ h) = OpensObey h
+OpensObey (opened who vci m F C x number ∷ h) = (number ≡ 0 → 2 ^ m ≤ F) × OpensObey h
+OpensObey (closed who vci number ∷ h) = OpensObey h
 OpensObey (ran cell a out ∷ h) = OpensObey h
 
-obey-of : (later before : List Event) (v m F C : ℕ) (x : Second) → OpensObey (later ++ (opened v m F C x 0 ∷ before)) → 2 ^ m ≤ F
-obey-of [] before v m F C x o = o .0 refl
-obey-of (opened w n G D y number ∷ later) before v m F C x o = obey-of later before v m F C x (o .1)
-obey-of (closed w number ∷ later) before v m F C x o = obey-of later before v m F C x o
-obey-of (ran cell a out ∷ later) before v m F C x o = obey-of later before v m F C x o
+obey-of : (later before : List Event) (who v m F C : ℕ) (x : Second) → OpensObey (later ++ (opened who v m F C x 0 ∷ before)) → 2 ^ m ≤ F
+obey-of [] before who v m F C x o = o .0 refl
+obey-of (opened whose w n G D y number ∷ later) before who v m F C x o = obey-of later before who v m F C x (o .1)
+obey-of (closed whose w number ∷ later) before who v m F C x o = obey-of later before who v m F C x o
+obey-of (ran cell a out ∷ later) before who v m F C x o = obey-of later before who v m F C x o
 
 -- ── of one opening ──
 pub in-window : (x w : ℕ) (d : Departure) → inWindow x w d ≡ true → (x ≤ d .slot) × (d .slot < x + w)
@@ -76,10 +76,10 @@ leaving-is x w (d ∷ ds) = ap (λ (n : ℕ). (if inWindow x w d then 1 else 0) 
 
 module _ (N z kind : ℕ) (h : List Event) (s : State) (d : Demand3 N z kind h s) (v m F C : ℕ) (o : OneOpening v m F C h) where
   abbrev lasted : List Event
-  lasted = o .during ++ (opened v m F C (o .second) 0 ∷ o .before)
+  lasted = o .during ++ (opened (o .operator) v m F C (o .second) 0 ∷ o .before)
 
   under : Under v m F C (o .second) (first o) lasted
-  under = of-opening v m F C (o .second) (o .during) (o .before) (o .lasts)
+  under = of-opening v m F C (o .second) (o .operator) (o .during) (o .before) (o .lasts)
 
   -- later cells leave them as they are
   cell-is : (k : ℕ) → k < past o → cellAt v k h ≡ cellAt v k lasted
@@ -196,5 +196,5 @@ bounded N z kind h s lowN obey line every d =
   where
     rules : (v m F C : ℕ) → OneOpening v m F C h → 2 ^ m ≤ F
     rules v m F C o =
-        obey-of (o .later ++ o .during) (o .before) v m F C (o .second)
-        (subst OpensObey (o .is ∙ sym (append-assoc (o .later) (o .during) (opened v m F C (o .second) 0 ∷ o .before))) obey)
+        obey-of (o .later ++ o .during) (o .before) (o .operator) v m F C (o .second)
+        (subst OpensObey (o .is ∙ sym (append-assoc (o .later) (o .during) (opened (o .operator) v m F C (o .second) 0 ∷ o .before))) obey)

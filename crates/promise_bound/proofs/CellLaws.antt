@@ -71,13 +71,13 @@ module _ (v : ℕ) where
           ∙ append-nil (ofConnection vciOf v (cellsIn h))
       go false y = refl
 
-  pub cells-open : (h : List Event) (u m F C : ℕ) (x : Second) (number : ℕ) → cellsOf v (opened u m F C x number ∷ h) ≡ cellsOf v h
+  pub cells-open : (h : List Event) (who u m F C : ℕ) (x : Second) (number : ℕ) → cellsOf v (opened who u m F C x number ∷ h) ≡ cellsOf v h
   unfolding cellsOf cellsIn
-  cells-open h u m F C x number = refl
+  cells-open h who u m F C x number = refl
 
-  pub cells-close : (h : List Event) (u number : ℕ) → cellsOf v (closed u number ∷ h) ≡ cellsOf v h
+  pub cells-close : (h : List Event) (who u number : ℕ) → cellsOf v (closed who u number ∷ h) ≡ cellsOf v h
   unfolding cellsOf cellsIn
-  cells-close h u number = refl
+  cells-close h who u number = refl
 
   -- ── later events only add cells ──
   pub record Grown (l m : List Cell) : Type 0 where
@@ -95,9 +95,9 @@ module _ (v : ℕ) where
       }
 
   grown-once : (e : Event) (h : List Event) → Grown (cellsOf v h) (cellsOf v (e ∷ h))
-  grown-once (opened u m F C x number) h =
-      same (cellsOf v h) (cellsOf v (opened u m F C x number ∷ h)) (cells-open h u m F C x number)
-  grown-once (closed u number) h = same (cellsOf v h) (cellsOf v (closed u number ∷ h)) (cells-close h u number)
+  grown-once (opened who u m F C x number) h =
+      same (cellsOf v h) (cellsOf v (opened who u m F C x number ∷ h)) (cells-open h who u m F C x number)
+  grown-once (closed who u number) h = same (cellsOf v h) (cellsOf v (closed who u number ∷ h)) (cells-close h who u number)
   grown-once (ran octets a out) h = go (accepts v a) refl
     where
       go : (b : Bool) → accepts v a ≡ b → Grown (cellsOf v h) (cellsOf v (ran octets a out ∷ h))

@@ -24,13 +24,14 @@ use Rattle.promise_bound.proofs.AcceptedLaws.{IsOpen, AcceptedOpen}
 
 -- ── an open connection was opened ──
 record Found (v : ℕ) (h : List Event) : Type 0 where
+  operator : ℕ
   m : ℕ
   F : ℕ
   C : ℕ
   second : Second
   before : List Event
   during : List Event
-  is : h ≡ during ++ (opened v m F C second 0 ∷ before)
+  is : h ≡ during ++ (opened operator v m F C second 0 ∷ before)
   lasts : Lasts v during
 
 module _ (v : ℕ) where
@@ -38,6 +39,7 @@ module _ (v : ℕ) where
       → Found v (e ∷ h)
   found-more e h f l =
       record {
+        operator = f .operator;
         m = f .m;
         F = f .F;
         C = f .C;
@@ -63,29 +65,30 @@ module _ (v : ℕ) where
   found : (h : List Event) → IsOpen (openingOf v h) → Found v h
   unfolding openingOf
   found [] o = absurd o
-  found (opened u m F C x number ∷ h) o = go (number =? 0 && u =? v) refl (λ y. found h y) o
+  found (opened who u m F C x number ∷ h) o = go (number =? 0 && u =? v) refl (λ y. found h y) o
     where
       go : (b : Bool) → number =? 0 && u =? v ≡ b → (IsOpen (openingOf v h) → Found v h)
-          → IsOpen (if b then some (newOpening m F C x) else openingOf v h) → Found v (opened u m F C x number ∷ h)
+          → IsOpen (if b then some (newOpening m F C x) else openingOf v h) → Found v (opened who u m F C x number ∷ h)
       go true e f y =
           record {
+            operator = who;
             m = m;
             F = F;
             C = C;
             second = x;
             before = h;
             during = [];
-            is = ap (λ (n : ℕ). opened u m F C x n ∷ h) (eqb-true number 0 (and-left (number =? 0) (u =? v) e))
-                ∙ ap (λ (w : ℕ). opened w m F C x 0 ∷ h) (eqb-true u v (and-right (number =? 0) (u =? v) e));
+            is = ap (λ (n : ℕ). opened who u m F C x n ∷ h) (eqb-true number 0 (and-left (number =? 0) (u =? v) e))
+                ∙ ap (λ (w : ℕ). opened who w m F C x 0 ∷ h) (eqb-true u v (and-right (number =? 0) (u =? v) e));
             lasts = tt;
           }
-      go false e f y = found-more (opened u m F C x number) h (f y) (λ during l. (unless number u e, l))
-  found (closed u number ∷ h) o = go (number =? 0 && u =? v) refl (λ y. found h y) o
+      go false e f y = found-more (opened who u m F C x number) h (f y) (λ during l. (unless number u e, l))
+  found (closed who u number ∷ h) o = go (number =? 0 && u =? v) refl (λ y. found h y) o
     where
       go : (b : Bool) → number =? 0 && u =? v ≡ b → (IsOpen (openingOf v h) → Found v h)
-          → IsOpen (if b then none else openingOf v h) → Found v (closed u number ∷ h)
+          → IsOpen (if b then none else openingOf v h) → Found v (closed who u number ∷ h)
       go true e f y = absurd y
-      go false e f y = found-more (closed u number) h (f y) (λ during l. (unless number u e, l))
+      go false e f y = found-more (closed who u number) h (f y) (λ during l. (unless number u e, l))
   found (ran cell a out ∷ h) o =
       found-more (ran cell a out) h (found h (was-open (served h) (clpIn cell) (a .verdict) (accepts v a) (openingOf v h) o)) (λ during l. l)
 
@@ -98,6 +101,7 @@ module _ (v : ℕ) where
         F = f .F;
         C = f .C;
         opening = record {
+          operator = o .operator;
           second = o .second;
           before = o .before;
           during = o .during;
@@ -117,6 +121,7 @@ module _ (v : ℕ) where
         F = f .F;
         C = f .C;
         opening = record {
+          operator = f .operator;
           second = f .second;
           before = f .before;
           during = ran cell a out ∷ f .during;
@@ -129,8 +134,8 @@ module _ (v : ℕ) where
           e,
           ap (λ l. length (cellsOf v l)) (f .is),
           ap length (g .is),
-          length-append (cellsOf v (opened v (f .m) (f .F) (f .C) (f .second) 0 ∷ f .before)) (g .rest),
-          ap length (cells-open v (f .before) v (f .m) (f .F) (f .C) (f .second) 0),
+          length-append (cellsOf v (opened (f .operator) v (f .m) (f .F) (f .C) (f .second) 0 ∷ f .before)) (g .rest),
+          ap length (cells-open v (f .before) (f .operator) v (f .m) (f .F) (f .C) (f .second) 0),
         );
         below = omega (
           arith,
@@ -141,9 +146,9 @@ module _ (v : ℕ) where
         );
       }
     where
-      g : Grown v (cellsOf v (opened v (f .m) (f .F) (f .C) (f .second) 0 ∷ f .before))
-          (cellsOf v (f .during ++ (opened v (f .m) (f .F) (f .C) (f .second) 0 ∷ f .before)))
-      g = grown v (f .during) (opened v (f .m) (f .F) (f .C) (f .second) 0 ∷ f .before)
+      g : Grown v (cellsOf v (opened (f .operator) v (f .m) (f .F) (f .C) (f .second) 0 ∷ f .before))
+          (cellsOf v (f .during ++ (opened (f .operator) v (f .m) (f .F) (f .C) (f .second) 0 ∷ f .before)))
+      g = grown v (f .during) (opened (f .operator) v (f .m) (f .F) (f .C) (f .second) 0 ∷ f .before)
 
   nothing-yet : length (cellsOf v []) ≡ 0
   unfolding cellsOf cellsIn
@@ -158,11 +163,11 @@ module _ (v : ℕ) where
 
   pub every : (h : List Event) → AcceptedOpen h → (k : ℕ) → k < length (cellsOf v h) → OfOpening v k h
   every [] p k low = absurd (omega (arith, low, nothing-yet))
-  every (opened u m F C x number ∷ h) p k low =
-      of-later k (opened u m F C x number) h
-      (every h p k (omega (arith, low, ap length (cells-open v h u m F C x number))))
-  every (closed u number ∷ h) p k low =
-      of-later k (closed u number) h (every h p k (omega (arith, low, ap length (cells-close v h u number))))
+  every (opened who u m F C x number ∷ h) p k low =
+      of-later k (opened who u m F C x number) h
+      (every h p k (omega (arith, low, ap length (cells-open v h who u m F C x number))))
+  every (closed who u number ∷ h) p k low =
+      of-later k (closed who u number) h (every h p k (omega (arith, low, ap length (cells-close v h who u number))))
   every (ran cell a out ∷ h) p k low = go (accepts v a) refl (decLt k (length (cellsOf v h))) (λ y. every h (p .1) k y)
     where
       go : (b : Bool) → accepts v a ≡ b → Dec (k < length (cellsOf v h)) → (k < length (cellsOf v h) → OfOpening v k h)

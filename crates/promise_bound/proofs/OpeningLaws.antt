@@ -35,15 +35,15 @@ module _ (v : ℕ) where
       go (yes e) = rw (ne-eqb number 0 (λ y. omega (arith, ne e, y)))
       go (no e) = rw (ne-eqb w v e) (fails (number =? 0))
 
-  pub still-open : (h : List Event) (w m F C : ℕ) (x : Second) (number : ℕ) → Stays v w number
-      → openingOf v (opened w m F C x number ∷ h) ≡ openingOf v h
+  pub still-open : (h : List Event) (who w m F C : ℕ) (x : Second) (number : ℕ) → Stays v w number
+      → openingOf v (opened who w m F C x number ∷ h) ≡ openingOf v h
   unfolding openingOf
-  still-open h w m F C x number ne = rw (not-both number w ne)
+  still-open h who w m F C x number ne = rw (not-both number w ne)
 
-  pub still-closed : (h : List Event) (w number : ℕ) → Stays v w number
-      → openingOf v (closed w number ∷ h) ≡ openingOf v h
+  pub still-closed : (h : List Event) (who w number : ℕ) → Stays v w number
+      → openingOf v (closed who w number ∷ h) ≡ openingOf v h
   unfolding openingOf
-  still-closed h w number ne = rw (not-both number w ne)
+  still-closed h who w number ne = rw (not-both number w ne)
 
   slot-of : (o : Opening) (t : ℕ) → dueSlot o t ≡ dueTime o t / parts o
   unfolding dueSlot
@@ -56,14 +56,14 @@ module _ (v : ℕ) where
     pub spaced : Spaced F (2 ^ m) a (earliestAfter F previous) (cellsOf v h)
 
   module _ (m F C : ℕ) (x : Second) where
-    under-start : (h : List Event) → Under m F C x (length (cellsOf v h)) (opened v m F C x 0 ∷ h)
+    under-start : (who : ℕ) (h : List Event) → Under m F C x (length (cellsOf v h)) (opened who v m F C x 0 ∷ h)
     unfolding openingOf
-    under-start h =
+    under-start who h =
         record {
           previous = none;
           sustained = none;
           is = rw (eq-eqb v v refl);
-          spaced = rw (cells-open v h v m F C x 0) (spaced-none F (2 ^ m) 0 (cellsOf v h));
+          spaced = rw (cells-open v h who v m F C x 0) (spaced-none F (2 ^ m) 0 (cellsOf v h));
         }
 
     module _ (a : ℕ) where
@@ -108,16 +108,16 @@ module _ (v : ℕ) where
 
       pub under : (during h : List Event) → Lasts v during → Under m F C x a h → Under m F C x a (during ++ h)
       under [] h l u = u
-      under (opened w n G D y number ∷ during) h l u =
-          under-same (during ++ h) (opened w n G D y number ∷ (during ++ h)) (under during h (l .1) u)
-          (still-open (during ++ h) w n G D y number (l .0)) (cells-open v (during ++ h) w n G D y number)
-      under (closed w number ∷ during) h l u =
-          under-same (during ++ h) (closed w number ∷ (during ++ h)) (under during h (l .1) u)
-          (still-closed (during ++ h) w number (l .0)) (cells-close v (during ++ h) w number)
+      under (opened who w n G D y number ∷ during) h l u =
+          under-same (during ++ h) (opened who w n G D y number ∷ (during ++ h)) (under during h (l .1) u)
+          (still-open (during ++ h) who w n G D y number (l .0)) (cells-open v (during ++ h) who w n G D y number)
+      under (closed who w number ∷ during) h l u =
+          under-same (during ++ h) (closed who w number ∷ (during ++ h)) (under during h (l .1) u)
+          (still-closed (during ++ h) who w number (l .0)) (cells-close v (during ++ h) who w number)
       under (ran octets b out ∷ during) h l u = under-ran (during ++ h) octets b out (under during h l u)
 
     -- of the whole of an opening
-    pub of-opening : (during before : List Event) → Lasts v during
-        → Under m F C x (length (cellsOf v before)) (during ++ (opened v m F C x 0 ∷ before))
-    of-opening during before l =
-        under (length (cellsOf v before)) during (opened v m F C x 0 ∷ before) l (under-start before)
+    pub of-opening : (who : ℕ) (during before : List Event) → Lasts v during
+        → Under m F C x (length (cellsOf v before)) (during ++ (opened who v m F C x 0 ∷ before))
+    of-opening who during before l =
+        under (length (cellsOf v before)) during (opened who v m F C x 0 ∷ before) l (under-start who before)

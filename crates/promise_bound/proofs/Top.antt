@@ -12,8 +12,9 @@ use Rattle.meaning.specs.State.{State}
 use Rattle.meaning.specs.Bucket.{bucketOf, obeysRules}
 use Rattle.meaning.specs.Header.{Name, numberIn}
 use Rattle.meaning.specs.Words.{Second, connectionAt, writeConnection, secondObeys, openedConnection}
-use Rattle.meaning.specs.Calls.{kindOf, optionsOf, calledOf, sharedRefusal, setup, openCall}
-use Rattle.meaning_runs.specs.Run.{Call, onOpenWith, onClose, onSlot, Run, runOf, call, calls, freshRun}
+use Rattle.meaning.specs.Calls.{Asked, chosen, calledOf, sharedRefusal, setup, openCall}
+use Rattle.meaning.specs.Slot.{slot}
+use Rattle.meaning_runs.specs.Run.{Call, onOpenWith, onClose, onSlot, Run, runOf, callAt, call, calls, freshRun}
 use Rattle.theory_table.proofs.LeakLaws.{rules-are}
 use Rattle.theory_invariant.proofs.FreshLaws.{setup-fresh}
 use Rattle.theory_invariant.proofs.RunLaws.{Kept, calls-kept, run-kept}
@@ -40,18 +41,18 @@ opens-by k b c d words after = go (k =? 0) refl b c
     go true e false false n = absurd (omega (arith, n))
     go true e false true n = refl
 
-opens : (r : Record) (words : List ℕ) (name : Name) (m F C : ℕ) (x : Second) → openCall r words name m F C x .number ≡ 0 → 2 ^ m ≤ F
+opens : (r : Record) (words : List ℕ) (who : ℕ) (name : Name) (m F C : ℕ) (x : Second) → openCall r words who name m F C x .number ≡ 0 → 2 ^ m ≤ F
 unfolding openCall
-opens r words name m F C x e =
+opens r words who name m F C x e =
     let v = numberIn (r .v) name in
     rules-are (r .n) (bucketOf m F C 0)
-    (opens-by (sharedRefusal r words name) (connectionAt words v .opened =? 1) (obeysRules (r .n) (bucketOf m F C 0))
+    (opens-by (sharedRefusal r words who name) (connectionAt words v .opened =? 1) (obeysRules (r .n) (bucketOf m F C 0))
     (secondObeys (bucketOf (x .m) (x .F) (x .C) 0) (x .tag)) words (writeConnection words v (openedConnection (r .t) (bucketOf m F C 0) x)) e) .F-low
 
 call-obey : (r : Run) (c : Call) → OpensObey (r .events) → OpensObey (call r c .events)
-unfolding call
-call-obey r (onOpenWith name m F C x) o = (opens (r .state .ctl) (r .state .words) name m F C x, o)
-call-obey r (onClose name) o = o
+unfolding call callAt slot
+call-obey r (onOpenWith who name m F C x) o = (opens (r .state .ctl) (r .state .words) who name m F C x, o)
+call-obey r (onClose who name) o = o
 call-obey r (onSlot cell) o = o
 
 calls-obey : (r : Run) (cs : List Call) → OpensObey (r .events) → OpensObey (calls r cs .events)
@@ -60,20 +61,20 @@ calls-obey r [] o = o
 calls-obey r (c ∷ cs) o = calls-obey (call r c) cs (call-obey r c o)
 
 -- after a setup that answered 0 the invariant of runs holds
-starts : (N z : ℕ) (raw : Bool) (kind : ℕ) (cells links calendar words : List ℕ) → setup N z raw kind cells links calendar words .number ≡ 0
-    → Kept N z kind (runOf (setup N z raw kind cells links calendar words .state) [])
+starts : (N z : ℕ) (a : Asked) (lent : State) → setup N z a lent .number ≡ 0
+    → Kept N z (a .kind) (runOf (setup N z a lent .state) [])
 unfolding freshRun calls
-starts N z raw kind cells links calendar words e =
-    let fresh = setup-fresh N z raw kind cells links calendar words e in
-    let o = optionsOf raw (kindOf kind) in
-    subst₂ (λ (k : ℕ) (s : State). Kept N z k (runOf s [])) (fresh .2) (sym (fresh .1)) (run-kept N z (fresh .0) o [])
+starts N z a lent e =
+    let fresh = setup-fresh N z a lent e in
+    let o = chosen a in
+    subst₂ (λ (k : ℕ) (s : State). Kept N z k (runOf s [])) (fresh .2) (sym (fresh .1)) (run-kept N z o (fresh .0) [])
 
 pub bound : BoundHolds
-bound N z raw kind cells links calendar words e cs =
-    let start = runOf (setup N z raw kind cells links calendar words .state) [] in
-    let kept = starts N z raw kind cells links calendar words e in
+bound N z a lent e cs =
+    let start = runOf (setup N z a lent .state) [] in
+    let kept = starts N z a lent e in
     let r = calls start cs in
-    bounded N z kind (r .events) (r .state) (kept .inv .stage .ranges .N-low) (calls-obey start cs tt)
-    (whole-line N z kind (r .events) (r .state) (calls-kept N z kind start cs kept .inv))
-    (λ v k low. every v (r .events) (calls-open N z kind start cs kept tt) k low)
-    (demand3 N z raw kind cells links calendar words e cs)
+    bounded N z (a .kind) (r .events) (r .state) (kept .inv .stage .ranges .N-low) (calls-obey start cs tt)
+    (whole-line N z (a .kind) (r .events) (r .state) (calls-kept N z (a .kind) start cs kept .inv))
+    (λ v k low. every v (r .events) (calls-open N z (a .kind) start cs kept tt) k low)
+    (demand3 N z a lent e cs)

@@ -25,7 +25,8 @@ use mathlib.Core.Logic.{_≢_}
 use lib.ListN.{length, take, drop}
 use Rattle.meaning.specs.Plain.{if_then_else_, _<?_, _≤?_}
 use Rattle.meaning.specs.Words.{Second}
-use Rattle.meaning.specs.Calls.{setup}
+use Rattle.meaning.specs.State.{State}
+use Rattle.meaning.specs.Calls.{Asked, setup}
 use Rattle.meaning_runs.specs.Run.{Call, Event, opened, closed, ran, runOf, calls}
 use Rattle.meaning_runs.specs.Seen.{Departure, departuresIn, cellsOf, departuresOf, cellAt}
 
@@ -35,23 +36,24 @@ Stays v vci number = vci ≡ v → number ≢ 0
 
 abbrev pub Lasts : ℕ → List Event → Type 0
 Lasts v [] = Unit {0}
-Lasts v (opened vci m F C x number ∷ h) = Stays v vci number × Lasts v h
-Lasts v (closed vci number ∷ h) = Stays v vci number × Lasts v h
+Lasts v (opened who vci m F C x number ∷ h) = Stays v vci number × Lasts v h
+Lasts v (closed who vci number ∷ h) = Stays v vci number × Lasts v h
 Lasts v (ran cell a out ∷ h) = Lasts v h
 
 pub record OneOpening (v m F C : ℕ) (h : List Event) : Type 0 where
+  pub operator : ℕ
   pub second : Second
   pub before : List Event
   pub during : List Event
   pub later : List Event
-  pub is : h ≡ later ++ (during ++ (opened v m F C second 0 ∷ before))
+  pub is : h ≡ later ++ (during ++ (opened operator v m F C second 0 ∷ before))
   pub lasts : Lasts v during
 
 abbrev pub first : {v m F C : ℕ} {h : List Event} → OneOpening v m F C h → ℕ
 first {v} o = length (cellsOf v (o .before))
 
 abbrev pub past : {v m F C : ℕ} {h : List Event} → OneOpening v m F C h → ℕ
-past {v} {m} {F} {C} o = length (cellsOf v (o .during ++ (opened v m F C (o .second) 0 ∷ o .before)))
+past {v} {m} {F} {C} o = length (cellsOf v (o .during ++ (opened (o .operator) v m F C (o .second) 0 ∷ o .before)))
 
 abbrev pub gone : {v m F C : ℕ} {h : List Event} → OneOpening v m F C h → List Departure
 gone {v} {h = h} o = drop (first o) (take (past o) (departuresOf v h))
@@ -93,6 +95,6 @@ pub record Bound (N : ℕ) (h : List Event) : Type 0 where
 
 -- of every run from a fresh state
 abbrev pub BoundHolds : Type 0
-BoundHolds = (N z : ℕ) (raw : Bool) (kind : ℕ) (cells links calendar words : List ℕ)
-    → setup N z raw kind cells links calendar words .number ≡ 0
-    → (cs : List Call) → Bound N (calls (runOf (setup N z raw kind cells links calendar words .state) []) cs .events)
+BoundHolds = (N z : ℕ) (a : Asked) (lent : State)
+    → setup N z a lent .number ≡ 0
+    → (cs : List Call) → Bound N (calls (runOf (setup N z a lent .state) []) cs .events)

@@ -1,4 +1,4 @@
--- A burst after a run from a fresh state, whole: ranges and the four memories' lengths hold, so it is refused with 2 alone;
+-- A burst after a run from a fresh state, whole: ranges and the five memories' lengths hold, so it is refused with 2 alone;
 -- else it is its slots, and what it wrote reads back as their events.
 use Prim.Native.Nat.{ℕ, suc, _*_, _≤_}
 use mathlib.Core.Path.{_≡_, refl, ap, _∙_}
@@ -9,7 +9,7 @@ use native.Mathlib.Nat.{zero-add}
 use borrow.Author.Tests.{eq-eqb, eqb-true}
 use lib.ListN.{length, take, drop, length-drop}
 use Rattle.meaning.specs.Plain.{if_then_else_, _=?_}
-use Rattle.meaning.specs.Numbers.{octets, wordsIn}
+use Rattle.meaning.specs.Numbers.{octets, wordsIn, bitWords}
 use Rattle.meaning.specs.State.{State}
 use Rattle.meaning_runs.specs.Run.{onSlot, Run, runOf, calls}
 use Rattle.theory_queues.specs.Queue.{All}
@@ -114,6 +114,7 @@ module _ (arrivals sizes departures answers : List ℕ) where
           eq-eqb (length (r .state .links)) N (g .has .links-long),
           eq-eqb (length (r .state .calendar)) (2 * N) (g .has .calendar-long),
           eq-eqb (length (r .state .words)) (wordsIn z) (g .words-long),
+          eq-eqb (length (r .state .bits)) bitWords (g .has .bits-long),
         )
 
     whole : burst (r .state) arrivals sizes departures answers

@@ -12,7 +12,7 @@ use lib.Seq.{length-take-le, drop-drop}
 use Rattle.meaning.specs.Plain.{if_then_else_}
 use Rattle.meaning.specs.Work.{Work}
 use Rattle.meaning.specs.Slot.{slot}
-use Rattle.meaning_runs.specs.Run.{onSlot, Run, call, calls}
+use Rattle.meaning_runs.specs.Run.{onSlot, Run, callAt, call, calls}
 use Rattle.theory_invariant.proofs.CheckLaws.{slot-served}
 use Rattle.theory_invariant.proofs.RunLaws.{Kept, call-kept}
 use Rattle.promises.specs.Checked.{Lent}
@@ -33,7 +33,7 @@ module _ (N z kind : ℕ) where
   -- what a slot leaves to be shown
   pub slot-leaves : (r : Run) → Kept N z kind r → (cell : List ℕ) → Lent cell
       → (slot (r .state) cell .answer .number ≡ 0) × Shows (slot (r .state) cell .state .cells) (slot (r .state) cell .answer .space)
-  unfolding call
+  unfolding call callAt slot
   slot-leaves r k cell lent =
       let done = slot-served N z kind (r .events) (r .state) (k .inv) cell lent .number in (
         done,
@@ -92,7 +92,7 @@ module _ (N z kind : ℕ) where
       → length fa ≡ 6 * i → length a ≡ 6 * length sizes
       → slots arrivals sizes (stretchOf (r .state) (fd ++ d) (fa ++ a) 0 i)
       ≡ stretched r (lentTo arr (upTo sizes)) fd d fa a (if allFit sizes then 0 else 9) (i + length (lentTo arr (upTo sizes)))
-  unfolding slots upTo allFit lentTo handedOut answered calls call stopped
+  unfolding slots upTo allFit lentTo handedOut answered calls call callAt slot stopped
   slots-are arrivals [] r k fd d fa a arr i e1 e2 e3 e4 e5 e6 = rw (add-zero i)
   slots-are arrivals (size ∷ sizes) r k fd d fa a arr i e1 e2 e3 e4 e5 e6 =
       go (sizeFits size) refl

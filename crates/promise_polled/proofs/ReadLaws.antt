@@ -12,9 +12,10 @@ use Rattle.meaning.specs.Plain.{if_then_else_, _=?_}
 use Rattle.meaning.specs.Numbers.{octets, empty}
 use Rattle.meaning.specs.State.{State}
 use Rattle.meaning.specs.Work.{Work}
+use Rattle.meaning.specs.Bits.{lowestFree}
 use Rattle.meaning.specs.Slot.{slot}
 use Rattle.meaning.specs.Line.{lineCell}
-use Rattle.meaning_runs.specs.Run.{onSlot, Event, ran, Run, idle, shown, letIn, call, calls}
+use Rattle.meaning_runs.specs.Run.{onSlot, Event, ran, Run, idle, shown, letIn, callAt, call, calls}
 use Rattle.meaning_runs.proofs.ModeLaws.{raw-kept, mode-moved}
 use Rattle.theory_queues.specs.Queue.{All}
 use Rattle.theory_invariant.proofs.RunLaws.{Kept, call-kept}
@@ -49,7 +50,7 @@ module _ (N z kind : ℕ) where
   pub read-back : (cells : List (List ℕ)) → All Lent cells → (r : Run) → Kept N z kind r → (d a : List ℕ) → 53 * length cells ≤ length d
       → readBack (r .events) (throughs (r .state .ctl .raw) (r .state .ctl .mode) cells) (handedOut (r .state) cells d) (answered (r .state) cells a)
       ≡ calls r (map onSlot cells) .events
-  unfolding readBack throughs handedOut answered calls call
+  unfolding readBack throughs handedOut answered calls call callAt slot
   read-back [] lent r k d a room = refl
   read-back (cell ∷ cells) lent r k d a room =
       let s : State = r .state in
@@ -60,7 +61,7 @@ module _ (N z kind : ℕ) where
       let seen : List Event = ran (letIn s cell .cell) (w .answer) (shown w) ∷ r .events in
       one-read (r .events) (letIn s cell .cell) (throughs (s .ctl .raw) (letIn s cell .mode) cells) (w .answer) (outOf w d) rest more (shown w)
       (out-long w (gives .1) d (omega (arith, room))) (out-read w d rest (gives .1) (omega (arith, room)))
-      ∙ ap (λ (x : ℕ). readBack seen (throughs x (letIn s cell .mode) cells) rest more) (sym (raw-kept s cell))
-      ∙ ap (λ (x : ℕ). readBack seen (throughs (w .state .ctl .raw) x cells) rest more) (sym (mode-moved s cell (gives .0)))
+      ∙ ap (λ (x : ℕ). readBack seen (throughs x (letIn s cell .mode) cells) rest more) (sym (raw-kept (lowestFree (s .bits)) s cell))
+      ∙ ap (λ (x : ℕ). readBack seen (throughs (w .state .ctl .raw) x cells) rest more) (sym (mode-moved (lowestFree (s .bits)) s cell (gives .0)))
       ∙ read-back cells (lent .1) (call r (onSlot cell)) (call-kept N z kind r (onSlot cell) k) (drop 53 d) (drop 6 a)
       (rw (length-drop 53 d) (omega (arith, room)))

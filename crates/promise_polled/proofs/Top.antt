@@ -2,10 +2,9 @@
 -- invariant of runs.
 use Prim.Native.Nat.{ℕ}
 use mathlib.Core.Path.{_≡_, refl, sym, ap, _∙_, subst}
-use mathlib.Core.Bool.{Bool}
 use mathlib.Core.List.{List, [], _∷_, _++_}
 use Rattle.meaning.specs.State.{State}
-use Rattle.meaning.specs.Calls.{kindOf, optionsOf, freshState, setup}
+use Rattle.meaning.specs.Calls.{Asked, chosen, freshState, setup}
 use Rattle.meaning_runs.specs.Run.{Call, Run, runOf, call, calls, freshRun}
 use Rattle.theory_invariant.proofs.FreshLaws.{setup-fresh}
 use Rattle.theory_invariant.proofs.RunLaws.{Kept, calls-kept, run-kept}
@@ -49,41 +48,41 @@ module _ (N z kind : ℕ) where
             burst-is arrivals sizes departures answers N z kind (polls r ps) (polls-kept r k ps);
       }
 
-setup-kept : (N z : ℕ) (raw : Bool) (kind : ℕ) (cells links calendar words : List ℕ) → setup N z raw kind cells links calendar words .number ≡ 0
-    → Kept N z kind (runOf (setup N z raw kind cells links calendar words .state) [])
+setup-kept : (N z : ℕ) (a : Asked) (lent : State) → setup N z a lent .number ≡ 0
+    → Kept N z (a .kind) (runOf (setup N z a lent .state) [])
 unfolding freshRun calls
-setup-kept N z raw kind cells links calendar words e =
-    let fresh = setup-fresh N z raw kind cells links calendar words e in
-    subst (λ (s : State). Kept N z kind (runOf s [])) (sym (fresh .1))
-    (subst (λ (k : ℕ). Kept N z k (runOf (freshState N z (optionsOf raw (kindOf kind))) [])) (fresh .2)
-    (run-kept N z (fresh .0) (optionsOf raw (kindOf kind)) []))
+setup-kept N z a lent e =
+    let fresh = setup-fresh N z a lent e in
+    subst (λ (s : State). Kept N z (a .kind) (runOf s [])) (sym (fresh .1))
+    (subst (λ (k : ℕ). Kept N z k (runOf (freshState N z (chosen a)) [])) (fresh .2)
+    (run-kept N z (chosen a) (fresh .0) []))
 
 -- BURSTS OVER RUNS
 pub polled : PolledHolds
-polled N z raw kind cells links calendar words e ps =
-    polled-run N z kind (runOf (setup N z raw kind cells links calendar words .state) []) (setup-kept N z raw kind cells links calendar words e) ps
+polled N z a lent e ps =
+    polled-run N z (a .kind) (runOf (setup N z a lent .state) []) (setup-kept N z a lent e) ps
 
 -- so all theorems over runs hold of cards that poll
-pub runs-too : (P : ℕ → ℕ → Bool → ℕ → Run → Type 0) → RunsToo P
-runs-too P of N z raw kind cells links calendar words e ps =
-    subst (P N z raw kind) (sym (polled N z raw kind cells links calendar words e ps .same-run))
-    (of N z raw kind cells links calendar words e (allCalls ps))
+pub runs-too : (P : ℕ → ℕ → Asked → Run → Type 0) → RunsToo P
+runs-too P of N z a lent e ps =
+    subst (P N z a) (sym (polled N z a lent e ps .same-run))
+    (of N z a lent e (allCalls ps))
 
 -- DEMAND 3
-pub demand3-polled : OfPolledRuns (λ N z raw kind r. Demand3 N z kind (r .events) (r .state))
-demand3-polled = runs-too (λ N z raw kind r. Demand3 N z kind (r .events) (r .state)) demand3
+pub demand3-polled : OfPolledRuns (λ N z a r. Demand3 N z (a .kind) (r .events) (r .state))
+demand3-polled = runs-too (λ N z a r. Demand3 N z (a .kind) (r .events) (r .state)) demand3
 
 -- 3 is never given, and the audit says yes
-pub in-order-polled : OfPolledRuns (λ N z raw kind r. InOrder r)
-in-order-polled = runs-too (λ N z raw kind r. InOrder r) in-order
+pub in-order-polled : OfPolledRuns (λ N z a r. InOrder r)
+in-order-polled = runs-too (λ N z a r. InOrder r) in-order
 
 -- REQUESTS (ii) and (i)
-pub debt-polled : OfPolledRuns (λ N z raw kind r. Debt N z (r .events) (r .state) × ((more : List Call) → Refused z r more))
-debt-polled = runs-too (λ N z raw kind r. Debt N z (r .events) (r .state) × ((more : List Call) → Refused z r more)) debt-kept
+pub debt-polled : OfPolledRuns (λ N z a r. Debt N z (r .events) (r .state) × ((more : List Call) → Refused z r more))
+debt-polled = runs-too (λ N z a r. Debt N z (r .events) (r .state) × ((more : List Call) → Refused z r more)) debt-kept
 
-pub header-check-polled : OfPolledRuns (λ N z raw kind r. HeaderCheck raw r)
-header-check-polled = runs-too (λ N z raw kind r. HeaderCheck raw r) header-check
+pub header-check-polled : OfPolledRuns (λ N z a r. HeaderCheck (a .raw) r)
+header-check-polled = runs-too (λ N z a r. HeaderCheck (a .raw) r) header-check
 
 -- of paths too
-pub paths-polled : OfPolledRuns (λ N z raw kind r. Apart z kind r × PathOrder N z kind (r .events))
-paths-polled = runs-too (λ N z raw kind r. Apart z kind r × PathOrder N z kind (r .events)) paths-hold
+pub paths-polled : OfPolledRuns (λ N z a r. Apart z (a .kind) r × PathOrder N z (a .kind) (r .events))
+paths-polled = runs-too (λ N z a r. Apart z (a .kind) r × PathOrder N z (a .kind) (r .events)) paths-hold

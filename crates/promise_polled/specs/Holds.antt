@@ -6,10 +6,10 @@
 --   RunsToo P         == whatever P holds of every run holds of every run with bursts in it
 use Prim.Native.Nat.{ℕ}
 use mathlib.Core.Path.{_≡_}
-use mathlib.Core.Bool.{Bool}
 use mathlib.Core.List.{List, []}
 use lib.ListN.{length}
-use Rattle.meaning.specs.Calls.{setup}
+use Rattle.meaning.specs.State.{State}
+use Rattle.meaning.specs.Calls.{Asked, setup}
 use Rattle.meaning_runs.specs.Run.{Call, Run, runOf, calls}
 use Rattle.call_burst.specs.Burst.{burst}
 use Rattle.promise_polled.specs.Polled.{Poll, many, cellsServed, endsWith, asCalls, allCalls, handedOut, answered, polls}
@@ -33,20 +33,20 @@ pub record Polled (r : Run) (ps : List Poll) : Type 0 where
   pub next-burst : (arrivals sizes departures answers : List ℕ) → BurstIs (polls r ps) arrivals sizes departures answers
 
 abbrev pub PolledHolds : Type 0
-PolledHolds = (N z : ℕ) (raw : Bool) (kind : ℕ) (cells links calendar words : List ℕ)
-    → setup N z raw kind cells links calendar words .number ≡ 0
-    → (ps : List Poll) → Polled (runOf (setup N z raw kind cells links calendar words .state) []) ps
+PolledHolds = (N z : ℕ) (a : Asked) (lent : State)
+    → setup N z a lent .number ≡ 0
+    → (ps : List Poll) → Polled (runOf (setup N z a lent .state) []) ps
 
 -- of every run from a fresh state, and of every run with bursts in it
-abbrev pub OfRuns : (ℕ → ℕ → Bool → ℕ → Run → Type 0) → Type 0
-OfRuns P = (N z : ℕ) (raw : Bool) (kind : ℕ) (cells links calendar words : List ℕ)
-    → setup N z raw kind cells links calendar words .number ≡ 0
-    → (cs : List Call) → P N z raw kind (calls (runOf (setup N z raw kind cells links calendar words .state) []) cs)
+abbrev pub OfRuns : (ℕ → ℕ → Asked → Run → Type 0) → Type 0
+OfRuns P = (N z : ℕ) (a : Asked) (lent : State)
+    → setup N z a lent .number ≡ 0
+    → (cs : List Call) → P N z a (calls (runOf (setup N z a lent .state) []) cs)
 
-abbrev pub OfPolledRuns : (ℕ → ℕ → Bool → ℕ → Run → Type 0) → Type 0
-OfPolledRuns P = (N z : ℕ) (raw : Bool) (kind : ℕ) (cells links calendar words : List ℕ)
-    → setup N z raw kind cells links calendar words .number ≡ 0
-    → (ps : List Poll) → P N z raw kind (polls (runOf (setup N z raw kind cells links calendar words .state) []) ps)
+abbrev pub OfPolledRuns : (ℕ → ℕ → Asked → Run → Type 0) → Type 0
+OfPolledRuns P = (N z : ℕ) (a : Asked) (lent : State)
+    → setup N z a lent .number ≡ 0
+    → (ps : List Poll) → P N z a (polls (runOf (setup N z a lent .state) []) ps)
 
-abbrev pub RunsToo : (ℕ → ℕ → Bool → ℕ → Run → Type 0) → Type 0
+abbrev pub RunsToo : (ℕ → ℕ → Asked → Run → Type 0) → Type 0
 RunsToo P = OfRuns P → OfPolledRuns P

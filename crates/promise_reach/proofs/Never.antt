@@ -10,7 +10,8 @@ use lib.ListN.{length, take}
 use Rattle.meaning.specs.Plain.{_=?_}
 use Rattle.meaning.specs.Numbers.{octets}
 use Rattle.meaning.specs.State.{State}
-use Rattle.meaning.specs.Calls.{Options, kindNumber, setup}
+use Rattle.meaning.specs.Operators.{secondOperator}
+use Rattle.meaning.specs.Calls.{Asked, Options, askedFor, setup}
 use Rattle.meaning.specs.Slot.{slot}
 use Rattle.meaning_runs.specs.Run as runs
 use Rattle.promises.proofs.Top.{header-check}
@@ -26,10 +27,10 @@ unfolding runs.calls
 calls-then r [] c = refl
 calls-then r (d ∷ cs) c = calls-then (runs.call r d) cs c
 
-module _ (N z : ℕ) (raw : Bool) (kind : ℕ) (cells links calendar words : List ℕ)
-    (done : setup N z raw kind cells links calendar words .number ≡ 0) where
+module _ (N z : ℕ) (a : Asked) (lent : State)
+    (done : setup N z a lent .number ≡ 0) where
   run : List runs.Call → runs.Run
-  run cs = runs.calls (runs.runOf (setup N z raw kind cells links calendar words .state) []) cs
+  run cs = runs.calls (runs.runOf (setup N z a lent .state) []) cs
 
   run-then : (cs : List runs.Call) (c : runs.Call) → run (cs ++ (c ∷ [])) ≡ runs.call (run cs) c
   unfolding run
@@ -39,7 +40,7 @@ module _ (N z : ℕ) (raw : Bool) (kind : ℕ) (cells links calendar words : Lis
   slot-served : (pre : List runs.Call) (cell : List ℕ) → length cell =? 0 || length cell =? octets ≡ true
       → slot (run pre .state) cell .answer .number ≡ 0
   unfolding run
-  slot-served pre cell l = header-check N z raw kind cells links calendar words done pre .serves cell l
+  slot-served pre cell l = header-check N z a lent done pre .serves cell l
 
   -- the same call of a run
   same : (pre : List runs.Call) (s : State) (c : Call) (d : runs.Call) → s ≡ run pre .state
@@ -47,20 +48,20 @@ module _ (N z : ℕ) (raw : Bool) (kind : ℕ) (cells links calendar words : Lis
   same pre s c d e q = q ∙ sym (ap (λ (r : runs.Run). r .state) (run-then pre d))
 
   all-served : (cs : Calls) (pre : List runs.Call) (s : State) → s ≡ run pre .state → Later cs → AllServe s cs
-  unfolding stateAfter runs.call
+  unfolding stateAfter runs.call runs.callAt slot
   all-served finished pre s e l = omega arith
   all-served (stopped place) pre s e l = omega arith
   all-served (call (setUp N′ z′ o) rest) pre s e l = absurd (l .0)
   all-served (call (openConnection name m F C x) rest) pre s e l = (
     omega arith,
-    λ _. all-served rest (pre ++ (runs.onOpenWith name m F C x ∷ [])) _
-        (same pre s (openConnection name m F C x) (runs.onOpenWith name m F C x) e (ap (λ (st : State). stateAfter st (openConnection name m F C x)) e))
+    λ _. all-served rest (pre ++ (runs.onOpenWith secondOperator name m F C x ∷ [])) _
+        (same pre s (openConnection name m F C x) (runs.onOpenWith secondOperator name m F C x) e (ap (λ (st : State). stateAfter st (openConnection name m F C x)) e))
         (l .1),
   )
   all-served (call (closeConnection name) rest) pre s e l = (
     omega arith,
-    λ _. all-served rest (pre ++ (runs.onClose name ∷ [])) _
-        (same pre s (closeConnection name) (runs.onClose name) e (ap (λ (x : State). stateAfter x (closeConnection name)) e)) (l .1),
+    λ _. all-served rest (pre ++ (runs.onClose secondOperator name ∷ [])) _
+        (same pre s (closeConnection name) (runs.onClose secondOperator name) e (ap (λ (x : State). stateAfter x (closeConnection name)) e)) (l .1),
   )
   all-served (call (serve cell) rest) pre s e l = (
     ap (λ (x : State). slot x cell .answer .number) e ∙ slot-served pre cell (l .0),
@@ -77,7 +78,7 @@ first-served : (s : State) (N z : ℕ) (o : Options) (rest : Calls) → Later re
 unfolding endsRun stateAfter runs.calls run
 first-served s N z o rest l = (
   omega arith,
-  λ e. all-served N z (o .raw) (kindNumber (o .kind)) (s .cells) (s .links) (s .calendar) (s .words) (eqb-true _ 0 (not-not _ e)) rest [] _ refl l,
+  λ e. all-served N z (askedFor o) s (eqb-true _ 0 (not-not _ e)) rest [] _ refl l,
 )
 
 stands-served : (more : Bool) (trace : List ℕ) (go : ℕ → Calls) (s : Stands) → Fits trace 0 s → ((next : ℕ) → 0 < next → Later (go next))

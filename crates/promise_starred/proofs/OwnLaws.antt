@@ -12,10 +12,12 @@ use lib.ListN.{length, getD, replicate, length-append, List·getD-append}
 use Rattle.meaning.specs.Plain.{if_then_else_}
 use Rattle.meaning.specs.Numbers.{rangesHold, empty, letsIn}
 use Rattle.meaning.specs.State.{State}
-use Rattle.meaning.specs.Calls.{Kind, UNI, NNI, Options, optionsOf}
+use Rattle.meaning.specs.Calls.{Kind, UNI, NNI, Options, optionsOf, Allowed}
 use Rattle.meaning.specs.Arrival.{sentAs}
 use Rattle.theory_invariant.proofs.FreshLaws.{ranges-are}
-use Rattle.meaning_runs.specs.Run.{Call, onOpenWith, onOpen, onClose, onSlot, Event, Run, letIn, call, freshRun, served}
+use Rattle.meaning.specs.Slot.{slot}
+use Rattle.meaning.proofs.OperatorsLaws.{alone-allowed}
+use Rattle.meaning_runs.specs.Run.{Call, onOpenWith, onOpen, onClose, onSlot, Event, Run, letIn, callAt, call, freshRun, served}
 use Rattle.meaning_runs.specs.Leak.{openingOf}
 use Rattle.meaning_runs.specs.Seen.{Cell, cellUnder, noCell, ofConnection, cellsIn, departuresIn, cellsOf, departuresOf, cellAt}
 use Rattle.meaning_runs.specs.Computed.{byComputation}
@@ -46,11 +48,11 @@ module _ (f : Policer) where
   -- ── nothing is sent ──
   none-departs : (r : Run) → ((cs : List Call) (cell : List ℕ) → f (callsBy f r cs .state) cell .served .answer .space ≡ empty)
       → departuresIn (r .events) ≡ [] → (cs : List Call) → departuresIn (callsBy f r cs .events) ≡ []
-  unfolding callsBy callBy call departuresIn
+  unfolding callsBy callBy call callAt slot departuresIn
   none-departs r never e [] = e
-  none-departs r never e (onOpenWith name m F C x ∷ cs) =
-      none-departs (callBy f r (onOpenWith name m F C x)) (λ ds. never (onOpenWith name m F C x ∷ ds)) e cs
-  none-departs r never e (onClose name ∷ cs) = none-departs (callBy f r (onClose name)) (λ ds. never (onClose name ∷ ds)) e cs
+  none-departs r never e (onOpenWith who name m F C x ∷ cs) =
+      none-departs (callBy f r (onOpenWith who name m F C x)) (λ ds. never (onOpenWith who name m F C x ∷ ds)) e cs
+  none-departs r never e (onClose who name ∷ cs) = none-departs (callBy f r (onClose who name)) (λ ds. never (onClose who name ∷ ds)) e cs
   none-departs r never e (onSlot cell ∷ cs) =
       none-departs (callBy f r (onSlot cell)) (λ ds. never (onSlot cell ∷ ds))
       (rw (eq-eqb (f (r .state) cell .served .answer .space) empty (never [] cell)) e) cs
@@ -58,11 +60,11 @@ module _ (f : Policer) where
   -- ── nothing is accepted ──
   none-accepted : (r : Run) → ((cs : List Call) (cell : List ℕ) → letsIn (f (callsBy f r cs .state) cell .served .answer .verdict) ≡ false)
       → cellsIn (r .events) ≡ [] → (cs : List Call) → cellsIn (callsBy f r cs .events) ≡ []
-  unfolding callsBy callBy call cellsIn
+  unfolding callsBy callBy call callAt slot cellsIn
   none-accepted r never e [] = e
-  none-accepted r never e (onOpenWith name m F C x ∷ cs) =
-      none-accepted (callBy f r (onOpenWith name m F C x)) (λ ds. never (onOpenWith name m F C x ∷ ds)) e cs
-  none-accepted r never e (onClose name ∷ cs) = none-accepted (callBy f r (onClose name)) (λ ds. never (onClose name ∷ ds)) e cs
+  none-accepted r never e (onOpenWith who name m F C x ∷ cs) =
+      none-accepted (callBy f r (onOpenWith who name m F C x)) (λ ds. never (onOpenWith who name m F C x ∷ ds)) e cs
+  none-accepted r never e (onClose who name ∷ cs) = none-accepted (callBy f r (onClose who name)) (λ ds. never (onClose who name ∷ ds)) e cs
   none-accepted r never e (onSlot cell ∷ cs) =
       none-accepted (callBy f r (onSlot cell)) (λ ds. never (onSlot cell ∷ ds))
       (rw (never [] cell) e) cs
@@ -151,7 +153,7 @@ never-sends-breaks o f has on silent meets =
     lasts = ap served is ∙ goes-on f r serves m
 
     low : 1 ≤ has .N
-    low = ranges-are (has .N) (has .z) (has .allowed) .N-low
+    low = ranges-are (has .N) (has .z) (has .allowed .0) .N-low
 
     late : cellAt v 0 h′ .due + (has .N - 1) < served h′
     late = omega (arith, ap (λ (c : Cell). c .due) same-cell, lasts, low)
@@ -173,31 +175,28 @@ five-allowed : rangesHold 5 2 ≡ true
 unfolding rangesHold
 five-allowed = refl
 
+allowed : (raw : Bool) (kind : Kind) → Allowed 5 2 (optionsOf raw kind)
+allowed raw kind = alone-allowed 5 2 raw kind five-allowed
+
 -- N is 5: its first cell is due in slot 0, and after slot 4 it should have left
-pub keeper-breaks : (o : Options) → Meets3 o keeper → ⊥
+pub keeper-breaks : (raw : Bool) (kind : Kind) → Meets3 (optionsOf raw kind) keeper → ⊥
 unfolding byComputation callsBy callBy
-keeper-breaks o = go (o .raw) (o .kind)
-  where
-    go : (raw : Bool) (kind : Kind) → Meets3 (optionsOf raw kind) keeper → ⊥
-    go true UNI meets = omega (arith, meets 5 2 five-allowed kept .leaves 1 0 (lit< tt) (lit< tt))
-    go false UNI meets = omega (arith, meets 5 2 five-allowed kept .leaves 1 0 (lit< tt) (lit< tt))
-    go true NNI meets = omega (arith, meets 5 2 five-allowed kept .leaves 1 0 (lit< tt) (lit< tt))
-    go false NNI meets = omega (arith, meets 5 2 five-allowed kept .leaves 1 0 (lit< tt) (lit< tt))
+keeper-breaks true UNI meets = omega (arith, meets 5 2 (allowed true UNI) kept .leaves 1 0 (lit< tt) (lit< tt))
+keeper-breaks false UNI meets = omega (arith, meets 5 2 (allowed false UNI) kept .leaves 1 0 (lit< tt) (lit< tt))
+keeper-breaks true NNI meets = omega (arith, meets 5 2 (allowed true NNI) kept .leaves 1 0 (lit< tt) (lit< tt))
+keeper-breaks false NNI meets = omega (arith, meets 5 2 (allowed false NNI) kept .leaves 1 0 (lit< tt) (lit< tt))
 
 -- ── one that meets all that the law asks for: so it speaks of some ──
-swallows : (o : Options) → Stores o swallower
+swallows : (raw : Bool) (kind : Kind) → Stores (optionsOf raw kind) swallower
 unfolding byComputation callsBy callBy
-swallows o = go (o .raw) (o .kind)
-  where
-    go : (raw : Bool) (kind : Kind) → Stores (optionsOf raw kind) swallower
-    go true UNI = record { N = 5; z = 2; allowed = five-allowed; before = onSlot clean ∷ []; vci = 1; stored = lit< tt }
-    go false UNI = record { N = 5; z = 2; allowed = five-allowed; before = onSlot clean ∷ []; vci = 1; stored = lit< tt }
-    go true NNI = record { N = 5; z = 2; allowed = five-allowed; before = onSlot clean ∷ []; vci = 1; stored = lit< tt }
-    go false NNI = record { N = 5; z = 2; allowed = five-allowed; before = onSlot clean ∷ []; vci = 1; stored = lit< tt }
+swallows true UNI = record { N = 5; z = 2; allowed = allowed true UNI; before = onSlot clean ∷ []; vci = 1; stored = lit< tt }
+swallows false UNI = record { N = 5; z = 2; allowed = allowed false UNI; before = onSlot clean ∷ []; vci = 1; stored = lit< tt }
+swallows true NNI = record { N = 5; z = 2; allowed = allowed true NNI; before = onSlot clean ∷ []; vci = 1; stored = lit< tt }
+swallows false NNI = record { N = 5; z = 2; allowed = allowed false NNI; before = onSlot clean ∷ []; vci = 1; stored = lit< tt }
 
-pub swallower-breaks : (o : Options) → Meets3 o swallower → ⊥
-swallower-breaks o =
-    never-sends-breaks o swallower (swallows o) (λ N z e cs. refl) (λ N z e cs cell. refl)
+pub swallower-breaks : (raw : Bool) (kind : Kind) → Meets3 (optionsOf raw kind) swallower → ⊥
+swallower-breaks raw kind =
+    never-sends-breaks (optionsOf raw kind) swallower (swallows raw kind) (λ N z e cs. refl) (λ N z e cs cell. refl)
 
 -- ── discarding everything ──
 pub discards-meets : (o : Options) (f : Policer) → AcceptsNothing o f → SendsNothing o f → Meets3 o f

@@ -9,13 +9,14 @@
 --   discarder        == a policer that finds every cell excess
 use Prim.Native.Nat.{ℕ, _+_, _-_, _≤_, _<_}
 use mathlib.Core.Path.{_≡_}
-use mathlib.Core.Bool.{true, false}
+use mathlib.Core.Bool.{false}
 use mathlib.Core.List.{List, [], _∷_}
 use lib.ListN.{length}
 use Rattle.meaning.specs.Plain.{if_then_else_, _=?_, _andThen_}
-use Rattle.meaning.specs.Numbers.{rangesHold, nothing, accepted, excess, empty, letsIn}
+use Rattle.meaning.specs.Numbers.{nothing, accepted, excess, empty, letsIn}
 use Rattle.meaning.specs.State.{stateOf}
-use Rattle.meaning.specs.Calls.{Options}
+use Rattle.meaning.specs.Bits.{lowestFree}
+use Rattle.meaning.specs.Calls.{Options, Allowed}
 use Rattle.meaning.specs.Work.{Work, workOf, answerOf, bareAnswer}
 use Rattle.meaning.specs.Slot.{step1, step2, step3, step4, finish}
 use Rattle.meaning_runs.specs.Run.{Call, onOpenWith, onClose, onSlot, Event, ran, Run, runOf, shown, letIn, call, freshRun, served}
@@ -24,11 +25,11 @@ use Rattle.promise_starred.specs.ShutOut.{Given, Policer}
 
 -- ── the runs of another policer ──
 abbrev pub workBy : Given → Work
-workBy g = workOf (stateOf (g .served .ctl) (g .cells) (g .links) (g .calendar) (g .words)) (g .served .answer)
+workBy g = workOf (stateOf (g .served .ctl) (g .cells) (g .links) (g .calendar) (g .words) (g .bits)) (g .served .answer)
 
 unfoldable pub callBy : Policer → Run → Call → Run
-callBy f r (onOpenWith name m F C x) = call r (onOpenWith name m F C x)
-callBy f r (onClose name) = call r (onClose name)
+callBy f r (onOpenWith who name m F C x) = call r (onOpenWith who name m F C x)
+callBy f r (onClose who name) = call r (onClose who name)
 callBy f r (onSlot cell) =
     let w = workBy (f (r .state) cell) in
     runOf (w .state) (ran (letIn (r .state) cell .cell) (w .answer) (shown w) ∷ r .events)
@@ -56,7 +57,7 @@ pub record OnEvents (N : ℕ) (h : List Event) : Type 0 where
       × (cellAt v k h .D ≤ N - 1)
 
 abbrev pub OfOwnRuns : Options → Policer → (ℕ → Run → Type 0) → Type 0
-OfOwnRuns o f P = (N z : ℕ) → rangesHold N z ≡ true → (cs : List Call) → P N (callsBy f (freshRun N z o) cs)
+OfOwnRuns o f P = (N z : ℕ) → Allowed N z o → (cs : List Call) → P N (callsBy f (freshRun N z o) cs)
 
 abbrev pub Meets3 : Options → Policer → Type 0
 Meets3 o f = OfOwnRuns o f (λ N r. OnEvents N (r .events))
@@ -76,7 +77,7 @@ ServesOn o f = OfOwnRuns o f (λ N r. f (r .state) [] .served .answer .number �
 pub record Stores (o : Options) (f : Policer) : Type 0 where
   pub N : ℕ
   pub z : ℕ
-  pub allowed : rangesHold N z ≡ true
+  pub allowed : Allowed N z o
   pub before : List Call
   pub vci : ℕ
   pub stored : 0 < length (cellsOf vci (callsBy f (freshRun N z o) before .events))
@@ -90,10 +91,11 @@ given w =
       links = w .state .links;
       calendar = w .state .calendar;
       words = w .state .words;
+      bits = w .state .bits;
     }
 
 abbrev pub keeper : Policer
-keeper s cell = given (finish s (step1 (workOf s (bareAnswer 0)) andThen step2 andThen step3 cell andThen step4))
+keeper s cell = given (finish s (step1 (workOf s (bareAnswer 0)) andThen step2 andThen step3 (lowestFree (s .bits)) cell andThen step4))
 
 abbrev pub swallower : Policer
 swallower s cell = given (workOf s (answerOf 0 (if length cell =? 0 then nothing else accepted) 1 0 empty 0))

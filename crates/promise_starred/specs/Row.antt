@@ -7,11 +7,12 @@ use mathlib.Core.Option.{Option, some}
 use lib.ListN.{replicate}
 use Rattle.meaning.specs.declared.Answer.{Answer}
 use Rattle.meaning.specs.Plain.{if_then_else_}
-use Rattle.meaning.specs.Numbers.{octets, perEntry, wordsIn, uni, letsIn}
-use Rattle.meaning.specs.State.{State, withWords}
+use Rattle.meaning.specs.Numbers.{octets, perEntry, wordsIn, bitWords, uni, letsIn}
+use Rattle.meaning.specs.State.{State, withWords, stateOf}
 use Rattle.meaning.specs.Header.{byVci}
 use Rattle.meaning.specs.Words.{noSecond}
-use Rattle.meaning.specs.Calls.{SetUp, setup, openCall, closeCall}
+use Rattle.meaning.specs.Operators.{secondOperator}
+use Rattle.meaning.specs.Calls.{SetUp, zeros, askedOf, setup, openCall, closeCall}
 use Rattle.meaning.specs.Work.{bareAnswer}
 use Rattle.meaning.specs.Slot.{slot}
 use Rattle.meaning_runs.specs.Leak.{Opening, newOpening, afterCell}
@@ -51,10 +52,10 @@ waited (suc k) s rest =
 abbrev pub saysFrom : State → List Step → List Said
 saysFrom s [] = []
 saysFrom s (opens vci m F C k ∷ steps) =
-    let c = openCall (s .ctl) (s .words) (byVci vci) m F C noSecond in
+    let c = openCall (s .ctl) (s .words) secondOperator (byVci vci) m F C noSecond in
     number (c .number) ∷ saysFrom (withWords s (c .words)) steps
 saysFrom s (closes vci k ∷ steps) =
-    let c = closeCall (s .ctl) (s .words) (byVci vci) in
+    let c = closeCall (s .ctl) (s .words) secondOperator (byVci vci) in
     number (c .number) ∷ saysFrom (withWords s (c .words)) steps
 saysFrom s (cell vci a ∷ steps) =
     let w = slot s (cellOf vci) in
@@ -93,16 +94,16 @@ pub data Row : Type 0 where
   -- N; m, F, C of VC 1: its opening must answer 0, and the cells are judged by the leak rule alone, however far apart
   leak : ℕ → ℕ → ℕ → ℕ → List Arrival → Row
 
--- setup of a policer that is not raw, at the UNI, over memories that held other numbers
+-- setup of a policer that is not raw, at the UNI, with the second operator alone on it, over memories that held other numbers
 abbrev pub ready : ℕ → ℕ → SetUp
 ready N z =
-    setup N z false uni (replicate (octets * N) 7) (replicate N 7) (replicate (perEntry * N) 7) (replicate (wordsIn z) 7)
+    setup N z (askedOf false uni 1 1) (stateOf zeros (replicate (octets * N) 7) (replicate N 7) (replicate (perEntry * N) 7) (replicate (wordsIn z) 7) (replicate bitWords 7))
 
 abbrev pub says : Row → List Said
 says (run N z steps) = number (ready N z .number) ∷ saysFrom (ready N z .state) steps
 says (leak N m F C cells) =
     let s = ready N 2 .state in
-    number (openCall (s .ctl) (s .words) (byVci 1) m F C noSecond .number) ∷ leakSays (some (newOpening m F C noSecond)) cells
+    number (openCall (s .ctl) (s .words) secondOperator (byVci 1) m F C noSecond .number) ∷ leakSays (some (newOpening m F C noSecond)) cells
 
 abbrev pub expects : Row → List Said
 expects (run N z steps) = number 0 ∷ expectsOf steps

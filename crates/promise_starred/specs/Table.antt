@@ -1,6 +1,6 @@
 -- Document 01, "Both sides of each edge": every starred case, as one table. Each row gives N and V, then the calls with
 -- the number of every open and close, and all six numbers of every answer: number, verdict, VCI, D, departing space,
--- departing VCI. Spaces follow from "a freed space goes to the tail".
+-- departing VCI. Spaces follow from document 02 (vii): "take the lowest free space".
 use Prim.Native.Nat.{_^_}
 use mathlib.Core.List.{List, [], _∷_}
 use Rattle.meaning.specs.Numbers.{empty}
@@ -15,12 +15,12 @@ eightSlots =
     ∷ opens 41 2 4 4 0
     ∷ cell 40 (answerOf 0 1 40 0 0 40)
     ∷ cell 40 (answerOf 0 1 40 1 empty 0)
-    ∷ cell 40 (answerOf 0 1 40 3 1 40)
+    ∷ cell 40 (answerOf 0 1 40 3 0 40)
     ∷ cell 40 (answerOf 0 2 40 0 empty 0)
     ∷ cell 40 (answerOf 0 1 40 3 empty 0)
-    ∷ cell 41 (answerOf 0 1 41 0 4 41)
-    ∷ noCell (answerOf 0 0 0 0 2 40)
-    ∷ noCell (answerOf 0 0 0 0 3 40)
+    ∷ cell 41 (answerOf 0 1 41 0 2 41)
+    ∷ noCell (answerOf 0 0 0 0 1 40)
+    ∷ noCell (answerOf 0 0 0 0 0 40)
     ∷ [])
 
 -- "*N 1, F = C = L = 1, cells in slots 0 to 3: all accepted, D 0, each leaves at once."
@@ -51,7 +51,7 @@ second16 =
     (opens 1 2 10 16 0
     ∷ cell 1 (answerOf 0 1 1 0 0 1)
     ∷ cell 1 (answerOf 0 1 1 1 empty 0)
-    ∷ noCell (answerOf 0 0 0 0 1 1)
+    ∷ noCell (answerOf 0 0 0 0 0 1)
     ∷ [])
 
 -- "*C 15 finds it excess."
@@ -92,31 +92,29 @@ tableII =
     ∷ pause 119
     ∷ cell 1 (answerOf 0 1 1 5 empty 0)
     ∷ pause 4
-    ∷ noCell (answerOf 0 0 0 0 1 1)
+    ∷ noCell (answerOf 0 0 0 0 0 1)
     ∷ pause 114
     ∷ cell 1 (answerOf 0 1 1 10 empty 0)
     ∷ pause 9
-    ∷ noCell (answerOf 0 0 0 0 2 1)
+    ∷ noCell (answerOf 0 0 0 0 0 1)
     ∷ pause 109
     ∷ cell 1 (answerOf 0 2 1 0 empty 0)
     ∷ pause 119
-    ∷ cell 1 (answerOf 0 1 1 0 3 1)
+    ∷ cell 1 (answerOf 0 1 1 0 0 1)
     ∷ pause 119
     ∷ cell 1 (answerOf 0 1 1 5 empty 0)
     ∷ pause 4
-    ∷ noCell (answerOf 0 0 0 0 4 1)
+    ∷ noCell (answerOf 0 0 0 0 0 1)
     ∷ pause 114
     ∷ cell 1 (answerOf 0 1 1 10 empty 0)
     ∷ pause 9
-    ∷ noCell (answerOf 0 0 0 0 5 1)
+    ∷ noCell (answerOf 0 0 0 0 0 1)
     ∷ pause 109
     ∷ cell 1 (answerOf 0 2 1 0 empty 0)
     ∷ pause 119
-    ∷ cell 1 (answerOf 0 1 1 0 6 1)
-    ∷ pause 119
-    ∷ cell 1 (answerOf 0 1 1 5 empty 0)
+    ∷ cell 1 (answerOf 0 1 1 0 0 1) ∷ pause 119 ∷ cell 1 (answerOf 0 1 1 5 empty 0)
     ∷ pause 4
-    ∷ noCell (answerOf 0 0 0 0 7 1)
+    ∷ noCell (answerOf 0 0 0 0 0 1)
     ∷ [])
 
 -- "*Close with a cell waiting is 8, after its departure 0", moved by document 02 (ii) "to the slot where both are": the
@@ -127,7 +125,7 @@ closeWaiting =
     (opens 1 2 10 16 0
     ∷ cell 1 (answerOf 0 1 1 0 0 1)
     ∷ cell 1 (answerOf 0 1 1 1 empty 0) ∷ closes 1 8
-    ∷ noCell (answerOf 0 0 0 0 1 1) ∷ closes 1 8
+    ∷ noCell (answerOf 0 0 0 0 0 1) ∷ closes 1 8
     ∷ pause 1 ∷ closes 1 8 ∷ pause 1 ∷ closes 1 8 ∷ pause 1 ∷ closes 1 0
     ∷ [])
 

@@ -140,21 +140,21 @@ module _ (kind z v m F C : ℕ) (x : Second) (before : List Event) where
         reckoned = reckoned-none (2 ^ x .m) (x .F);
         keeps = keeps-none (x .m) (x .F) (x .C);
       }
-  all-kept e (opened u n G D y number ∷ during) l s =
+  all-kept e (opened who u n G D y number ∷ during) l s =
       let k = all-kept e during (l .1) s in
       record {
         p = k .p;
         q = k .q;
-        is = still-open v (during ++ before) u n G D y number (l .0) ∙ k .is;
+        is = still-open v (during ++ before) who u n G D y number (l .0) ∙ k .is;
         reckoned = k .reckoned;
         keeps = k .keeps;
       }
-  all-kept e (closed u number ∷ during) l s =
+  all-kept e (closed who u number ∷ during) l s =
       let k = all-kept e during (l .1) s in
       record {
         p = k .p;
         q = k .q;
-        is = still-closed v (during ++ before) u number (l .0) ∙ k .is;
+        is = still-closed v (during ++ before) who u number (l .0) ∙ k .is;
         reckoned = k .reckoned;
         keeps = k .keeps;
       }

@@ -15,7 +15,7 @@ use Rattle.meaning.specs.Numbers.{nothing, excess, unknown, dropped, letsIn}
 use Rattle.meaning.specs.Header.{Header, headerAt, clpIn, noUserCell, connection, namesConnection}
 use Rattle.meaning.specs.Work.{Work}
 use Rattle.meaning.specs.Slot.{slot}
-use Rattle.meaning_runs.specs.Run.{Call, onOpenWith, onClose, onSlot, Event, opened, closed, ran, Run, letIn, call, calls, served}
+use Rattle.meaning_runs.specs.Run.{Call, onOpenWith, onClose, onSlot, Event, opened, closed, ran, Run, letIn, callAt, call, calls, served}
 use Rattle.meaning_runs.specs.Leak.{Opening, verdictBy, openingOf}
 use Rattle.meaning_runs.specs.Judged.{Judged, judgedOf, judgedUnder, judgedBy, judged, judgedAs}
 use Rattle.theory_table.proofs.LeakLaws.{and-left, and-right}
@@ -140,21 +140,21 @@ module _ (N z kind : ℕ) (r : Run) (k : Kept N z kind r) (cell : List ℕ) wher
 -- ── of a run ──
 abbrev pub SaidAll : ℕ → ℕ → List Event → Type 0
 SaidAll kind z [] = Unit {0}
-SaidAll kind z (opened vci m F C x number ∷ h) = SaidAll kind z h
-SaidAll kind z (closed vci number ∷ h) = SaidAll kind z h
+SaidAll kind z (opened who vci m F C x number ∷ h) = SaidAll kind z h
+SaidAll kind z (closed who vci number ∷ h) = SaidAll kind z h
 SaidAll kind z (ran cell a out ∷ h) = Said kind z h cell a × SaidAll kind z h
 
 pub said-before : (kind z : ℕ) (later h : List Event) → SaidAll kind z (later ++ h) → SaidAll kind z h
 said-before kind z [] h s = s
-said-before kind z (opened vci m F C x number ∷ later) h s = said-before kind z later h s
-said-before kind z (closed vci number ∷ later) h s = said-before kind z later h s
+said-before kind z (opened who vci m F C x number ∷ later) h s = said-before kind z later h s
+said-before kind z (closed who vci number ∷ later) h s = said-before kind z later h s
 said-before kind z (ran cell a out ∷ later) h s = said-before kind z later h (s .1)
 
 module _ (N z kind : ℕ) where
   call-said : (r : Run) (c : Call) → Kept N z kind r → SaidAll kind z (r .events) → SaidAll kind z (call r c .events)
-  unfolding call
-  call-said r (onOpenWith v m F C x) k s = s
-  call-said r (onClose v) k s = s
+  unfolding call callAt slot
+  call-said r (onOpenWith who v m F C x) k s = s
+  call-said r (onClose who v) k s = s
   call-said r (onSlot cell) k s = (said N z kind r k cell, s)
 
   pub calls-said : (r : Run) (cs : List Call) → Kept N z kind r → SaidAll kind z (r .events) → SaidAll kind z (calls r cs .events)

@@ -29,8 +29,8 @@ slots-low : (p : List ℕ → Answer → Bool) (before during : List Event) (j :
     → getD (slotsOf p before during) j 0 ≤ served (during ++ before)
 unfolding served
 slots-low p before [] j low = absurd (not-suc-le-zero low)
-slots-low p before (opened u m F C x number ∷ during) j low = slots-low p before during j low
-slots-low p before (closed u number ∷ during) j low = slots-low p before during j low
+slots-low p before (opened who u m F C x number ∷ during) j low = slots-low p before during j low
+slots-low p before (closed who u number ∷ during) j low = slots-low p before during j low
 slots-low p before (ran cell a out ∷ during) j low = go (p cell a) (λ i. slots-low p before during i) j low
   where
     go : (b : Bool)
@@ -190,22 +190,22 @@ module _ (kind z v m F C : ℕ) (x : Second) (before : List Event) where
         second = reckoned-none (2 ^ x .m) (x .F);
         untouched = tt;
       }
-  all-alone e (opened u n G D y number ∷ during) l s f g =
+  all-alone e (opened who u n G D y number ∷ during) l s f g =
       let k = all-alone e during (l .1) s f g in
       record {
         p = k .p;
         q = k .q;
-        is = still-open v (during ++ before) u n G D y number (l .0) ∙ k .is;
+        is = still-open v (during ++ before) who u n G D y number (l .0) ∙ k .is;
         peak = k .peak;
         second = k .second;
         untouched = k .untouched;
       }
-  all-alone e (closed u number ∷ during) l s f g =
+  all-alone e (closed who u number ∷ during) l s f g =
       let k = all-alone e during (l .1) s f g in
       record {
         p = k .p;
         q = k .q;
-        is = still-closed v (during ++ before) u number (l .0) ∙ k .is;
+        is = still-closed v (during ++ before) who u number (l .0) ∙ k .is;
         peak = k .peak;
         second = k .second;
         untouched = k .untouched;

@@ -7,7 +7,7 @@ use mathlib.Core.Option.{some}
 use borrow.Author.Tests.{eq-eqb}
 use Rattle.meaning.specs.State.{State}
 use Rattle.meaning.specs.Words.{Second}
-use Rattle.meaning.specs.Calls.{kindOf, optionsOf, setup}
+use Rattle.meaning.specs.Calls.{chosen, setup}
 use Rattle.meaning_runs.specs.Run.{Event, opened, runOf, calls, freshRun}
 use Rattle.meaning_runs.specs.Leak.{newOpening, openingOf}
 use Rattle.theory_invariant.proofs.FreshLaws.{setup-fresh}
@@ -19,9 +19,9 @@ use Rattle.promise_sustained.proofs.SaidLaws.{SaidAll, said-before, cal
 use Rattle.promise_sustained.proofs.PassLaws.{all-kept}
 use Rattle.promise_sustained.proofs.SourceLaws.{all-alone}
 
-opens : (v m F C : ℕ) (x : Second) (h : List Event) → openingOf v (opened v m F C x 0 ∷ h) ≡ some (newOpening m F C x)
+opens : (who v m F C : ℕ) (x : Second) (h : List Event) → openingOf v (opened who v m F C x 0 ∷ h) ≡ some (newOpening m F C x)
 unfolding openingOf
-opens v m F C x h = rw (eq-eqb v v refl)
+opens who v m F C x h = rw (eq-eqb v v refl)
 
 module _ (kind z : ℕ) (h : List Event) (s : SaidAll kind z h) (v m F C : ℕ) (o : OneOpening v m F C h) where
   said-of : SaidAll kind z (o .during ++ begun o)
@@ -29,7 +29,7 @@ module _ (kind z : ℕ) (h : List Event) (s : SaidAll kind z h) (v m F C : ℕ) 
 
   passed : Keeps (o .second .m) (o .second .F) (o .second .C) (untagged o)
   passed =
-      all-kept kind z v m F C (o .second) (begun o) (opens v m F C (o .second) (o .before)) (o .during) (o .lasts) said-of .keeps
+      all-kept kind z v m F C (o .second) (begun o) (opens (o .operator) v m F C (o .second) (o .before)) (o .during) (o .lasts) said-of .keeps
 
 sustains : (kind z : ℕ) (h : List Event) → SaidAll kind z h → Sustained kind z h
 sustains kind z h s =
@@ -37,17 +37,17 @@ sustains kind z h s =
       window = λ v m F C o x w some-F some-w. few (o .second) x w (untagged o) some-F some-w (passed kind z h s v m F C o);
       keeps = λ v m F C o. passed kind z h s v m F C o;
       untouched = λ v m F C o f g.
-          all-alone kind z v m F C (o .second) (begun o) (opens v m F C (o .second) (o .before)) (o .during) (o .lasts)
+          all-alone kind z v m F C (o .second) (begun o) (opens (o .operator) v m F C (o .second) (o .before)) (o .during) (o .lasts)
           (said-of kind z h s v m F C o) f g .untouched;
     }
 
 -- REQUEST (iv)
 pub sustained : SustainedHolds
 unfolding freshRun calls
-sustained N z raw kind cells links calendar words e cs =
-    let fresh = setup-fresh N z raw kind cells links calendar words e in
-    let start = runOf (setup N z raw kind cells links calendar words .state) [] in
-    sustains kind z (calls start cs .events)
-    (calls-said N z kind start cs
+sustained N z a lent e cs =
+    let fresh = setup-fresh N z a lent e in
+    let start = runOf (setup N z a lent .state) [] in
+    sustains (a .kind) z (calls start cs .events)
+    (calls-said N z (a .kind) start cs
     (subst₂ (λ (k : ℕ) (st : State). Kept N z k (runOf st [])) (fresh .2) (sym (fresh .1))
-    (run-kept N z (fresh .0) (optionsOf raw (kindOf kind)) [])) tt)
+    (run-kept N z (chosen a) (fresh .0) [])) tt)

@@ -14,8 +14,8 @@ use Rattle.promise_sustained.specs.Worked.{four, fiveEvents}
 
 abbrev verdicts : List Event → List ℕ
 verdicts [] = []
-verdicts (opened vci m F C x number ∷ h) = verdicts h
-verdicts (closed vci number ∷ h) = verdicts h
+verdicts (opened who vci m F C x number ∷ h) = verdicts h
+verdicts (closed who vci number ∷ h) = verdicts h
 verdicts (ran cell a out ∷ h) = a .verdict ∷ verdicts h
 
 -- the newest first
@@ -25,7 +25,7 @@ verdicts-are = refl
 
 pub opening : OneOpening 1 0 1 1 fiveEvents
 unfolding byComputation
-opening = record { second = four; before = []; during = take 5 fiveEvents; later = []; is = refl; lasts = tt }
+opening = record { operator = 1; second = four; before = []; during = take 5 fiveEvents; later = []; is = refl; lasts = tt }
 
 pub met : (inSlots 0 2 (untagged opening) ≡ most four 2) × (inSlots 0 5 (untagged opening) ≡ most four 5)
 unfolding byComputation opening passes

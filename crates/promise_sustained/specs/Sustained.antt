@@ -27,7 +27,8 @@ use Rattle.meaning.specs.Plain.{if_then_else_, _<?_, _≤?_, _=?_}
 use Rattle.meaning.specs.Numbers.{accepted, excess, tagged}
 use Rattle.meaning.specs.Header.{headerAt, clpIn, connection, namesConnection}
 use Rattle.meaning.specs.Words.{Second}
-use Rattle.meaning.specs.Calls.{setup}
+use Rattle.meaning.specs.State.{State}
+use Rattle.meaning.specs.Calls.{Asked, setup}
 use Rattle.meaning_runs.specs.Run.{Call, Event, opened, closed, ran, runOf, calls, served}
 use Rattle.promise_bound.specs.Bound.{OneOpening}
 
@@ -49,14 +50,14 @@ passes v cell a = a .vci =? v && (clpIn cell =? 0 && a .verdict =? accepted)
 
 abbrev pub slotsOf : (List ℕ → Answer → Bool) → List Event → List Event → List ℕ
 slotsOf p before [] = []
-slotsOf p before (opened vci m F C x number ∷ during) = slotsOf p before during
-slotsOf p before (closed vci number ∷ during) = slotsOf p before during
+slotsOf p before (opened who vci m F C x number ∷ during) = slotsOf p before during
+slotsOf p before (closed who vci number ∷ during) = slotsOf p before during
 slotsOf p before (ran cell a out ∷ during) =
     if p cell a then served (during ++ before) ∷ slotsOf p before during else slotsOf p before during
 
 -- all up to the open that began it
 abbrev pub begun : {v m F C : ℕ} {h : List Event} → OneOpening v m F C h → List Event
-begun {v} {m} {F} {C} o = opened v m F C (o .second) 0 ∷ o .before
+begun {v} {m} {F} {C} o = opened (o .operator) v m F C (o .second) 0 ∷ o .before
 
 abbrev pub untagged : {v m F C : ℕ} {h : List Event} → OneOpening v m F C h → List ℕ
 untagged {v} o = slotsOf (passes v) (begun o) (o .during)
@@ -78,8 +79,8 @@ most x w = 1 + ((w - 1) * 2 ^ x .m + (x .C - x .F)) / x .F
 
 abbrev pub Untouched : ℕ → List Event → Type 0
 Untouched v [] = Unit {0}
-Untouched v (opened vci m F C x number ∷ h) = Untouched v h
-Untouched v (closed vci number ∷ h) = Untouched v h
+Untouched v (opened who vci m F C x number ∷ h) = Untouched v h
+Untouched v (closed who vci number ∷ h) = Untouched v h
 Untouched v (ran cell a out ∷ h) = (a .vci ≡ v → (a .verdict ≢ excess) × (a .verdict ≢ tagged)) × Untouched v h
 
 pub record Sustained (kind z : ℕ) (h : List Event) : Type 0 where
@@ -94,6 +95,6 @@ pub record Sustained (kind z : ℕ) (h : List Event) : Type 0 where
 
 -- of every run from a fresh state
 abbrev pub SustainedHolds : Type 0
-SustainedHolds = (N z : ℕ) (raw : Bool) (kind : ℕ) (cells links calendar words : List ℕ)
-    → setup N z raw kind cells links calendar words .number ≡ 0
-    → (cs : List Call) → Sustained kind z (calls (runOf (setup N z raw kind cells links calendar words .state) []) cs .events)
+SustainedHolds = (N z : ℕ) (a : Asked) (lent : State)
+    → setup N z a lent .number ≡ 0
+    → (cs : List Call) → Sustained (a .kind) z (calls (runOf (setup N z a lent .state) []) cs .events)

@@ -12,7 +12,7 @@ abbrev pub four : Second
 four = secondOf 0 4 8 1
 
 abbrev pub fiveCells : List Call
-fiveCells = onOpenWith (byVci 1) 0 1 1 four ∷ replicate 5 (onSlot (cellFor 1))
+fiveCells = onOpenWith 1 (byVci 1) 0 1 1 four ∷ replicate 5 (onSlot (cellFor 1))
 
 abbrev pub fiveEvents : List Event
 fiveEvents = calls (freshRun 2 2 plain) fiveCells .events

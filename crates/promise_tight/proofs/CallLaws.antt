@@ -19,11 +19,12 @@ use Rattle.meaning.specs.Bucket.{bucketOf, obeysRules, obeysSecond, isNone}
 use Rattle.meaning.specs.Header.{clpIn, byVci, named, numberIn}
 use Rattle.meaning.specs.Words.{noSecond, secondObeys, connectionAt}
 use Rattle.meaning.specs.Arrival.{sentAs}
+use Rattle.meaning.specs.Operators.{secondOperator, owns}
 use Rattle.meaning.specs.Calls.{openCall}
 use Rattle.meaning.specs.Slot.{slot}
 use Rattle.meaning.proofs.NamesLaws.{used-is}
 use Rattle.meaning.proofs.CheckedLaws.{arriving-none}
-use Rattle.meaning_runs.specs.Run.{onOpen, onSlot, Event, opened, Run, letIn, call, served}
+use Rattle.meaning_runs.specs.Run.{onOpen, onSlot, Event, opened, Run, letIn, callAt, call, served}
 use Rattle.meaning_runs.specs.Leak.{Opening, openingWith, dueTime, dueSlot, leakAccepts, accepts, sustainedAfter, openingOf}
 use Rattle.meaning_runs.specs.Seen.{Cell, cellUnder, cellsOf}
 use Rattle.meaning_runs.specs.Judged.{Judged, judgedOf, judgedUnder, judgedBy, judgedAs}
@@ -104,7 +105,7 @@ module _ (N z kind : ℕ) (r : Run) (kept : Kept N z kind r) where
   s = r .state
 
   serves : (cell : List ℕ) → length cell =? 0 || length cell =? 53 ≡ true → served (call r (onSlot cell) .events) ≡ suc (served h)
-  unfolding call served
+  unfolding call callAt slot served
   serves cell lent = rw (slot-served N z kind h s (kept .inv) cell lent .number) (omega arith)
 
   fails : (b : Bool) → b && false ≡ false
@@ -141,7 +142,7 @@ module _ (N z kind : ℕ) (r : Run) (kept : Kept N z kind r) where
     accepts-other u ne = rw (ne-eqb (a .vci) u (λ e. ne (omega (arith, e, vci-is)))) (fails (letsIn (a .verdict)))
 
     pub took : Took v o (r .events) (call r (onSlot (cleanFor v)) .events)
-    unfolding call openingOf
+    unfolding call callAt slot openingOf
     took =
         record {
           slots = serves (cleanFor v) (c .lent);
@@ -173,11 +174,11 @@ module _ (N z kind : ℕ) (r : Run) (kept : Kept N z kind r) where
   none-accepted u = rw quiet
 
   pub idle : Idle (r .events) (call r (onSlot []) .events)
-  unfolding call
+  unfolding call callAt slot
   idle = record { slots = serves [] refl; cells = λ u. cells-not u h _ (slot s [] .answer) _ (none-accepted u) }
 
   -- ── an open that keeps to the rules ──
-  module _ (u m F C : ℕ) (low : 1 ≤ u) (high : u < z) (shut : openingOf u h ≡ none)
+  module _ (u m F C : ℕ) (low : 1 ≤ u) (high : u < z) (own : owns (s .ctl) secondOperator (byVci u) ≡ true) (shut : openingOf u h ≡ none)
       (rules : obeysRules N (bucketOf m F C 0) ≡ true) where
     closed-word : (x : Option Opening) (q : ℕ) → x ≡ none → ConnectionIs N (connectionsIn z) (served h) u (connectionAt (s .words) u) q x
         → connectionAt (s .words) u .opened ≡ 0
@@ -188,16 +189,16 @@ module _ (N z kind : ℕ) (r : Run) (kept : Kept N z kind r) where
     unfolding named
     is-named = rw (kept .inv .stage .v-is, le-leb 1 u low, lt-ltb u z high)
 
-    opens : openCall (s .ctl) (s .words) (byVci u) m F C noSecond .number ≡ 0
+    opens : openCall (s .ctl) (s .words) secondOperator (byVci u) m F C noSecond .number ≡ 0
     unfolding openCall secondObeys isNone obeysSecond numberIn
     opens =
         rw (
-          shared-in N z kind h s (kept .inv) (byVci u) is-named,
+          shared-in N z kind h s (kept .inv) secondOperator (byVci u) is-named own,
           closed-word (openingOf u h) _ shut
               (kept .inv .stage .table u (used-is z u (λ e. omega (arith, e, low)) (λ e. omega (arith, e, high))) (omega (arith, high))),
           ap (λ (n : ℕ). obeysRules n (bucketOf m F C 0)) (kept .inv .stage .n-is) ∙ rules,
         )
 
-    pub opened-is : call r (onOpen u m F C) .events ≡ opened u m F C noSecond 0 ∷ r .events
-    unfolding call numberIn
-    opened-is = ap (λ (n : ℕ). opened u m F C noSecond n ∷ h) opens
+    pub opened-is : call r (onOpen u m F C) .events ≡ opened secondOperator u m F C noSecond 0 ∷ r .events
+    unfolding call callAt slot numberIn
+    opened-is = ap (λ (n : ℕ). opened secondOperator u m F C noSecond n ∷ h) opens

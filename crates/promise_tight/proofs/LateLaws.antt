@@ -3,7 +3,7 @@
 -- 3 that is also the most.
 use Prim.Native.Nat.{ℕ, _+_, _-_, _*_, _/_, _≤_, _<_}
 use mathlib.Core.Path.{_≡_, ap}
-use mathlib.Core.Bool.{true}
+use mathlib.Core.Bool.{Bool, true}
 use mathlib.Core.List.{List}
 use native.Mathlib.Decide.{decLt, ℕ-discrete}
 use native.Mathlib.Nat.{div-mul-le-self, le-div-iff-mul-le}
@@ -11,7 +11,8 @@ use native.Mathlib.Omega.{arith}
 use borrow.Author.Tests.{le-leb, lt-ltb}
 use lib.ListN.{length}
 use Rattle.meaning.specs.Numbers.{rangesHold}
-use Rattle.meaning.specs.Calls.{Options, kindNumber}
+use Rattle.meaning.specs.Calls.{Kind, Options, optionsOf, kindNumber}
+use Rattle.meaning.proofs.OperatorsLaws.{alone-allowed}
 use Rattle.meaning_runs.specs.Run.{Event, Run, calls, freshRun}
 use Rattle.meaning_runs.specs.Seen.{noDeparture, departuresOf, cellAt, departureAt}
 use Rattle.theory_invariant.proofs.FreshLaws.{ranges-are}
@@ -25,7 +26,10 @@ use Rattle.promise_tight.proofs.PigeonLaws.{at-least, two-share}
 use Rattle.promise_tight.proofs.SendLaws.{Done}
 use Rattle.promise_tight.proofs.WholeLaws.{all-done}
 
-module _ (N z : ℕ) (o : Options) (range : rangesHold N z ≡ true) (N-low : 2 ≤ N) (N-high : N ≤ 1_024) (z-low : 3 ≤ z) where
+module _ (N z : ℕ) (raw : Bool) (line : Kind) (range : rangesHold N z ≡ true) (N-low : 2 ≤ N) (N-high : N ≤ 1_024) (z-low : 3 ≤ z) where
+  abbrev o : Options
+  o = optionsOf raw line
+
   abbrev last : Run
   last = calls (freshRun N z o) (lateCalls N)
 
@@ -36,11 +40,11 @@ module _ (N z : ℕ) (o : Options) (range : rangesHold N z ≡ true) (N-low : 2 
   abbrev a : ℕ
   a = N * 1_024
 
-  done : Done N z (kindNumber (o .kind)) z-low (N - 1) (N - 1) last
-  done = all-done N z o range N-low z-low
+  done : Done N z (kindNumber line) z-low (N - 1) (N - 1) last
+  done = all-done N z raw line range N-low z-low
 
-  d : Demand3 N z (kindNumber (o .kind)) h (last .state)
-  d = demanded N z (kindNumber (o .kind)) h (last .state) (done .kept .inv)
+  d : Demand3 N z (kindNumber line) h (last .state)
+  d = demanded N z (kindNumber line) h (last .state) (done .kept .inv)
 
   due-one : (j : ℕ) → j < N - 1 → cellAt 1 j h .due ≡ a + j
   due-one j low = done .cells-one .1 j low
@@ -107,7 +111,7 @@ module _ (N z : ℕ) (o : Options) (range : rangesHold N z ≡ true) (N-low : 2 
           omega (arith, due-two (skip + j) (omega (arith, low)), y)
 
   -- both can't have left before slot a + 2 × N - 3
-  pub late : LateIn N z o (lateCalls N)
+  pub late : LateIn N z (optionsOf raw line) (lateCalls N)
   late = go (decLt (departureAt 1 last-one h .slot) (a + (2 * N - 3))) (decLt (departureAt 2 last-two h .slot) (a + (2 * N - 3)))
     where
       go : Dec (departureAt 1 last-one h .slot < a + (2 * N - 3)) → Dec (departureAt 2 last-two h .slot < a + (2 * N - 3))
@@ -119,20 +123,20 @@ module _ (N z : ℕ) (o : Options) (range : rangesHold N z ≡ true) (N-low : 2 
             arith,
             many-one (2 * N - 3) p,
             many-two (2 * N - 3) q,
-            two-share N z (kindNumber (o .kind)) h (last .state) (done .kept .inv) 1 2 (λ e. omega (arith, e)) a (2 * N - 3),
+            two-share N z (kindNumber line) h (last .state) (done .kept .inv) 1 2 (λ e. omega (arith, e)) a (2 * N - 3),
             N-low,
           ))
 
 -- N-1 is reached at every N from 2 to 1,024
 pub late-at-every-n : LateAtEveryN
-late-at-every-n N z o range low vcs = late N z o range low (ranges-are N z range .N-high) vcs
+late-at-every-n N z raw line range low vcs = late N z raw line range low (ranges-are N z range .N-high) vcs
 
 -- so no smaller number holds, at any N
 pub least-late : LeastLate
-least-late N w o range b = go (decLt N 2)
+least-late N w raw line range b = go (decLt N 2)
   where
     go : Dec (N < 2) → N - 1 ≤ w
     go (yes p) = omega (arith, p)
     go (no p) =
-        let l = late-at-every-n N 3 o range (omega (arith, p)) (omega arith) in
-        not-within N 3 w o (lateCalls N) (l .v) (l .k) range (l .reached) b
+        let l = late-at-every-n N 3 raw line range (omega (arith, p)) (omega arith) in
+        not-within N 3 w (optionsOf raw line) (lateCalls N) (l .v) (l .k) (alone-allowed N 3 raw line range) (l .reached) b

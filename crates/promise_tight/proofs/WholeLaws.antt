@@ -2,18 +2,22 @@
 -- accepted, and when they are due.
 use Prim.Native.Nat.{ℕ, _+_, _-_, _*_, _/_, _≤_}
 use mathlib.Core.Path.{_≡_, refl, sym, ap, _∙_, subst}
-use mathlib.Core.Bool.{true}
+use mathlib.Core.Bool.{Bool, true}
 use mathlib.Core.List.{List, [], _∷_, _++_}
 use mathlib.Core.Option.{none}
 use native.Mathlib.Nat.{div-mul-le-self}
 use native.Mathlib.Omega.{arith}
-use borrow.Author.Tests.{le-leb, lt-ltb}
+use borrow.Author.Tests.{le-leb, lt-ltb, le-ltb}
 use lib.ListN.{replicate}
 use Rattle.meaning.specs.Numbers.{rangesHold}
 use Rattle.meaning.specs.Bucket.{bucketOf, obeysRules}
+use Rattle.meaning.specs.State.{withWords}
+use Rattle.meaning.specs.Header.{byVci}
+use Rattle.meaning.specs.Operators.{secondOperator, ownerOf, owns}
 use Rattle.meaning.specs.Words.{noSecond}
-use Rattle.meaning.specs.Calls.{Options, kindNumber}
-use Rattle.meaning_runs.specs.Run.{Call, onOpen, onSlot, opened, Run, call, calls, freshRun, served}
+use Rattle.meaning.specs.Calls.{Kind, Options, optionsOf, kindNumber, freshRecord, freshState}
+use Rattle.meaning.proofs.OperatorsLaws.{alone-allowed}
+use Rattle.meaning_runs.specs.Run.{Call, onOpen, onSlot, opened, Run, callAt, call, calls, freshRun, served}
 use Rattle.meaning_runs.specs.Leak.{openingOf}
 use Rattle.meaning_runs.specs.Seen.{cellsIn, cellsOf}
 use Rattle.theory_invariant.proofs.RunLaws.{Kept, call-kept, run-kept}
@@ -45,31 +49,43 @@ two-obeys N low =
           (omega (arith, low, div-mul-le-self (N * 1_024 + 1_024 - 1_025) 1_024)),
     )
 
-module _ (N z : ℕ) (o : Options) (range : rangesHold N z ≡ true) (N-low : 2 ≤ N) (z-low : 3 ≤ z) where
+module _ (N z : ℕ) (raw : Bool) (line : Kind) (range : rangesHold N z ≡ true) (N-low : 2 ≤ N) (z-low : 3 ≤ z) where
+  abbrev o : Options
+  o = optionsOf raw line
+
   abbrev kind : ℕ
-  kind = kindNumber (o .kind)
+  kind = kindNumber line
 
   abbrev fresh : Run
   fresh = freshRun N z o
 
   fresh-kept : Kept N z kind fresh
   unfolding calls
-  fresh-kept = run-kept N z range o []
+  fresh-kept = run-kept N z o (alone-allowed N z raw line range) []
 
   fresh-none : (v : ℕ) → openingOf v (fresh .events) ≡ none
   unfolding freshRun openingOf
   fresh-none v = refl
 
+  -- all VCs are the second operator's
+  fresh-owns : (u : ℕ) → 1 ≤ u → owns (fresh .state .ctl) secondOperator (byVci u) ≡ true
+  unfolding owns ownerOf freshRun freshState freshRecord
+  fresh-owns u low = rw (le-ltb u 1 low)
+
   abbrev after-one : Run
   after-one = call fresh (onOpen 1 0 1 1)
 
-  one-events : after-one .events ≡ opened 1 0 1 1 noSecond 0 ∷ fresh .events
+  one-events : after-one .events ≡ opened secondOperator 1 0 1 1 noSecond 0 ∷ fresh .events
   one-events =
-      opened-is N z kind fresh fresh-kept 1 0 1 1 (omega arith) (omega (arith, z-low)) (fresh-none 1)
+      opened-is N z kind fresh fresh-kept 1 0 1 1 (omega arith) (omega (arith, z-low)) (fresh-owns 1 (omega arith)) (fresh-none 1)
       (one-obeys N (omega (arith, N-low)))
 
   one-kept : Kept N z kind after-one
   one-kept = call-kept N z kind fresh (onOpen 1 0 1 1) fresh-kept
+
+  two-owned : owns (after-one .state .ctl) secondOperator (byVci 2) ≡ true
+  unfolding call callAt withWords
+  two-owned = fresh-owns 2 (omega arith)
 
   two-shut : openingOf 2 (after-one .events) ≡ none
   unfolding freshRun openingOf
@@ -78,12 +94,12 @@ module _ (N z : ℕ) (o : Options) (range : rangesHold N z ≡ true) (N-low : 2 
   abbrev opened-both : Run
   opened-both = call after-one (onOpen 2 10 1_025 (N * 1_024 + 1_024))
 
-  both-events : opened-both .events ≡ opened 2 10 1_025 (N * 1_024 + 1_024) noSecond 0 ∷ opened 1 0 1 1 noSecond 0 ∷ []
+  both-events : opened-both .events ≡ opened secondOperator 2 10 1_025 (N * 1_024 + 1_024) noSecond 0 ∷ opened secondOperator 1 0 1 1 noSecond 0 ∷ []
   unfolding freshRun
   both-events =
-      opened-is N z kind after-one one-kept 2 10 1_025 (N * 1_024 + 1_024) (omega arith) (omega (arith, z-low)) two-shut
+      opened-is N z kind after-one one-kept 2 10 1_025 (N * 1_024 + 1_024) (omega arith) (omega (arith, z-low)) two-owned two-shut
       (two-obeys N (omega (arith, N-low)))
-      ∙ ap (λ l. opened 2 10 1_025 (N * 1_024 + 1_024) noSecond 0 ∷ l) one-events
+      ∙ ap (λ l. opened secondOperator 2 10 1_025 (N * 1_024 + 1_024) noSecond 0 ∷ l) one-events
 
   start : SentTwo N z kind z-low 0 opened-both
   unfolding served openingOf cellsOf cellsIn
@@ -147,5 +163,5 @@ module _ (N z : ℕ) (o : Options) (range : rangesHold N z ≡ true) (N-low : 2 
       ∙ calls-append opened-both (replicate (N * 1_024) (cellOf 2)) (replicate (N - 1) (cellOf 1) ++ replicate (N - 1) (onSlot []))
       ∙ calls-append sent-two (replicate (N - 1) (cellOf 1)) (replicate (N - 1) (onSlot []))
 
-  pub all-done : Done N z (kindNumber (o .kind)) z-low (N - 1) (N - 1) (calls (freshRun N z o) (lateCalls N))
+  pub all-done : Done N z (kindNumber line) z-low (N - 1) (N - 1) (calls (freshRun N z (optionsOf raw line)) (lateCalls N))
   all-done = subst (λ (r : Run). Done N z kind z-low (N - 1) (N - 1) r) (sym run-is) done

@@ -8,12 +8,12 @@
 --                            B cells of an opening with m and F leave in w consecutive slots
 use Prim.Native.Nat.{ℕ, _+_, _-_, _*_, _/_, _≤_}
 use mathlib.Core.Path.{_≡_}
-use mathlib.Core.Bool.{true}
+use mathlib.Core.Bool.{Bool, true}
 use mathlib.Core.List.{List, [], _∷_, _++_}
 use lib.ListN.{replicate}
 use Rattle.meaning.specs.Numbers.{rangesHold}
 use Rattle.meaning.specs.Header.{byVci}
-use Rattle.meaning.specs.Calls.{Options}
+use Rattle.meaning.specs.Calls.{Kind, Options, optionsOf, Allowed}
 use Rattle.meaning_runs.specs.Run.{Call, onOpen, onClose, onSlot, calls, freshRun}
 use Rattle.promises.specs.Reached.{Reached, Within, cleanFor}
 use Rattle.promise_bound.specs.Bound.{OneOpening, gone, leaving, spread}
@@ -40,10 +40,10 @@ pub record LateIn (N z : ℕ) (o : Options) (cs : List Call) : Type 0 where
   pub reached : Reached N z o cs v k
 
 abbrev pub LateAtEveryN : Type 0
-LateAtEveryN = (N z : ℕ) (o : Options) → rangesHold N z ≡ true → 2 ≤ N → 3 ≤ z → LateIn N z o (lateCalls N)
+LateAtEveryN = (N z : ℕ) (raw : Bool) (kind : Kind) → rangesHold N z ≡ true → 2 ≤ N → 3 ≤ z → LateIn N z (optionsOf raw kind) (lateCalls N)
 
 abbrev pub LeastLate : Type 0
-LeastLate = (N w : ℕ) (o : Options) → rangesHold N 3 ≡ true → Within N o w → N - 1 ≤ w
+LeastLate = (N w : ℕ) (raw : Bool) (kind : Kind) → rangesHold N 3 ≡ true → Within N (optionsOf raw kind) w → N - 1 ≤ w
 
 -- ── as many cells as the bound allows ──
 pub record Met (N z : ℕ) (o : Options) (cs : List Call) (v m F C x w : ℕ) : Type 0 where
@@ -51,7 +51,7 @@ pub record Met (N z : ℕ) (o : Options) (cs : List Call) (v m F C x w : ℕ) : 
   pub meets : leaving x w (gone opening) ≡ 1 + spread N m w / F
 
 abbrev pub AtMost : ℕ → Options → ℕ → ℕ → ℕ → ℕ → Type 0
-AtMost N o m F w B = (z : ℕ) → rangesHold N z ≡ true → (cs : List Call) (v C x : ℕ)
+AtMost N o m F w B = (z : ℕ) → Allowed N z o → (cs : List Call) (v C x : ℕ)
     → (p : OneOpening v m F C (calls (freshRun N z o) cs .events)) → leaving x w (gone p) ≤ B
 
 -- N 2: VC 1 with m 0, F 2, C 3; VC 2 with m 0, F 1, C 1; cells of 1, 1, 2, none, 1. VC 1 leaves in the slots 0, 3 and 4.
@@ -73,4 +73,4 @@ burstAtFive =
 -- burstAtTwo, then VC 1 is closed after slot 6 and opened with F and C 5, and has a cell in slot 7: its first opening still
 -- has its three cells
 abbrev pub closedAndReopened : List Call
-closedAndReopened = burstAtTwo ++ (noCell ∷ noCell ∷ onClose (byVci 1) ∷ onOpen 1 0 5 5 ∷ cellOf 1 ∷ [])
+closedAndReopened = burstAtTwo ++ (noCell ∷ noCell ∷ onClose 1 (byVci 1) ∷ onOpen 1 0 5 5 ∷ cellOf 1 ∷ [])

@@ -13,6 +13,7 @@ use Rattle.meaning.specs.Plain.{_=?_}
 use Rattle.meaning.specs.Numbers.{octets, dropped, letsIn}
 use Rattle.meaning.specs.State.{State, withWords}
 use Rattle.meaning.specs.Header.{Header, headerAt, clpIn, noUserCell, Name, named, numberIn, nameIn, connection, namesConnection}
+use Rattle.meaning.specs.Operators.{owns}
 use Rattle.meaning.specs.Bucket.{bucketOf, obeysRules}
 use Rattle.meaning.specs.Words.{Second, connectionAt, secondObeys, openedConnection, closedConnection, debt}
 use Rattle.meaning.specs.Calls.{Called, openCall, closeCall}
@@ -20,12 +21,12 @@ use Rattle.meaning.specs.Work.{Work}
 use Rattle.meaning.specs.Slot.{slot}
 use Rattle.meaning.proofs.NamesLaws.{one-name}
 use Rattle.meaning.proofs.WordsLaws.{write-read-other}
-use Rattle.meaning_runs.specs.Run.{onOpenWith, onClose, onSlot, Event, opened, closed, Run, letIn, call, served}
+use Rattle.meaning_runs.specs.Run.{onOpenWith, onClose, onSlot, Event, opened, closed, Run, letIn, callAt, call, served}
 use Rattle.meaning_runs.specs.Leak.{Opening, accepts, openingOf}
 use Rattle.meaning_runs.specs.Judged.{Judged, judgedOf, judgedUnder, judgedBy, judged}
 use Rattle.meaning_runs.proofs.OutLaws.{if-holds}
 use Rattle.theory_invariant.specs.Invariant.{Inv}
-use Rattle.theory_invariant.proofs.CallLaws.{shared-in, shared-out}
+use Rattle.theory_invariant.proofs.CallLaws.{shared-in, shared-foreign, shared-out}
 use Rattle.theory_invariant.proofs.CheckLaws.{slot-refused}
 use Rattle.theory_invariant.proofs.RunLaws.{Kept}
 use Rattle.promises.specs.Demand3.{headerLetIn}
@@ -39,14 +40,14 @@ last-no : (b : Bool) → b && false ≡ false
 last-no true = refl
 last-no false = refl
 
-other-open : (u v m F C : ℕ) (x : Second) (number : ℕ) (h : List Event) → u ≢ v
-    → openingOf v (opened u m F C x number ∷ h) ≡ openingOf v h
+other-open : (who u v m F C : ℕ) (x : Second) (number : ℕ) (h : List Event) → u ≢ v
+    → openingOf v (opened who u m F C x number ∷ h) ≡ openingOf v h
 unfolding openingOf
-other-open u v m F C x number h ne = rw (ne-eqb u v ne, last-no (number =? 0))
+other-open who u v m F C x number h ne = rw (ne-eqb u v ne, last-no (number =? 0))
 
-other-close : (u v number : ℕ) (h : List Event) → u ≢ v → openingOf v (closed u number ∷ h) ≡ openingOf v h
+other-close : (who u v number : ℕ) (h : List Event) → u ≢ v → openingOf v (closed who u number ∷ h) ≡ openingOf v h
 unfolding openingOf
-other-close u v number h ne = rw (ne-eqb u v ne, last-no (number =? 0))
+other-close who u v number h ne = rw (ne-eqb u v ne, last-no (number =? 0))
 
 -- the connection that a header names is the one of that name
 same-name : (z : ℕ) (hd : Header) (b : Name) → namesConnection z hd ≡ true → named z b ≡ true → connection z hd ≡ numberIn z b
@@ -86,7 +87,7 @@ module _ (N z kind : ℕ) (r : Run) (k : Kept N z kind r) where
   i = k .inv
 
   -- a call that names a, and another connection b
-  module _ (a b : Name) (nb : named z b ≡ true) (ne : a ≢ b) where
+  module _ (who : ℕ) (a b : Name) (nb : named z b ≡ true) (ne : a ≢ b) where
     abbrev u : ℕ
     u = numberIn (s .ctl .v) a
 
@@ -102,56 +103,58 @@ module _ (N z kind : ℕ) (r : Run) (k : Kept N z kind r) where
     module _ (m F C : ℕ) (x : Second) where
       abbrev Opens : Called → Type 0
       Opens c =
-          (openingOf v (opened u m F C x (c .number) ∷ h) ≡ openingOf v h)
+          (openingOf v (opened who u m F C x (c .number) ∷ h) ≡ openingOf v h)
           × (connectionAt (c .words) v ≡ connectionAt (s .words) v)
 
-      opens : (t : Bool) → named (s .ctl .v) a ≡ t → Opens (openCall (s .ctl) (s .words) a m F C x)
+      opens : (t o : Bool) → named (s .ctl .v) a ≡ t → owns (s .ctl) who a ≡ o → Opens (openCall (s .ctl) (s .words) who a m F C x)
       unfolding openCall openingOf
-      opens false e = rw (shared-out N z kind h s i a e) (refl, refl)
-      opens true e =
-          rw (shared-in N z kind h s i a e)
-          (if-holds Opens (connectionAt (s .words) u .opened =? 1) _ _ (λ _. (other-open u v m F C x 5 h ne′, refl))
-          (λ _. if-holds Opens (not (obeysRules (s .ctl .n) (bucketOf m F C 0))) _ _ (λ _. (other-open u v m F C x 6 h ne′, refl))
+      opens false o e p = rw (shared-out N z kind h s i who a e) (refl, refl)
+      opens true false e p = rw (shared-foreign N z kind h s i who a e p) (refl, refl)
+      opens true true e p =
+          rw (shared-in N z kind h s i who a e p)
+          (if-holds Opens (connectionAt (s .words) u .opened =? 1) _ _ (λ _. (other-open who u v m F C x 5 h ne′, refl))
+          (λ _. if-holds Opens (not (obeysRules (s .ctl .n) (bucketOf m F C 0))) _ _ (λ _. (other-open who u v m F C x 6 h ne′, refl))
           (λ _. if-holds Opens (not (secondObeys (bucketOf (x .m) (x .F) (x .C) 0) (x .tag))) _ _
-          (λ _. (other-open u v m F C x 11 h ne′, refl))
+          (λ _. (other-open who u v m F C x 11 h ne′, refl))
           (λ _. (
-            other-open u v m F C x 0 h ne′,
+            other-open who u v m F C x 0 h ne′,
             write-read-other (s .words) u (openedConnection (s .ctl .t) (bucketOf m F C 0) x) v (λ y. ne′ (sym y)),
           )))))
         where
           ne′ : u ≢ v
           ne′ = differ e
 
-      pub open-apart : let after = call r (onOpenWith a m F C x) in
+      pub open-apart : let after = call r (onOpenWith who a m F C x) in
           (openingOf (numberIn z b) (after .events) ≡ openingOf (numberIn z b) (r .events))
           × (connectionAt (after .state .words) (numberIn z b) ≡ connectionAt (r .state .words) (numberIn z b))
-      unfolding call withWords
-      open-apart = opens (named (s .ctl .v) a) refl
+      unfolding call callAt slot withWords
+      open-apart = opens (named (s .ctl .v) a) (owns (s .ctl) who a) refl refl
 
     abbrev Closes : Called → Type 0
     Closes c =
-        (openingOf v (closed u (c .number) ∷ h) ≡ openingOf v h)
+        (openingOf v (closed who u (c .number) ∷ h) ≡ openingOf v h)
         × (connectionAt (c .words) v ≡ connectionAt (s .words) v)
 
-    closes : (t : Bool) → named (s .ctl .v) a ≡ t → Closes (closeCall (s .ctl) (s .words) a)
+    closes : (t o : Bool) → named (s .ctl .v) a ≡ t → owns (s .ctl) who a ≡ o → Closes (closeCall (s .ctl) (s .words) who a)
     unfolding closeCall openingOf
-    closes false e = rw (shared-out N z kind h s i a e) (refl, refl)
-    closes true e =
-        rw (shared-in N z kind h s i a e)
-        (if-holds Closes (connectionAt (s .words) u .opened =? 0) _ _ (λ _. (other-close u v 7 h ne′, refl))
+    closes false o e p = rw (shared-out N z kind h s i who a e) (refl, refl)
+    closes true false e p = rw (shared-foreign N z kind h s i who a e p) (refl, refl)
+    closes true true e p =
+        rw (shared-in N z kind h s i who a e p)
+        (if-holds Closes (connectionAt (s .words) u .opened =? 0) _ _ (λ _. (other-close who u v 7 h ne′, refl))
         (λ _. if-holds Closes
         (not (connectionAt (s .words) u .waiting =? 0 && debt (s .ctl .t) (connectionAt (s .words) u) =? 0)) _ _
-        (λ _. (other-close u v 8 h ne′, refl))
-        (λ _. (other-close u v 0 h ne′, write-read-other (s .words) u closedConnection v (λ y. ne′ (sym y))))))
+        (λ _. (other-close who u v 8 h ne′, refl))
+        (λ _. (other-close who u v 0 h ne′, write-read-other (s .words) u closedConnection v (λ y. ne′ (sym y))))))
       where
         ne′ : u ≢ v
         ne′ = differ e
 
-    pub close-apart : let after = call r (onClose a) in
+    pub close-apart : let after = call r (onClose who a) in
         (openingOf (numberIn z b) (after .events) ≡ openingOf (numberIn z b) (r .events))
         × (connectionAt (after .state .words) (numberIn z b) ≡ connectionAt (r .state .words) (numberIn z b))
-    unfolding call withWords
-    close-apart = closes (named (s .ctl .v) a) refl
+    unfolding call callAt slot withWords
+    close-apart = closes (named (s .ctl .v) a) (owns (s .ctl) who a) refl refl
 
   -- ── a slot ──
   pub let-in-names : (cell : List ℕ) → letsIn (slot (r .state) cell .answer .verdict) ≡ true
@@ -182,7 +185,7 @@ module _ (N z kind : ℕ) (r : Run) (k : Kept N z kind r) where
 
   slot-apart : (cell : List ℕ) (b : Name) → named z b ≡ true → nameIn (headerLetIn kind s cell) ≢ b
       → openingOf (numberIn z b) (call r (onSlot cell) .events) ≡ openingOf (numberIn z b) h
-  unfolding call openingOf accepts
+  unfolding call callAt slot openingOf accepts
   slot-apart cell b nb ne = go (letsIn (slot s cell .answer .verdict)) refl
     where
       go : (t : Bool) → letsIn (slot s cell .answer .verdict) ≡ t
@@ -202,7 +205,7 @@ module _ (N z kind : ℕ) (r : Run) (k : Kept N z kind r) where
         v-is = i .stage .v-is;
         kind-is = i .stage .kind-is;
         one-number = one-name z;
-        open-apart = λ a b m F C x nb ne. open-apart a b nb ne m F C x;
-        close-apart = λ a b nb ne. close-apart a b nb ne;
+        open-apart = λ who a b m F C x nb ne. open-apart who a b nb ne m F C x;
+        close-apart = λ who a b nb ne. close-apart who a b nb ne;
         slot-apart = slot-apart;
       }

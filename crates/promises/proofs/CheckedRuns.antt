@@ -20,9 +20,10 @@ use Rattle.meaning.specs.Header.{headerAt, clpIn, noUserCell, Name, connection,
 use Rattle.meaning.specs.Words.{Second}
 use Rattle.meaning.specs.Calls.{Options, rawNumber, freshRecord, freshState}
 use Rattle.meaning.specs.Work.{Work}
-use Rattle.meaning.specs.Slot.{slot}
+use Rattle.meaning.specs.Bits.{lowestFree}
+use Rattle.meaning.specs.Slot.{uncheckedSlot, slot}
 use Rattle.meaning.proofs.CheckedLaws.{arriving-plain, arriving-none, not-raw, dropped-none}
-use Rattle.meaning_runs.specs.Run.{Call, onOpenWith, onClose, onSlot, Event, ran, Run, runOf, shown, letIn, call, calls, freshRun, served}
+use Rattle.meaning_runs.specs.Run.{Call, onOpenWith, onClose, onSlot, Event, ran, Run, runOf, shown, letIn, callAt, call, calls, freshRun, served}
 use Rattle.meaning_runs.specs.Leak.{Opening, leakAccepts, sustains, verdictBy, accepts, openingOf}
 use Rattle.meaning_runs.specs.Seen.{cellsIn}
 use Rattle.meaning_runs.specs.Judged.{Judged, judgedOf, judgedUnder, judgedBy, judged, judgedAs}
@@ -38,10 +39,10 @@ unfolding freshState freshRecord
 fresh-raw N z o = refl
 
 call-raw : (r : Run) (c : Call) → call r c .state .ctl .raw ≡ r .state .ctl .raw
-unfolding call withWords
-call-raw r (onOpenWith name m F C x) = refl
-call-raw r (onClose name) = refl
-call-raw r (onSlot cell) = raw-kept (r .state) cell
+unfolding call callAt slot withWords
+call-raw r (onOpenWith who name m F C x) = refl
+call-raw r (onClose who name) = refl
+call-raw r (onSlot cell) = raw-kept (lowestFree (r .state .bits)) (r .state) cell
 
 calls-raw : (r : Run) (cs : List Call) → calls r cs .state .ctl .raw ≡ r .state .ctl .raw
 unfolding calls
@@ -105,27 +106,27 @@ module _ (N z kind : ℕ) (raw : Bool) (r : Run) (k : Kept N z kind r) where
   number-is cell lent = slot-served N z kind h s (k .inv) cell lent .number
 
   noted : (cell : List ℕ) → after r cell .events ≡ ran (letIn s cell .cell) (slot s cell .answer) (shown (slot s cell)) ∷ h
-  unfolding call
+  unfolding call callAt slot
   noted cell = refl
 
   moved : (cell : List ℕ) → Lent cell → modeOf (after r cell) ≡ letIn s cell .mode
-  unfolding call
-  moved cell lent = mode-moved s cell (number-is cell lent)
+  unfolding call callAt slot
+  moved cell lent = mode-moved (lowestFree (s .bits)) s cell (number-is cell lent)
 
   none-keeps : modeOf (after r []) ≡ modeOf r
   none-keeps = moved [] refl ∙ ap (λ (a : Arriving). a .mode) (arriving-none (s .ctl .raw) (s .ctl .mode) [] refl)
 
   refused-keeps : (cell : List ℕ) → slot s cell .answer .number ≢ 0 → modeOf (after r cell) ≡ modeOf r
-  unfolding call
-  refused-keeps cell ne = ap (λ (x : State). x .ctl .mode) (slot-stays s cell ne)
+  unfolding call callAt slot
+  refused-keeps cell ne = ap (λ (x : State). x .ctl .mode) (slot-stays (lowestFree (s .bits)) s cell ne)
 
-  open-keeps : (name : Name) (m F C : ℕ) (x : Second) → modeOf (call r (onOpenWith name m F C x)) ≡ modeOf r
-  unfolding call withWords
-  open-keeps name m F C x = refl
+  open-keeps : (who : ℕ) (name : Name) (m F C : ℕ) (x : Second) → modeOf (call r (onOpenWith who name m F C x)) ≡ modeOf r
+  unfolding call callAt slot withWords
+  open-keeps who name m F C x = refl
 
-  close-keeps : (name : Name) → modeOf (call r (onClose name)) ≡ modeOf r
-  unfolding call withWords
-  close-keeps name = refl
+  close-keeps : (who : ℕ) (name : Name) → modeOf (call r (onClose who name)) ≡ modeOf r
+  unfolding call callAt slot withWords
+  close-keeps who name = refl
 
   says : (cell : List ℕ) → Lent cell
       → judgedOf (slot s cell .answer .verdict) (slot s cell .answer .vci) (slot s cell .answer .d) ≡ judgedAs kind z h (letIn s cell)
@@ -141,12 +142,12 @@ module _ (N z kind : ℕ) (raw : Bool) (r : Run) (k : Kept N z kind r) where
 
   -- no cell more, and no opening moved
   adds-no-cell : (cell : List ℕ) → Lent cell → letIn s cell .dropped ≡ true → cellsIn (after r cell .events) ≡ cellsIn h
-  unfolding call cellsIn letsIn
+  unfolding call callAt slot cellsIn letsIn
   adds-no-cell cell lent e = rw (ap (λ (j : Judged). j .verdict) (dropped-is cell lent e))
 
   moves-no-opening : (cell : List ℕ) → Lent cell → letIn s cell .dropped ≡ true → (v : ℕ)
       → openingOf v (after r cell .events) ≡ openingOf v h
-  unfolding call openingOf accepts letsIn
+  unfolding call callAt slot openingOf accepts letsIn
   moves-no-opening cell lent e v = rw (ap (λ (j : Judged). j .verdict) (dropped-is cell lent e))
 
   only-dropped : (cell : List ℕ) → slot s cell .answer .verdict ≡ dropped → letIn s cell .dropped ≡ true
@@ -187,14 +188,14 @@ module _ (N z kind : ℕ) (raw : Bool) (r : Run) (k : Kept N z kind r) where
 
 -- ── a policer that is not raw ──
 plain-call : (r : Run) (c : Call) → r .state .ctl .raw ≡ 0 → call r c ≡ plainCall r c
-unfolding call plainCall
-plain-call r (onOpenWith name m F C x) e = refl
-plain-call r (onClose name) e = refl
+unfolding call callAt slot uncheckedSlot plainCall
+plain-call r (onOpenWith who name m F C x) e = refl
+plain-call r (onClose who name) e = refl
 plain-call r (onSlot cell) e =
     ap (λ (a : Arriving). runOf (slot (r .state) cell .state)
     (ran (a .cell) (slot (r .state) cell .answer) (shown (slot (r .state) cell)) ∷ r .events))
     (arriving-plain (r .state .ctl .raw) (r .state .ctl .mode) cell e)
-    ∙ ap (λ (w : Work). runOf (w .state) (ran cell (w .answer) (shown w) ∷ r .events)) (not-raw (r .state) cell e)
+    ∙ ap (λ (w : Work). runOf (w .state) (ran cell (w .answer) (shown w) ∷ r .events)) (not-raw (lowestFree (r .state .bits)) (r .state) cell e)
 
 pub plain-before : (r : Run) (cs : List Call) → r .state .ctl .raw ≡ 0 → calls r cs ≡ plainCalls r cs
 unfolding calls plainCalls

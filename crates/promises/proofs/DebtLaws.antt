@@ -16,10 +16,12 @@ use Rattle.meaning.specs.Plain.{if_then_else_, _=?_}
 use Rattle.meaning.specs.Numbers.{rangesHold, connectionsIn, unused}
 use Rattle.meaning.specs.State.{State}
 use Rattle.meaning.specs.Header.{Name, named, numberIn}
+use Rattle.meaning.specs.Operators.{owns}
 use Rattle.meaning.specs.Words.{Connection, connectionAt, writeConnection, closedConnection, debt}
-use Rattle.meaning.specs.Calls.{Options, kindNumber, calledOf, closeCall}
+use Rattle.meaning.specs.Calls.{Options, kindNumber, Allowed, calledOf, closeCall}
 use Rattle.meaning.proofs.NamesLaws.{number-low, number-used}
-use Rattle.meaning_runs.specs.Run.{Call, onOpenWith, onClose, onSlot, Event, opened, closed, ran, Run, call, calls, freshRun, served}
+use Rattle.meaning.specs.Slot.{slot}
+use Rattle.meaning_runs.specs.Run.{Call, onOpenWith, onClose, onSlot, Event, opened, closed, ran, Run, callAt, call, calls, freshRun, served}
 use Rattle.meaning_runs.specs.Leak.{Opening, parts, dueTime, openingOf}
 use Rattle.meaning_runs.specs.Seen.{ofConnection, cellsOf, departuresOf, cellAt}
 use Rattle.theory_queues.specs.Queue.{sum, flat, turn}
@@ -32,7 +34,7 @@ use Rattle.theory_table.proofs.ConnectionLaws.{debt-is}
 use Rattle.theory_memory.specs.Held.{Queued, vciOf}
 use Rattle.theory_invariant.specs.Invariant.{cellIn, connectionIn, isOf, waits, Inv}
 use Rattle.theory_invariant.proofs.LengthLaws.{connections-few}
-use Rattle.theory_invariant.proofs.CallLaws.{shared-in, shared-out}
+use Rattle.theory_invariant.proofs.CallLaws.{shared-in, shared-foreign, shared-out}
 use Rattle.theory_invariant.proofs.RunLaws.{Kept, call-kept, calls-kept, run-kept}
 use Rattle.promises.specs.Debt.{lastSlot, PaidAfter, Paid, AllLeft, Across, Debt, roundedUp, Refused}
 use Rattle.promises.proofs.Demand3Laws.{waiting, many-left, many-cells, demanded}
@@ -132,12 +134,12 @@ module _ (N z kind : ℕ) (h : List Event) (s : State) (i : Inv N z kind h s) wh
     told true x = refl
     told false x = refl
 
-    number-is : closeCall (s .ctl) (s .words) name .number
+    number-is : (who : ℕ) → owns (s .ctl) who name ≡ true → closeCall (s .ctl) (s .words) who name .number
         ≡ answered (connectionAt (s .words) v .waiting) (debt (s .ctl .t) (connectionAt (s .words) v))
     unfolding closeCall
-    number-is =
+    number-is who own =
         rw (
-          shared-in N z kind h s i name (ap (λ (k : ℕ). named k name) (i .stage .v-is) ∙ n),
+          shared-in N z kind h s i who name (ap (λ (k : ℕ). named k name) (i .stage .v-is) ∙ n) own,
           v-same,
           ne-eqb (connectionAt (s .words) v .opened) 0 (λ y. omega (arith, y, ap (λ (c : Connection). c .opened) (is-open .is))),
         )
@@ -150,23 +152,23 @@ module _ (N z kind : ℕ) (h : List Event) (s : State) (i : Inv N z kind h s) wh
     abbrev d : ℕ
     d = debt (s .ctl .t) (connectionAt (s .words) v)
 
-    pub exactly : (closeCall (s .ctl) (s .words) name .number ≡ 0) ↔ (AllLeft (numberIn z name) h × Paid o (lastSlot h))
-    exactly = (
+    pub exactly : (who : ℕ) → owns (s .ctl) who name ≡ true → (closeCall (s .ctl) (s .words) who name .number ≡ 0) ↔ (AllLeft (numberIn z name) h × Paid o (lastSlot h))
+    exactly who own = (
       λ e0.
-          let a = answered-none w d .0 (sym number-is ∙ e0) in (
+          let a = answered-none w d .0 (sym (number-is who own) ∙ e0) in (
             omega (arith, counted, a .0),
             paid-after (parts o) (o .F) (lastSlot h) (o .previous) .0 (sym owes ∙ a .1),
           ),
       λ g.
-          number-is
+          number-is who own
           ∙ answered-none w d .1 (
             omega (arith, counted, g .0),
             owes ∙ paid-after (parts o) (o .F) (lastSlot h) (o .previous) .1 (g .1),
           ),
     )
 
-    pub or-eight : closeCall (s .ctl) (s .words) name .number ≢ 0 → closeCall (s .ctl) (s .words) name .number ≡ 8
-    or-eight ne = number-is ∙ eight-by (w =? 0) (d =? 0) (λ e0. ne (number-is ∙ e0))
+    pub or-eight : (who : ℕ) → owns (s .ctl) who name ≡ true → closeCall (s .ctl) (s .words) who name .number ≢ 0 → closeCall (s .ctl) (s .words) who name .number ≡ 8
+    or-eight who own ne = number-is who own ∙ eight-by (w =? 0) (d =? 0) (λ e0. ne (number-is who own ∙ e0))
 
     -- before the first slot nothing is owed
     pub unowed : served h ≡ 0 → earliest o ≡ 0
@@ -184,36 +186,43 @@ module _ (N z kind : ℕ) (h : List Event) (s : State) (i : Inv N z kind h s) wh
         d .leaves v k (omega (arith, many)) (omega (arith, late, d .delay v k (omega (arith, many)) .0)),
       )
 
-  -- close answers 0 only for a connection that there is
-  four : (name : Name) → named (s .ctl .v) name ≡ false → closeCall (s .ctl) (s .words) name .number ≡ 4
+  -- close answers 0 only for a connection that there is, and to its operator
+  four : (who : ℕ) (name : Name) → named (s .ctl .v) name ≡ false → closeCall (s .ctl) (s .words) who name .number ≡ 4
   unfolding closeCall
-  four name e = rw (shared-out N z kind h s i name e)
+  four who name e = rw (shared-out N z kind h s i who name e)
 
-  pub in-range : (name : Name) → closeCall (s .ctl) (s .words) name .number ≡ 0 → named z name ≡ true
-  in-range name f = go (named (s .ctl .v) name) refl
+  sixteen : (who : ℕ) (name : Name) → named (s .ctl .v) name ≡ true → owns (s .ctl) who name ≡ false
+      → closeCall (s .ctl) (s .words) who name .number ≡ 16
+  unfolding closeCall
+  sixteen who name e o = rw (shared-foreign N z kind h s i who name e o)
+
+  pub in-range : (who : ℕ) (name : Name) → closeCall (s .ctl) (s .words) who name .number ≡ 0
+      → (named z name ≡ true) × (owns (s .ctl) who name ≡ true)
+  in-range who name f = go (named (s .ctl .v) name) (owns (s .ctl) who name) refl refl
     where
-      go : (b : Bool) → named (s .ctl .v) name ≡ b → named z name ≡ true
-      go true e = ap (λ (k : ℕ). named k name) (sym (i .stage .v-is)) ∙ e
-      go false e = absurd (omega (arith, f, four name e))
+      go : (b o : Bool) → named (s .ctl .v) name ≡ b → owns (s .ctl) who name ≡ o → (named z name ≡ true) × (owns (s .ctl) who name ≡ true)
+      go true true e p = (ap (λ (k : ℕ). named k name) (sym (i .stage .v-is)) ∙ e, p)
+      go true false e p = absurd (omega (arith, f, sixteen who name e p))
+      go false o e p = absurd (omega (arith, f, four who name e))
 
 -- ── at every close of a run the debt was paid ──
 abbrev pub PaidAtCloses : List Event → Type 0
 PaidAtCloses [] = Unit {0}
-PaidAtCloses (opened vci m F C x number ∷ h) = PaidAtCloses h
-PaidAtCloses (closed vci number ∷ h) =
+PaidAtCloses (opened who vci m F C x number ∷ h) = PaidAtCloses h
+PaidAtCloses (closed who vci number ∷ h) =
     (number ≡ 0 → (o : Opening) → openingOf vci h ≡ some o → Paid o (lastSlot h)) × PaidAtCloses h
 PaidAtCloses (ran cell a out ∷ h) = PaidAtCloses h
 
 module _ (N z kind : ℕ) where
   call-paid : (r : Run) (c : Call) → Kept N z kind r → PaidAtCloses (r .events) → PaidAtCloses (call r c .events)
-  unfolding call
-  call-paid r (onOpenWith name m F C x) k p = p
-  call-paid r (onClose name) k p = (
+  unfolding call callAt slot
+  call-paid r (onOpenWith who name m F C x) k p = p
+  call-paid r (onClose who name) k p = (
     λ e o q.
         let i = k .inv in
-        let n = in-range N z kind (r .events) (r .state) i name e in
+        let n = in-range N z kind (r .events) (r .state) i who name e in
         let same = ap (λ (v : ℕ). openingOf (numberIn v name) (r .events)) (i .stage .v-is) in
-        exactly N z kind (r .events) (r .state) i name o n (sym same ∙ q) .0 e .1,
+        exactly N z kind (r .events) (r .state) i name o (n .0) (sym same ∙ q) who (n .1) .0 e .1,
     p,
   )
   call-paid r (onSlot cell) k p = p
@@ -225,9 +234,9 @@ module _ (N z kind : ℕ) where
 
   -- slots are only added
   call-more : (r : Run) (c : Call) → served (r .events) ≤ served (call r c .events)
-  unfolding call served
-  call-more r (onOpenWith name m F C x) = omega arith
-  call-more r (onClose name) = omega arith
+  unfolding call callAt slot served
+  call-more r (onOpenWith who name m F C x) = omega arith
+  call-more r (onClose who name) = omega arith
   call-more r (onSlot cell) = omega arith
 
   calls-more : (r : Run) (cs : List Call) → served (r .events) ≤ served (calls r cs .events)
@@ -235,24 +244,24 @@ module _ (N z kind : ℕ) where
   calls-more r [] = omega arith
   calls-more r (c ∷ cs) = omega (arith, call-more r c, calls-more (call r c) cs)
 
-pub fresh-paid : (N z : ℕ) → rangesHold N z ≡ true → (o : Options) (cs : List Call)
+pub fresh-paid : (N z : ℕ) (o : Options) → Allowed N z o → (cs : List Call)
     → PaidAtCloses (calls (freshRun N z o) cs .events)
 unfolding freshRun calls
-fresh-paid N z range o cs = calls-paid N z (kindNumber (o .kind)) (freshRun N z o) cs (run-kept N z range o []) tt
+fresh-paid N z o range cs = calls-paid N z (kindNumber (o .kind)) (freshRun N z o) cs (run-kept N z o range []) tt
 
 served-before : (later h : List Event) → served h ≤ served (later ++ h)
 unfolding served
 served-before [] h = omega arith
-served-before (opened vci m F C x number ∷ later) h = served-before later h
-served-before (closed vci number ∷ later) h = served-before later h
+served-before (opened who vci m F C x number ∷ later) h = served-before later h
+served-before (closed who vci number ∷ later) h = served-before later h
 served-before (ran cell a out ∷ later) h = omega (arith, served-before later h)
 
-paid-before : (later before : List Event) (v : ℕ) (o : Opening) → PaidAtCloses (later ++ (closed v 0 ∷ before))
+paid-before : (later before : List Event) (who v : ℕ) (o : Opening) → PaidAtCloses (later ++ (closed who v 0 ∷ before))
     → openingOf v before ≡ some o → Paid o (lastSlot before)
-paid-before [] before v o p e = p .0 refl o e
-paid-before (opened vci m F C x number ∷ later) before v o p e = paid-before later before v o p e
-paid-before (closed vci number ∷ later) before v o p e = paid-before later before v o (p .1) e
-paid-before (ran cell a out ∷ later) before v o p e = paid-before later before v o p e
+paid-before [] before who v o p e = p .0 refl o e
+paid-before (opened whose vci m F C x number ∷ later) before who v o p e = paid-before later before who v o p e
+paid-before (closed whose vci number ∷ later) before who v o p e = paid-before later before who v o (p .1) e
+paid-before (ran cell a out ∷ later) before who v o p e = paid-before later before who v o p e
 
 -- a debt x paid by slot t, and a later cell due at d in other parts
 crossed : (x t T d L M : ℕ) → x ≤ t * L → t ≤ T → T * M ≤ d → x * M ≤ d * L
@@ -267,19 +276,19 @@ crossed x t T d L M a b c =
       ap (λ (n : ℕ). T * n) (mul-comm L M),
     )
 
-served-closed : (v : ℕ) (h : List Event) → served (closed v 0 ∷ h) ≡ served h
+served-closed : (who v : ℕ) (h : List Event) → served (closed who v 0 ∷ h) ≡ served h
 unfolding served
-served-closed v h = refl
+served-closed who v h = refl
 
 pub across : (h : List Event) → PaidAtCloses h → Across h
-across h p v old new q later before e eo eq en =
+across h p who v old new q later before e eo eq en =
     crossed (q + old .F) (lastSlot before) (served h) (dueTime new (served h)) (parts old) (parts new) paid
-    (omega (arith, ap served e, served-before later (closed v 0 ∷ before), served-closed v before)) (omega (arith, due-time new (served h)))
+    (omega (arith, ap served e, served-before later (closed who v 0 ∷ before), served-closed who v before)) (omega (arith, due-time new (served h)))
   where
     paid : q + old .F ≤ lastSlot before * parts old
     paid =
         subst (λ (a : Option ℕ). PaidAfter (parts old) (old .F) (lastSlot before) a) eq
-        (paid-before later before v old (subst PaidAtCloses e p) eo)
+        (paid-before later before who v old (subst PaidAtCloses e p) eo)
 
 -- ── how long the S half of 8 lasts ──
 -- j slots more leave something of S exactly when they are fewer than S/L, rounded up
@@ -319,8 +328,8 @@ module _ (N z kind : ℕ) (r : Run) (k : Kept N z kind r) where
   pub debts : PaidAtCloses (r .events) → Debt N z (r .events) (r .state)
   debts p =
       record {
-        closes-exactly = exactly N z kind (r .events) (r .state) (k .inv);
-        else-eight = or-eight N z kind (r .events) (r .state) (k .inv);
+        closes-exactly = λ who name o own n e. exactly N z kind (r .events) (r .state) (k .inv) name o n e who own;
+        else-eight = λ who name o own n e. or-eight N z kind (r .events) (r .state) (k .inv) name o n e who own;
         waiting-is = counted N z kind (r .events) (r .state) (k .inv);
         across = across (r .events) p;
         waiting-half = waited N z kind (r .events) (r .state) (k .inv);

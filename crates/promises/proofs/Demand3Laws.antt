@@ -2,25 +2,27 @@
 -- wait, so the k-th that left is the k-th accepted; one that waits can still be in time.
 use Prim.Native.Nat.{ℕ, zero, suc, _+_, _-_, _≤_, _<_}
 use mathlib.Core.Path.{_≡_, refl, sym, ap, _∙_}
-use mathlib.Core.Bool.{false}
+use mathlib.Core.Logic.{_≢_}
+use mathlib.Core.Bool.{true}
 use mathlib.Core.List.{List, [], _∷_, _++_, map}
 use native.Mathlib.Decide.{decLt}
 use native.Mathlib.Nat.{not-suc-le-zero, le-of-suc-le-suc}
 use native.Mathlib.Omega.{arith}
 use lib.ListN.{length, getD, length-append, List·getD-append}
 use lib.Seq.{getD-append-add}
-use Rattle.meaning.specs.State.{State, freeList, outputList}
-use Rattle.meaning.specs.Lists.{isEmpty}
+use Rattle.meaning.specs.State.{State}
+use Rattle.meaning.specs.Bits.{isFree, lowestFree}
+use Rattle.meaning.proofs.BitsLaws.{lowest-below}
 use Rattle.meaning.specs.Slot.{slot}
 use Rattle.meaning_runs.specs.Run.{Event, served}
 use Rattle.meaning_runs.specs.Seen.{Cell, Departure, ofConnection, cellsIn, cellsOf, departuresOf, noCell, noDeparture, cellAt, departureAt}
-use Rattle.theory_queues.specs.Queue.{one, All, flat, turn}
-use Rattle.theory_queues.proofs.QueueLaws.{map-length, turn-sums}
+use Rattle.theory_queues.specs.Queue.{All, flat}
+use Rattle.theory_queues.proofs.QueueLaws.{map-length}
 use Rattle.theory_queues.proofs.LineLaws.{still-in-time}
 use Rattle.theory_queues.proofs.OrderLaws.{ofConnection-append, ofConnection-map, ofConnection-all}
 use Rattle.theory_queues.proofs.RisingLaws.{rising-of, rising-at}
-use Rattle.theory_memory.specs.Held.{dueOf, Has}
-use Rattle.theory_memory.proofs.HasLaws.{SomeFree, some-free, free-marked}
+use Rattle.theory_memory.specs.Held.{dueOf}
+use Rattle.theory_invariant.proofs.SlotLaws.{some-space, lowest-space}
 use Rattle.theory_invariant.specs.Invariant.{Left, seenAs, cellLeft, cellIn, connectionIn, InTime, Delayed, Inv}
 use Rattle.promises.specs.Demand3.{Demand3}
 use Rattle.promises.proofs.VerdictLaws.{says, accepts}
@@ -120,20 +122,12 @@ module _ (N z kind : ℕ) (h : List Event) (s : State) (i : Inv N z kind h s) wh
               place : k ≡ length (map cellLeft (gone v)) + j
               place = omega (arith, map-length cellLeft (gone v), many-left v)
 
-  one-free : isEmpty (freeList s) ≡ false
-  one-free =
-      free-marked low has
-    where
-      low : N ≤ 65_535
-      low = omega (arith, i .stage .ranges .N-high)
-
-      f : SomeFree (i .free)
-      f =
-          some-free low (i .stage .has) (omega (arith, turn-sums one (i .cal), i .good .room, i .stage .ranges .N-low))
-
-      has : Has N (s .ctl .turn + 1) (s .cells) (s .links) (s .calendar) (freeList s) (outputList s) (f .x ∷ f .rest)
-          (i .out) (turn (i .cal))
-      has = rw (f .is) at (i .stage .has)
+  one-free : (s .ctl .free ≢ 0) × (isFree (s .bits) (lowestFree (s .bits)) ≡ true) × (lowestFree (s .bits) < N)
+  one-free = (
+    some-space N z kind h s i,
+    lowest-space N z kind h s i,
+    lowest-below N (s .ctl .free) (s .bits) (i .stage .has .spaces-fit) (some-space N z kind h s i),
+  )
 
   delays : (v : ℕ) → All (Delayed N) (cellsOf v h)
   unfolding cellsOf

@@ -12,15 +12,15 @@ use borrow.Author.Tests.{eq-eqb, ne-eqb, eqb-true, eqb-false, lt-ltb, le-ltb, le
 use lib.ListN.{length, length-append}
 use Rattle.meaning.specs.declared.Answer.{Answer}
 use Rattle.meaning.specs.Plain.{if_then_else_, _<?_, _≤?_, _=?_}
-use Rattle.meaning.specs.Numbers.{rangesHold, octets, uni, nothing, unknown, dropped, empty, letsIn}
+use Rattle.meaning.specs.Numbers.{octets, uni, nothing, unknown, dropped, empty, letsIn}
 use Rattle.meaning.specs.State.{State}
 use Rattle.meaning.specs.Header.{Header, vpiHigh, headerOf, headerAt, clpIn, noUserCell, connection, namesConnection}
-use Rattle.meaning.specs.Calls.{Options, kindNumber}
+use Rattle.meaning.specs.Calls.{Options, kindNumber, Allowed}
 use Rattle.meaning.specs.Arrival.{sentAs}
 use Rattle.meaning.specs.Work.{Work}
 use Rattle.meaning.specs.Slot.{slot}
 use Rattle.meaning.proofs.NamesLaws.{vc-number, vc-named, path-number}
-use Rattle.meaning_runs.specs.Run.{Call, onOpenWith, onClose, onSlot, Event, opened, closed, ran, Run, shown, letIn, call, calls, freshRun, served}
+use Rattle.meaning_runs.specs.Run.{Call, onOpenWith, onClose, onSlot, Event, opened, closed, ran, Run, shown, letIn, callAt, call, calls, freshRun, served}
 use Rattle.meaning_runs.specs.Leak.{Opening, afterCell, accepts, openingOf}
 use Rattle.meaning_runs.specs.Seen.{Cell, Departure, cellUnder, cellsIn, departuresIn, ofConnection, cellsOf, departuresOf}
 use Rattle.meaning_runs.specs.Judged.{Judged, judgedOf, judgedUnder, judgedBy, judged}
@@ -44,12 +44,12 @@ never e = let y : _≡_ {A = ℕ} 0 1 = cc in omega arith
 pub none-open : (z : ℕ) (h : List Event) → NoPathOpened z h → NoPathOpen z h
 unfolding openingOf
 none-open z [] n p low high = refl
-none-open z (opened c m F C x number ∷ h) n p low high = go (number =? 0) refl (none-open z h (n .1) p low high)
+none-open z (opened who c m F C x number ∷ h) n p low high = go (number =? 0) refl (none-open z h (n .1) p low high)
   where
-    go : (b : Bool) → number =? 0 ≡ b → openingOf (z + p) h ≡ none → openingOf (z + p) (opened c m F C x number ∷ h) ≡ none
+    go : (b : Bool) → number =? 0 ≡ b → openingOf (z + p) h ≡ none → openingOf (z + p) (opened who c m F C x number ∷ h) ≡ none
     go true e rest = rw (e, ne-eqb c (z + p) (λ y. omega (arith, y, n .0 (eqb-true number 0 e)))) rest
     go false e rest = rw e rest
-none-open z (closed c number ∷ h) n p low high =
+none-open z (closed who c number ∷ h) n p low high =
     if-holds (λ (o : Option Opening). o ≡ none) (number =? 0 && c =? (z + p)) _ _ (λ _. refl) (λ _. none-open z h n p low high)
 none-open z (ran cell a out ∷ h) n p low high =
     if-holds (λ (o : Option Opening). o ≡ none) (accepts (z + p) a) _ _
@@ -249,7 +249,7 @@ module _ (N z : ℕ) (r : Run) (k : Kept N z uni r) where
           )
 
   cells-low : NoPathOpen z h → All (Low z) (cellsIn h) → (cell : List ℕ) → All (Low z) (cellsIn (call r (onSlot cell) .events))
-  unfolding call cellsIn
+  unfolding call callAt slot cellsIn
   cells-low shut low cell =
       if-holds (All (Low z)) (letsIn (answer cell .verdict)) _ _
       (λ e. all-append (Low z) (cellsIn h) _ low (
@@ -265,7 +265,7 @@ module _ (N z : ℕ) (r : Run) (k : Kept N z uni r) where
   departing : (cell : List ℕ) → answer cell .space ≢ empty
       → departuresIn (call r (onSlot cell) .events)
       ≡ departuresIn h ++ (record { slot = served h; vci = answer cell .departing; octets = shown (slot s cell) } ∷ [])
-  unfolding call departuresIn
+  unfolding call callAt slot departuresIn
   departing cell ne = rw (ne-eqb (answer cell .space) empty ne)
 
   departs : (cell : List ℕ) → All (Low z) (cellsIn (call r (onSlot cell) .events)) → answer cell .space ≢ empty
@@ -281,9 +281,9 @@ Before z r = NoPathOpened z (r .events) → AnsweredBefore z (r .events) × All 
 
 module _ (N z : ℕ) where
   call-before : (r : Run) (c : Call) → Kept N z uni r → Before z r → Before z (call r c)
-  unfolding call cellsIn
-  call-before r (onOpenWith name m F C x) k p n = p (n .1)
-  call-before r (onClose name) k p n = p n
+  unfolding call callAt slot cellsIn
+  call-before r (onOpenWith who name m F C x) k p n = p (n .1)
+  call-before r (onClose who name) k p n = p n
   call-before r (onSlot cell) k p n =
       let shut = none-open z (r .events) n in
       let rest = p n in
@@ -299,14 +299,14 @@ module _ (N z : ℕ) where
   unfolding freshRun cellsIn
   fresh-before o n = (tt, tt)
 
-  pub no-paths : rangesHold N z ≡ true → (o : Options) → kindNumber (o .kind) ≡ uni → (cs : List Call)
+  pub no-paths : (o : Options) → Allowed N z o → kindNumber (o .kind) ≡ uni → (cs : List Call)
       → NoPaths z (calls (freshRun N z o) cs)
   unfolding calls
-  no-paths range o e cs =
+  no-paths o range e cs =
       record {
         next-slot = next-before N z (calls (freshRun N z o) cs) (kept cs);
         all-slots = λ n. calls-before (freshRun N z o) cs (kept []) (fresh-before o) n .0;
       }
     where
       kept : (cs : List Call) → Kept N z uni (calls (freshRun N z o) cs)
-      kept cs = subst (λ (j : ℕ). Kept N z j (calls (freshRun N z o) cs)) e (run-kept N z range o cs)
+      kept cs = subst (λ (j : ℕ). Kept N z j (calls (freshRun N z o) cs)) e (run-kept N z o range cs)

@@ -8,8 +8,9 @@ use mathlib.Core.Option.{some}
 use native.Mathlib.Omega.{arith}
 use lib.Dec.{lit<}
 use Rattle.meaning.specs.Numbers.{rangesHold}
-use Rattle.meaning.specs.Calls.{Kind, UNI, NNI, Options, optionsOf, plain}
+use Rattle.meaning.specs.Calls.{Kind, UNI, NNI, Options, optionsOf, plain, Allowed}
 use Rattle.meaning.specs.Words.{noSecond}
+use Rattle.meaning.proofs.OperatorsLaws.{alone-allowed}
 use Rattle.meaning_runs.specs.Run.{Call}
 use Rattle.meaning_runs.specs.Leak.{openingWith}
 use Rattle.meaning_runs.specs.Seen.{departureAt}
@@ -17,28 +18,22 @@ use Rattle.meaning_runs.specs.Eight.{eightCalls, eightEvents}
 use Rattle.meaning_runs.specs.Computed.{byComputation}
 use Rattle.promises.specs.Reached.{Reached, Within, lateAtTwo, lateAtFive, PeakKept}
 
-pub reached-at-two : (o : Options) → Reached 2 3 o lateAtTwo 2 1
+pub reached-at-two : (raw : Bool) (kind : Kind) → Reached 2 3 (optionsOf raw kind) lateAtTwo 2 1
 unfolding byComputation
-reached-at-two o = go (o .raw) (o .kind)
-  where
-    go : (raw : Bool) (kind : Kind) → Reached 2 3 (optionsOf raw kind) lateAtTwo 2 1
-    go true UNI = record { leaves = lit< tt; late = refl }
-    go false UNI = record { leaves = lit< tt; late = refl }
-    go true NNI = record { leaves = lit< tt; late = refl }
-    go false NNI = record { leaves = lit< tt; late = refl }
+reached-at-two true UNI = record { leaves = lit< tt; late = refl }
+reached-at-two false UNI = record { leaves = lit< tt; late = refl }
+reached-at-two true NNI = record { leaves = lit< tt; late = refl }
+reached-at-two false NNI = record { leaves = lit< tt; late = refl }
 
-pub reached-at-five : (o : Options) → Reached 5 3 o lateAtFive 2 19
+pub reached-at-five : (raw : Bool) (kind : Kind) → Reached 5 3 (optionsOf raw kind) lateAtFive 2 19
 unfolding byComputation
-reached-at-five o = go (o .raw) (o .kind)
-  where
-    go : (raw : Bool) (kind : Kind) → Reached 5 3 (optionsOf raw kind) lateAtFive 2 19
-    go true UNI = record { leaves = lit< tt; late = refl }
-    go false UNI = record { leaves = lit< tt; late = refl }
-    go true NNI = record { leaves = lit< tt; late = refl }
-    go false NNI = record { leaves = lit< tt; late = refl }
+reached-at-five true UNI = record { leaves = lit< tt; late = refl }
+reached-at-five false UNI = record { leaves = lit< tt; late = refl }
+reached-at-five true NNI = record { leaves = lit< tt; late = refl }
+reached-at-five false NNI = record { leaves = lit< tt; late = refl }
 
 -- so no smaller bound holds there
-pub not-within : (N z w : ℕ) (o : Options) (cs : List Call) (v k : ℕ) → rangesHold N z ≡ true → Reached N z o cs v k
+pub not-within : (N z w : ℕ) (o : Options) (cs : List Call) (v k : ℕ) → Allowed N z o → Reached N z o cs v k
     → Within N o w → N - 1 ≤ w
 not-within N z w o cs v k e r b = omega (arith, b z e cs v k (r .leaves), r .late)
 
@@ -50,11 +45,13 @@ five-allowed : rangesHold 5 3 ≡ true
 unfolding rangesHold
 five-allowed = refl
 
-pub least-at-two : (o : Options) (w : ℕ) → Within 2 o w → 1 ≤ w
-least-at-two o w b = not-within 2 3 w o lateAtTwo 2 1 two-allowed (reached-at-two o) b
+pub least-at-two : (raw : Bool) (kind : Kind) (w : ℕ) → Within 2 (optionsOf raw kind) w → 1 ≤ w
+least-at-two raw kind w b =
+    not-within 2 3 w (optionsOf raw kind) lateAtTwo 2 1 (alone-allowed 2 3 raw kind two-allowed) (reached-at-two raw kind) b
 
-pub least-at-five : (o : Options) (w : ℕ) → Within 5 o w → 4 ≤ w
-least-at-five o w b = not-within 5 3 w o lateAtFive 2 19 five-allowed (reached-at-five o) b
+pub least-at-five : (raw : Bool) (kind : Kind) (w : ℕ) → Within 5 (optionsOf raw kind) w → 4 ≤ w
+least-at-five raw kind w b =
+    not-within 5 3 w (optionsOf raw kind) lateAtFive 2 19 (alone-allowed 5 3 raw kind five-allowed) (reached-at-five raw kind) b
 
 -- departures 6 and 7, though F/L is 2.5
 pub departures-six-seven : (departureAt 40 2 eightEvents .slot ≡ 6) × (departureAt 40 3 eightEvents .slot ≡ 7)
@@ -63,7 +60,7 @@ departures-six-seven = (refl, refl)
 
 closer : PeakKept → 10 ≤ (departureAt 40 3 eightEvents .slot - departureAt 40 2 eightEvents .slot) * 4
 unfolding byComputation
-closer p = p 5 64 plain refl eightCalls 40 2 (openingWith 2 10 26 (some 30) noSecond (some 4)) refl (lit< tt)
+closer p = p 5 64 plain (refl, refl) eightCalls 40 2 (openingWith 2 10 26 (some 30) noSecond (some 4)) refl (lit< tt)
 
 pub peak-not-kept : PeakKept → ⊥
 peak-not-kept p = omega (arith, closer p, departures-six-seven .0, departures-six-seven .1)

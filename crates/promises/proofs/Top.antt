@@ -4,9 +4,9 @@ use mathlib.Core.Path.{_≡_, refl, sym, ap, _∙_, subst}
 use mathlib.Core.Logic.{_≢_}
 use mathlib.Core.Bool.{Bool, true, false}
 use mathlib.Core.List.{List, [], _∷_}
-use Rattle.meaning.specs.Numbers.{rangesHold, uni}
+use Rattle.meaning.specs.Numbers.{uni}
 use Rattle.meaning.specs.State.{State}
-use Rattle.meaning.specs.Calls.{Options, kindNumber, kindOf, optionsOf, setup}
+use Rattle.meaning.specs.Calls.{rawNumber, Asked, Options, kindNumber, chosen, Allowed, setup}
 use Rattle.meaning_runs.specs.Run.{Call, Event, numberOf, Run, runOf, calls, freshRun}
 use Rattle.theory_queues.specs.Queue.{All}
 use Rattle.theory_invariant.proofs.FreshLaws.{setup-fresh}
@@ -30,28 +30,28 @@ use Rattle.promises.proofs.CheckedRuns.{fresh-raw, raw-always, check-ke
 
 -- a run after a setup that answered 0 is a run from a fresh state
 after-setup : (P : ℕ → ℕ → Options → Run → Type 0)
-    → ((N z : ℕ) (o : Options) → rangesHold N z ≡ true → (cs : List Call) → P N z o (calls (freshRun N z o) cs))
-    → (N z : ℕ) (raw : Bool) (kind : ℕ) (cells links calendar words : List ℕ)
-    → setup N z raw kind cells links calendar words .number ≡ 0
+    → ((N z : ℕ) (o : Options) → Allowed N z o → (cs : List Call) → P N z o (calls (freshRun N z o) cs))
+    → (N z : ℕ) (a : Asked) (lent : State)
+    → setup N z a lent .number ≡ 0
     → (cs : List Call)
-    → P N z (optionsOf raw (kindOf kind)) (calls (runOf (setup N z raw kind cells links calendar words .state) []) cs)
+    → P N z (chosen a) (calls (runOf (setup N z a lent .state) []) cs)
 unfolding freshRun
-after-setup P f N z raw kind cells links calendar words e cs =
-    let fresh = setup-fresh N z raw kind cells links calendar words e in
-    let o = optionsOf raw (kindOf kind) in
+after-setup P f N z a lent e cs =
+    let fresh = setup-fresh N z a lent e in
+    let o = chosen a in
     subst (λ (s : State). P N z o (calls (runOf s []) cs)) (sym (fresh .1)) (f N z o (fresh .0) cs)
 
 -- and keeps the invariant, on a line of the kind that setup was handed
 pub from-setup : (P : ℕ → ℕ → ℕ → Run → Type 0) → ((N z kind : ℕ) (r : Run) → Kept N z kind r → P N z kind r)
-    → (N z : ℕ) (raw : Bool) (kind : ℕ) (cells links calendar words : List ℕ)
-    → setup N z raw kind cells links calendar words .number ≡ 0
-    → (cs : List Call) → P N z kind (calls (runOf (setup N z raw kind cells links calendar words .state) []) cs)
-from-setup P f N z raw kind cells links calendar words e cs =
-    subst (λ (k : ℕ). P N z k (calls (runOf (setup N z raw kind cells links calendar words .state) []) cs))
-    (setup-fresh N z raw kind cells links calendar words e .2)
+    → (N z : ℕ) (a : Asked) (lent : State)
+    → setup N z a lent .number ≡ 0
+    → (cs : List Call) → P N z (a .kind) (calls (runOf (setup N z a lent .state) []) cs)
+from-setup P f N z a lent e cs =
+    subst (λ (k : ℕ). P N z k (calls (runOf (setup N z a lent .state) []) cs))
+    (setup-fresh N z a lent e .2)
     (after-setup (λ N z o r. P N z (kindNumber (o .kind)) r)
-    (λ N z o range cs. f N z (kindNumber (o .kind)) (calls (freshRun N z o) cs) (run-kept N z range o cs))
-    N z raw kind cells links calendar words e cs)
+    (λ N z o range cs. f N z (kindNumber (o .kind)) (calls (freshRun N z o) cs) (run-kept N z o range cs))
+    N z a lent e cs)
 
 never-three : (h : List Event) → All (λ e. numberOf e ≢ 3) h → NeverThree h
 never-three [] a = a
@@ -82,8 +82,8 @@ debt-kept =
     after-setup (λ N z o r. Debt N z (r .events) (r .state) × ((more : List Call) → Refused z r more))
     (λ N z o range cs.
     let r = calls (freshRun N z o) cs in
-    let k = run-kept N z range o cs in
-    (debts N z (kindNumber (o .kind)) r k (fresh-paid N z range o cs), λ more. refused N z (kindNumber (o .kind)) r k more))
+    let k = run-kept N z o range cs in
+    (debts N z (kindNumber (o .kind)) r k (fresh-paid N z o range cs), λ more. refused N z (kindNumber (o .kind)) r k more))
 
 -- REQUEST (iv): a connection opened without a second bucket is judged as before
 pub no-second-as-before : AsBeforeHolds
@@ -95,15 +95,15 @@ no-second-as-before =
 pub header-check : HeaderCheckHolds
 header-check =
     after-setup (λ N z o r. HeaderCheck (o .raw) r)
-    (λ N z o range cs. check-kept N z (kindNumber (o .kind)) (o .raw) (calls (freshRun N z o) cs) (run-kept N z range o cs)
+    (λ N z o range cs. check-kept N z (kindNumber (o .kind)) (o .raw) (calls (freshRun N z o) cs) (run-kept N z o range cs)
     (raw-always N z o cs))
 
 -- "A policer that is not raw behaves octet for octet as before"
 pub not-raw-as-before : NotRawAsBefore
-not-raw-as-before N z kind cells links calendar words e cs =
-    let fresh = setup-fresh N z false kind cells links calendar words e in
-    plain-before (runOf (setup N z false kind cells links calendar words .state) []) cs
-    (ap (λ (s : State). s .ctl .raw) (fresh .1) ∙ fresh-raw N z (optionsOf false (kindOf kind)))
+not-raw-as-before N z a lent clean e cs =
+    let fresh = setup-fresh N z a lent e in
+    plain-before (runOf (setup N z a lent .state) []) cs
+    (ap (λ (s : State). s .ctl .raw) (fresh .1) ∙ fresh-raw N z (chosen a) ∙ ap rawNumber clean)
 
 -- REQUEST (vi): VCs and paths never share a bucket, and a path's cells leave in arrival order
 pub paths-hold : PathsHold
@@ -113,6 +113,6 @@ paths-hold =
 
 -- with no path open the UNI is as it was
 pub no-paths-as-before : NoPathsHold
-no-paths-as-before N z raw cells links calendar words e cs =
-    after-setup (λ N z o r. kindNumber (o .kind) ≡ uni → NoPaths z r) (λ N z o range cs k. no-paths N z range o k cs)
-    N z raw uni cells links calendar words e cs refl
+no-paths-as-before N z a lent k e cs =
+    after-setup (λ N z o r. kindNumber (o .kind) ≡ uni → NoPaths z r) (λ N z o range cs k. no-paths N z o range k cs)
+    N z a lent e cs (setup-fresh N z a lent e .2 ∙ k)

@@ -30,7 +30,7 @@ at-its-peak = (refl, refl)
 claimed : Across (callsWiping (freshRun 5 2 plain) reopenedAtOnce .events) → 10 ≤ 1
 unfolding byComputation closeWiping callWiping callsWiping
 claimed a =
-    a 1 (openingWith 0 10 10 (some 0) noSecond (some 0)) (newOpening 0 10 10 noSecond) 0 (opened 1 0 10 10 noSecond 0 ∷ [])
+    a 1 1 (openingWith 0 10 10 (some 0) noSecond (some 0)) (newOpening 0 10 10 noSecond) 0 (opened 1 1 0 10 10 noSecond 0 ∷ [])
     (callsWiping (freshRun 5 2 plain) beforeClose .events) refl refl refl refl
 
 pub claim-was-false : Across (callsWiping (freshRun 5 2 plain) reopenedAtOnce .events) → ⊥

@@ -16,10 +16,10 @@ use Rattle.base_hec.specs.WrongBit.{flipped}
 use Rattle.base_hec.specs.Modes.{Arriving, correction, detection}
 use Rattle.meaning.specs.Plain.{_=?_}
 use Rattle.meaning.specs.Numbers.{octets, dropped}
-use Rattle.meaning.specs.State.{withMode}
+use Rattle.meaning.specs.State.{State, withMode}
 use Rattle.meaning.specs.Header.{Name}
 use Rattle.meaning.specs.Words.{Second}
-use Rattle.meaning.specs.Calls.{rawNumber, setup}
+use Rattle.meaning.specs.Calls.{rawNumber, Asked, setup}
 use Rattle.meaning.specs.Slot.{uncheckedSlot, told, slot}
 use Rattle.meaning_runs.specs.Run.{Call, onOpenWith, onClose, onSlot, ran, Run, runOf, shown, letIn, call, calls}
 use Rattle.meaning_runs.specs.Leak.{openingOf}
@@ -63,8 +63,8 @@ pub record HeaderCheck (raw : Bool) (r : Run) : Type 0 where
   pub moves : (cell : List ℕ) → Lent cell → modeOf (after r cell) ≡ letIn (r .state) cell .mode
   pub none-keeps : modeOf (after r []) ≡ modeOf r
   pub refused-keeps : (cell : List ℕ) → slot (r .state) cell .answer .number ≢ 0 → modeOf (after r cell) ≡ modeOf r
-  pub open-keeps : (name : Name) (m F C : ℕ) (x : Second) → modeOf (call r (onOpenWith name m F C x)) ≡ modeOf r
-  pub close-keeps : (name : Name) → modeOf (call r (onClose name)) ≡ modeOf r
+  pub open-keeps : (who : ℕ) (name : Name) (m F C : ℕ) (x : Second) → modeOf (call r (onOpenWith who name m F C x)) ≡ modeOf r
+  pub close-keeps : (who : ℕ) (name : Name) → modeOf (call r (onClose who name)) ≡ modeOf r
   -- "A dropped cell (verdict 4, H)": no octets, VCI 0 and D 0. It is accepted, excess or unknown nowhere: no cell more is
   -- accepted, and no opening moves. No other cell has verdict 4.
   pub drops : (cell : List ℕ) → Lent cell → letIn (r .state) cell .dropped ≡ true
@@ -76,14 +76,14 @@ pub record HeaderCheck (raw : Bool) (r : Run) : Type 0 where
   pub no-other : (cell : List ℕ) → slot (r .state) cell .answer .verdict ≡ dropped → letIn (r .state) cell .dropped ≡ true
 
 abbrev pub HeaderCheckHolds : Type 0
-HeaderCheckHolds = (N z : ℕ) (raw : Bool) (kind : ℕ) (cells links calendar words : List ℕ)
-    → setup N z raw kind cells links calendar words .number ≡ 0
-    → (cs : List Call) → HeaderCheck raw (calls (runOf (setup N z raw kind cells links calendar words .state) []) cs)
+HeaderCheckHolds = (N z : ℕ) (a : Asked) (lent : State)
+    → setup N z a lent .number ≡ 0
+    → (cs : List Call) → HeaderCheck (a .raw) (calls (runOf (setup N z a lent .state) []) cs)
 
 -- ── "A policer that is not raw behaves octet for octet as before" ──
 unfoldable pub plainCall : Run → Call → Run
-plainCall r (onOpenWith name m F C x) = call r (onOpenWith name m F C x)
-plainCall r (onClose name) = call r (onClose name)
+plainCall r (onOpenWith who name m F C x) = call r (onOpenWith who name m F C x)
+plainCall r (onClose who name) = call r (onClose who name)
 plainCall r (onSlot cell) =
     let w = uncheckedSlot (r .state) cell in
     runOf (w .state) (ran cell (w .answer) (shown w) ∷ r .events)
@@ -94,8 +94,8 @@ plainCalls r (c ∷ cs) = plainCalls (plainCall r c) cs
 
 -- event for event, and state for state, octets, links, calendar and words included
 abbrev pub NotRawAsBefore : Type 0
-NotRawAsBefore = (N z kind : ℕ) (cells links calendar words : List ℕ)
-    → setup N z false kind cells links calendar words .number ≡ 0
+NotRawAsBefore = (N z : ℕ) (a : Asked) (lent : State) → a .raw ≡ false
+    → setup N z a lent .number ≡ 0
     → (cs : List Call)
-    → let r = runOf (setup N z false kind cells links calendar words .state) [] in
+    → let r = runOf (setup N z a lent .state) [] in
     calls r cs ≡ plainCalls r cs

@@ -10,15 +10,16 @@
 --   Refused         == how long close goes on being refused, of a run and the calls after it
 use Prim.Native.Nat.{ℕ, suc, _+_, _-_, _*_, _/_, _≤_, _<_}
 use mathlib.Core.Path.{_≡_}
-use mathlib.Core.Bool.{Bool, true}
+use mathlib.Core.Bool.{true}
 use mathlib.Core.List.{List, [], _∷_, _++_}
 use mathlib.Core.Logic.{_≢_, _↔_}
 use mathlib.Core.Option.{Option, none, some}
 use lib.ListN.{length}
 use Rattle.meaning.specs.State.{State}
 use Rattle.meaning.specs.Header.{Name, named, numberIn}
+use Rattle.meaning.specs.Operators.{owns}
 use Rattle.meaning.specs.Words.{connectionAt, debt}
-use Rattle.meaning.specs.Calls.{setup, closeCall}
+use Rattle.meaning.specs.Calls.{Asked, setup, closeCall}
 use Rattle.meaning_runs.specs.Run.{Call, Event, closed, Run, runOf, calls, served}
 use Rattle.meaning_runs.specs.Leak.{Opening, parts, dueTime, openingOf}
 use Rattle.meaning_runs.specs.Seen.{cellsOf, departuresOf, cellAt}
@@ -41,19 +42,19 @@ AllLeft v h = length (departuresOf v h) ≡ length (cellsOf v h)
 -- due at least at p + F: p + F in parts of 1/L of `old`, its due time in parts of 1/L of `new`, each multiplied by the
 -- other's L.
 abbrev pub Across : List Event → Type 0
-Across h = (v : ℕ) (old new : Opening) (p : ℕ) (later before : List Event)
-    → h ≡ later ++ (closed v 0 ∷ before)
+Across h = (who v : ℕ) (old new : Opening) (p : ℕ) (later before : List Event)
+    → h ≡ later ++ (closed who v 0 ∷ before)
     → openingOf v before ≡ some old
     → old .previous ≡ some p
     → openingOf v h ≡ some new
     → (p + old .F) * parts new ≤ dueTime new (served h) * parts old
 
 pub record Debt (N z : ℕ) (h : List Event) (s : State) : Type 0 where
-  -- close's own rule: of an open connection it answers 0 exactly when waiting is 0 and last due + F is at most t × L, and else 8
-  pub closes-exactly : (name : Name) (o : Opening) → named z name ≡ true → openingOf (numberIn z name) h ≡ some o
-      → (closeCall (s .ctl) (s .words) name .number ≡ 0) ↔ (AllLeft (numberIn z name) h × Paid o (lastSlot h))
-  pub else-eight : (name : Name) (o : Opening) → named z name ≡ true → openingOf (numberIn z name) h ≡ some o
-      → closeCall (s .ctl) (s .words) name .number ≢ 0 → closeCall (s .ctl) (s .words) name .number ≡ 8
+  -- close's own rule: of an open connection it answers its operator 0 exactly when waiting is 0 and last due + F is at most t × L, and else 8
+  pub closes-exactly : (who : ℕ) (name : Name) (o : Opening) → owns (s .ctl) who name ≡ true → named z name ≡ true → openingOf (numberIn z name) h ≡ some o
+      → (closeCall (s .ctl) (s .words) who name .number ≡ 0) ↔ (AllLeft (numberIn z name) h × Paid o (lastSlot h))
+  pub else-eight : (who : ℕ) (name : Name) (o : Opening) → owns (s .ctl) who name ≡ true → named z name ≡ true → openingOf (numberIn z name) h ≡ some o
+      → closeCall (s .ctl) (s .words) who name .number ≢ 0 → closeCall (s .ctl) (s .words) who name .number ≡ 8
   -- waiting counts the accepted cells that have not left
   pub waiting-is : (name : Name) (o : Opening) → named z name ≡ true → openingOf (numberIn z name) h ≡ some o
       → let v = numberIn z name in
@@ -80,8 +81,8 @@ pub record Refused (z : ℕ) (r : Run) (cs : List Call) : Type 0 where
       < served (r .events) + roundedUp (debt (r .state .ctl .t) (connectionAt (r .state .words) v)) (parts o))
 
 abbrev pub DebtHolds : Type 0
-DebtHolds = (N z : ℕ) (raw : Bool) (kind : ℕ) (cells links calendar words : List ℕ)
-    → setup N z raw kind cells links calendar words .number ≡ 0
+DebtHolds = (N z : ℕ) (a : Asked) (lent : State)
+    → setup N z a lent .number ≡ 0
     → (cs : List Call)
-    → let r = calls (runOf (setup N z raw kind cells links calendar words .state) []) cs in
+    → let r = calls (runOf (setup N z a lent .state) []) cs in
     Debt N z (r .events) (r .state) × ((more : List Call) → Refused z r more)

@@ -6,15 +6,15 @@
 -- paths.
 use Prim.Native.Nat.{ℕ}
 use mathlib.Core.Path.{_≡_}
-use mathlib.Core.Bool.{Bool}
 use mathlib.Core.List.{List}
-use Rattle.meaning.specs.Calls.{kindOf, optionsOf, setup}
+use Rattle.meaning.specs.State.{State}
+use Rattle.meaning.specs.Calls.{Asked, chosen, setup}
 use Rattle.meaning_runs.specs.Run.{Call, freshRun}
 use Rattle.theory_clock.specs.UnwrappedRun.{NeverWraps}
 
 abbrev pub Demand2Holds : Type 0
-Demand2Holds = (N z : ℕ) (raw : Bool) (kind : ℕ) (cells links calendar words : List ℕ)
-    → setup N z raw kind cells links calendar words .number ≡ 0
+Demand2Holds = (N z : ℕ) (a : Asked) (lent : State)
+    → setup N z a lent .number ≡ 0
     → (cs : List Call)
-    → let o = optionsOf raw (kindOf kind) in
-    (setup N z raw kind cells links calendar words .state ≡ freshRun N z o .state) × NeverWraps N z o cs
+    → let o = chosen a in
+    (setup N z a lent .state ≡ freshRun N z o .state) × NeverWraps N z o cs

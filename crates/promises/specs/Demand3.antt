@@ -21,17 +21,17 @@
 -- Signs: (v k : ℕ) → .. for all v and k; A → B where A holds, B; × and; ↔ exactly when; ≡ equals; x .due, the due of x.
 use Prim.Native.Nat.{ℕ, _+_, _-_, _≤_, _<_}
 use mathlib.Core.Path.{_≡_}
-use mathlib.Core.Bool.{Bool, true, false, not, _&&_, _||_}
+use mathlib.Core.Bool.{Bool, true, not, _&&_, _||_}
 use mathlib.Core.List.{List, []}
-use mathlib.Core.Logic.{_↔_}
+use mathlib.Core.Logic.{_≢_, _↔_}
 use mathlib.Core.Option.{some}
 use lib.ListN.{length}
 use Rattle.meaning.specs.Plain.{_=?_}
 use Rattle.meaning.specs.Numbers.{octets, letsIn}
-use Rattle.meaning.specs.State.{State, freeList}
+use Rattle.meaning.specs.State.{State}
+use Rattle.meaning.specs.Bits.{isFree, lowestFree}
 use Rattle.meaning.specs.Header.{Header, headerAt, clpIn, connection, namesConnection}
-use Rattle.meaning.specs.Lists.{isEmpty}
-use Rattle.meaning.specs.Calls.{setup}
+use Rattle.meaning.specs.Calls.{Asked, setup}
 use Rattle.meaning.specs.Slot.{slot}
 use Rattle.meaning_runs.specs.Run.{Call, Event, runOf, letIn, calls, served}
 use Rattle.meaning_runs.specs.Leak.{Opening, leakAccepts, sustains, openingOf}
@@ -64,8 +64,9 @@ pub record Demand3 (N z kind : ℕ) (h : List Event) (s : State) : Type 0 where
   -- 1: it leaves by the run's end, if the run lasts at least to its due slot plus N-1
   pub leaves : (v k : ℕ) → k < length (cellsOf v h) → cellAt v k h .due + (N - 1) < served h
       → k < length (departuresOf v h)
-  -- 5: a space is free, before each slot, and so whenever a cell is accepted
-  pub space-free : isEmpty (freeList s) ≡ false
+  -- 5: a space is free, before each slot, and so whenever a cell is accepted: the number isn't 0, and the lowest, which is taken,
+  -- is one of the N whose bit is set
+  pub space-free : (s .ctl .free ≢ 0) × (isFree (s .bits) (lowestFree (s .bits)) ≡ true) × (lowestFree (s .bits) < N)
   -- 7: the answer's D is the due slot less the arrival slot; it is at most N-1
   pub delay : (v k : ℕ) → k < length (cellsOf v h)
       → (cellAt v k h .due ≡ cellAt v k h .arrival + cellAt v k h .D)
@@ -83,8 +84,8 @@ pub record Demand3 (N z kind : ℕ) (h : List Event) (s : State) : Type 0 where
 
 -- of every run from a fresh state
 abbrev pub Demand3Holds : Type 0
-Demand3Holds = (N z : ℕ) (raw : Bool) (kind : ℕ) (cells links calendar words : List ℕ)
-    → setup N z raw kind cells links calendar words .number ≡ 0
+Demand3Holds = (N z : ℕ) (a : Asked) (lent : State)
+    → setup N z a lent .number ≡ 0
     → (cs : List Call)
-    → let r = calls (runOf (setup N z raw kind cells links calendar words .state) []) cs in
-    Demand3 N z kind (r .events) (r .state)
+    → let r = calls (runOf (setup N z a lent .state) []) cs in
+    Demand3 N z (a .kind) (r .events) (r .state)

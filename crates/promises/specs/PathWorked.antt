@@ -19,18 +19,18 @@ nniCell vpi vci = vpi / 16 ∷ (vpi % 16 * 16 + vci / 4096) ∷ vci / 16 % 256 �
 
 abbrev pub pathCalls : List Call
 pathCalls =
-    onOpenWith (byVpi 3) 0 2 6 noSecond
+    onOpenWith 1 (byVpi 3) 0 2 6 noSecond
     ∷ onSlot (nniCell 3 0)
     ∷ onSlot (nniCell 3 7)
     ∷ onSlot (nniCell 3 40)
     ∷ onSlot (nniCell 300 40)
     ∷ onSlot (nniCell 4 9)
     ∷ onSlot (nniCell 0 67)
-    ∷ onOpenWith (byVpi 256) 0 2 6 noSecond
-    ∷ onOpenWith (byVci 67) 0 2 6 noSecond
-    ∷ onClose (byVpi 3)
+    ∷ onOpenWith 1 (byVpi 256) 0 2 6 noSecond
+    ∷ onOpenWith 1 (byVci 67) 0 2 6 noSecond
+    ∷ onClose 1 (byVpi 3)
     ∷ onSlot []
-    ∷ onClose (byVpi 3)
+    ∷ onClose 1 (byVpi 3)
     ∷ []
 
 abbrev pub pathEvents : List Event
@@ -39,15 +39,15 @@ pathEvents = calls (freshRun 5 64 (optionsOf false NNI)) pathCalls .events
 -- the answers of the slots, first slot first
 abbrev pub answersIn : List Event → List Answer
 answersIn [] = []
-answersIn (opened c m F C x number ∷ h) = answersIn h
-answersIn (closed c number ∷ h) = answersIn h
+answersIn (opened who c m F C x number ∷ h) = answersIn h
+answersIn (closed who c number ∷ h) = answersIn h
 answersIn (ran cell a out ∷ h) = answersIn h ++ (a ∷ [])
 
 -- the numbers of opens and closes, with the number of the connection, the first first
 abbrev pub refusalsIn : List Event → List (ℕ × ℕ)
 refusalsIn [] = []
-refusalsIn (opened c m F C x number ∷ h) = refusalsIn h ++ ((c, number) ∷ [])
-refusalsIn (closed c number ∷ h) = refusalsIn h ++ ((c, number) ∷ [])
+refusalsIn (opened who c m F C x number ∷ h) = refusalsIn h ++ ((c, number) ∷ [])
+refusalsIn (closed who c number ∷ h) = refusalsIn h ++ ((c, number) ∷ [])
 refusalsIn (ran cell a out ∷ h) = refusalsIn h
 
 -- verdict, VCI and D of the cell that came; the space and the VCI that departs
@@ -55,9 +55,9 @@ abbrev pub pathAnswers : List Answer
 pathAnswers =
     answerOf 0 accepted 67 0 0 67
     ∷ answerOf 0 accepted 67 1 empty 0
-    ∷ answerOf 0 accepted 67 2 1 67
+    ∷ answerOf 0 accepted 67 2 0 67
     ∷ answerOf 0 unknown 40 0 empty 0
-    ∷ answerOf 0 unknown 9 0 2 67
+    ∷ answerOf 0 unknown 9 0 1 67
     ∷ answerOf 0 unknown 67 0 empty 0
     ∷ answerOf 0 nothing 0 0 empty 0
     ∷ []

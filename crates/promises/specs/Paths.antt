@@ -23,9 +23,10 @@ use mathlib.Core.Option.{none}
 use lib.ListN.{length, getD}
 use Rattle.meaning.specs.Plain.{if_then_else_, _≤?_, _=?_}
 use Rattle.meaning.specs.Numbers.{uni, nothing, unknown, dropped, empty}
+use Rattle.meaning.specs.State.{State}
 use Rattle.meaning.specs.Header.{headerAt, clpIn, Name, named, numberIn, nameIn}
 use Rattle.meaning.specs.Words.{Second, connectionAt}
-use Rattle.meaning.specs.Calls.{setup}
+use Rattle.meaning.specs.Calls.{Asked, setup}
 use Rattle.meaning.specs.Slot.{slot}
 use Rattle.meaning_runs.specs.Run.{Call, onOpenWith, onClose, onSlot, Event, opened, closed, ran, Run, runOf, letIn, call, calls, served}
 use Rattle.meaning_runs.specs.Leak.{openingOf}
@@ -41,13 +42,13 @@ pub record Apart (z kind : ℕ) (r : Run) : Type 0 where
   pub kind-is : r .state .ctl .kind ≡ kind
   -- no two connections have the same number, so none the same words
   pub one-number : (a b : Name) → named z a ≡ true → named z b ≡ true → numberIn z a ≡ numberIn z b → a ≡ b
-  -- an open or a close that names a, refused or not, leaves the opening and the words of every other connection b
-  pub open-apart : (a b : Name) (m F C : ℕ) (x : Second) → named z b ≡ true → a ≢ b
-      → let after = call r (onOpenWith a m F C x) in
+  -- an open or a close that names a, as whichever operator, refused or not, leaves the opening and the words of every other connection b
+  pub open-apart : (who : ℕ) (a b : Name) (m F C : ℕ) (x : Second) → named z b ≡ true → a ≢ b
+      → let after = call r (onOpenWith who a m F C x) in
       (openingOf (numberIn z b) (after .events) ≡ openingOf (numberIn z b) (r .events))
       × (connectionAt (after .state .words) (numberIn z b) ≡ connectionAt (r .state .words) (numberIn z b))
-  pub close-apart : (a b : Name) → named z b ≡ true → a ≢ b
-      → let after = call r (onClose a) in
+  pub close-apart : (who : ℕ) (a b : Name) → named z b ≡ true → a ≢ b
+      → let after = call r (onClose who a) in
       (openingOf (numberIn z b) (after .events) ≡ openingOf (numberIn z b) (r .events))
       × (connectionAt (after .state .words) (numberIn z b) ≡ connectionAt (r .state .words) (numberIn z b))
   -- a slot leaves the opening of every connection b that the header let through does not name
@@ -89,11 +90,11 @@ pub record PathOrder (N z kind : ℕ) (h : List Event) : Type 0 where
   pub none-above : (p : ℕ) → 255 < p → pathCells kind p h ≡ []
 
 abbrev pub PathsHold : Type 0
-PathsHold = (N z : ℕ) (raw : Bool) (kind : ℕ) (cells links calendar words : List ℕ)
-    → setup N z raw kind cells links calendar words .number ≡ 0
+PathsHold = (N z : ℕ) (a : Asked) (lent : State)
+    → setup N z a lent .number ≡ 0
     → (cs : List Call)
-    → let r = calls (runOf (setup N z raw kind cells links calendar words .state) []) cs in
-    Apart z kind r × PathOrder N z kind (r .events)
+    → let r = calls (runOf (setup N z a lent .state) []) cs in
+    Apart z (a .kind) r × PathOrder N z (a .kind) (r .events)
 
 -- ── no path open: as before ──
 -- "octet 1 GFC (high four bits) and VPI; octet 2 VPI, VCI; octet 3 VCI; octet 4 VCI (high four bits), PTI, CLP"
@@ -119,16 +120,16 @@ NoPathOpen z h = (p : ℕ) → 1 ≤ p → p ≤ 255 → openingOf (z + p) h ≡
 -- every open that answered 0 was a VC's
 abbrev pub NoPathOpened : ℕ → List Event → Type 0
 NoPathOpened z [] = Unit {0}
-NoPathOpened z (opened c m F C x number ∷ h) = (number ≡ 0 → c < z) × NoPathOpened z h
-NoPathOpened z (closed c number ∷ h) = NoPathOpened z h
+NoPathOpened z (opened who c m F C x number ∷ h) = (number ≡ 0 → c < z) × NoPathOpened z h
+NoPathOpened z (closed who c number ∷ h) = NoPathOpened z h
 NoPathOpened z (ran cell a out ∷ h) = NoPathOpened z h
 
 -- every slot that was served answered so, of each cell that the header check did not drop; and the departing VCI is the one in
 -- the header of the line cell
 abbrev pub AnsweredBefore : ℕ → List Event → Type 0
 AnsweredBefore z [] = Unit {0}
-AnsweredBefore z (opened c m F C x number ∷ h) = AnsweredBefore z h
-AnsweredBefore z (closed c number ∷ h) = AnsweredBefore z h
+AnsweredBefore z (opened who c m F C x number ∷ h) = AnsweredBefore z h
+AnsweredBefore z (closed who c number ∷ h) = AnsweredBefore z h
 AnsweredBefore z (ran cell a out ∷ h) =
     (a .number ≡ 0 → a .verdict ≢ dropped → judgedOf (a .verdict) (a .vci) (a .d) ≡ judgedBefore z h cell)
     × (a .space ≢ empty → (vpiBefore out ≡ 0) × (a .departing ≡ vciBefore out))
@@ -143,6 +144,6 @@ pub record NoPaths (z : ℕ) (r : Run) : Type 0 where
   pub all-slots : NoPathOpened z (r .events) → AnsweredBefore z (r .events)
 
 abbrev pub NoPathsHold : Type 0
-NoPathsHold = (N z : ℕ) (raw : Bool) (cells links calendar words : List ℕ)
-    → setup N z raw uni cells links calendar words .number ≡ 0
-    → (cs : List Call) → NoPaths z (calls (runOf (setup N z raw uni cells links calendar words .state) []) cs)
+NoPathsHold = (N z : ℕ) (a : Asked) (lent : State) → a .kind ≡ uni
+    → setup N z a lent .number ≡ 0
+    → (cs : List Call) → NoPaths z (calls (runOf (setup N z a lent .state) []) cs)

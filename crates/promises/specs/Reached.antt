@@ -1,19 +1,17 @@
 -- Why demand 3 can't promise less than N-1, and what else can't be promised: runs in which it happens.
 --
 --   Reached         == in this run a cell of the connection v leaves exactly N-1 slots after its due slot
---   Within N o w    == at this N no cell of any run of a policer with these options, raw or not, on either kind of line, leaves
+--   Within N o w    == at this N no cell of any run of a policer with these options leaves
 --                      more than w slots after its due slot
 --   cleanFor vci    == a cell of a VC with the octet 5 that belongs to its header, which both kinds let through as it is
 --   PeakKept        == source 000's claim, that one connection's departures never come closer than its peak rate allows
 use Prim.Native.Nat.{ℕ, _+_, _-_, _*_, _≤_, _<_}
 use mathlib.Core.Path.{_≡_}
-use mathlib.Core.Bool.{true}
 use mathlib.Core.List.{List, [], _∷_, _++_}
 use mathlib.Core.Option.{some}
 use lib.ListN.{length, replicate, set}
 use Rattle.base_hec.specs.Check.{hecOf}
-use Rattle.meaning.specs.Numbers.{rangesHold}
-use Rattle.meaning.specs.Calls.{Options}
+use Rattle.meaning.specs.Calls.{Options, Allowed}
 use Rattle.meaning_runs.specs.Run.{Call, onOpen, onSlot, calls, freshRun}
 use Rattle.meaning_runs.specs.Leak.{Opening, parts, openingOf}
 use Rattle.meaning_runs.specs.Seen.{departuresOf, cellAt, departureAt}
@@ -25,7 +23,7 @@ pub record Reached (N z : ℕ) (o : Options) (cs : List Call) (v k : ℕ) : Type
       departureAt v k h .slot ≡ cellAt v k h .due + (N - 1)
 
 abbrev pub Within : ℕ → Options → ℕ → Type 0
-Within N o w = (z : ℕ) → rangesHold N z ≡ true → (cs : List Call) (v k : ℕ)
+Within N o w = (z : ℕ) → Allowed N z o → (cs : List Call) (v k : ℕ)
     → let h = calls (freshRun N z o) cs .events in
     k < length (departuresOf v h) → departureAt v k h .slot ≤ cellAt v k h .due + w
 
@@ -43,7 +41,7 @@ lateAtFive =
     24 ∷ (replicate 20 (onSlot (cleanFor 2)) ++ (replicate 4 (onSlot (cleanFor 1)) ++ replicate 4 (onSlot [])))
 
 abbrev pub PeakKept : Type 0
-PeakKept = (N z : ℕ) (o : Options) → rangesHold N z ≡ true → (cs : List Call) (v k : ℕ) (a : Opening)
+PeakKept = (N z : ℕ) (o : Options) → Allowed N z o → (cs : List Call) (v k : ℕ) (a : Opening)
     → let h = calls (freshRun N z o) cs .events in
     openingOf v h ≡ some a → k + 1 < length (departuresOf v h)
     → a .F ≤ (departureAt v (k + 1) h .slot - departureAt v k h .slot) * parts a

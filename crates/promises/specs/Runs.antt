@@ -3,9 +3,9 @@
 use Prim.Native.Nat.{ℕ}
 use mathlib.Core.Path.{_≡_}
 use mathlib.Core.Logic.{_≢_}
-use mathlib.Core.Bool.{Bool}
 use mathlib.Core.List.{List, [], _∷_}
-use Rattle.meaning.specs.Calls.{setup}
+use Rattle.meaning.specs.State.{State}
+use Rattle.meaning.specs.Calls.{Asked, setup}
 use Rattle.meaning.specs.Audit.{AuditHolds}
 use Rattle.meaning_runs.specs.Run.{Call, Event, numberOf, Run, runOf, calls}
 
@@ -19,6 +19,6 @@ pub record InOrder (r : Run) : Type 0 where
   pub audited : AuditHolds (r .state)
 
 abbrev pub InOrderAlways : Type 0
-InOrderAlways = (N z : ℕ) (raw : Bool) (kind : ℕ) (cells links calendar words : List ℕ)
-    → setup N z raw kind cells links calendar words .number ≡ 0
-    → (cs : List Call) → InOrder (calls (runOf (setup N z raw kind cells links calendar words .state) []) cs)
+InOrderAlways = (N z : ℕ) (a : Asked) (lent : State)
+    → setup N z a lent .number ≡ 0
+    → (cs : List Call) → InOrder (calls (runOf (setup N z a lent .state) []) cs)

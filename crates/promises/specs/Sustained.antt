@@ -8,7 +8,7 @@
 --                       bucket were all 0 when the connection was opened. So none of its cells is tagged, nor excess but by the peak
 use Prim.Native.Nat.{ℕ, _-_}
 use mathlib.Core.Path.{_≡_}
-use mathlib.Core.Bool.{Bool, true}
+use mathlib.Core.Bool.{true}
 use mathlib.Core.List.{List, []}
 use mathlib.Core.Option.{some}
 use lib.ListN.{length}
@@ -17,7 +17,7 @@ use Rattle.meaning.specs.Numbers.{octets, accepted, excess}
 use Rattle.meaning.specs.State.{State}
 use Rattle.meaning.specs.Header.{connection, namesConnection}
 use Rattle.meaning.specs.Words.{noSecond}
-use Rattle.meaning.specs.Calls.{setup}
+use Rattle.meaning.specs.Calls.{Asked, setup}
 use Rattle.meaning.specs.Slot.{slot}
 use Rattle.meaning_runs.specs.Run.{Call, Event, runOf, calls, served}
 use Rattle.meaning_runs.specs.Leak.{Opening, dueSlot, leakAccepts, openingOf}
@@ -37,7 +37,7 @@ pub record AsBefore (z kind : ℕ) (h : List Event) (s : State) : Type 0 where
 
 -- of every run from a fresh state
 abbrev pub AsBeforeHolds : Type 0
-AsBeforeHolds = (N z : ℕ) (raw : Bool) (kind : ℕ) (cells links calendar words : List ℕ)
-    → setup N z raw kind cells links calendar words .number ≡ 0
+AsBeforeHolds = (N z : ℕ) (a : Asked) (lent : State)
+    → setup N z a lent .number ≡ 0
     → (cs : List Call)
-    → let r = calls (runOf (setup N z raw kind cells links calendar words .state) []) cs in AsBefore z kind (r .events) (r .state)
+    → let r = calls (runOf (setup N z a lent .state) []) cs in AsBefore z (a .kind) (r .events) (r .state)

@@ -18,21 +18,21 @@ use Rattle.meaning.specs.Calls.{Called, calledOf, sharedRefusal}
 use Rattle.meaning_runs.specs.Run.{Call, onOpenWith, onOpen, onClose, onSlot, closed, Run, runOf, call}
 use Rattle.meaning_runs.specs.Eight.{cellFor}
 
-unfoldable pub closeWiping : Record → List ℕ → Name → Called
-closeWiping r words name =
+unfoldable pub closeWiping : Record → List ℕ → ℕ → Name → Called
+closeWiping r words who name =
     let c = numberIn (r .v) name in
-    let k = sharedRefusal r words name in
+    let k = sharedRefusal r words who name in
     if not (k =? 0) then calledOf k words
     else if connectionAt words c .opened =? 0 then calledOf 7 words
     else if not (connectionAt words c .waiting =? 0) then calledOf 8 words
     else calledOf 0 (writeConnection words c closedConnection)
 
 unfoldable pub callWiping : Run → Call → Run
-callWiping r (onOpenWith name m F C x) = call r (onOpenWith name m F C x)
-callWiping r (onClose name) =
+callWiping r (onOpenWith who name m F C x) = call r (onOpenWith who name m F C x)
+callWiping r (onClose who name) =
     let s = r .state in
-    let c = closeWiping (s .ctl) (s .words) name in
-    runOf (withWords s (c .words)) (closed (numberIn (s .ctl .v) name) (c .number) ∷ r .events)
+    let c = closeWiping (s .ctl) (s .words) who name in
+    runOf (withWords s (c .words)) (closed who (numberIn (s .ctl .v) name) (c .number) ∷ r .events)
 callWiping r (onSlot cell) = call r (onSlot cell)
 
 unfoldable pub callsWiping : Run → List Call → Run
@@ -43,11 +43,11 @@ abbrev pub beforeClose : List Call
 beforeClose = onOpen 1 0 10 10 ∷ onSlot (cellFor 1) ∷ []
 
 abbrev pub reopenedAtOnce : List Call
-reopenedAtOnce = beforeClose ++ (onClose (byVci 1) ∷ onOpen 1 0 10 10 ∷ [])
+reopenedAtOnce = beforeClose ++ (onClose 1 (byVci 1) ∷ onOpen 1 0 10 10 ∷ [])
 
 -- open, a cell and four empty slots, close
 abbrev fiveSlots : List Call
-fiveSlots = onOpen 1 0 10 10 ∷ onSlot (cellFor 1) ∷ (replicate 4 (onSlot []) ++ (onClose (byVci 1) ∷ []))
+fiveSlots = onOpen 1 0 10 10 ∷ onSlot (cellFor 1) ∷ (replicate 4 (onSlot []) ++ (onClose 1 (byVci 1) ∷ []))
 
 abbrev pub closedEveryFive : List Call
 closedEveryFive = fiveSlots ++ (fiveSlots ++ (fiveSlots ++ fiveSlots))

@@ -1,16 +1,17 @@
 // A slot in which a cell is accepted: its seat, then steps 4 and 5, are read and judged, then all is written.
 ghost use mathlib.Core.Path.{_≡_};
-ghost use mathlib.Core.Bool.{true};
+ghost use mathlib.Core.Bool.{true, false};
 ghost use Prim.Native.Nat.{_+_, _*_, _≤_, _<_};
 ghost use lib.ListN.{length, getD};
 ghost use Rattle.meaning.specs.Plain.{_andThen_};
-ghost use Rattle.meaning.specs.Numbers.{waitingPlace, mostN, mostV, octets, connectionsIn, wordsIn};
+ghost use Rattle.meaning.specs.Numbers.{waitingPlace, mostN, mostV, octets, perEntry, connectionsIn, wordsIn, bitWords};
+ghost use Rattle.meaning.specs.Bits.{isFree, taken};
 ghost use Rattle.meaning.specs.Lists.{emptyList, endsFit, entryAt, writeEntry};
 ghost use Rattle.meaning.specs.Slot.{step4, step5};
 ghost use Rattle.meaning.specs.Lent.{here, before, servedAfter, Gives};
 ghost use Rattle.slot_arrive.specs.Arrival.{filled};
 ghost use Rattle.mem_lists.specs.Spaces.{endsOf};
-ghost use Rattle.slot_plan.specs.Plan.{rotated, seatEnds, joinedHead, leavingMarked, leavingOutput};
+ghost use Rattle.slot_plan.specs.Plan.{rotated, seatNow, seatEnds, joinedHead, leavingMarked, leavingOutput};
 ghost use Rattle.slot_plan.specs.Works.{seatingOf, acceptOf, acceptLeft, lastSteps};
 ghost use Rattle.slot_plan.specs.Facts.{Sized, Accepted, Seated, OffStored};
 use meaning::Answer;
@@ -21,7 +22,7 @@ use mem_lists::Seat;
 use slot_arrive::Fall;
 use slot_arrive::Judged;
 
-// An accepted cell, and a departure: all writes.
+// An accepted cell, and a departure: all writes. One space is taken and one given back, so their number is as it came.
 fn accept_end(
     k: Record,
     b: Fall,
@@ -35,21 +36,23 @@ fn accept_end(
     links: &mut [u16],
     calendar: &mut [u16],
     words: &mut [u32],
+    bits: &mut [u64],
     cell: &[u8],
 ) -> Served
-    requires { ⌜ Sized (here k cells links calendar words) ⌝ }
+    requires { ⌜ Sized (here k cells links calendar words bits) ⌝ }
     requires { ⌜ Accepted k j (now cell) (now words) ⌝ }
-    requires { ⌜ Seated k a ⌝ }
+    requires { ⌜ Seated k a (now bits) ⌝ }
     requires { ⌜ (joins ≡ true → k .outtail < k .n) ⌝ }
     requires { ⌜ (o .vci < connectionsIn (k .v)) × (1 ≤ getD (filled (j .vci) (j .s) (j .second) (k .t) (j .waiting) (rotated k b (now words))) (waitingPlace (o .vci)) 0) ⌝ }
-    ensures { λ s. ⌜ servedAfter s cells links calendar words ≡ acceptLeft (before k cells links calendar words) b j a (now (cell .entry)) o joins head clears ⌝ }
+    requires { ⌜ (o .space < mostN) × (isFree (taken (now bits) (a .x)) (o .space) ≡ false) ⌝ }
+    ensures { λ s. ⌜ servedAfter s cells links calendar words bits ≡ acceptLeft (before k cells links calendar words bits) b j a (now (cell .entry)) o joins head clears ⌝ }
 {
-    slot_store::store(k, b, j, a, cells, links, calendar, words, cell);
+    slot_store::store(k, b, j, a, cells, links, calendar, words, bits, cell);
     slot_arrive::put_less(words, o.vci);
     slot_depart::clear_entry(calendar, clears, k.turn);
-    let taken = slot_store::seated(k, a);
-    slot_depart::links_leave(taken, joins, head, o.space, links);
-    slot_depart::left(taken, j.verdict, j.vci, j.d, o)
+    mem_lists::put_link(links, joins, k.outtail, head);
+    mem_bits::release(bits, o.space, clears, k.turn);
+    slot_depart::left(k, k.free, j.verdict, j.vci, j.d, o)
 }
 
 // What departs once the cell is stored and, where joins, the chain from head to tail has joined the Output List. Field by
@@ -96,6 +99,18 @@ fn off_stored(
     }
 }
 
+// Whether space y is free once space x, which is free, is taken. Taking keeps the words and their number as they fit, so that of a
+// departing space only this is judged again.
+fn free_after(bits: &[u64], x: u16, y: u16) -> bool
+    requires { ⌜ (length (now bits) ≡ bitWords) × (isFree (now bits) x ≡ true) × (y < mostN) ⌝ }
+    ensures { λ r. ⌜ r ≡ isFree (taken (now (bits .entry)) x) y ⌝ }
+{
+    if y == x {
+        return false;
+    }
+    mem_bits::is_free(bits, y)
+}
+
 // An accepted cell, where entry T is then marked, from head to tail.
 fn accept_marked(
     r: Record,
@@ -109,16 +124,20 @@ fn accept_marked(
     links: &mut [u16],
     calendar: &mut [u16],
     words: &mut [u32],
+    bits: &mut [u64],
     cell: &[u8],
 ) -> Served
-    requires { ⌜ Sized (here k cells links calendar words) ⌝ }
+    requires { ⌜ Sized (here k cells links calendar words bits) ⌝ }
     requires { ⌜ Accepted k j (now cell) (now words) ⌝ }
-    requires { ⌜ Seated k a ⌝ }
+    requires { ⌜ Seated k a (now bits) ⌝ }
     requires { ⌜ (head < k .n) × (endsFit (k .n) (endsOf (k .outhead) (k .outtail)) ≡ true) ⌝ }
-    ensures { λ s. ⌜ Gives r (leavingMarked (acceptOf (before k cells links calendar words) b j a (now (cell .entry))) (endsOf head tail)) s cells links calendar words ⌝ }
+    ensures { λ s. ⌜ Gives r (leavingMarked (acceptOf (before k cells links calendar words bits) b j a (now (cell .entry))) (endsOf head tail)) s cells links calendar words bits ⌝ }
 {
     let o = off_stored(k, j, a, k.outhead != 65535, head, tail, cells, links, words);
     if !o.ok {
+        return slot_depart::refuse(r, 3);
+    }
+    if free_after(bits, a.x, o.space) {
         return slot_depart::refuse(r, 3);
     }
     accept_end(
@@ -134,6 +153,7 @@ fn accept_marked(
         links,
         calendar,
         words,
+        bits,
         cell,
     )
 }
@@ -149,16 +169,20 @@ fn accept_output(
     links: &mut [u16],
     calendar: &mut [u16],
     words: &mut [u32],
+    bits: &mut [u64],
     cell: &[u8],
 ) -> Served
-    requires { ⌜ Sized (here k cells links calendar words) ⌝ }
+    requires { ⌜ Sized (here k cells links calendar words bits) ⌝ }
     requires { ⌜ Accepted k j (now cell) (now words) ⌝ }
-    requires { ⌜ Seated k a ⌝ }
+    requires { ⌜ Seated k a (now bits) ⌝ }
     requires { ⌜ k .outhead < k .n ⌝ }
-    ensures { λ s. ⌜ Gives r (leavingOutput (acceptOf (before k cells links calendar words) b j a (now (cell .entry)))) s cells links calendar words ⌝ }
+    ensures { λ s. ⌜ Gives r (leavingOutput (acceptOf (before k cells links calendar words bits) b j a (now (cell .entry)))) s cells links calendar words bits ⌝ }
 {
     let o = off_stored(k, j, a, false, 0, k.outtail, cells, links, words);
     if !o.ok {
+        return slot_depart::refuse(r, 3);
+    }
+    if free_after(bits, a.x, o.space) {
         return slot_depart::refuse(r, 3);
     }
     accept_end(
@@ -174,6 +198,7 @@ fn accept_output(
         links,
         calendar,
         words,
+        bits,
         cell,
     )
 }
@@ -188,17 +213,18 @@ fn accept_none(
     links: &mut [u16],
     calendar: &mut [u16],
     words: &mut [u32],
+    bits: &mut [u64],
     cell: &[u8],
 ) -> Served
-    requires { ⌜ Sized (here k cells links calendar words) ⌝ }
+    requires { ⌜ Sized (here k cells links calendar words bits) ⌝ }
     requires { ⌜ Accepted k j (now cell) (now words) ⌝ }
-    requires { ⌜ Seated k a ⌝ }
-    ensures { λ s. ⌜ servedAfter s cells links calendar words ≡ acceptOf (before k cells links calendar words) b j a (now (cell .entry)) ⌝ }
+    requires { ⌜ Seated k a (now bits) ⌝ }
+    ensures { λ s. ⌜ servedAfter s cells links calendar words bits ≡ acceptOf (before k cells links calendar words bits) b j a (now (cell .entry)) ⌝ }
 {
-    slot_store::store(k, b, j, a, cells, links, calendar, words, cell);
-    let taken = slot_store::seated(k, a);
+    slot_store::store(k, b, j, a, cells, links, calendar, words, bits, cell);
+    let ctl = slot_store::seated(k);
     Served {
-        ctl: taken,
+        ctl: ctl,
         answer: Answer {
             number: 0,
             verdict: j.verdict,
@@ -243,18 +269,19 @@ fn accept_unmarked(
     links: &mut [u16],
     calendar: &mut [u16],
     words: &mut [u32],
+    bits: &mut [u64],
     cell: &[u8],
 ) -> Served
-    requires { ⌜ Sized (here k cells links calendar words) ⌝ }
+    requires { ⌜ Sized (here k cells links calendar words bits) ⌝ }
     requires { ⌜ Accepted k j (now cell) (now words) ⌝ }
-    requires { ⌜ Seated k a ⌝ }
+    requires { ⌜ Seated k a (now bits) ⌝ }
     requires { ⌜ (endsFit (k .n) (endsOf (k .outhead) (k .outtail)) ≡ true) × (entryAt (writeEntry (now calendar) (a .e) (seatEnds a)) (k .turn) ≡ emptyList) ⌝ }
-    ensures { λ s. ⌜ Gives r (lastSteps (acceptOf (before k cells links calendar words) b j a (now (cell .entry)))) s cells links calendar words ⌝ }
+    ensures { λ s. ⌜ Gives r (lastSteps (acceptOf (before k cells links calendar words bits) b j a (now (cell .entry)))) s cells links calendar words bits ⌝ }
 {
     if k.outhead != 65535 {
-        return accept_output(r, k, b, j, a, cells, links, calendar, words, cell);
+        return accept_output(r, k, b, j, a, cells, links, calendar, words, bits, cell);
     }
-    accept_none(k, b, j, a, cells, links, calendar, words, cell)
+    accept_none(k, b, j, a, cells, links, calendar, words, bits, cell)
 }
 
 // An accepted cell that has its seat: entry T, from x to y, is read as the cell leaves it. Here and in accept a head and a
@@ -270,13 +297,14 @@ fn accept_seated(
     links: &mut [u16],
     calendar: &mut [u16],
     words: &mut [u32],
+    bits: &mut [u64],
     cell: &[u8],
 ) -> Served
-    requires { ⌜ Sized (here k cells links calendar words) ⌝ }
+    requires { ⌜ Sized (here k cells links calendar words bits) ⌝ }
     requires { ⌜ Accepted k j (now cell) (now words) ⌝ }
-    requires { ⌜ Seated k a ⌝ }
+    requires { ⌜ Seated k a (now bits) ⌝ }
     requires { ⌜ endsFit (k .n) (endsOf (k .outhead) (k .outtail)) ≡ true ⌝ }
-    ensures { λ s. ⌜ Gives r (lastSteps (acceptOf (before k cells links calendar words) b j a (now (cell .entry)))) s cells links calendar words ⌝ }
+    ensures { λ s. ⌜ Gives r (lastSteps (acceptOf (before k cells links calendar words bits) b j a (now (cell .entry)))) s cells links calendar words bits ⌝ }
 {
     let x = head_joined(k.turn, a, calendar);
     let y = tail_joined(k.turn, a, calendar);
@@ -284,7 +312,7 @@ fn accept_seated(
         if y != 65535 {
             return slot_depart::refuse(r, 3);
         }
-        return accept_unmarked(r, k, b, j, a, cells, links, calendar, words, cell);
+        return accept_unmarked(r, k, b, j, a, cells, links, calendar, words, bits, cell);
     }
     if x >= k.n {
         return slot_depart::refuse(r, 3);
@@ -292,7 +320,42 @@ fn accept_seated(
     if y >= k.n {
         return slot_depart::refuse(r, 3);
     }
-    accept_marked(r, k, b, j, a, x, y, cells, links, calendar, words, cell)
+    accept_marked(
+        r,
+        k,
+        b,
+        j,
+        a,
+        x,
+        y,
+        cells,
+        links,
+        calendar,
+        words,
+        bits,
+        cell,
+    )
+}
+
+// Where a cell with delay d goes: it takes the lowest free space, once the words of free spaces fit and have one.
+fn seat_now(k: Record, d: u16, calendar: &[u16], bits: &[u64]) -> Seat
+    requires { ⌜ (k .n ≤ mostN) × (k .turn < k .n) × (d < k .n) ⌝ }
+    requires { ⌜ (length (now calendar) ≡ perEntry * k .n) × (length (now bits) ≡ bitWords) ⌝ }
+    ensures { λ r. ⌜ r ≡ seatNow k d (now (calendar .entry)) (now (bits .entry)) ⌝ }
+{
+    if k.free != 0 {
+        if mem_bits::fits(k.n, k.free, bits) {
+            let x = mem_bits::lowest(bits);
+            return mem_lists::seat_for(k.n, calendar, k.turn, d, x);
+        }
+    }
+    Seat {
+        ok: false,
+        x: 0,
+        e: 0,
+        head: 0,
+        tail: 0,
+    }
 }
 
 // A cell was judged, and is let in.
@@ -305,13 +368,14 @@ pub fn accept(
     links: &mut [u16],
     calendar: &mut [u16],
     words: &mut [u32],
+    bits: &mut [u64],
     cell: &[u8],
 ) -> Served
-    requires { ⌜ Sized (here k cells links calendar words) ⌝ }
+    requires { ⌜ Sized (here k cells links calendar words bits) ⌝ }
     requires { ⌜ Accepted k j (now cell) (now words) ⌝ }
-    ensures { λ s. ⌜ Gives r (seatingOf (before k cells links calendar words) b j (now (cell .entry)) andThen step4 andThen step5) s cells links calendar words ⌝ }
+    ensures { λ s. ⌜ Gives r (seatingOf (before k cells links calendar words bits) b j (now (cell .entry)) andThen step4 andThen step5) s cells links calendar words bits ⌝ }
 {
-    let a = mem_lists::seat_for(k.n, links, calendar, k.turn, k.freehead, k.freetail, j.d);
+    let a = seat_now(k, j.d, calendar, bits);
     if !a.ok {
         return slot_depart::refuse(r, 3);
     }
@@ -327,5 +391,5 @@ pub fn accept(
             return slot_depart::refuse(r, 3);
         }
     }
-    accept_seated(r, k, b, j, a, cells, links, calendar, words, cell)
+    accept_seated(r, k, b, j, a, cells, links, calendar, words, bits, cell)
 }

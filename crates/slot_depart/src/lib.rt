@@ -1,14 +1,13 @@
 // How a slot ends: refused, as everything came; or with a departure, whose record, answer and writes stand here.
 ghost use mathlib.Core.Path.{_≡_};
-ghost use mathlib.Core.Bool.{true, not};
-ghost use Prim.Native.Nat.{_+_, _*_, _≤_, _<_};
+ghost use Prim.Native.Nat.{_+_, _*_, _≤_};
 ghost use lib.ListN.{length};
 ghost use Rattle.meaning.specs.Plain.{if_then_else_, _=?_};
 ghost use Rattle.meaning.specs.Numbers.{empty};
 ghost use Rattle.meaning.specs.Lists.{emptyList, writeEntry};
 ghost use Rattle.meaning.specs.Work.{answerOf, bareAnswer};
-ghost use Rattle.mem_lists.specs.Spaces.{endsOf, linked};
-ghost use Rattle.slot_plan.specs.Plan.{withEnds, freed};
+ghost use Rattle.mem_lists.specs.Spaces.{endsOf};
+ghost use Rattle.slot_plan.specs.Plan.{withEnds};
 use meaning::Answer;
 use meaning::Record;
 use meaning::Served;
@@ -38,21 +37,11 @@ pub fn first_of(head: u16, x: u16) -> u16
     if head == 65535 { x } else { head }
 }
 
-// The record and answer where o departs: k is the record after step 3.
-pub fn left(k: Record, verdict: u16, vci: u16, d: u16, o: Off) -> Served
-    ensures { λ s. ⌜ (s .ctl ≡ withEnds k (freed k (o .space)) (endsOf (o .head) (o .tail))) × (s .answer ≡ answerOf 0 verdict vci d (o .space) (o .vci)) ⌝ }
+// The record and answer where o departs, with this number of spaces free afterwards.
+pub fn left(k: Record, free: u16, verdict: u16, vci: u16, d: u16, o: Off) -> Served
+    ensures { λ s. ⌜ (s .ctl ≡ withEnds k free (endsOf (o .head) (o .tail))) × (s .answer ≡ answerOf 0 verdict vci d (o .space) (o .vci)) ⌝ }
 {
-    let freehead = first_of(k.freehead, o.space);
-    let ctl = meaning::record_with(
-        k,
-        k.t,
-        k.turn,
-        k.rotation,
-        freehead,
-        o.space,
-        o.head,
-        o.tail,
-    );
+    let ctl = meaning::record_with(k, k.t, k.turn, k.rotation, free, o.head, o.tail);
     Served {
         ctl: ctl,
         answer: Answer {
@@ -64,16 +53,6 @@ pub fn left(k: Record, verdict: u16, vci: u16, d: u16, o: Off) -> Served
             departing: o.vci,
         },
     }
-}
-
-// What a departure writes to the links: entry T joined to the Output List, and the space given back.
-pub fn links_leave(k: Record, joins: bool, head: u16, space: u16, links: &mut [u16])
-    requires { ⌜ (joins ≡ true → k .outtail < length (now links)) ⌝ }
-    requires { ⌜ (not (k .freehead =? empty) ≡ true → k .freetail < length (now links)) ⌝ }
-    ensures { λ r. ⌜ now (links .exit) ≡ linked (not (k .freehead =? empty)) (k .freetail) space (linked joins (k .outtail) head (now (links .entry))) ⌝ }
-{
-    mem_lists::put_link(links, joins, k.outtail, head);
-    mem_lists::put_link(links, k.freehead != 65535, k.freetail, space);
 }
 
 // An entry emptied, where on.

@@ -1,5 +1,5 @@
 -- The cases of a slot's code, each over plain lists: steps 4 and 5 of a work after step 3, by what was read of entry T,
--- the Output List, what departs and the Free List.
+-- the Output List, what departs and the words of free spaces.
 use Prim.Native.Nat.{ℕ, _+_, _*_, _≤_, _<_}
 use mathlib.Core.Path.{_≡_, refl, sym, _∙_, ap}
 use mathlib.Core.Logic.{_≢_}
@@ -11,7 +11,7 @@ use lib.ListN.{length, getD}
 use Rattle.meaning.specs.declared.Record.{Record}
 use Rattle.meaning.specs.Plain.{if_then_else_, _=?_, Out, refused, next, _andThen_}
 use Rattle.meaning.specs.Numbers.{empty, excess}
-use Rattle.meaning.specs.State.{Ends, freeList, outputList}
+use Rattle.meaning.specs.State.{Ends, outputList}
 use Rattle.meaning.specs.Lists.{emptyList, isEmpty, endsFit, entryAt, writeEntry}
 use Rattle.meaning.specs.Work.{Work}
 use Rattle.meaning.specs.Slot.{step4, step5}
@@ -23,7 +23,7 @@ use Rattle.mem_lists.specs.declared.Seat.{Seat}
 use Rattle.mem_lists.specs.declared.Off.{Off}
 use Rattle.mem_lists.specs.Spaces.{endsOf, offOf}
 use Rattle.mem_lists.proofs.After.{Kept, kept-fall}
-use Rattle.slot_plan.specs.Plan.{rotated, quietWork, seatEnds, leftBy, leaving, joinedLinks, joinedHead, offMarked, offUnmarked, leavingMarked, leavingOutput, leavingUnmarked}
+use Rattle.slot_plan.specs.Plan.{rotated, quietWork, seatEnds, leftBy, mayFree, leaving, joinedLinks, joinedHead, offMarked, offUnmarked, leavingMarked, leavingOutput, leavingUnmarked}
 use Rattle.slot_plan.proofs.Leave.{leave-unfit, leave-marked, leave-output, leave-none}
 use Rattle.slot_plan.proofs.Off.{off-kept}
 
@@ -85,19 +85,21 @@ module _ (w : Work) where
           output w emptyList is (fit-empty _) p refl (eqb-false _ _ q) ∙ sym (unmarked-output p (eqb-false _ _ q))
 
 -- ---- what departs, or not
-pub leaving-go : (w : Work) (links calendar : List ℕ) (o : Off) → o .ok ≡ true → endsFit (w .state .ctl .n) (freeList (w .state)) ≡ true
-    → leaving w links calendar o ≡ next (leftBy w links calendar o)
+pub leaving-go : (w : Work) (links calendar bits : List ℕ) (o : Off) → o .ok ≡ true
+    → mayFree (w .state .ctl .n) (w .state .ctl .free) (w .state .bits) (o .space) ≡ true
+    → leaving w links calendar bits o ≡ next (leftBy w links calendar bits o)
 unfolding leaving
-leaving-go w links calendar o p q = rw (p, q)
+leaving-go w links calendar bits o p q = rw (p, q)
 
-pub leaving-off : (w : Work) (links calendar : List ℕ) (o : Off) → o .ok ≡ false → leaving w links calendar o ≡ refused
+pub leaving-off : (w : Work) (links calendar bits : List ℕ) (o : Off) → o .ok ≡ false → leaving w links calendar bits o ≡ refused
 unfolding leaving
-leaving-off w links calendar o p = rw p
+leaving-off w links calendar bits o p = rw p
 
-pub leaving-unfit : (w : Work) (links calendar : List ℕ) (o : Off) → endsFit (w .state .ctl .n) (freeList (w .state)) ≡ false
-    → leaving w links calendar o ≡ refused
+pub leaving-unfit : (w : Work) (links calendar bits : List ℕ) (o : Off)
+    → mayFree (w .state .ctl .n) (w .state .ctl .free) (w .state .bits) (o .space) ≡ false
+    → leaving w links calendar bits o ≡ refused
 unfolding leaving
-leaving-unfit w links calendar o q = rw q (go (o .ok))
+leaving-unfit w links calendar bits o q = rw q (go (o .ok))
   where
     go : (b : Bool) → (if_then_else_ {A = Out Work} b refused refused) ≡ refused
     go true = refl
@@ -146,9 +148,9 @@ module _ (calendar : List ℕ) (a : Seat) (T : ℕ) where
   far-tail ne = ap (λ (x : Ends). x .tail) (sym (far-entry ne))
 
 -- ---- where no cell is accepted, what departs is what the words before steps 2 and 3 show
-module _ (k : Record) (b : Fall) (j : Judged) (cells links calendar words : List ℕ) where
+module _ (k : Record) (b : Fall) (j : Judged) (cells links calendar words bits : List ℕ) where
   abbrev w : Work
-  w = quietWork k j cells links calendar (rotated k b words)
+  w = quietWork k j cells links calendar (rotated k b words) bits
 
   pub quiet-kept : Kept words (fallen (j .verdict =? excess) (j .vci) (j .s) (j .second) (k .t) (rotated k b words))
   unfolding fallen rotated

@@ -1,13 +1,13 @@
 -- What the tests of a slot have shown, once they passed: of the judged cell, of its seat, and of what departs.
 use Prim.Native.Nat.{ℕ, _+_, _-_, _*_, _/_, _^_, _≤_, _<_}
 use mathlib.Core.Path.{_≡_, refl, sym, _∙_}
-use mathlib.Core.Logic.{_⊎_, inl, inr}
+use mathlib.Core.Logic.{_⊎_, inl, inr, _≢_}
 use mathlib.Core.Bool.{Bool, true, false, _&&_}
 use mathlib.Core.List.{List}
 use native.Mathlib.Omega.{arith}
 use native.Mathlib.Nat.{div-lt-iff-lt-mul}
 use borrow.Author.Tests.{eq-eqb, ne-eqb, ltb-true, ltb-false}
-use lib.ListN.{length, getD}
+use lib.ListN.{length}
 use lib.Pow.{pow-pos}
 use Rattle.meaning.specs.declared.Record.{Record}
 use Rattle.meaning.specs.Plain.{if_then_else_, _<?_, _≤?_, _=?_}
@@ -16,14 +16,13 @@ use Rattle.meaning.specs.Header.{Header, headerAt, clpIn, noUserCell, connectio
 use Rattle.meaning.specs.Bucket.{obeysRules, elapsed, fall, isExcess, delay}
 use Rattle.meaning.specs.Words.{Connection, connectionAt, bucketFits, secondFits, bucketsFit, fallenTo}
 use Rattle.meaning.specs.Arrival.{verdictOn}
+use Rattle.meaning.specs.Bits.{isFree, spacesFit}
 use Rattle.meaning.specs.Lists.{endsFit, entryAt}
 use Rattle.meaning.proofs.NamesLaws.{names-low, names-not-0}
 use Rattle.leaf_header.proofs.NameLaws.{numbered-yes}
-use Rattle.meaning.proofs.ListsLaws.{fit-marked, fit-empty}
 use Rattle.slot_arrive.specs.declared.Judged.{Judged}
 use Rattle.slot_arrive.specs.Arrival.{connectionNow, judgedBuckets, judgedConnection, judgedOf}
 use Rattle.mem_lists.specs.Spaces.{seatAt, entryOf, seatOf}
-use Rattle.slot_plan.specs.Plan.{freeEnds}
 use Rattle.slot_plan.specs.Facts.{Accepted, Seated}
 use Rattle.slot_plan.proofs.Rotate.{open-cases}
 
@@ -168,32 +167,28 @@ entry-low N T D t d = go (T + D <? N) refl
     go true e = ltb-true (T + D) N e
     go false e = omega arith
 
-module _ (k : Record) (links calendar : List ℕ) where
-  at-seat : (e : ℕ) → e < k .n → k .freehead < k .n → k .freetail < k .n
-      → (t a f : Bool) → endsFit (k .n) (entryAt calendar e) ≡ t → k .freehead =? k .freetail ≡ a → getD links (k .freehead) 0 <? k .n ≡ f
-      → seatAt (k .n) links calendar (freeEnds k) e .ok ≡ true → Seated k (seatAt (k .n) links calendar (freeEnds k) e)
-  unfolding seatAt
-  at-seat e low h l true true f et ea ef =
-      rw (et, ea) (λ ok. record { x-low = h; e-low = low; entry-fits = et; free-fits = fit-empty (k .n) })
-  at-seat e low h l true false true et ea ef =
-      rw (et, ea, ef)
-      (λ ok. record { x-low = h; e-low = low; entry-fits = et; free-fits = fit-marked (k .n) _ _ (ltb-true _ _ ef) l })
-  at-seat e low h l true false false et ea ef = rw (et, ea, ef) (λ ok. no ok)
-  at-seat e low h l false a f et ea ef = rw et (λ ok. no ok)
+module _ (k : Record) (calendar bits : List ℕ) (D x : ℕ) where
+  abbrev e : ℕ
+  e = entryOf (k .n) (k .turn) D
 
-  pub seat-shows : (D : ℕ) → k .turn < k .n → D < k .n → seatOf (k .n) links calendar (k .turn) (freeEnds k) D .ok ≡ true
-      → Seated k (seatOf (k .n) links calendar (k .turn) (freeEnds k) D)
-  unfolding seatOf
-  seat-shows D t d = go (k .freehead <? k .n) (k .freetail <? k .n) refl refl
+  pub seat-shows : k .turn < k .n → D < k .n → seatOf (k .n) calendar (k .turn) D x .ok ≡ true
+      → x < k .n → spacesFit (k .n) (k .free) bits ≡ true → k .free ≢ 0 → isFree bits x ≡ true
+      → Seated k (seatOf (k .n) calendar (k .turn) D x) bits
+  unfolding seatOf seatAt
+  seat-shows t d ok low fits some free = go (endsFit (k .n) (entryAt calendar e)) refl ok
     where
-      e : ℕ
-      e = entryOf (k .n) (k .turn) D
-
-      go : (p q : Bool) → k .freehead <? k .n ≡ p → k .freetail <? k .n ≡ q
-          → seatOf (k .n) links calendar (k .turn) (freeEnds k) D .ok ≡ true
-          → Seated k (seatOf (k .n) links calendar (k .turn) (freeEnds k) D)
-      go true true ep eq =
-          rw (ep, eq)
-          (at-seat e (entry-low (k .n) (k .turn) D t d) (ltb-true _ _ ep) (ltb-true _ _ eq) (endsFit (k .n) (entryAt calendar e)) (k .freehead =? k .freetail) (getD links (k .freehead) 0 <? k .n) refl refl refl)
-      go true false ep eq = rw (ep, eq) (λ ok. no ok)
-      go false q ep eq = rw ep (λ ok. no ok)
+      go : (b : Bool) → endsFit (k .n) (entryAt calendar e) ≡ b
+          → seatOf (k .n) calendar (k .turn) D x .ok ≡ true
+          → Seated k (seatOf (k .n) calendar (k .turn) D x) bits
+      go true f =
+          rw f
+          (λ _.
+          record {
+            x-low = low;
+            e-low = entry-low (k .n) (k .turn) D t d;
+            entry-fits = f;
+            spaces-fit = fits;
+            some-free = omega (arith, some);
+            is-free = free;
+          })
+      go false f = rw f (λ q. no q)

@@ -1,22 +1,24 @@
 -- Steps 4 and 5 of any work, by cases: entry T marked or not, the Output List empty or not.
-use Prim.Native.Nat.{ℕ, _-_}
+use Prim.Native.Nat.{ℕ, _+_, _-_}
 use mathlib.Core.Path.{_≡_, refl, _∙_, ap}
 use mathlib.Core.Bool.{Bool, true, false, not, _&&_}
 use mathlib.Core.List.{List}
 use lib.ListN.{getD, set}
 use Rattle.meaning.specs.Plain.{if_then_else_, _<?_, _≤?_, _=?_, refused, next, needs, _andThen_}
 use Rattle.meaning.specs.Numbers.{empty, cellStart, waitingPlace, kindFits}
-use Rattle.meaning.specs.State.{State, stateOf, Ends, freeList, outputList, recordWith, withRecord, withLinks, withCalendar, withWords, withFreeList, withOutputList}
+use Rattle.meaning.specs.State.{State, stateOf, Ends, outputList, recordWith, withRecord, withLinks, withCalendar, withWords, withBits, withFree, withOutputList}
+use Rattle.meaning.specs.Bits.{isFree, spacesFit, given, unmarked}
 use Rattle.meaning.specs.Header.{Header, headerAt, connection, namesOpen}
 use Rattle.meaning.specs.Words.{Connection, connectionAt, writeConnection, withWaiting}
-use Rattle.meaning.specs.Lists.{emptyList, isEmpty, endsFit, entryAt, writeEntry, takeHead, Grown, joinTail, addTail}
+use Rattle.meaning.specs.Lists.{emptyList, isEmpty, endsFit, entryAt, writeEntry, takeHead, Grown, joinTail}
 use Rattle.meaning.specs.Work.{Work, workOf, answerOf}
 use Rattle.meaning.specs.Slot.{step4, depart, step5}
 use Rattle.meaning.proofs.WordsLaws.{write-waiting}
+use Rattle.meaning.proofs.MarksLaws.{unmarked-free, unmarked-fits}
 use Rattle.slot_arrive.specs.Arrival.{oneLess}
 use Rattle.mem_lists.specs.declared.Off.{Off}
 use Rattle.mem_lists.specs.Spaces.{endsOf, linked, offAs, noneOff, mayLeave, offOf}
-use Rattle.slot_plan.specs.Plan.{withEnds, freed, leftBy, leaving, joinedLinks, joinedHead, offMarked, offUnmarked, leavingMarked, leavingOutput}
+use Rattle.slot_plan.specs.Plan.{withEnds, leftBy, mayFree, leaving, joinedLinks, joinedHead, offMarked, offUnmarked, leavingMarked, leavingOutput}
 
 abbrev grown : Ends → List ℕ → Grown
 grown ends links = record { ends = ends; links = links }
@@ -26,31 +28,15 @@ less-is : (words : List ℕ) (v : ℕ) → writeConnection words v (withWaiting 
 unfolding oneLess connectionAt
 less-is words v = write-waiting words v (getD words (waitingPlace v) 0 - 1)
 
--- a space given back, as numbers
-add-tail-is : (links : List ℕ) (free : Ends) (x : ℕ)
-    → addTail links free x
-    ≡ record {
-      ends = endsOf (if free .head =? empty then x else free .head) x;
-      links = linked (not (free .head =? empty)) (free .tail) x links;
-    }
-unfolding addTail joinTail linked
-add-tail-is links free x = go (free .head =? empty)
-  where
-    go : (b : Bool)
-        → (if b then grown (endsOf x x) links else grown (endsOf (free .head) x) (set links (free .tail) x))
-        ≡ grown (endsOf (if b then x else free .head) x) (if not b then set links (free .tail) x else links)
-    go true = refl
-    go false = refl
-
 -- step 5, once the head x is taken and left is what remains of the Output List
 depart-is : (w : Work) (x : ℕ) (left : Ends)
     → depart w (record { space = x; left = left })
     ≡ (if mayLeave (w .state .ctl .n) (w .state .ctl .v) (w .state .ctl .kind) (w .state .cells) (w .state .words) x
-    then leaving w (w .state .links) (w .state .calendar) (offAs true x (connection (w .state .ctl .v) (headerAt (w .state .ctl .kind) (w .state .cells) (cellStart x))) left)
+    then leaving w (w .state .links) (w .state .calendar) (w .state .bits) (offAs true x (connection (w .state .ctl .v) (headerAt (w .state .ctl .kind) (w .state .cells) (cellStart x))) left)
     else refused)
-unfolding depart mayLeave leaving leftBy freed withEnds withOutputList withFreeList withLinks withWords withRecord recordWith
+unfolding depart mayLeave mayFree leaving leftBy withEnds withOutputList withFree withBits withWords withRecord recordWith
 depart-is w x left =
-    go (kindFits (s .ctl .kind) && namesOpen (s .ctl .v) (s .words) h) (1 ≤? vc .waiting) (vc .waiting ≤? s .ctl .n) (endsFit (s .ctl .n) (freeList s))
+    go (kindFits (s .ctl .kind) && namesOpen (s .ctl .v) (s .words) h) (1 ≤? vc .waiting) (vc .waiting ≤? s .ctl .n) (spacesFit (s .ctl .n) (s .ctl .free) (s .bits) && not (isFree (s .bits) x))
   where
     s : State
     s = w .state
@@ -64,22 +50,19 @@ depart-is w x left =
     vc : Connection
     vc = connectionAt (s .words) at
 
-    -- the work after the departure, from the Free List and the words as they then are
-    made : Grown → List ℕ → Work
-    made g words =
+    -- the work after the departure, from the words as they then are
+    made : List ℕ → Work
+    made words =
         workOf
-        (stateOf (recordWith (s .ctl) (s .ctl .t) (s .ctl .turn) (s .ctl .rotation) (g .ends) left) (s .cells) (g .links) (s .calendar) words)
+        (stateOf (recordWith (s .ctl) (s .ctl .t) (s .ctl .turn) (s .ctl .rotation) (s .ctl .free + 1) left) (s .cells) (s .links) (s .calendar) words (given (s .bits) x))
         (answerOf (w .answer .number) (w .answer .verdict) (w .answer .vci) (w .answer .d) x at)
 
-    same : made (addTail (s .links) (freeList s) x) (writeConnection (s .words) at (withWaiting vc (vc .waiting - 1)))
-        ≡ leftBy w (s .links) (s .calendar) (offAs true x at left)
-    same =
-        ap (λ (g : Grown). made g (writeConnection (s .words) at (withWaiting vc (vc .waiting - 1)))) (add-tail-is (s .links) (freeList s) x)
-        ∙ ap (λ (l : List ℕ). made (grown (endsOf (if s .ctl .freehead =? empty then x else s .ctl .freehead) x) (linked (not (s .ctl .freehead =? empty)) (s .ctl .freetail) x (s .links))) l) (less-is (s .words) at)
+    same : made (writeConnection (s .words) at (withWaiting vc (vc .waiting - 1))) ≡ leftBy w (s .links) (s .calendar) (s .bits) (offAs true x at left)
+    same = ap made (less-is (s .words) at)
 
     go : (a p q e : Bool)
-        → needs a (needs (p && q) (needs e (next (made (addTail (s .links) (freeList s) x) (writeConnection (s .words) at (withWaiting vc (vc .waiting - 1)))))))
-        ≡ (if a && p && q then (if e then next (leftBy w (s .links) (s .calendar) (offAs true x at left)) else refused) else refused)
+        → needs a (needs (p && q) (needs e (next (made (writeConnection (s .words) at (withWaiting vc (vc .waiting - 1)))))))
+        ≡ (if a && p && q then (if e then next (leftBy w (s .links) (s .calendar) (s .bits) (offAs true x at left)) else refused) else refused)
     go true true true true = ap next same
     go true true true false = refl
     go true true false e = refl
@@ -89,7 +72,7 @@ depart-is w x left =
 -- what departs from any list, as numbers: the head is taken, then it departs
 take-off : (w : Work) (e : Ends)
     → (takeHead (w .state .ctl .n) (w .state .links) e andThen depart w)
-    ≡ leaving w (w .state .links) (w .state .calendar) (offOf (w .state .ctl .n) (w .state .ctl .v) (w .state .ctl .kind) (w .state .cells) (w .state .links) (w .state .words) (e .head) (e .tail))
+    ≡ leaving w (w .state .links) (w .state .calendar) (w .state .bits) (offOf (w .state .ctl .n) (w .state .ctl .v) (w .state .ctl .kind) (w .state .cells) (w .state .links) (w .state .words) (e .head) (e .tail))
 unfolding takeHead offOf leaving
 take-off w e = go (e .head =? e .tail) (follower <? s .ctl .n)
   where
@@ -105,17 +88,17 @@ take-off w e = go (e .head =? e .tail) (follower <? s .ctl .n)
     may : Bool
     may = mayLeave (s .ctl .n) (s .ctl .v) (s .ctl .kind) (s .cells) (s .words) (e .head)
 
-    inside : (m : Bool) (o : Off) → (if m then leaving w (s .links) (s .calendar) o else refused) ≡ leaving w (s .links) (s .calendar) (if m then o else noneOff)
+    inside : (m : Bool) (o : Off) → (if m then leaving w (s .links) (s .calendar) (s .bits) o else refused) ≡ leaving w (s .links) (s .calendar) (s .bits) (if m then o else noneOff)
     inside true o = refl
     inside false o = refl
 
-    none : (m : Bool) → refused ≡ leaving w (s .links) (s .calendar) (if m then noneOff else noneOff)
+    none : (m : Bool) → refused ≡ leaving w (s .links) (s .calendar) (s .bits) (if m then noneOff else noneOff)
     none true = refl
     none false = refl
 
     go : (a f : Bool)
         → ((if a then next (record { space = e .head; left = emptyList }) else needs f (next (record { space = e .head; left = record { head = follower; tail = e .tail } }))) andThen depart w)
-        ≡ leaving w (s .links) (s .calendar) (if may then (if a then offAs true (e .head) vci (endsOf empty empty) else if f then offAs true (e .head) vci (endsOf follower (e .tail)) else noneOff) else noneOff)
+        ≡ leaving w (s .links) (s .calendar) (s .bits) (if may then (if a then offAs true (e .head) vci (endsOf empty empty) else if f then offAs true (e .head) vci (endsOf follower (e .tail)) else noneOff) else noneOff)
     go true f = depart-is w (e .head) emptyList ∙ inside may (offAs true (e .head) vci emptyList)
     go false true = depart-is w (e .head) (endsOf follower (e .tail)) ∙ inside may (offAs true (e .head) vci (endsOf follower (e .tail)))
     go false false = none may
@@ -152,12 +135,20 @@ module _ (w : Work) where
   abbrev after4 : Grown → Work
   after4 g =
       workOf
-      (stateOf (recordWith (s .ctl) (s .ctl .t) (s .ctl .turn) (s .ctl .rotation) (freeList s) (g .ends)) (s .cells) (g .links) (writeEntry (s .calendar) (s .ctl .turn) emptyList) (s .words))
+      (stateOf (recordWith (s .ctl) (s .ctl .t) (s .ctl .turn) (s .ctl .rotation) (s .ctl .free) (g .ends)) (s .cells) (g .links) (writeEntry (s .calendar) (s .ctl .turn) emptyList) (s .words) (unmarked (s .bits) (s .ctl .turn)))
       (w .answer)
+
+  -- a mark says nothing of what may be freed
+  after-is : (g : Grown) (o : Off)
+      → leaving (after4 g) (g .links) (writeEntry (s .calendar) (s .ctl .turn) emptyList) (unmarked (s .bits) (s .ctl .turn)) o
+      ≡ leaving w (g .links) (writeEntry (s .calendar) (s .ctl .turn) emptyList) (unmarked (s .bits) (s .ctl .turn)) o
+  unfolding leaving leftBy mayFree withEnds recordWith
+  after-is g o =
+      rw (unmarked-fits (s .bits) (s .ctl .turn) (s .ctl .n) (s .ctl .free), unmarked-free (s .bits) (s .ctl .turn) (o .space))
 
   module _ (fits : endsFit N entryT && endsFit N (outputList s) ≡ true) where
     step4-marked : isEmpty entryT ≡ false → step4 w ≡ next (after4 (joinTail (s .links) (outputList s) entryT))
-    unfolding step4 withCalendar withLinks withOutputList withRecord
+    unfolding step4 withBits withCalendar withLinks withOutputList withRecord
     step4-marked m = rw (fits, m)
 
     step4-unmarked : isEmpty entryT ≡ true → step4 w ≡ next w
@@ -167,17 +158,24 @@ module _ (w : Work) where
     -- entry T is marked
     pub leave-marked : isEmpty entryT ≡ false
         → (step4 w andThen step5) ≡ leavingMarked w entryT
-    unfolding step5 leavingMarked offMarked joinedLinks joinedHead leaving leftBy freed withEnds recordWith
+    unfolding step5 leavingMarked offMarked joinedLinks joinedHead withEnds recordWith
     leave-marked m =
         rw (step4-marked m)
         (ap (λ (g : Grown). step5 (after4 g)) (join-tail-is (s .links) (outputList s) entryT)
         ∙ some (s .ctl .outhead =? empty) refl)
       where
+        goes : Grown → ℕ → Off
+        goes g x = offOf N (s .ctl .v) (s .ctl .kind) (s .cells) (g .links) (s .words) x (entryT .tail)
+
         some : (b : Bool) → s .ctl .outhead =? empty ≡ b
             → step5 (after4 (grown (endsOf (if s .ctl .outhead =? empty then entryT .head else s .ctl .outhead) (entryT .tail)) (linked (not (s .ctl .outhead =? empty)) (s .ctl .outtail) (entryT .head) (s .links))))
             ≡ leavingMarked w entryT
-        some true e = rw (e, m) (take-off (after4 (grown (endsOf (entryT .head) (entryT .tail)) (linked false (s .ctl .outtail) (entryT .head) (s .links)))) (endsOf (entryT .head) (entryT .tail)))
-        some false e = rw (e, e) (take-off (after4 (grown (endsOf (s .ctl .outhead) (entryT .tail)) (linked true (s .ctl .outtail) (entryT .head) (s .links)))) (endsOf (s .ctl .outhead) (entryT .tail)))
+        some true e =
+            let g = grown (endsOf (entryT .head) (entryT .tail)) (linked false (s .ctl .outtail) (entryT .head) (s .links)) in
+            rw (e, m) (take-off (after4 g) (endsOf (entryT .head) (entryT .tail)) ∙ after-is g (goes g (entryT .head)))
+        some false e =
+            let g = grown (endsOf (s .ctl .outhead) (entryT .tail)) (linked true (s .ctl .outtail) (entryT .head) (s .links)) in
+            rw (e, e) (take-off (after4 g) (endsOf (s .ctl .outhead) (entryT .tail)) ∙ after-is g (goes g (s .ctl .outhead)))
 
     -- it is not, and the Output List has a head
     pub leave-output : isEmpty entryT ≡ true → s .ctl .outhead =? empty ≡ false

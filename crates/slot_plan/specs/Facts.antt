@@ -2,7 +2,7 @@
 --
 --   Sized s          == refusals 1 and 2 are not given, and the clock has moved
 --   Accepted k j ..  == of an accepted cell: its connection, its D and its waiting
---   Seated k a       == of an accepted cell: its space and entry, and the Free List without the space
+--   Seated k a bits  == of an accepted cell: its space, which is free, and its entry; the words of free spaces and their number fit
 --   OffStored k ..   == what departs once the cell is stored and counted, from memory as it came
 use Prim.Native.Nat.{ℕ, _*_, _≤_, _<_}
 use mathlib.Core.Path.{_≡_}
@@ -11,7 +11,8 @@ use mathlib.Core.List.{List}
 use lib.ListN.{length}
 use Rattle.meaning.specs.declared.Record.{Record}
 use Rattle.meaning.specs.Plain.{_=?_}
-use Rattle.meaning.specs.Numbers.{mostN, leastV, mostV, octets, perEntry, connectionsIn, wordsIn, empty, letsIn}
+use Rattle.meaning.specs.Numbers.{mostN, leastV, mostV, octets, perEntry, connectionsIn, wordsIn, bitWords, empty, letsIn}
+use Rattle.meaning.specs.Bits.{isFree, spacesFit}
 use Rattle.meaning.specs.State.{State, Ends}
 use Rattle.meaning.specs.Header.{headerAt}
 use Rattle.meaning.specs.Words.{connectionAt}
@@ -33,6 +34,7 @@ pub record Sized (s : State) : Type 0 where
   pub links-long : length (s .links) ≡ s .ctl .n
   pub calendar-long : length (s .calendar) ≡ perEntry * s .ctl .n
   pub words-long : length (s .words) ≡ wordsIn (s .ctl .v)
+  pub bits-long : length (s .bits) ≡ bitWords
   pub turn-low : s .ctl .turn < s .ctl .n
   pub rotation-low : s .ctl .rotation < connectionsIn (s .ctl .v)
 
@@ -47,11 +49,13 @@ pub record Accepted (k : Record) (j : Judged) (cell words : List ℕ) : Type 0 w
   pub cell-long : length cell ≡ octets
   pub names : numbered (k .kind) (k .v) (headerAt (k .kind) cell 0) ≡ j .vci
 
-pub record Seated (k : Record) (a : Seat) : Type 0 where
+pub record Seated (k : Record) (a : Seat) (bits : List ℕ) : Type 0 where
   pub x-low : a .x < k .n
   pub e-low : a .e < k .n
   pub entry-fits : endsFit (k .n) (endsOf (a .head) (a .tail)) ≡ true
-  pub free-fits : endsFit (k .n) (endsOf (a .freehead) (a .freetail)) ≡ true
+  pub spaces-fit : spacesFit (k .n) (k .free) bits ≡ true
+  pub some-free : 1 ≤ k .free
+  pub is-free : isFree bits (a .x) ≡ true
 
 -- entry is what has joined the Output List, where joins: the cell's header and its connection's words need no second reading
 abbrev pub OffStored : Record → Judged → Seat → List ℕ → List ℕ → List ℕ → Bool → Ends → Off → Type 0

@@ -1,6 +1,7 @@
--- What is promised where a case is lent fewer memories than four: it holds whatever the others hold, which are its first lists.
+-- What is promised where a case is lent fewer memories than all: it holds whatever the others hold, which are its first lists.
 --
---   EndsWith k b j o ..     == o departs, and entry T has joined the Output List where joins: links and words are written
+--   EndsWith k b j o ..     == o departs, and entry T has joined the Output List where joins, and was emptied where clears: links, words
+--                              and bits are written
 --   GivesWith r k b j f ..  == the slot gives what the steps f say of the work after step 3, or all as it came; r is the
 --                              record that came
 --   KeepsWith k b j ..      == nothing departs: only the words are written
@@ -10,7 +11,8 @@ use mathlib.Core.Bool.{Bool}
 use mathlib.Core.List.{List}
 use Rattle.meaning.specs.declared.Record.{Record}
 use Rattle.meaning.specs.declared.Served.{Served}
-use Rattle.meaning.specs.Plain.{Out}
+use Rattle.meaning.specs.Plain.{if_then_else_, Out}
+use Rattle.meaning.specs.Bits.{unmarked}
 use Rattle.meaning.specs.State.{stateOf}
 use Rattle.meaning.specs.Work.{Work}
 use Rattle.meaning.specs.Slot.{finish}
@@ -21,17 +23,18 @@ use Rattle.mem_lists.specs.declared.Off.{Off}
 use Rattle.slot_plan.specs.Plan.{servedWork}
 use Rattle.slot_plan.specs.Works.{quietOf, quietLeft}
 
-abbrev pub EndsWith : List ℕ → List ℕ → List ℕ → Record → Fall → Judged → Off → Bool → ℕ → Served → Lent → Lent → Type 0
-EndsWith cells calendar calendar′ k b j o joins head s links words =
-    servedWork s cells (links .exit .now) calendar′ (words .exit .now)
-    ≡ quietLeft (stateOf k cells (links .entry .now) calendar (words .entry .now)) b j o joins head calendar′
+abbrev pub EndsWith : List ℕ → List ℕ → List ℕ → Record → Fall → Judged → Off → Bool → ℕ → Bool → Served → Lent → Lent → Lent → Type 0
+EndsWith cells calendar calendar′ k b j o joins head clears s links words bits =
+    servedWork s cells (links .exit .now) calendar′ (words .exit .now) (bits .exit .now)
+    ≡ quietLeft (stateOf k cells (links .entry .now) calendar (words .entry .now) (bits .entry .now)) b j o joins head calendar′
+    (if clears then unmarked (bits .entry .now) (k .turn) else bits .entry .now)
 
-abbrev pub GivesWith : List ℕ → Record → Record → Fall → Judged → (Work → Out Work) → Served → Lent → Lent → Lent → Type 0
-GivesWith calendar r k b j steps s cells links words =
-    servedWork s (cells .entry .now) (links .exit .now) calendar (words .exit .now)
-    ≡ finish (stateOf r (cells .entry .now) (links .entry .now) calendar (words .entry .now))
-    (steps (quietOf (stateOf k (cells .entry .now) (links .entry .now) calendar (words .entry .now)) b j))
+abbrev pub GivesWith : List ℕ → Record → Record → Fall → Judged → (Work → Out Work) → Served → Lent → Lent → Lent → Lent → Type 0
+GivesWith calendar r k b j steps s cells links words bits =
+    servedWork s (cells .entry .now) (links .exit .now) calendar (words .exit .now) (bits .exit .now)
+    ≡ finish (stateOf r (cells .entry .now) (links .entry .now) calendar (words .entry .now) (bits .entry .now))
+    (steps (quietOf (stateOf k (cells .entry .now) (links .entry .now) calendar (words .entry .now) (bits .entry .now)) b j))
 
-abbrev pub KeepsWith : List ℕ → List ℕ → List ℕ → Record → Fall → Judged → Served → Lent → Type 0
-KeepsWith cells links calendar k b j s words =
-    servedWork s cells links calendar (words .exit .now) ≡ quietOf (stateOf k cells links calendar (words .entry .now)) b j
+abbrev pub KeepsWith : List ℕ → List ℕ → List ℕ → List ℕ → Record → Fall → Judged → Served → Lent → Type 0
+KeepsWith cells links calendar bits k b j s words =
+    servedWork s cells links calendar (words .exit .now) bits ≡ quietOf (stateOf k cells links calendar (words .entry .now) bits) b j

@@ -1,17 +1,18 @@
 // A slot in which no cell is accepted: steps 4 and 5 are read and judged, then all is written.
 ghost use mathlib.Core.Path.{_≡_};
-ghost use mathlib.Core.Bool.{true};
+ghost use mathlib.Core.Bool.{true, false};
 ghost use mathlib.Core.List.{List};
 ghost use Prim.Native.Nat.{ℕ, _+_, _*_, _≤_, _<_};
 ghost use lib.ListN.{length, getD};
 ghost use Rattle.meaning.specs.Plain.{_=?_};
-ghost use Rattle.meaning.specs.Numbers.{excess, waitingPlace, mostN, mostV, octets, connectionsIn, wordsIn};
+ghost use Rattle.meaning.specs.Numbers.{excess, waitingPlace, mostN, mostV, octets, connectionsIn, wordsIn, bitWords};
+ghost use Rattle.meaning.specs.Bits.{isFree};
 ghost use Rattle.meaning.specs.State.{HasConnection};
 ghost use Rattle.meaning.specs.Lists.{endsFit};
 ghost use Rattle.meaning.specs.Lent.{here, before, Gives};
 ghost use Rattle.slot_arrive.specs.Arrival.{fallen};
 ghost use Rattle.mem_lists.specs.Spaces.{endsOf, offOf};
-ghost use Rattle.slot_plan.specs.Plan.{rotated, joinedLinks, joinedHead, leavingMarked, leavingOutput, leavingUnmarked};
+ghost use Rattle.slot_plan.specs.Plan.{rotated, mayFree, joinedLinks, joinedHead, leavingMarked, leavingOutput, leavingUnmarked};
 ghost use Rattle.slot_plan.specs.Works.{quietOf, lastSteps};
 ghost use Rattle.slot_plan.specs.Facts.{Sized};
 ghost use Rattle.slot_quiet.specs.Quiet.{EndsWith, GivesWith, KeepsWith};
@@ -32,7 +33,18 @@ fn words_fall(k: Record, b: Fall, j: Judged, words: &mut [u32])
     slot_arrive::put_fall(words, j.verdict == 2, j.vci, j.s, j.second, k.t);
 }
 
-// A departure where no cell was accepted: all writes but the entry's.
+// Space x may be freed: the words of free spaces and their number fit, and it is not free.
+fn may_free(n: u16, free: u16, bits: &[u64], x: u16) -> bool
+    requires { ⌜ (n ≤ mostN) × (x < mostN) × (length (now bits) ≡ bitWords) ⌝ }
+    ensures { λ r. ⌜ r ≡ mayFree n free (now (bits .entry)) x ⌝ }
+{
+    if mem_bits::is_free(bits, x) {
+        return false;
+    }
+    mem_bits::fits(n, free, bits)
+}
+
+// A departure where no cell was accepted: all writes but the entry's; where clears, its mark is cleared.
 fn quiet_end(
     k: Record,
     b: Fall,
@@ -40,19 +52,22 @@ fn quiet_end(
     o: Off,
     joins: bool,
     head: u16,
+    clears: bool,
     links: &mut [u16],
     words: &mut [u32],
+    bits: &mut [u64],
 ) -> Served
     requires { ⌜ (length (now links) ≡ k .n) × (length (now words) ≡ wordsIn (k .v)) × (k .rotation < connectionsIn (k .v)) × (o .vci < connectionsIn (k .v)) × (1 ≤ getD (now words) (waitingPlace (o .vci)) 0) ⌝ }
     requires { ⌜ (j .verdict =? excess ≡ true → j .vci < connectionsIn (k .v)) ⌝ }
     requires { ⌜ (joins ≡ true → k .outtail < k .n) ⌝ }
-    requires { ⌜ endsFit (k .n) (endsOf (k .freehead) (k .freetail)) ≡ true ⌝ }
-    ensures { λ s. ⌜ ((cells calendar calendar′ : List ℕ) → EndsWith cells calendar calendar′ k b j o joins head s links words) ⌝ }
+    requires { ⌜ (k .free ≤ mostN) × (length (now bits) ≡ bitWords) × (o .space < mostN) × (isFree (now bits) (o .space) ≡ false) × (clears ≡ true → k .turn < mostN) ⌝ }
+    ensures { λ s. ⌜ ((cells calendar calendar′ : List ℕ) → EndsWith cells calendar calendar′ k b j o joins head clears s links words bits) ⌝ }
 {
     words_fall(k, b, j, words);
     slot_arrive::put_less(words, o.vci);
-    slot_depart::links_leave(k, joins, head, o.space, links);
-    slot_depart::left(k, j.verdict, j.vci, 0, o)
+    mem_lists::put_link(links, joins, k.outtail, head);
+    mem_bits::release(bits, o.space, clears, k.turn);
+    slot_depart::left(k, k.free + 1, j.verdict, j.vci, 0, o)
 }
 
 // What departs once entry T, from head to tail, has joined the Output List; field by field, as a whole would be packed.
@@ -104,21 +119,33 @@ fn quiet_marked(
     links: &mut [u16],
     calendar: &mut [u16],
     words: &mut [u32],
+    bits: &mut [u64],
 ) -> Served
-    requires { ⌜ Sized (here k cells links calendar words) ⌝ }
+    requires { ⌜ Sized (here k cells links calendar words bits) ⌝ }
     requires { ⌜ (j .verdict =? excess ≡ true → j .vci < connectionsIn (k .v)) ⌝ }
     requires { ⌜ (head < k .n) × (endsFit (k .n) (endsOf (k .outhead) (k .outtail)) ≡ true) ⌝ }
-    ensures { λ s. ⌜ Gives r (leavingMarked (quietOf (before k cells links calendar words) b j) (endsOf head tail)) s cells links calendar words ⌝ }
+    ensures { λ s. ⌜ Gives r (leavingMarked (quietOf (before k cells links calendar words bits) b j) (endsOf head tail)) s cells links calendar words bits ⌝ }
 {
     let o = off_marked(k, head, tail, cells, links, words);
     if !o.ok {
         return slot_depart::refuse(r, 3);
     }
-    if !mem_lists::pair(k.n, k.freehead, k.freetail) {
+    if !may_free(k.n, k.free, bits, o.space) {
         return slot_depart::refuse(r, 3);
     }
     slot_depart::clear_entry(calendar, true, k.turn);
-    quiet_end(k, b, j, o, k.outhead != 65535, head, links, words)
+    quiet_end(
+        k,
+        b,
+        j,
+        o,
+        k.outhead != 65535,
+        head,
+        true,
+        links,
+        words,
+        bits,
+    )
 }
 
 // No cell was accepted, entry T is not marked, and the Output List has a head.
@@ -130,27 +157,29 @@ fn quiet_output(
     cells: &[u8],
     links: &mut [u16],
     words: &mut [u32],
+    bits: &mut [u64],
 ) -> Served
     requires { ⌜ (k .n ≤ mostN) × (k .v ≤ mostV) × (length (now cells) ≡ octets * k .n) × (length (now links) ≡ k .n) × (length (now words) ≡ wordsIn (k .v)) × (k .rotation < connectionsIn (k .v)) ⌝ }
+    requires { ⌜ length (now bits) ≡ bitWords ⌝ }
     requires { ⌜ k .outhead < k .n ⌝ }
     requires { ⌜ (j .verdict =? excess ≡ true → j .vci < connectionsIn (k .v)) ⌝ }
-    ensures { λ s. ⌜ ((calendar : List ℕ) → GivesWith calendar r k b j leavingOutput s cells links words) ⌝ }
+    ensures { λ s. ⌜ ((calendar : List ℕ) → GivesWith calendar r k b j leavingOutput s cells links words bits) ⌝ }
 {
     let o = mem_lists::off_head(k.n, k.v, k.kind, cells, links, words, k.outhead, k.outtail);
     if !o.ok {
         return slot_depart::refuse(r, 3);
     }
-    if !mem_lists::pair(k.n, k.freehead, k.freetail) {
+    if !may_free(k.n, k.free, bits, o.space) {
         return slot_depart::refuse(r, 3);
     }
-    quiet_end(k, b, j, o, false, 0, links, words)
+    quiet_end(k, b, j, o, false, 0, false, links, words, bits)
 }
 
 // No cell was accepted, and nothing departs.
 fn quiet_none(k: Record, b: Fall, j: Judged, words: &mut [u32]) -> Served
     requires { ⌜ (length (now words) ≡ wordsIn (k .v)) × (k .rotation < connectionsIn (k .v)) ⌝ }
     requires { ⌜ (j .verdict =? excess ≡ true → j .vci < connectionsIn (k .v)) ⌝ }
-    ensures { λ s. ⌜ ((cells links calendar : List ℕ) → KeepsWith cells links calendar k b j s words) ⌝ }
+    ensures { λ s. ⌜ ((cells links calendar bits : List ℕ) → KeepsWith cells links calendar bits k b j s words) ⌝ }
 {
     words_fall(k, b, j, words);
     Served {
@@ -176,10 +205,12 @@ fn quiet_unmarked(
     cells: &[u8],
     links: &mut [u16],
     words: &mut [u32],
+    bits: &mut [u64],
 ) -> Served
     requires { ⌜ (k .n ≤ mostN) × (k .v ≤ mostV) × (length (now cells) ≡ octets * k .n) × (length (now links) ≡ k .n) × (length (now words) ≡ wordsIn (k .v)) × (k .rotation < connectionsIn (k .v)) ⌝ }
+    requires { ⌜ length (now bits) ≡ bitWords ⌝ }
     requires { ⌜ (j .verdict =? excess ≡ true → j .vci < connectionsIn (k .v)) ⌝ }
-    ensures { λ s. ⌜ ((calendar : List ℕ) → GivesWith calendar r k b j leavingUnmarked s cells links words) ⌝ }
+    ensures { λ s. ⌜ ((calendar : List ℕ) → GivesWith calendar r k b j leavingUnmarked s cells links words bits) ⌝ }
 {
     if k.outhead == 65535 {
         if k.outtail != 65535 {
@@ -193,7 +224,7 @@ fn quiet_unmarked(
     if k.outtail >= k.n {
         return slot_depart::refuse(r, 3);
     }
-    quiet_output(r, k, b, j, cells, links, words)
+    quiet_output(r, k, b, j, cells, links, words, bits)
 }
 
 // No cell was accepted. The ends of entry T are tested one after the other too, and for the same reason.
@@ -206,10 +237,11 @@ pub fn quiet(
     links: &mut [u16],
     calendar: &mut [u16],
     words: &mut [u32],
+    bits: &mut [u64],
 ) -> Served
-    requires { ⌜ Sized (here k cells links calendar words) ⌝ }
+    requires { ⌜ Sized (here k cells links calendar words bits) ⌝ }
     requires { ⌜ (j .verdict =? excess ≡ true → j .vci < connectionsIn (k .v)) ⌝ }
-    ensures { λ s. ⌜ Gives r (lastSteps (quietOf (before k cells links calendar words) b j)) s cells links calendar words ⌝ }
+    ensures { λ s. ⌜ Gives r (lastSteps (quietOf (before k cells links calendar words bits) b j)) s cells links calendar words bits ⌝ }
 {
     let at = 2 * (k.turn as usize);
     let head = calendar[at];
@@ -218,7 +250,7 @@ pub fn quiet(
         if tail != 65535 {
             return slot_depart::refuse(r, 3);
         }
-        return quiet_unmarked(r, k, b, j, cells, links, words);
+        return quiet_unmarked(r, k, b, j, cells, links, words, bits);
     }
     if head >= k.n {
         return slot_depart::refuse(r, 3);
@@ -229,5 +261,5 @@ pub fn quiet(
     if !mem_lists::pair(k.n, k.outhead, k.outtail) {
         return slot_depart::refuse(r, 3);
     }
-    quiet_marked(r, k, b, j, head, tail, cells, links, calendar, words)
+    quiet_marked(r, k, b, j, head, tail, cells, links, calendar, words, bits)
 }

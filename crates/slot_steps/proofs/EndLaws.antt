@@ -1,26 +1,27 @@
 -- What a slot without the header check answers and keeps, for every state: a number of 0 or, with everything as it came,
 -- another; N, V, raw and the line kind; and a departing space that is below N or 65,535. Each step is followed.
-use Prim.Native.Nat.{ℕ, _+_, _-_, _%_, _≤_, _<_}
-use mathlib.Core.Path.{_≡_, refl, sym, _∙_, ap}
+use Prim.Native.Nat.{ℕ, _+_, _-_, _%_, _<_}
+use mathlib.Core.Path.{_≡_, refl, ap}
 use mathlib.Core.Logic.{_≢_}
 use mathlib.Core.Bool.{Bool, true, false, not, _&&_, _||_}
 use mathlib.Core.List.{List}
 use native.Mathlib.Omega.{arith}
 use native.Mathlib.Nat.{mod-lt}
-use borrow.Author.Tests.{eqb-true, eqb-false, not-false, lt-ltb, ltb-true}
+use borrow.Author.Tests.{eqb-false, not-false, ltb-true}
 use lib.ListN.{length, getD, set}
 use Rattle.meaning.specs.declared.Record.{Record}
-use Rattle.meaning.specs.Plain.{if_then_else_, _<?_, _≤?_, _=?_, Out, refused, next, needs, _andThen_}
+use Rattle.meaning.specs.Plain.{if_then_else_, _<?_, _≤?_, _=?_, Out, refused, next, _andThen_}
 use Rattle.meaning.specs.Numbers.{rangesHold, octets, cellStart, connectionsIn, unused, kindFits, empty, unknown, excess}
-use Rattle.meaning.specs.State.{State, Ends, freeList, outputList, lengthsHold, withRecord, withCells, withLinks, withCalendar, withWords}
-use Rattle.meaning.specs.State.{recordWith, withClock, withFreeList, withOutputList}
+use Rattle.meaning.specs.State.{State, Ends, outputList, sizesHold, withRecord, withCells, withLinks, withCalendar, withBits, withWords}
+use Rattle.meaning.specs.State.{recordWith, withClock, withBits, withFree, withOutputList}
+use Rattle.meaning.specs.Bits.{isFree, spacesFit, lowestFree}
 use Rattle.meaning.specs.Header.{headerAt, clpIn, noUserCell, connection, namesConnection, namesOpen}
 use Rattle.meaning.specs.Bucket.{delay}
-use Rattle.meaning.specs.Words.{Connection, connectionAt, withWaiting, openWordFits, upToDate}
-use Rattle.meaning.specs.Lists.{emptyList, isEmpty, endsFit, entryAt, Taken, takeHead, Grown, joinTail}
-use Rattle.meaning.specs.Work.{Work, workOf, bareAnswer, withConnection, withArrival}
+use Rattle.meaning.specs.Words.{Connection, connectionAt, openWordFits, upToDate}
+use Rattle.meaning.specs.Lists.{isEmpty, endsFit, entryAt, Taken, takeHead, Grown, joinTail}
+use Rattle.meaning.specs.Work.{Work, workOf, bareAnswer, withArrival}
 use Rattle.meaning.specs.Arrival.{verdictOn, place, accept, judge}
-use Rattle.meaning.specs.Slot.{step1, step2, step3, step4, depart, step5, fiveSteps, finish, uncheckedSlot}
+use Rattle.meaning.specs.Slot.{step1, step2, step3, step4, depart, step5, fiveSteps, finish, uncheckedSlotAt, uncheckedSlot}
 use Rattle.meaning.proofs.ListsLaws.{fit-head, fit-tail, fit-marked, fit-empty}
 pub use Rattle.meaning.proofs.OutLaws.{AllOut, needs-all, if-all, then-all, any-all}
 use Rattle.meaning.proofs.OutLaws.{if-holds}
@@ -88,7 +89,7 @@ module _ (r : Record) where
   less : (a b c : ℕ) → b ≡ c → a < b → a < c
   less a b c e h = omega arith
 
-  tick : (k : Record) → k ≡ r → k .turn <? k .n && k .rotation <? connectionsIn (k .v) ≡ true → (t : ℕ) (free : Ends)
+  tick : (k : Record) → k ≡ r → k .turn <? k .n && k .rotation <? connectionsIn (k .v) ≡ true → (t free : ℕ)
       → Ticked (recordWith k t ((k .turn + 1) % k .n) ((k .rotation + 1) % connectionsIn (k .v)) free (record { head = k .outhead; tail = k .outtail }))
   unfolding recordWith
   tick k is b t free =
@@ -130,32 +131,32 @@ module _ (r : Record) where
       (λ _. any-all Going (upToDate (s .ctl .n) (s .ctl .t) vc) _
       (λ now. record { ticked = h .ticked; out-is = h .out-is; number = h .number; unsent = h .unsent }))))
 
-  -- other ends of the lists leave the clock
-  again : (k : Record) (free output : Ends) → Ticked k → Ticked (recordWith k (k .t) (k .turn) (k .rotation) free output)
+  -- another number of free spaces and another Output List leave the clock
+  again : (k : Record) (free : ℕ) (output : Ends) → Ticked k → Ticked (recordWith k (k .t) (k .turn) (k .rotation) free output)
   unfolding recordWith
   again k free output h =
       record { n-is = h .n-is; v-is = h .v-is; raw-is = h .raw-is; kind-is = h .kind-is; began = h .began; turn-low = h .turn-low; rotation-low = h .rotation-low }
 
-  judge-going : (cell : List ℕ) (v : ℕ) (w : Work) → Going w → (vc : Connection) → AllOut Going (judge cell v w vc)
-  unfolding judge accept place withWords withCells withLinks withCalendar withFreeList withRecord recordWith
-  judge-going cell v w h vc =
+  judge-going : (x : ℕ) (cell : List ℕ) (v : ℕ) (w : Work) → Going w → (vc : Connection) → AllOut Going (judge x cell v w vc)
+  unfolding judge accept place withWords withCells withLinks withCalendar withFree withBits withRecord recordWith
+  judge-going x cell v w h vc =
       let s = w .state in
       if-all Going (verdictOn (clpIn cell) vc =? excess) _ _
       (λ _. record { ticked = h .ticked; out-is = h .out-is; number = h .number; unsent = h .unsent })
       (λ _. needs-all Going (vc .waiting <? s .ctl .n) _
-      (λ _. needs-all Going (endsFit (s .ctl .n) (freeList s) && not (isEmpty (freeList s))) _
-      (λ _. any-all Going (takeHead (s .ctl .n) (s .links) (freeList s)) _
-      (λ taken. needs-all Going (endsFit (s .ctl .n) (entryAt (s .calendar) ((s .ctl .turn + delay (vc .bucket)) % s .ctl .n))) _
+      (λ _. needs-all Going (spacesFit (s .ctl .n) (s .ctl .free) (s .bits) && not (s .ctl .free =? 0)) _
+      (λ _. needs-all Going (isFree (s .bits) x) _
+      (λ _. needs-all Going (endsFit (s .ctl .n) (entryAt (s .calendar) ((s .ctl .turn + delay (vc .bucket)) % s .ctl .n))) _
       (λ _. record {
-        ticked = again (s .ctl) (taken .left) (outputList s) (h .ticked);
+        ticked = again (s .ctl) (s .ctl .free - 1) (outputList s) (h .ticked);
         out-is = h .out-is;
         number = h .number;
         unsent = h .unsent;
       })))))
 
-  step3-going : (cell : List ℕ) (w : Work) → Going w → AllOut Going (step3 cell w)
+  step3-going : (x : ℕ) (cell : List ℕ) (w : Work) → Going w → AllOut Going (step3 x cell w)
   unfolding step3
-  step3-going cell w h =
+  step3-going x cell w h =
       let s = w .state in
       let a = headerAt (s .ctl .kind) cell 0 in
       let c = connection (s .ctl .v) a in
@@ -166,7 +167,7 @@ module _ (r : Record) where
       (λ _. if-all Going (not (namesConnection (s .ctl .v) a)) _ _ (λ _. same)
       (λ _. needs-all Going (openWordFits vc) _
       (λ _. if-all Going (vc .opened =? 0) _ _ (λ _. same)
-      (λ _. any-all Going (upToDate (s .ctl .n) (s .ctl .t) vc) _ (judge-going cell c w h)))))))
+      (λ _. any-all Going (upToDate (s .ctl .n) (s .ctl .t) vc) _ (judge-going x cell c w h)))))))
     where
       same : Going (withArrival w unknown (headerAt (w .state .ctl .kind) cell 0 .vci) 0)
       same = record { ticked = h .ticked; out-is = h .out-is; number = h .number; unsent = h .unsent }
@@ -189,7 +190,7 @@ module _ (r : Record) where
           (fit-tail N more q (eqb-false (more .head) empty some))
 
   step4-joined : (w : Work) → Going w → AllOut Joined (step4 w)
-  unfolding step4 withCalendar withLinks withOutputList withRecord recordWith
+  unfolding step4 withBits withCalendar withLinks withOutputList withRecord recordWith
   step4-joined w h =
       let s = w .state in
       let entry = entryAt (s .calendar) (s .ctl .turn) in
@@ -206,7 +207,7 @@ module _ (r : Record) where
         unsent = h .unsent;
       })
       (λ some. record {
-        ticked = again (s .ctl) (freeList s) (joinTail (s .links) (outputList s) entry .ends) (h .ticked);
+        ticked = again (s .ctl) (s .ctl .free) (joinTail (s .links) (outputList s) entry .ends) (h .ticked);
         out-began = rw (h .out-is) at out-fits;
         fits = joined-fits (s .links) (outputList s) entry out-fits entry-fits some;
         number = h .number;
@@ -229,7 +230,7 @@ module _ (r : Record) where
       }))
 
   step5-ended : (w : Work) → Joined w → AllOut Ended (step5 w)
-  unfolding step5 depart withWords withLinks withFreeList withOutputList withRecord recordWith
+  unfolding step5 depart withWords withFree withBits withOutputList withRecord recordWith
   step5-ended w j =
       let s = w .state in
       if-all Ended (isEmpty (outputList s)) _ _
@@ -246,7 +247,7 @@ module _ (r : Record) where
       let vc = connectionAt (s .words) (connection (s .ctl .v) a) in
       needs-all Ended (kindFits (s .ctl .kind) && namesOpen (s .ctl .v) (s .words) a) _
       (λ _. needs-all Ended (1 ≤? vc .waiting && vc .waiting ≤? s .ctl .n) _
-      (λ _. needs-all Ended (endsFit (s .ctl .n) (freeList s)) _
+      (λ _. needs-all Ended (spacesFit (s .ctl .n) (s .ctl .free) (s .bits) && not (isFree (s .bits) (taken .space))) _
       (λ _. record {
         ticked = again (s .ctl) _ (taken .left) (j .ticked);
         out-began = j .out-began;
@@ -255,14 +256,14 @@ module _ (r : Record) where
         low = λ _. rw (is .space-is) (fit-head N (outputList s) (j .fits) (eqb-false (s .ctl .outhead) empty some));
       })))))
 
-  pub five-ended : (cell : List ℕ) (w : Work) → Begun w → AllOut Ended (fiveSteps cell w)
+  pub five-ended : (x : ℕ) (cell : List ℕ) (w : Work) → Begun w → AllOut Ended (fiveSteps x cell w)
   unfolding fiveSteps
-  five-ended cell w h =
-      then-all Joined Ended (step1 w andThen step2 andThen step3 cell andThen step4) step5
-      (then-all Going Joined (step1 w andThen step2 andThen step3 cell) step4
-      (then-all Going Going (step1 w andThen step2) (step3 cell)
+  five-ended x cell w h =
+      then-all Joined Ended (step1 w andThen step2 andThen step3 x cell andThen step4) step5
+      (then-all Going Joined (step1 w andThen step2 andThen step3 x cell) step4
+      (then-all Going Going (step1 w andThen step2) (step3 x cell)
       (then-all Going Going (step1 w) step2 (step1-going w h) step2-going)
-      (step3-going cell))
+      (step3-going x cell))
       step4-joined)
       step5-ended
 
@@ -270,7 +271,7 @@ module _ (r : Record) where
 pub record Answered (s : State) (w : Work) : Type 0 where
   pub as-came : w .answer .number ≢ 0 → w .state ≡ s
   pub ranges : w .answer .number ≡ 0 → rangesHold (s .ctl .n) (s .ctl .v) ≡ true
-  pub lengths : w .answer .number ≡ 0 → lengthsHold (s .ctl .n) (s .ctl .v) (s .cells) (s .links) (s .calendar) (s .words) ≡ true
+  pub lengths : w .answer .number ≡ 0 → sizesHold s ≡ true
   pub n-is : w .state .ctl .n ≡ s .ctl .n
   pub v-is : w .state .ctl .v ≡ s .ctl .v
   pub raw-is : w .state .ctl .raw ≡ s .ctl .raw
@@ -291,7 +292,7 @@ refused-with s k ne =
     }
 
 finished : (s : State) (x : Out Work) → AllOut (Ended (s .ctl)) x → rangesHold (s .ctl .n) (s .ctl .v) ≡ true
-    → lengthsHold (s .ctl .n) (s .ctl .v) (s .cells) (s .links) (s .calendar) (s .words) ≡ true
+    → sizesHold s ≡ true
     → Answered s (finish s x)
 unfolding finish
 finished s refused h r l = refused-with s 3 (λ e. omega arith)
@@ -308,14 +309,14 @@ finished s (next w) h r l =
     }
 
 pub unchecked-answered : (s : State) (cell : List ℕ) → Answered s (uncheckedSlot s cell)
-unfolding uncheckedSlot
+unfolding uncheckedSlot uncheckedSlotAt
 unchecked-answered s cell =
     let N = s .ctl .n in
     let z = s .ctl .v in
     if-holds (Answered s) (not (rangesHold N z)) _ _ (λ _. refused-with s 1 (λ e. omega arith)) (λ r.
-    if-holds (Answered s) (not (lengthsHold N z (s .cells) (s .links) (s .calendar) (s .words))) _ _ (λ _. refused-with s 2 (λ e. omega arith)) (λ l.
+    if-holds (Answered s) (not (sizesHold s)) _ _ (λ _. refused-with s 2 (λ e. omega arith)) (λ l.
     if-holds (Answered s) (not (length cell =? 0 || length cell =? octets)) _ _ (λ _. refused-with s 9 (λ e. omega arith)) (λ _.
     finished s _
-    (five-ended (s .ctl) cell (workOf s (bareAnswer 0)) (begun (s .ctl) s refl))
+    (five-ended (s .ctl) (lowestFree (s .bits)) cell (workOf s (bareAnswer 0)) (begun (s .ctl) s refl))
     (not-false _ r)
     (not-false _ l))))

@@ -11,41 +11,42 @@ use lib.ListN.{length}
 use Rattle.meaning.specs.declared.Record.{Record}
 use Rattle.meaning.specs.declared.Served.{Served}
 use Rattle.meaning.specs.Plain.{if_then_else_, _≤?_, _=?_, Out, refused, _andThen_}
-use Rattle.meaning.specs.Numbers.{rangesHold, connectionsIn, wordsIn}
+use Rattle.meaning.specs.Numbers.{rangesHold, connectionsIn, wordsIn, bitWords}
+use Rattle.meaning.specs.Bits.{lowestFree}
 use Rattle.meaning.specs.State.{State, stateOf, recordWith, withRecord, withClock, wordsLong, lengthsHold}
 use Rattle.meaning.specs.Work.{Work, workOf, bareAnswer}
-use Rattle.meaning.specs.Slot.{step1, step2, step3, step4, step5, fiveSteps, finish, uncheckedSlot}
+use Rattle.meaning.specs.Slot.{step1, step2, step3, step4, step5, fiveSteps, finish, uncheckedSlotAt, uncheckedSlot}
 use Rattle.slot_plan.specs.Plan.{clocked}
 use Rattle.slot_plan.specs.Facts.{Sized}
 use Rattle.slot_plan.proofs.Found.{no, and}
 use Rattle.slot_steps.specs.Slot.{shapeOf}
 
 -- ---- the refusals 1, 2 and 9, and the clock
-module _ (r : Record) (cell cells links calendar words : List ℕ) where
+module _ (r : Record) (cell cells links calendar words bits : List ℕ) where
   abbrev s : State
-  s = stateOf r cells links calendar words
+  s = stateOf r cells links calendar words bits
 
   abbrev shape : ℕ
-  shape = shapeOf r cells links calendar words cell
+  shape = shapeOf r cells links calendar words bits cell
 
-  by-shape : (a b d : Bool) → rangesHold (r .n) (r .v) ≡ a → lengthsHold (r .n) (r .v) cells links calendar words ≡ b → length cell =? 0 || length cell =? 53 ≡ d
-      → uncheckedSlot s cell ≡ (if shape =? 0 then finish s (fiveSteps cell (workOf s (bareAnswer 0))) else workOf s (bareAnswer shape))
-  unfolding uncheckedSlot shapeOf
+  by-shape : (a b d : Bool) → rangesHold (r .n) (r .v) ≡ a → lengthsHold (r .n) (r .v) cells links calendar words bits ≡ b → length cell =? 0 || length cell =? 53 ≡ d
+      → uncheckedSlot s cell ≡ (if shape =? 0 then finish s (fiveSteps (lowestFree bits) cell (workOf s (bareAnswer 0))) else workOf s (bareAnswer shape))
+  unfolding uncheckedSlot uncheckedSlotAt shapeOf
   by-shape false b d ea eb ed = rw ea
   by-shape true false d ea eb ed = rw (ea, eb)
   by-shape true true false ea eb ed = rw (ea, eb, ed)
   by-shape true true true ea eb ed = rw (ea, eb, ed)
 
-  slot-is : uncheckedSlot s cell ≡ (if shape =? 0 then finish s (fiveSteps cell (workOf s (bareAnswer 0))) else workOf s (bareAnswer shape))
-  slot-is = by-shape (rangesHold (r .n) (r .v)) (lengthsHold (r .n) (r .v) cells links calendar words) (length cell =? 0 || length cell =? 53) refl refl refl
+  slot-is : uncheckedSlot s cell ≡ (if shape =? 0 then finish s (fiveSteps (lowestFree bits) cell (workOf s (bareAnswer 0))) else workOf s (bareAnswer shape))
+  slot-is = by-shape (rangesHold (r .n) (r .v)) (lengthsHold (r .n) (r .v) cells links calendar words bits) (length cell =? 0 || length cell =? 53) refl refl refl
 
   pub slot-refused : (number : ℕ) (x : Served) → number ≡ shape → number ≢ 0 → (x .ctl ≡ r) × (x .answer ≡ bareAnswer number)
-      → workOf (stateOf (x .ctl) cells links calendar words) (x .answer) ≡ uncheckedSlot s cell
+      → workOf (stateOf (x .ctl) cells links calendar words bits) (x .answer) ≡ uncheckedSlot s cell
   slot-refused number x e ne p = rw (p .0, p .1) (sym (slot-is ∙ rw (← e, ne-eqb number 0 ne)))
 
   -- the five steps, once the clock has moved
   abbrev five : Out Work
-  five = fiveSteps cell (workOf s (bareAnswer 0))
+  five = fiveSteps (lowestFree bits) cell (workOf s (bareAnswer 0))
 
   pub slot-goes : (number : ℕ) → number ≡ shape → number ≡ 0 → uncheckedSlot s cell ≡ finish s five
   slot-goes number e z = slot-is ∙ rw (sym e ∙ z)
@@ -59,7 +60,7 @@ module _ (r : Record) (cell cells links calendar words : List ℕ) where
   clock-rotation h g = rw (lt-ltb (r .turn) (r .n) h, le-ltb (r .rotation) (connectionsIn (r .v)) g)
 
   pub clock-goes : (k : Record) → k ≡ clocked r → r .turn < r .n → r .rotation < connectionsIn (r .v)
-      → five ≡ (step2 (workOf (stateOf k cells links calendar words) (bareAnswer 0)) andThen step3 cell andThen step4 andThen step5)
+      → five ≡ (step2 (workOf (stateOf k cells links calendar words bits) (bareAnswer 0)) andThen step3 (lowestFree bits) cell andThen step4 andThen step5)
   unfolding fiveSteps step1 clocked withClock withRecord
   clock-goes k e h g = rw (lt-ltb (r .turn) (r .n) h, lt-ltb (r .rotation) (connectionsIn (r .v)) g, e)
 
@@ -73,19 +74,21 @@ module _ (r : Record) (cell cells links calendar words : List ℕ) where
     pub links-long : length links ≡ r .n
     pub calendar-long : length calendar ≡ 2 * r .n
     pub words-long : length words ≡ wordsIn (r .v)
+    pub bits-long : length bits ≡ bitWords
     pub cell-long : (length cell ≡ 0 → ⊥) → length cell ≡ 53
 
   either : (a b : Bool) → a || b ≡ true → a ≡ false → b ≡ true
   either true b e f = no (sym f ∙ e)
   either false b e f = e
 
-  shaped-by : rangesHold (r .n) (r .v) ≡ true → lengthsHold (r .n) (r .v) cells links calendar words ≡ true → length cell =? 0 || length cell =? 53 ≡ true → Shaped
+  shaped-by : rangesHold (r .n) (r .v) ≡ true → lengthsHold (r .n) (r .v) cells links calendar words bits ≡ true → length cell =? 0 || length cell =? 53 ≡ true → Shaped
   unfolding rangesHold lengthsHold wordsLong
   shaped-by a b d =
       let v2 = and (1 ≤? r .n && r .n ≤? 1024 && 2 ≤? r .v) (r .v ≤? 1024) a in
       let v1 = and (1 ≤? r .n && r .n ≤? 1024) (2 ≤? r .v) (v2 .0) in
       let n2 = and (1 ≤? r .n) (r .n ≤? 1024) (v1 .0) in
-      let w = and (length cells =? 53 * r .n && length links =? r .n && length calendar =? 2 * r .n) (length words =? wordsIn (r .v)) b in
+      let f = and (length cells =? 53 * r .n && length links =? r .n && length calendar =? 2 * r .n && length words =? wordsIn (r .v)) (length bits =? bitWords) b in
+      let w = and (length cells =? 53 * r .n && length links =? r .n && length calendar =? 2 * r .n) (length words =? wordsIn (r .v)) (f .0) in
       let c = and (length cells =? 53 * r .n && length links =? r .n) (length calendar =? 2 * r .n) (w .0) in
       let l = and (length cells =? 53 * r .n) (length links =? r .n) (c .0) in
       record {
@@ -97,10 +100,11 @@ module _ (r : Record) (cell cells links calendar words : List ℕ) where
         links-long = eqb-true _ _ (l .1);
         calendar-long = eqb-true _ _ (c .1);
         words-long = eqb-true _ _ (w .1);
+        bits-long = eqb-true _ _ (f .1);
         cell-long = λ ne. eqb-true _ _ (either (length cell =? 0) (length cell =? 53) d (ne-eqb (length cell) 0 ne));
       }
 
-  shape-shows : (a b d : Bool) → rangesHold (r .n) (r .v) ≡ a → lengthsHold (r .n) (r .v) cells links calendar words ≡ b → length cell =? 0 || length cell =? 53 ≡ d
+  shape-shows : (a b d : Bool) → rangesHold (r .n) (r .v) ≡ a → lengthsHold (r .n) (r .v) cells links calendar words bits ≡ b → length cell =? 0 || length cell =? 53 ≡ d
       → shape ≡ 0 → Shaped
   unfolding shapeOf
   shape-shows false b d ea eb ed = rw ea (λ h. absurd (omega arith))
@@ -110,13 +114,13 @@ module _ (r : Record) (cell cells links calendar words : List ℕ) where
 
   pub shaped : (number : ℕ) → number ≡ shape → number ≡ 0 → Shaped
   shaped number e z =
-      shape-shows (rangesHold (r .n) (r .v)) (lengthsHold (r .n) (r .v) cells links calendar words) (length cell =? 0 || length cell =? 53) refl refl refl (sym e ∙ z)
+      shape-shows (rangesHold (r .n) (r .v)) (lengthsHold (r .n) (r .v) cells links calendar words bits) (length cell =? 0 || length cell =? 53) refl refl refl (sym e ∙ z)
 
-  pub sized : (k : Record) → k ≡ clocked r → Shaped → Sized (stateOf k cells links calendar words)
+  pub sized : (k : Record) → k ≡ clocked r → Shaped → Sized (stateOf k cells links calendar words bits)
   unfolding clocked recordWith
-  sized k e h = subst (λ (x : Record). Sized (stateOf x cells links calendar words)) (sym e) at
+  sized k e h = subst (λ (x : Record). Sized (stateOf x cells links calendar words bits)) (sym e) at
     where
-      at : Sized (stateOf (clocked r) cells links calendar words)
+      at : Sized (stateOf (clocked r) cells links calendar words bits)
       at =
           record {
             n-low = h .n-low;
@@ -127,6 +131,7 @@ module _ (r : Record) (cell cells links calendar words : List ℕ) where
             links-long = h .links-long;
             calendar-long = h .calendar-long;
             words-long = h .words-long;
+            bits-long = h .bits-long;
             turn-low = mod-lt (r .turn + 1) (omega (arith, h .n-low));
             rotation-low = mod-lt (r .rotation + 1) (omega (arith, h .v-low));
           }

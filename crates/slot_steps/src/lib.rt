@@ -3,14 +3,11 @@
 ghost use mathlib.Core.Path.{_≡_};
 ghost use Prim.Native.Nat.{_+_, _%_, _≤_, _<_};
 ghost use lib.ListN.{length};
-ghost use Rattle.meaning.specs.Plain.{_andThen_};
 ghost use Rattle.meaning.specs.Numbers.{mostV, connectionsIn};
-ghost use Rattle.meaning.specs.Work.{workOf, bareAnswer};
-ghost use Rattle.meaning.specs.Slot.{step2, step3, step4, step5};
 ghost use Rattle.meaning.specs.Lent.{here, before, servedAfter, Gives};
 ghost use Rattle.slot_plan.specs.Plan.{clocked};
 ghost use Rattle.slot_plan.specs.Facts.{Sized};
-ghost use Rattle.slot_steps.specs.Slot.{shapeIn, uncheckedPromise};
+ghost use Rattle.slot_steps.specs.Slot.{shapeIn, laterSteps, uncheckedPromise};
 use meaning::PATHS;
 use meaning::Record;
 use meaning::Served;
@@ -32,16 +29,7 @@ fn clock(r: Record) -> Record
     let t = std::num::wrapping_add_u32(r.t, 1);
     let turn = after(r.turn, r.n);
     let rotation = after(r.rotation, r.v + PATHS);
-    meaning::record_with(
-        r,
-        t,
-        turn,
-        rotation,
-        r.freehead,
-        r.freetail,
-        r.outhead,
-        r.outtail,
-    )
+    meaning::record_with(r, t, turn, rotation, r.free, r.outhead, r.outtail)
 }
 
 // Steps 2 to 5, the clock having moved.
@@ -52,11 +40,12 @@ fn steps(
     links: &mut [u16],
     calendar: &mut [u16],
     words: &mut [u32],
+    bits: &mut [u64],
     cell: &[u8],
 ) -> Served
-    requires { ⌜ Sized (here k cells links calendar words) ⌝ }
+    requires { ⌜ Sized (here k cells links calendar words bits) ⌝ }
     requires { ⌜ ((length (now cell) ≡ 0 → ⊥) → length (now cell) ≡ 53) ⌝ }
-    ensures { λ s. ⌜ Gives r (step2 (workOf (before k cells links calendar words) (bareAnswer 0)) andThen step3 (now (cell .entry)) andThen step4 andThen step5) s cells links calendar words ⌝ }
+    ensures { λ s. ⌜ Gives r (laterSteps (before k cells links calendar words bits) (now (cell .entry))) s cells links calendar words bits ⌝ }
 {
     let b = slot_arrive::bring(k.n, k.v, words, k.rotation, k.t);
     if !b.ok {
@@ -68,9 +57,9 @@ fn steps(
         return slot_depart::refuse(r, 3);
     }
     if meaning::lets_in(j.verdict) {
-        return slot_accept::accept(r, k, b, j, cells, links, calendar, words, cell);
+        return slot_accept::accept(r, k, b, j, cells, links, calendar, words, bits, cell);
     }
-    slot_quiet::quiet(r, k, b, j, cells, links, calendar, words)
+    slot_quiet::quiet(r, k, b, j, cells, links, calendar, words, bits)
 }
 
 // Refusals 1, 2 and 9.
@@ -80,9 +69,10 @@ pub fn shape(
     links: &[u16],
     calendar: &[u16],
     words: &[u32],
+    bits: &[u64],
     cell: &[u8],
 ) -> u16
-    ensures { λ x. ⌜ x ≡ shapeIn (before r cells links calendar words) (now (cell .entry)) ⌝ }
+    ensures { λ x. ⌜ x ≡ shapeIn (before r cells links calendar words bits) (now (cell .entry)) ⌝ }
 {
     if !leaf_refusal::ranges_hold(r.n, r.v) {
         return 1;
@@ -94,6 +84,7 @@ pub fn shape(
         links.len(),
         calendar.len(),
         words.len(),
+        bits.len(),
     ) {
         return 2;
     }
@@ -113,11 +104,12 @@ pub fn slot(
     links: &mut [u16],
     calendar: &mut [u16],
     words: &mut [u32],
+    bits: &mut [u64],
     cell: &[u8],
 ) -> Served
-    ensures { λ s. ⌜ uncheckedPromise (before r cells links calendar words) (now (cell .entry)) (servedAfter s cells links calendar words) ⌝ }
+    ensures { λ s. ⌜ uncheckedPromise (before r cells links calendar words bits) (now (cell .entry)) (servedAfter s cells links calendar words bits) ⌝ }
 {
-    let number = shape(r, cells, links, calendar, words, cell);
+    let number = shape(r, cells, links, calendar, words, bits, cell);
     if number != 0 {
         return slot_depart::refuse(r, number);
     }
@@ -128,5 +120,5 @@ pub fn slot(
         return slot_depart::refuse(r, 3);
     }
     let k = clock(r);
-    steps(r, k, cells, links, calendar, words, cell)
+    steps(r, k, cells, links, calendar, words, bits, cell)
 }

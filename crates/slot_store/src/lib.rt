@@ -1,10 +1,11 @@
 // Step 3 of an accepted cell: all that it writes, and the record once its space is taken.
 ghost use mathlib.Core.Path.{_≡_};
 ghost use mathlib.Core.Bool.{true, not};
-ghost use Prim.Native.Nat.{_+_, _*_, _≤_};
+ghost use Prim.Native.Nat.{_+_, _-_, _≤_};
 ghost use lib.ListN.{length};
 ghost use Rattle.meaning.specs.Plain.{_=?_};
 ghost use Rattle.meaning.specs.Numbers.{empty, cellStart, octets};
+ghost use Rattle.meaning.specs.Bits.{taken, marked};
 ghost use Rattle.meaning.specs.Arrival.{sentAs};
 ghost use Rattle.meaning.specs.State.{writeCell, HasConnection};
 ghost use Rattle.meaning.specs.Lists.{writeEntry};
@@ -48,19 +49,11 @@ pub fn tail_of(a: Seat) -> u16
 }
 
 // The record once an accepted cell has taken its space.
-pub fn seated(k: Record, a: Seat) -> Record
-    ensures { λ r. ⌜ r ≡ withEnds k (endsOf (a .freehead) (a .freetail)) (endsOf (k .outhead) (k .outtail)) ⌝ }
+pub fn seated(k: Record) -> Record
+    requires { ⌜ 1 ≤ k .free ⌝ }
+    ensures { λ r. ⌜ r ≡ withEnds k (k .free - 1) (endsOf (k .outhead) (k .outtail)) ⌝ }
 {
-    meaning::record_with(
-        k,
-        k.t,
-        k.turn,
-        k.rotation,
-        a.freehead,
-        a.freetail,
-        k.outhead,
-        k.outtail,
-    )
+    meaning::record_with(k, k.t, k.turn, k.rotation, k.free - 1, k.outhead, k.outtail)
 }
 
 // Step 3 of an accepted cell: all that it writes.
@@ -73,17 +66,20 @@ pub fn store(
     links: &mut [u16],
     calendar: &mut [u16],
     words: &mut [u32],
+    bits: &mut [u64],
     cell: &[u8],
 )
-    requires { ⌜ Sized (here k cells links calendar words) ⌝ }
+    requires { ⌜ Sized (here k cells links calendar words bits) ⌝ }
     requires { ⌜ Accepted k j (now cell) (now words) ⌝ }
-    requires { ⌜ Seated k a ⌝ }
+    requires { ⌜ Seated k a (now bits) ⌝ }
     ensures cells { λ r. ⌜ now (cells .exit) ≡ writeCell (now (cells .entry)) (a .x) (sentAs (j .verdict) (now (cell .entry))) ⌝ }
     ensures links { λ r. ⌜ now (links .exit) ≡ linked (not (a .head =? empty)) (a .x) (a .head) (now (links .entry)) ⌝ }
     ensures calendar { λ r. ⌜ now (calendar .exit) ≡ writeEntry (now (calendar .entry)) (a .e) (seatEnds a) ⌝ }
     ensures words { λ r. ⌜ now (words .exit) ≡ filled (j .vci) (j .s) (j .second) (k .t) (j .waiting) (rotated k b (now (words .entry))) ⌝ }
+    ensures bits { λ r. ⌜ now (bits .exit) ≡ marked (taken (now (bits .entry)) (a .x)) (a .e) ⌝ }
 {
     words_fill(k, b, j, words);
+    mem_bits::occupy(bits, a.x, a.e);
     put_sent(j.verdict, cells, a.x, cell);
     mem_lists::put_link(links, a.head != 65535, a.x, a.head);
     let tail = tail_of(a);

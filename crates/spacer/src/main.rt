@@ -15,6 +15,7 @@ fn main() {
     let mut links = [0u16; 1024];
     let mut calendar = [0u16; 2048];
     let mut words = [0u32; 15360];
+    let mut bits = [0u64; 32];
     let mut out = [0u8; 65536];
     list_write::list(
         1,
@@ -23,6 +24,7 @@ fn main() {
         &mut links,
         &mut calendar,
         &mut words,
+        &mut bits,
         &mut out,
     );
 }

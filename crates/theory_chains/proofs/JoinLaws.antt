@@ -1,5 +1,5 @@
--- Lists of spaces joined: a cell at the head of an entry, an entry behind the Output List, a space behind the Free List;
--- and that a list which shares no space with them is kept.
+-- Lists of spaces joined: a cell at the head of an entry, an entry behind the Output List; and that a list which shares no
+-- space with them is kept.
 use Prim.Native.Nat.{ℕ, _+_, _≤_}
 use mathlib.Core.Path.{_≡_, refl, sym, ap, _∙_}
 use mathlib.Core.Bool.{Bool, true, false}

@@ -9,9 +9,10 @@ use borrow.Author.Tests.{eqb-true, eqb-false, ne-eqb, not-false}
 use lib.ListN.{length}
 use Rattle.meaning.specs.declared.Record.{Record}
 use Rattle.meaning.specs.Plain.{_=?_}
-use Rattle.meaning.specs.Numbers.{rangesHold, connectionsIn, unused, wordsIn}
+use Rattle.meaning.specs.Numbers.{rangesHold, splitsHold, connectionsIn, unused, wordsIn}
 use Rattle.meaning.specs.State.{State, wordsLong, withRecord, withWords, recordWith, withClock}
 use Rattle.meaning.specs.Header.{Name, named, numberIn}
+use Rattle.meaning.specs.Operators.{owns}
 use Rattle.meaning.specs.Bucket.{bucketOf, obeysRules, fall}
 use Rattle.meaning.specs.Words.{Connection, Second, connectionAt, writeConnection, secondObeys, openedConnection, closedConnection, openWordFits, bucketsFit, connectionFits, debt}
 use Rattle.meaning.specs.Calls.{Called, calledOf, sharedRefusal, openCall, closeCall}
@@ -30,44 +31,47 @@ fits-stored : (N : ℕ) (vc : Connection) → connectionFits N (storedConnection
 unfolding connectionFits openWordFits bucketsFit storedConnection
 fits-stored N vc = refl
 
--- refusals 1, 2, 4 and 3 read nothing that differs
-shared-stored : (u : State) (name : Name) → length (u .words) ≡ wordsIn (u .ctl .v)
-    → sharedRefusal (storedState u .ctl) (storedState u .words) name ≡ sharedRefusal (u .ctl) (u .words) name
-unfolding sharedRefusal storedState withClock withRecord withWords recordWith wordsLong
-shared-stored u name long =
+-- refusals 1, 2, 4, 16 and 3 read nothing that differs
+shared-stored : (u : State) (who : ℕ) (name : Name) → length (u .words) ≡ wordsIn (u .ctl .v)
+    → sharedRefusal (storedState u .ctl) (storedState u .words) who name ≡ sharedRefusal (u .ctl) (u .words) who name
+unfolding sharedRefusal owns storedState withClock withRecord withWords recordWith wordsLong
+shared-stored u who name long =
     let r = u .ctl in
     let c = numberIn (r .v) name in
     if-both (λ (n : ℕ). n) (not (rangesHold (r .n) (r .v))) _ _ _ _ (λ _. refl)
+    (λ _. if-both (λ (n : ℕ). n) (not (splitsHold (r .v) (r .splitvci) (r .splitpath))) _ _ _ _ (λ _. refl)
     (λ _. rw (stored-length (connectionsIn (r .v)) (u .words))
     (if-both (λ (n : ℕ). n) (not (length (u .words) =? wordsIn (r .v))) _ _ _ _ (λ _. refl)
     (λ _. if-both (λ (n : ℕ). n) (not (named (r .v) name)) _ _ _ _ (λ _. refl)
     (λ e. let low = number-low (r .v) name (not-false (named (r .v) name) e) in
-    rw (stored-read (connectionsIn (r .v)) (u .words) c low (omega arith), fits-stored (r .n) (connectionAt (u .words) c))))))
+    if-both (λ (n : ℕ). n) (not (owns r who name)) _ _ _ _ (λ _. refl)
+    (λ _. rw (stored-read (connectionsIn (r .v)) (u .words) c low (omega arith), fits-stored (r .n) (connectionAt (u .words) c))))))))
 
 -- none of them: N and V are in their ranges, and there is such a connection
-shared-low : (r : Record) (words : List ℕ) (name : Name) → sharedRefusal r words name ≡ 0
+shared-low : (r : Record) (words : List ℕ) (who : ℕ) (name : Name) → sharedRefusal r words who name ≡ 0
     → (rangesHold (r .n) (r .v) ≡ true) × (named (r .v) name ≡ true)
 unfolding sharedRefusal
-shared-low r words name =
+shared-low r words who name =
     if-holds P (not (rangesHold (r .n) (r .v))) _ _ (λ _ p. absurd (omega arith))
-    (λ a. if-holds P (not (wordsLong (r .v) words)) _ _ (λ _ p. absurd (omega arith))
+    (λ a. if-holds P (not (splitsHold (r .v) (r .splitvci) (r .splitpath))) _ _ (λ _ p. absurd (omega arith))
+    (λ _. if-holds P (not (wordsLong (r .v) words)) _ _ (λ _ p. absurd (omega arith))
     (λ _. if-holds P (not (named (r .v) name)) _ _ (λ _ p. absurd (omega arith))
-    (λ e p. (not-false (rangesHold (r .n) (r .v)) a, not-false (named (r .v) name) e))))
+    (λ e p. (not-false (rangesHold (r .n) (r .v)) a, not-false (named (r .v) name) e)))))
   where
     P : ℕ → Type 0
     P n = n ≡ 0 → (rangesHold (r .n) (r .v) ≡ true) × (named (r .v) name ≡ true)
 
-pub open-agrees : (u : State) (name : Name) (m F C : ℕ) (x : Second) → Kept u
-    → openCall (storedState u .ctl) (storedState u .words) name m F C x
-    ≡ storedCalled (u .ctl .v) (unwrappedOpen (u .ctl) (u .words) name m F C x)
+pub open-agrees : (u : State) (who : ℕ) (name : Name) (m F C : ℕ) (x : Second) → Kept u
+    → openCall (storedState u .ctl) (storedState u .words) who name m F C x
+    ≡ storedCalled (u .ctl .v) (unwrappedOpen (u .ctl) (u .words) who name m F C x)
 unfolding openCall unwrappedOpen storedCalled storedState withClock withRecord withWords recordWith storedConnection openedConnection
-open-agrees u name m F C x kept =
+open-agrees u who name m F C x kept =
     let r = u .ctl in
     let vci = numberIn (r .v) name in
-    let k = sharedRefusal r (u .words) name in
-    rw (shared-stored u name (kept .recent .long))
+    let k = sharedRefusal r (u .words) who name in
+    rw (shared-stored u who name (kept .recent .long))
     (if-both (storedCalled (r .v)) (not (k =? 0)) _ _ _ _ (λ _. refl)
-    (λ e. let low = number-low (r .v) name (shared-low r (u .words) name (eqb-true k 0 (not-false (k =? 0) e)) .1) in
+    (λ e. let low = number-low (r .v) name (shared-low r (u .words) who name (eqb-true k 0 (not-false (k =? 0) e)) .1) in
     rw (stored-read (connectionsIn (r .v)) (u .words) vci low (omega (arith, kept .recent .long)))
     (if-both (storedCalled (r .v)) (connectionAt (u .words) vci .opened =? 1) _ _ _ _ (λ _. refl)
     (λ _. if-both (storedCalled (r .v)) (not (obeysRules (r .n) (bucketOf m F C 0))) _ _ _ _ (λ _. refl)
@@ -100,17 +104,17 @@ closed-same : storedConnection closedConnection ≡ closedConnection
 unfolding storedConnection closedConnection
 closed-same = refl
 
-pub close-agrees : (u : State) (name : Name) → Kept u
-    → closeCall (storedState u .ctl) (storedState u .words) name ≡ storedCalled (u .ctl .v) (unwrappedClose (u .ctl) (u .words) name)
+pub close-agrees : (u : State) (who : ℕ) (name : Name) → Kept u
+    → closeCall (storedState u .ctl) (storedState u .words) who name ≡ storedCalled (u .ctl .v) (unwrappedClose (u .ctl) (u .words) who name)
 unfolding closeCall unwrappedClose storedCalled storedState withClock withRecord withWords recordWith storedConnection
-close-agrees u name kept =
+close-agrees u who name kept =
     let r = u .ctl in
     let vci = numberIn (r .v) name in
     let vc = connectionAt (u .words) vci in
-    let k = sharedRefusal r (u .words) name in
-    rw (shared-stored u name (kept .recent .long))
+    let k = sharedRefusal r (u .words) who name in
+    rw (shared-stored u who name (kept .recent .long))
     (if-both (storedCalled (r .v)) (not (k =? 0)) _ _ _ _ (λ _. refl)
-    (λ e. let p = shared-low r (u .words) name (eqb-true k 0 (not-false (k =? 0) e)) in
+    (λ e. let p = shared-low r (u .words) who name (eqb-true k 0 (not-false (k =? 0) e)) in
     let low = number-low (r .v) name (p .1) in
     rw (stored-read (connectionsIn (r .v)) (u .words) vci low (omega (arith, kept .recent .long)))
     (if-both (storedCalled (r .v)) (vc .opened =? 0) _ _ _ _ (λ _. refl)
@@ -130,30 +134,30 @@ kept-write u vci vc low kept b =
           (λ v p q _. kept .recent .behind v p q) b;
     }
 
-pub open-keeps : (u : State) (name : Name) (m F C : ℕ) (x : Second) → Kept u
-    → Kept (withWords u (unwrappedOpen (u .ctl) (u .words) name m F C x .words))
+pub open-keeps : (u : State) (who : ℕ) (name : Name) (m F C : ℕ) (x : Second) → Kept u
+    → Kept (withWords u (unwrappedOpen (u .ctl) (u .words) who name m F C x .words))
 unfolding openCall unwrappedOpen openedConnection withWords
-open-keeps u name m F C x kept =
+open-keeps u who name m F C x kept =
     let r = u .ctl in
     let vci = numberIn (r .v) name in
-    let k = sharedRefusal r (u .words) name in
+    let k = sharedRefusal r (u .words) who name in
     if-holds (λ (c : Called). Kept (withWords u (c .words))) (not (k =? 0)) _ _ (λ _. kept)
-    (λ e. let low = number-low (r .v) name (shared-low r (u .words) name (eqb-true k 0 (not-false (k =? 0) e)) .1) in
+    (λ e. let low = number-low (r .v) name (shared-low r (u .words) who name (eqb-true k 0 (not-false (k =? 0) e)) .1) in
     if-holds (λ (c : Called). Kept (withWords u (c .words))) (connectionAt (u .words) vci .opened =? 1) _ _ (λ _. kept)
     (λ _. if-holds (λ (c : Called). Kept (withWords u (c .words))) (not (obeysRules (r .n) (bucketOf m F C 0))) _ _ (λ _. kept)
     (λ _. if-holds (λ (c : Called). Kept (withWords u (c .words))) (not (secondObeys (bucketOf (x .m) (x .F) (x .C) 0) (x .tag))) _ _
     (λ _. kept)
     (λ _. kept-write u vci (openedConnection (r .t) (bucketOf m F C 0) x) low kept (λ o. (omega arith, omega arith))))))
 
-pub close-keeps : (u : State) (name : Name) → Kept u → Kept (withWords u (unwrappedClose (u .ctl) (u .words) name .words))
+pub close-keeps : (u : State) (who : ℕ) (name : Name) → Kept u → Kept (withWords u (unwrappedClose (u .ctl) (u .words) who name .words))
 unfolding unwrappedClose closedConnection withWords
-close-keeps u name kept =
+close-keeps u who name kept =
     let r = u .ctl in
     let vci = numberIn (r .v) name in
     let vc = connectionAt (u .words) vci in
-    let k = sharedRefusal r (u .words) name in
+    let k = sharedRefusal r (u .words) who name in
     if-holds (λ (c : Called). Kept (withWords u (c .words))) (not (k =? 0)) _ _ (λ _. kept)
-    (λ e. let low = number-low (r .v) name (shared-low r (u .words) name (eqb-true k 0 (not-false (k =? 0) e)) .1) in
+    (λ e. let low = number-low (r .v) name (shared-low r (u .words) who name (eqb-true k 0 (not-false (k =? 0) e)) .1) in
     if-holds (λ (c : Called). Kept (withWords u (c .words))) (vc .opened =? 0) _ _ (λ _. kept)
     (λ _. if-holds (λ (c : Called). Kept (withWords u (c .words))) (not (vc .waiting =? 0 && unwrappedDebt (r .t) vc =? 0)) _ _ (λ _. kept)
     (λ _. kept-write u vci closedConnection low kept (λ o. absurd (o refl)))))

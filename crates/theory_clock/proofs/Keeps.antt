@@ -11,8 +11,9 @@ use borrow.Author.Tests.{eqb-true, not-false}
 use lib.ListN.{length}
 use Rattle.meaning.specs.Plain.{_<?_, _≤?_, _=?_}
 use Rattle.meaning.specs.Numbers.{excess, unknown, cellStart, connectionsIn, unused, kindFits}
-use Rattle.meaning.specs.State.{freeList, outputList, withRecord, withCells, withLinks, withCalendar, withWords}
-use Rattle.meaning.specs.State.{recordWith, withClock, withFreeList, withOutputList}
+use Rattle.meaning.specs.State.{outputList, withRecord, withCells, withLinks, withCalendar, withWords}
+use Rattle.meaning.specs.State.{recordWith, withClock, withBits, withFree, withOutputList}
+use Rattle.meaning.specs.Bits.{isFree, spacesFit}
 use Rattle.meaning.specs.Header.{headerAt, clpIn, noUserCell, connection, namesConnection, namesOpen}
 use Rattle.meaning.specs.Bucket.{fill, delay}
 use Rattle.meaning.specs.Words.{Connection, connectionAt, withWaiting, withBuckets, openWordFits, bucketsFit, fallenTo}
@@ -140,10 +141,10 @@ rotate-on z k r₀ w low h =
         go u p q (no ne) = others u p q ne
 
 -- 3: an arrival brings its connection up to date, and else keeps `last`
-pub judge-on : (z k r : ℕ) (most : ℕ → ℕ) (cell : List ℕ) (v : ℕ) (w : Work) (vc : Connection) → v < connectionsIn z → On z k r most w
-    → Behind k (most v) vc → AllOut (On z k r most) (judge cell v w vc)
-unfolding judge accept place withWords withCells withLinks withCalendar withFreeList withRecord recordWith
-judge-on z k r most cell v w vc low h b =
+pub judge-on : (z k r : ℕ) (most : ℕ → ℕ) (x : ℕ) (cell : List ℕ) (v : ℕ) (w : Work) (vc : Connection) → v < connectionsIn z → On z k r most w
+    → Behind k (most v) vc → AllOut (On z k r most) (judge x cell v w vc)
+unfolding judge accept place withWords withCells withLinks withCalendar withFree withBits withRecord recordWith
+judge-on z k r most x cell v w vc low h b =
     let s = w .state in
     let clp = clpIn cell in
     let verdict = verdictOn clp vc in
@@ -153,18 +154,18 @@ judge-on z k r most cell v w vc low h b =
     if-all Q (verdict =? excess) _ _
     (λ _. record { v-is = h2 .v-is; t-is = h2 .t-is; r-is = h2 .r-is; done = h2 .done; recent = h2 .recent })
     (λ _. needs-all Q (vc .waiting <? s .ctl .n) _
-    (λ _. needs-all Q (endsFit (s .ctl .n) (freeList s) && not (isEmpty (freeList s))) _
-    (λ _. any-all Q (takeHead (s .ctl .n) (s .links) (freeList s)) _
-    (λ taken. needs-all Q (endsFit (s .ctl .n) (entryAt (s .calendar) ((s .ctl .turn + delay (vc .bucket)) % s .ctl .n))) _
+    (λ _. needs-all Q (spacesFit (s .ctl .n) (s .ctl .free) (s .bits) && not (s .ctl .free =? 0)) _
+    (λ _. needs-all Q (isFree (s .bits) x) _
+    (λ _. needs-all Q (endsFit (s .ctl .n) (entryAt (s .calendar) ((s .ctl .turn + delay (vc .bucket)) % s .ctl .n))) _
     (λ _. record { v-is = h1 .v-is; t-is = h1 .t-is; r-is = h1 .r-is; done = h1 .done; recent = h1 .recent })))))
   where
     Q : Work → Type 0
     Q = On z k r most
 
-pub arrive-on : (z k r : ℕ) (most : ℕ → ℕ) (cell : List ℕ) (w : Work) → On z k r most w
-    → AllOut (On z k r most) (arrive cell w)
+pub arrive-on : (z k r : ℕ) (most : ℕ → ℕ) (x : ℕ) (cell : List ℕ) (w : Work) → On z k r most w
+    → AllOut (On z k r most) (arrive x cell w)
 unfolding arrive
-arrive-on z k r most cell w h =
+arrive-on z k r most x cell w h =
     let s = w .state in
     let a = headerAt (s .ctl .kind) cell 0 in
     let c = connection (s .ctl .v) a in
@@ -178,7 +179,7 @@ arrive-on z k r most cell w h =
     (λ _. if-all Q (vc .opened =? 0) _ _ (λ _. same)
     (λ _. then-all (Behind k (most c)) Q (caughtUp (s .ctl .n) (s .ctl .t) vc) _
     (caught-on z k r most w h (most c) c)
-    (λ now b. judge-on z k r most cell c w now (omega (arith, low, h .v-is)) h b)))))))
+    (λ now b. judge-on z k r most x cell c w now (omega (arith, low, h .v-is)) h b)))))))
   where
     Q : Work → Type 0
     Q = On z k r most
@@ -188,7 +189,7 @@ arrive-on z k r most cell w h =
 
 -- 4: no connection is touched
 pub step4-on : (z k r : ℕ) (most : ℕ → ℕ) (w : Work) → On z k r most w → AllOut (On z k r most) (step4 w)
-unfolding step4 withCalendar withLinks withOutputList withRecord recordWith
+unfolding step4 withBits withCalendar withLinks withOutputList withRecord recordWith
 step4-on z k r most w h =
     let s = w .state in
     let entry = entryAt (s .calendar) (s .ctl .turn) in
@@ -198,7 +199,7 @@ step4-on z k r most w h =
 
 -- 5: a departure keeps `last`
 pub step5-on : (z k r : ℕ) (most : ℕ → ℕ) (w : Work) → On z k r most w → AllOut (On z k r most) (step5 w)
-unfolding step5 depart withWords withLinks withFreeList withOutputList withRecord recordWith
+unfolding step5 depart withWords withFree withBits withOutputList withRecord recordWith
 step5-on z k r most w h =
     let s = w .state in
     if-all Q (isEmpty (outputList s)) _ _ (λ _. h)
@@ -213,7 +214,7 @@ step5-on z k r most w h =
     let low : c < connectionsIn z = omega (arith, names-low (s .ctl .v) a named, h .v-is) in
     let h1 = on-write z k r most w c (withWaiting vc (vc .waiting - 1)) low h (h .recent .behind c used low) in
     needs-all Q (1 ≤? vc .waiting && vc .waiting ≤? s .ctl .n) _
-    (λ _. needs-all Q (endsFit (s .ctl .n) (freeList s)) _
+    (λ _. needs-all Q (spacesFit (s .ctl .n) (s .ctl .free) (s .bits) && not (isFree (s .bits) (taken .space))) _
     (λ _. record { v-is = h1 .v-is; t-is = h1 .t-is; r-is = h1 .r-is; done = h1 .done; recent = h1 .recent })))))
   where
     Q : Work → Type 0

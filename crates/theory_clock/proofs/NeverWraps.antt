@@ -9,15 +9,16 @@ use native.Mathlib.Nat.{mod-eq-of-lt}
 use borrow.Author.Tests.{eq-eqb, not-false}
 use lib.ListN.{getD, replicate, length-replicate}
 use Rattle.meaning.specs.Plain.{if_then_else_, _=?_}
-use Rattle.meaning.specs.Numbers.{rangesHold, openPlace, connectionsIn, kindFits, wordsIn}
+use Rattle.meaning.specs.Numbers.{rangesHold, splitsHold, openPlace, connectionsIn, kindFits, wordsIn}
 use Rattle.meaning.specs.State.{State, lengthsHold, withRecord, withWords, recordWith, withClock}
 use Rattle.meaning.specs.Header.{numberIn}
 use Rattle.meaning.specs.Words.{Connection, connectionAt, writeConnection}
-use Rattle.meaning.specs.Calls.{Options, optionsOf, kindOf, Called, SetUp, freshRecord, freshState, setup}
+use Rattle.meaning.specs.Calls.{Asked, Options, chosen, Called, SetUp, freshRecord, freshState, setup}
 use Rattle.meaning.specs.Work.{Work}
+use Rattle.meaning.specs.Slot.{slot}
 use Rattle.meaning.proofs.WordsLaws.{write-stored}
 use Rattle.meaning.specs.Line.{lineCell}
-use Rattle.meaning_runs.specs.Run.{Call, onOpenWith, onClose, onSlot, opened, closed, ran, Run, runOf, shown, letIn, call, calls, freshRun, served}
+use Rattle.meaning_runs.specs.Run.{Call, onOpenWith, onClose, onSlot, opened, closed, ran, Run, runOf, shown, letIn, callAt, call, calls, freshRun, served}
 use Rattle.meaning_runs.proofs.OutLaws.{if-holds}
 use Rattle.theory_clock.specs.Stored.{storedConnection, storedWords, storedState, storedWork, storedCalled}
 use Rattle.theory_clock.specs.Unwrapped.{unwrappedSlot, unwrappedFresh}
@@ -69,29 +70,29 @@ unfoldable pub storedRun : Run → Run
 storedRun r = runOf (storedState (r .state)) (r .events)
 
 pub call-agrees : (r : Run) (c : Call) → Kept (r .state) → call (storedRun r) c ≡ storedRun (unwrappedCall r c)
-unfolding call unwrappedCall storedRun storedCalled storedWork storedState withClock withRecord withWords recordWith shown
-call-agrees r (onOpenWith name m F C x) kept =
-    ap (λ (c : Called). runOf (withWords (storedState (r .state)) (c .words)) (opened (numberIn (r .state .ctl .v) name) m F C x (c .number) ∷ r .events))
-    (open-agrees (r .state) name m F C x kept)
-call-agrees r (onClose name) kept =
-    ap (λ (c : Called). runOf (withWords (storedState (r .state)) (c .words)) (closed (numberIn (r .state .ctl .v) name) (c .number) ∷ r .events))
-    (close-agrees (r .state) name kept)
+unfolding call callAt slot unwrappedCall storedRun storedCalled storedWork storedState withClock withRecord withWords recordWith shown
+call-agrees r (onOpenWith who name m F C x) kept =
+    ap (λ (c : Called). runOf (withWords (storedState (r .state)) (c .words)) (opened who (numberIn (r .state .ctl .v) name) m F C x (c .number) ∷ r .events))
+    (open-agrees (r .state) who name m F C x kept)
+call-agrees r (onClose who name) kept =
+    ap (λ (c : Called). runOf (withWords (storedState (r .state)) (c .words)) (closed who (numberIn (r .state .ctl .v) name) (c .number) ∷ r .events))
+    (close-agrees (r .state) who name kept)
 call-agrees r (onSlot cell) kept =
     ap (λ (w : Work). runOf (w .state) (ran (letIn (r .state) cell .cell) (w .answer) (shown w) ∷ r .events))
     (slot-agrees (r .state) cell kept)
 
 pub call-keeps : (r : Run) (c : Call) → Kept (r .state) → Kept (unwrappedCall r c .state)
 unfolding unwrappedCall
-call-keeps r (onOpenWith name m F C x) kept = open-keeps (r .state) name m F C x kept
-call-keeps r (onClose name) kept = close-keeps (r .state) name kept
+call-keeps r (onOpenWith who name m F C x) kept = open-keeps (r .state) who name m F C x kept
+call-keeps r (onClose who name) kept = close-keeps (r .state) who name kept
 call-keeps r (onSlot cell) kept = slot-keeps (r .state) cell kept
 
 -- a run whose clock is the number of slots that its events served
 pub call-counts : (r : Run) (c : Call) → Kept (r .state) → r .state .ctl .t ≡ served (r .events)
     → unwrappedCall r c .state .ctl .t ≡ served (unwrappedCall r c .events)
 unfolding unwrappedCall served withWords
-call-counts r (onOpenWith name m F C x) kept e = e
-call-counts r (onClose name) kept e = e
+call-counts r (onOpenWith who name m F C x) kept e = e
+call-counts r (onClose who name) kept e = e
 call-counts r (onSlot cell) kept e =
     slot-counts (r .state) cell kept ∙ ap (λ (n : ℕ). (if unwrappedSlot (r .state) cell .answer .number =? 0 then 1 else 0) + n) e
 
@@ -125,25 +126,26 @@ never-wraps N z o range cs =
     }
 
 -- "'From a fresh state' means that a setup has answered 0": whatever the lent memories held before
-pub setup-fresh : (N z : ℕ) (raw : Bool) (kind : ℕ) (cells links calendar words : List ℕ)
-    → setup N z raw kind cells links calendar words .number ≡ 0
+pub setup-fresh : (N z : ℕ) (a : Asked) (lent : State)
+    → setup N z a lent .number ≡ 0
     → (rangesHold N z ≡ true)
-    × (setup N z raw kind cells links calendar words .state ≡ freshState N z (optionsOf raw (kindOf kind)))
+    × (setup N z a lent .state ≡ freshState N z (chosen a))
 unfolding setup
-setup-fresh N z raw kind cells links calendar words =
+setup-fresh N z a lent =
     if-holds P (not (rangesHold N z)) _ _ (λ _ p. absurd (omega arith))
-    (λ range. if-holds P (not (kindFits kind)) _ _ (λ _ p. absurd (omega arith))
-    (λ _. if-holds P (not (lengthsHold N z cells links calendar words)) _ _ (λ _ p. absurd (omega arith))
-    (λ _ p. (not-false (rangesHold N z) range, refl))))
+    (λ range. if-holds P (not (splitsHold z (a .splitvci) (a .splitpath))) _ _ (λ _ p. absurd (omega arith))
+    (λ _. if-holds P (not (kindFits (a .kind))) _ _ (λ _ p. absurd (omega arith))
+    (λ _. if-holds P (not (lengthsHold N z (lent .cells) (lent .links) (lent .calendar) (lent .words) (lent .bits))) _ _ (λ _ p. absurd (omega arith))
+    (λ _ p. (not-false (rangesHold N z) range, refl)))))
   where
     P : SetUp → Type 0
-    P u = u .number ≡ 0 → (rangesHold N z ≡ true) × (u .state ≡ freshState N z (optionsOf raw (kindOf kind)))
+    P u = u .number ≡ 0 → (rangesHold N z ≡ true) × (u .state ≡ freshState N z (chosen a))
 
-pub never-wraps-after-setup : (N z : ℕ) (raw : Bool) (kind : ℕ) (cells links calendar words : List ℕ)
-    → setup N z raw kind cells links calendar words .number ≡ 0 → (cs : List Call)
-    → (setup N z raw kind cells links calendar words .state ≡ freshRun N z (optionsOf raw (kindOf kind)) .state)
-    × NeverWraps N z (optionsOf raw (kindOf kind)) cs
+pub never-wraps-after-setup : (N z : ℕ) (a : Asked) (lent : State)
+    → setup N z a lent .number ≡ 0 → (cs : List Call)
+    → (setup N z a lent .state ≡ freshRun N z (chosen a) .state)
+    × NeverWraps N z (chosen a) cs
 unfolding freshRun
-never-wraps-after-setup N z raw kind cells links calendar words p cs =
-    let f = setup-fresh N z raw kind cells links calendar words p in
-    (f .1, never-wraps N z (optionsOf raw (kindOf kind)) (f .0) cs)
+never-wraps-after-setup N z a lent p cs =
+    let f = setup-fresh N z a lent p in
+    (f .1, never-wraps N z (chosen a) (f .0) cs)

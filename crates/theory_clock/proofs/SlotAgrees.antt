@@ -10,10 +10,11 @@ use lib.ListN.{length}
 use Rattle.base_hec.specs.Modes.{Arriving, arrivingFits}
 use Rattle.meaning.specs.Plain.{if_then_else_, _≤?_, _=?_, Out, refused, next, needs, _andThen_}
 use Rattle.meaning.specs.Numbers.{rangesHold, octets, leastV, mostV, mostN, connectionsIn, unused, wordsIn}
-use Rattle.meaning.specs.State.{State, wordsLong, lengthsHold, withRecord, withWords, recordWith, withClock}
+use Rattle.meaning.specs.State.{State, wordsLong, lengthsHold, sizesHold, withRecord, withWords, recordWith, withClock}
 use Rattle.meaning.specs.State.{recordInMode, withMode}
+use Rattle.meaning.specs.Bits.{lowestFree}
 use Rattle.meaning.specs.Work.{Work, workOf, bareAnswer}
-use Rattle.meaning.specs.Slot.{step1, step2, step3, step4, step5, fiveSteps, finish, told, slot}
+use Rattle.meaning.specs.Slot.{step1, step2, step3, step4, step5, fiveSteps, finish, told, slotAt, slot}
 use Rattle.meaning_runs.specs.Run.{letIn}
 use Rattle.meaning_runs.proofs.OutLaws.{AllOut, if-holds, then-all}
 use Rattle.theory_clock.specs.Stored.{storedWords, storedState, storedWork}
@@ -33,7 +34,7 @@ ranges-v N z p =
     (leb-true 2 z (both-true (1 ≤? N && N ≤? mostN) (leastV ≤? z) (q .0) .1), leb-true z 1_024 (q .1))
 
 -- the five steps of slot k+1, after rotation stood at r
-module _ (cell : List ℕ) (w : Work) (z k r : ℕ) (begun : On z k r (since (connectionsIn z) r) w) (low : r < connectionsIn z) (high : z ≤ 1_024) where
+module _ (x : ℕ) (cell : List ℕ) (w : Work) (z k r : ℕ) (begun : On z k r (since (connectionsIn z) r) w) (low : r < connectionsIn z) (high : z ≤ 1_024) where
   abbrev next-r : ℕ
   next-r = (r + 1) % connectionsIn z
 
@@ -45,22 +46,22 @@ module _ (cell : List ℕ) (w : Work) (z k r : ℕ) (begun : On z k r (since (co
       then-all (On z (k + 1) next-r (λ v. since (connectionsIn z) r v + 1)) (On z (k + 1) next-r (since (connectionsIn z) next-r)) (tick w) rotate ticked
       (λ w′ h. rotate-on z (k + 1) r w′ low h)
 
-  arrived : AllOut (On z (k + 1) next-r (since (connectionsIn z) next-r)) (tick w andThen rotate andThen arrive cell)
+  arrived : AllOut (On z (k + 1) next-r (since (connectionsIn z) next-r)) (tick w andThen rotate andThen arrive x cell)
   arrived =
-      then-all (On z (k + 1) next-r (since (connectionsIn z) next-r)) (On z (k + 1) next-r (since (connectionsIn z) next-r)) (tick w andThen rotate) (arrive cell) rotated
-      (λ w′ h. arrive-on z (k + 1) next-r (since (connectionsIn z) next-r) cell w′ h)
+      then-all (On z (k + 1) next-r (since (connectionsIn z) next-r)) (On z (k + 1) next-r (since (connectionsIn z) next-r)) (tick w andThen rotate) (arrive x cell) rotated
+      (λ w′ h. arrive-on z (k + 1) next-r (since (connectionsIn z) next-r) x cell w′ h)
 
-  moved : AllOut (On z (k + 1) next-r (since (connectionsIn z) next-r)) (tick w andThen rotate andThen arrive cell andThen step4)
+  moved : AllOut (On z (k + 1) next-r (since (connectionsIn z) next-r)) (tick w andThen rotate andThen arrive x cell andThen step4)
   moved =
       then-all (On z (k + 1) next-r (since (connectionsIn z) next-r)) (On z (k + 1) next-r (since (connectionsIn z) next-r))
-      (tick w andThen rotate andThen arrive cell) step4 arrived
+      (tick w andThen rotate andThen arrive x cell) step4 arrived
       (λ w′ h. step4-on z (k + 1) next-r (since (connectionsIn z) next-r) w′ h)
 
-  pub steps-keep : AllOut (On z (k + 1) ((r + 1) % connectionsIn z) (since (connectionsIn z) ((r + 1) % connectionsIn z))) (unwrappedSteps cell w)
+  pub steps-keep : AllOut (On z (k + 1) ((r + 1) % connectionsIn z) (since (connectionsIn z) ((r + 1) % connectionsIn z))) (unwrappedSteps x cell w)
   unfolding unwrappedSteps
   steps-keep =
       then-all (On z (k + 1) next-r (since (connectionsIn z) next-r)) (On z (k + 1) next-r (since (connectionsIn z) next-r))
-      (tick w andThen rotate andThen arrive cell andThen step4) step5 moved
+      (tick w andThen rotate andThen arrive x cell andThen step4) step5 moved
       (λ w′ h. step5-on z (k + 1) next-r (since (connectionsIn z) next-r) w′ h)
 
   -- "no VC is ever more than V slots behind": just after the tick the connection that rotation names may be V + 256 behind
@@ -82,25 +83,25 @@ module _ (cell : List ℕ) (w : Work) (z k r : ℕ) (begun : On z k r (since (co
       (λ w′ h. step2-stored w′ (omega (arith, h .v-is, h .r-is, rotation-low (connectionsIn z) r low)) (long-of _ w′ h)
       (on-near z (k + 1) next-r (λ v. since (connectionsIn z) r v + 1) w′ h gap₁))
 
-  same₃ : (step1 (storedWork w) andThen step2 andThen step3 cell) ≡ mapOut storedWork (tick w andThen rotate andThen arrive cell)
+  same₃ : (step1 (storedWork w) andThen step2 andThen step3 x cell) ≡ mapOut storedWork (tick w andThen rotate andThen arrive x cell)
   same₃ =
       then-agrees storedWork (On z (k + 1) next-r (since (connectionsIn z) next-r)) (step1 (storedWork w) andThen step2) (tick w andThen rotate)
-      (step3 cell) (arrive cell) same₂ rotated
-      (λ w′ h. step3-stored cell w′ (long-of _ w′ h) (on-near z (k + 1) next-r (since (connectionsIn z) next-r) w′ h gap))
+      (step3 x cell) (arrive x cell) same₂ rotated
+      (λ w′ h. step3-stored x cell w′ (long-of _ w′ h) (on-near z (k + 1) next-r (since (connectionsIn z) next-r) w′ h gap))
 
-  same₄ : (step1 (storedWork w) andThen step2 andThen step3 cell andThen step4)
-      ≡ mapOut storedWork (tick w andThen rotate andThen arrive cell andThen step4)
+  same₄ : (step1 (storedWork w) andThen step2 andThen step3 x cell andThen step4)
+      ≡ mapOut storedWork (tick w andThen rotate andThen arrive x cell andThen step4)
   same₄ =
-      then-agrees storedWork (On z (k + 1) next-r (since (connectionsIn z) next-r)) (step1 (storedWork w) andThen step2 andThen step3 cell)
-      (tick w andThen rotate andThen arrive cell) step4 step4 same₃ arrived
+      then-agrees storedWork (On z (k + 1) next-r (since (connectionsIn z) next-r)) (step1 (storedWork w) andThen step2 andThen step3 x cell)
+      (tick w andThen rotate andThen arrive x cell) step4 step4 same₃ arrived
       (λ w′ h. step4-stored w′)
 
-  pub steps-agree : fiveSteps cell (storedWork w) ≡ mapOut storedWork (unwrappedSteps cell w)
+  pub steps-agree : fiveSteps x cell (storedWork w) ≡ mapOut storedWork (unwrappedSteps x cell w)
   unfolding fiveSteps unwrappedSteps
   steps-agree =
       then-agrees storedWork (On z (k + 1) next-r (since (connectionsIn z) next-r))
-      (step1 (storedWork w) andThen step2 andThen step3 cell andThen step4)
-      (tick w andThen rotate andThen arrive cell andThen step4) step5 step5 same₄ moved
+      (step1 (storedWork w) andThen step2 andThen step3 x cell andThen step4)
+      (tick w andThen rotate andThen arrive x cell andThen step4) step5 step5 same₄ moved
       (λ w′ h. step5-stored w′ (long-of _ w′ h))
 
 -- rotation, read off the clock, is below V + 256
@@ -117,8 +118,8 @@ unfolding withMode withRecord recordInMode
 begin u mode kept = record { v-is = refl; t-is = refl; r-is = refl; done = refl; recent = kept .recent }
 
 lengths-stored : (u : State) (z : ℕ)
-    → lengthsHold (u .ctl .n) z (u .cells) (u .links) (u .calendar) (storedWords (connectionsIn z) (u .words))
-    ≡ lengthsHold (u .ctl .n) z (u .cells) (u .links) (u .calendar) (u .words)
+    → lengthsHold (u .ctl .n) z (u .cells) (u .links) (u .calendar) (storedWords (connectionsIn z) (u .words)) (u .bits)
+    ≡ lengthsHold (u .ctl .n) z (u .cells) (u .links) (u .calendar) (u .words) (u .bits)
 unfolding lengthsHold wordsLong
 lengths-stored u z = rw (stored-length (connectionsIn z) (u .words))
 
@@ -137,7 +138,7 @@ told-stored true w = refl
 told-stored false w = refl
 
 -- the five steps behind the header check, which reads raw, mode and the octets lent alone
-module _ (u : State) (cell : List ℕ) where
+module _ (x : ℕ) (u : State) (cell : List ℕ) where
   abbrev a : Arriving
   a = letIn u cell
 
@@ -145,30 +146,30 @@ module _ (u : State) (cell : List ℕ) where
   fits = arrivingFits (u .ctl .raw) (u .ctl .mode) cell
 
   abbrev telling : Out Work → Out Work
-  telling x = x andThen λ w. next (told (a .dropped) w)
+  telling o = o andThen λ w. next (told (a .dropped) w)
 
   abbrev first-work : Work
   first-work = workOf (withMode u (a .mode)) (bareAnswer 0)
 
   abbrev wrapped : Work
   wrapped =
-      finish (storedState u) (needs fits (telling (fiveSteps (a .cell) (workOf (withMode (storedState u) (a .mode)) (bareAnswer 0)))))
+      finish (storedState u) (needs fits (telling (fiveSteps x (a .cell) (workOf (withMode (storedState u) (a .mode)) (bareAnswer 0)))))
 
   abbrev never-wrapped : Work
-  never-wrapped = finish u (needs fits (telling (unwrappedSteps (a .cell) first-work)))
+  never-wrapped = finish u (needs fits (telling (unwrappedSteps x (a .cell) first-work)))
 
   checked-agrees : Kept u → rangesHold (u .ctl .n) (u .ctl .v) ≡ true → wrapped ≡ storedWork never-wrapped
   checked-agrees kept range =
       let b = ranges-v (u .ctl .n) (u .ctl .v) range in
       ap (finish (storedState u))
-      (needs-map storedWork fits (telling (fiveSteps (a .cell) (workOf (withMode (storedState u) (a .mode)) (bareAnswer 0))))
-      (telling (unwrappedSteps (a .cell) first-work))
-      (λ _. ap telling (ap (fiveSteps (a .cell)) (mode-stored u (a .mode))
-      ∙ steps-agree (a .cell) first-work (u .ctl .v) (u .ctl .t) (u .ctl .rotation) (begin u (a .mode) kept)
+      (needs-map storedWork fits (telling (fiveSteps x (a .cell) (workOf (withMode (storedState u) (a .mode)) (bareAnswer 0))))
+      (telling (unwrappedSteps x (a .cell) first-work))
+      (λ _. ap telling (ap (fiveSteps x (a .cell)) (mode-stored u (a .mode))
+      ∙ steps-agree x (a .cell) first-work (u .ctl .v) (u .ctl .t) (u .ctl .rotation) (begin u (a .mode) kept)
       (turns-low u kept) (b .1))
-      ∙ then-map storedWork storedWork (unwrappedSteps (a .cell) first-work) (λ w. next (told (a .dropped) w))
+      ∙ then-map storedWork storedWork (unwrappedSteps x (a .cell) first-work) (λ w. next (told (a .dropped) w))
       (λ w. next (told (a .dropped) w)) (λ w. ap next (told-stored (a .dropped) w))))
-      ∙ finish-stored u (needs fits (telling (unwrappedSteps (a .cell) first-work)))
+      ∙ finish-stored u (needs fits (telling (unwrappedSteps x (a .cell) first-work)))
 
   -- refusal 9 comes before
   lent-agrees : Kept u → rangesHold (u .ctl .n) (u .ctl .v) ≡ true
@@ -180,14 +181,14 @@ module _ (u : State) (cell : List ℕ) where
       (workOf u (bareAnswer 9)) never-wrapped (λ _. refl) (λ _. checked-agrees kept range)
 
 pub slot-agrees : (u : State) (cell : List ℕ) → Kept u → slot (storedState u) cell ≡ storedWork (unwrappedSlot u cell)
-unfolding slot unwrappedSlot storedWork storedState withClock withRecord withWords recordWith
+unfolding slot slotAt unwrappedSlot storedWork storedState withClock withRecord withWords recordWith
 slot-agrees u cell kept =
     let N = u .ctl .n in
     let z = u .ctl .v in
     if-both storedWork (not (rangesHold N z)) _ _ _ _ (λ _. refl)
     (λ range. rw (lengths-stored u z)
-    (if-both storedWork (not (lengthsHold N z (u .cells) (u .links) (u .calendar) (u .words))) _ _ _ _ (λ _. refl)
-    (λ _. lent-agrees u cell kept (not-false (rangesHold N z) range))))
+    (if-both storedWork (not (sizesHold u)) _ _ _ _ (λ _. refl)
+    (λ _. lent-agrees (lowestFree (u .bits)) u cell kept (not-false (rangesHold N z) range))))
 
 -- of a slot done
 abbrev servedOn : State → Work → Type 0
@@ -211,14 +212,14 @@ slot-cases u cell P no-slot done kept =
     let N = u .ctl .n in
     let z = u .ctl .v in
     if-holds P (not (rangesHold N z)) _ _ (λ _. no-slot 1 (omega arith))
-    (λ range. if-holds P (not (lengthsHold N z (u .cells) (u .links) (u .calendar) (u .words))) _ _ (λ _. no-slot 2 (omega arith))
+    (λ range. if-holds P (not (sizesHold u)) _ _ (λ _. no-slot 2 (omega arith))
     (λ _. if-holds P (not (length cell =? 0 || length cell =? octets)) _ _ (λ _. no-slot 9 (omega arith))
     (λ _. if-holds (λ (x : Out Work). P (finish u x)) (arrivingFits (u .ctl .raw) (u .ctl .mode) cell) _ _
     (λ _. let b = ranges-v N z (not-false (rangesHold N z) range) in
     let a = letIn u cell in
     let w = workOf (withMode u (a .mode)) (bareAnswer 0) in
-    finished (b .0) (a .dropped) (unwrappedSteps (a .cell) w)
-    (steps-keep (a .cell) w z (u .ctl .t) (u .ctl .rotation) (begin u (a .mode) kept) (turns-low u kept) (b .1)))
+    finished (b .0) (a .dropped) (unwrappedSteps (lowestFree (u .bits)) (a .cell) w)
+    (steps-keep (lowestFree (u .bits)) (a .cell) w z (u .ctl .t) (u .ctl .rotation) (begin u (a .mode) kept) (turns-low u kept) (b .1)))
     (λ _. no-slot 3 (omega arith)))))
   where
     finished : 2 ≤ u .ctl .v → (drop : Bool) (x : Out Work) → AllOut (servedOn u) x

@@ -10,11 +10,12 @@ use lib.ListN.{length, getD}
 use Rattle.meaning.specs.Plain.{if_then_else_, _<?_, _≤?_, _=?_, Out, next, needs, _andThen_}
 use Rattle.meaning.specs.Numbers.{excess, unknown, openPlace, cellStart, connectionsIn, unused, kindFits, wordsIn}
 use Rattle.meaning.specs.State.{withRecord, withCells, withLinks, withCalendar, withWords, recordWith}
-use Rattle.meaning.specs.State.{withClock, withFreeList, withOutputList, freeList, outputList}
+use Rattle.meaning.specs.State.{withClock, withBits, withFree, withOutputList, outputList}
+use Rattle.meaning.specs.Bits.{isFree, spacesFit, given}
 use Rattle.meaning.specs.Header.{Header, headerAt, clpIn, noUserCell, connection, namesConnection, namesOpen}
 use Rattle.meaning.specs.Bucket.{delay, fill}
 use Rattle.meaning.specs.Words.{Connection, connectionAt, withWaiting, withBuckets, openWordFits, bucketsFit, fallenTo, upToDate}
-use Rattle.meaning.specs.Lists.{isEmpty, endsFit, entryAt, Taken, takeHead, addTail}
+use Rattle.meaning.specs.Lists.{isEmpty, endsFit, entryAt, Taken, takeHead}
 use Rattle.meaning.specs.Work.{Work, withState, withConnection, withArrival, withDeparture}
 use Rattle.meaning.specs.Arrival.{verdictOn, secondAfter, sentAs, place, accept, judge}
 use Rattle.meaning.specs.Slot.{step1, step2, step3, step4, depart, step5}
@@ -90,17 +91,16 @@ step2-stored w low long near =
     (λ vc. ap next (connection-stored w vci vc low long)))
 
 -- "3. Arrival at an open VC", from the end: the cell's place, the verdict, the whole step
-pub place-stored : (cell : List ℕ) (D : ℕ) (w : Work) (taken : Taken)
-    → place cell D (storedWork w) taken ≡ mapOut storedWork (place cell D w taken)
-unfolding place storedWork storedState withClock withRecord withWords recordWith withFreeList withCells withLinks withCalendar
-place-stored cell D w taken =
+pub place-stored : (cell : List ℕ) (D x : ℕ) (w : Work) → place cell D x (storedWork w) ≡ mapOut storedWork (place cell D x w)
+unfolding place storedWork storedState withClock withRecord withWords recordWith withFree withBits withCells withLinks withCalendar
+place-stored cell D x w =
     let s = w .state in
     needs-map storedWork (endsFit (s .ctl .n) (entryAt (s .calendar) ((s .ctl .turn + D) % s .ctl .n))) _ _ (λ _. refl)
 
-pub judge-stored : (cell : List ℕ) (v : ℕ) (w : Work) (vc : Connection) → v < connectionsIn (w .state .ctl .v) → length (w .state .words) ≡ wordsIn (w .state .ctl .v)
-    → judge cell v (storedWork w) (storedConnection vc) ≡ mapOut storedWork (judge cell v w vc)
+pub judge-stored : (x : ℕ) (cell : List ℕ) (v : ℕ) (w : Work) (vc : Connection) → v < connectionsIn (w .state .ctl .v) → length (w .state .words) ≡ wordsIn (w .state .ctl .v)
+    → judge x cell v (storedWork w) (storedConnection vc) ≡ mapOut storedWork (judge x cell v w vc)
 unfolding judge accept verdictOn storedWork storedState storedConnection withClock withRecord withWords recordWith
-judge-stored cell v w vc h long =
+judge-stored x cell v w vc h long =
     let s = w .state in
     let D = delay (vc .bucket) in
     let clp = clpIn cell in
@@ -110,16 +110,16 @@ judge-stored cell v w vc h long =
     if-map storedWork (verdict =? excess) _ _ _ _
     (λ _. ap (λ (w′ : Work). next (withArrival w′ excess v 0)) (connection-stored w v vc h long))
     (λ _. needs-map storedWork (vc .waiting <? s .ctl .n) _ _
-    (λ _. needs-map storedWork (endsFit (s .ctl .n) (freeList s) && not (isEmpty (freeList s))) _ _
-    (λ _. then-same storedWork (takeHead (s .ctl .n) (s .links) (freeList s)) _ _
-    (λ taken. ap (λ (w′ : Work). place sent D (withArrival w′ verdict v D) taken) (connection-stored w v filled h long)
-    ∙ place-stored sent D (withArrival (withConnection w v filled) verdict v D) taken))))
+    (λ _. needs-map storedWork (spacesFit (s .ctl .n) (s .ctl .free) (s .bits) && not (s .ctl .free =? 0)) _ _
+    (λ _. needs-map storedWork (isFree (s .bits) x) _ _
+    (λ _. ap (λ (w′ : Work). place sent D x (withArrival w′ verdict v D)) (connection-stored w v filled h long)
+    ∙ place-stored sent D x (withArrival (withConnection w v filled) verdict v D)))))
 
-pub step3-stored : (cell : List ℕ) (w : Work) → length (w .state .words) ≡ wordsIn (w .state .ctl .v)
+pub step3-stored : (x : ℕ) (cell : List ℕ) (w : Work) → length (w .state .words) ≡ wordsIn (w .state .ctl .v)
     → ((vci : ℕ) → unused (w .state .ctl .v) vci ≡ false → vci < connectionsIn (w .state .ctl .v) → Behind (w .state .ctl .t) longest (connectionAt (w .state .words) vci))
-    → step3 cell (storedWork w) ≡ mapOut storedWork (arrive cell w)
+    → step3 x cell (storedWork w) ≡ mapOut storedWork (arrive x cell w)
 unfolding step3 arrive storedWork storedState withClock withRecord withWords recordWith
-step3-stored cell w long near =
+step3-stored x cell w long near =
     let s = w .state in
     let h = headerAt (s .ctl .kind) cell 0 in
     let c = connection (s .ctl .v) h in
@@ -129,13 +129,13 @@ step3-stored cell w long near =
     (λ _. if-map storedWork (not (namesConnection (s .ctl .v) h)) _ _ _ _ (λ _. refl)
     (λ e. let named = not-false (namesConnection (s .ctl .v) h) e in
     let low = names-low (s .ctl .v) h named in
-    at-stored w c (next (withArrival w unknown (h .vci) 0)) _ (judge cell c w) low long
+    at-stored w c (next (withArrival w unknown (h .vci) 0)) _ (judge x cell c w) low long
     (near c (names-used (s .ctl .v) h named) low)
-    (λ vc. judge-stored cell c w vc low long)))))
+    (λ vc. judge-stored x cell c w vc low long)))))
 
 -- "4. Entry T, if marked, is joined to the end of the Output List"
 pub step4-stored : (w : Work) → step4 (storedWork w) ≡ mapOut storedWork (step4 w)
-unfolding step4 storedWork storedState withClock withRecord withWords recordWith withOutputList withLinks withCalendar
+unfolding step4 storedWork storedState withClock withRecord withWords recordWith withOutputList withLinks withCalendar withBits
 step4-stored w =
     let s = w .state in
     let entry = entryAt (s .calendar) (s .ctl .turn) in
@@ -159,7 +159,7 @@ open-names z l h p = both-true (namesConnection z h) (getD l (openPlace (connect
 
 pub depart-stored : (w : Work) (taken : Taken) → length (w .state .words) ≡ wordsIn (w .state .ctl .v)
     → depart (storedWork w) taken ≡ mapOut storedWork (depart w taken)
-unfolding depart storedConnection storedWork storedState withClock withRecord withWords recordWith withFreeList withOutputList withLinks
+unfolding depart storedConnection storedWork storedState withClock withRecord withWords recordWith withFree withBits withOutputList
 depart-stored w taken long =
     let s = w .state in
     let h = headerAt (s .ctl .kind) (s .cells) (cellStart (taken .space)) in
@@ -169,11 +169,10 @@ depart-stored w taken long =
     (λ e. let low = names-low (s .ctl .v) h (open-names (s .ctl .v) (s .words) h
     (both-true (kindFits (s .ctl .kind)) (namesOpen (s .ctl .v) (s .words) h) e .1)) in
     let vc = connectionAt (s .words) c in
-    let grown = addTail (s .links) (freeList s) (taken .space) in
-    let s2 = withLinks (withFreeList (withOutputList s (taken .left)) (grown .ends)) (grown .links) in
+    let s2 = withFree (withOutputList s (taken .left)) (s .ctl .free + 1) (given (s .bits) (taken .space)) in
     rw (stored-read (connectionsIn (s .ctl .v)) (s .words) c low (omega arith))
     (needs-map storedWork (1 ≤? vc .waiting && vc .waiting ≤? s .ctl .n) _ _
-    (λ _. needs-map storedWork (endsFit (s .ctl .n) (freeList s)) _ _
+    (λ _. needs-map storedWork (spacesFit (s .ctl .n) (s .ctl .free) (s .bits) && not (isFree (s .bits) (taken .space))) _ _
     (λ _. ap (λ (w′ : Work). next (withDeparture w′ (taken .space) c))
     (connection-stored (withState w s2) c (withWaiting vc (vc .waiting - 1)) low long))))))
 

@@ -9,7 +9,7 @@ use Rattle.base_hec.specs.Modes.{arrivingFits}
 use Rattle.meaning.specs.declared.Record.{Record}
 use Rattle.meaning.specs.Plain.{if_then_else_, _<?_, _=?_, Out, next, needs, _andThen_}
 use Rattle.meaning.specs.Numbers.{rangesHold, octets, connectionsIn, unused, kindFits, unknown}
-use Rattle.meaning.specs.State.{State, lengthsHold, withClock, withMode}
+use Rattle.meaning.specs.State.{State, sizesHold, withClock, withMode}
 use Rattle.meaning.specs.Header.{headerAt, noUserCell, Name, numberIn, connection, namesConnection}
 use Rattle.meaning.specs.Bucket.{fall}
 use Rattle.meaning.specs.Words.{Connection, connectionAt, writeConnection, closedConnection, openWordFits, bucketsFit, fallenTo}
@@ -43,9 +43,9 @@ step2By upToDate w =
     (if vc .opened =? 0 then next w
     else (upToDate (s .ctl .n) (s .ctl .t) vc andThen λ now. next (withConnection w c now)))
 
--- 3: the connection of the arriving cell
-abbrev pub step3By : (ℕ → ℕ → Connection → Out Connection) → List ℕ → Work → Out Work
-step3By upToDate cell w =
+-- 3: the connection of the arriving cell, which takes space x, if it is let in
+abbrev pub step3By : (ℕ → ℕ → Connection → Out Connection) → ℕ → List ℕ → Work → Out Work
+step3By upToDate x cell w =
     let s = w .state in
     let h = headerAt (s .ctl .kind) cell 0 in
     let c = connection (s .ctl .v) h in
@@ -57,7 +57,7 @@ step3By upToDate cell w =
     else if not (namesConnection (s .ctl .v) h) then isUnknown
     else needs (openWordFits vc)
     (if vc .opened =? 0 then isUnknown
-    else (upToDate (s .ctl .n) (s .ctl .t) vc andThen judge cell c w)))
+    else (upToDate (s .ctl .n) (s .ctl .t) vc andThen judge x cell c w)))
 
 -- 4 and 5 touch neither t nor elapsed, and keep every `last`
 abbrev pub fiveStepsBy : (Work → Out Work) → (Work → Out Work) → (List ℕ → Work → Out Work) → List ℕ → Work → Out Work
@@ -70,7 +70,7 @@ slotBy fiveSteps s cell =
     let z = s .ctl .v in
     let a = letIn s cell in
     if not (rangesHold N z) then workOf s (bareAnswer 1)
-    else if not (lengthsHold N z (s .cells) (s .links) (s .calendar) (s .words)) then workOf s (bareAnswer 2)
+    else if not (sizesHold s) then workOf s (bareAnswer 2)
     else if not (length cell =? 0 || length cell =? octets) then workOf s (bareAnswer 9)
     else finish s (needs (arrivingFits (s .ctl .raw) (s .ctl .mode) cell)
     (fiveSteps (a .cell) (workOf (withMode s (a .mode)) (bareAnswer 0)) andThen λ w. next (told (a .dropped) w)))
@@ -80,10 +80,10 @@ abbrev pub debtBy : (ℕ → ℕ → ℕ) → ℕ → Connection → ℕ
 debtBy elapsedBy t vc = fall (elapsedBy t (vc .last)) (vc .bucket) .S
 
 -- "8 is given when waiting or the updated S isn't 0"; "Closing clears all seven words.", and the five of document 02 (iv)
-abbrev pub closeBy : (ℕ → Connection → ℕ) → Record → List ℕ → Name → Called
-closeBy debt r words name =
+abbrev pub closeBy : (ℕ → Connection → ℕ) → Record → List ℕ → ℕ → Name → Called
+closeBy debt r words who name =
     let c = numberIn (r .v) name in
-    let k = sharedRefusal r words name in
+    let k = sharedRefusal r words who name in
     if not (k =? 0) then calledOf k words
     else if connectionAt words c .opened =? 0 then calledOf 7 words
     else if not (connectionAt words c .waiting =? 0 && debt (r .t) (connectionAt words c) =? 0) then calledOf 8 words

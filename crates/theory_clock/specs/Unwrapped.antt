@@ -8,6 +8,7 @@ use mathlib.Core.List.{List}
 use Rattle.meaning.specs.declared.Record.{Record}
 use Rattle.meaning.specs.Plain.{Out}
 use Rattle.meaning.specs.State.{State, withClock}
+use Rattle.meaning.specs.Bits.{lowestFree}
 use Rattle.meaning.specs.Header.{Name}
 use Rattle.meaning.specs.Words.{Connection, Second}
 use Rattle.meaning.specs.Calls.{Options, Called, openCall, freshState}
@@ -25,24 +26,25 @@ tick w = step1By (λ k. k + 1) w
 unfoldable pub rotate : Work → Out Work
 rotate w = step2By caughtUp w
 
-unfoldable pub arrive : List ℕ → Work → Out Work
-arrive cell w = step3By caughtUp cell w
+unfoldable pub arrive : ℕ → List ℕ → Work → Out Work
+arrive x cell w = step3By caughtUp x cell w
 
-unfoldable pub unwrappedSteps : List ℕ → Work → Out Work
-unwrappedSteps cell w = fiveStepsBy tick rotate arrive cell w
+unfoldable pub unwrappedSteps : ℕ → List ℕ → Work → Out Work
+unwrappedSteps x cell w = fiveStepsBy tick rotate (arrive x) cell w
 
+-- document 02 (vii): "take the lowest free space"
 unfoldable pub unwrappedSlot : State → List ℕ → Work
-unwrappedSlot s cell = slotBy unwrappedSteps s cell
+unwrappedSlot s cell = slotBy (unwrappedSteps (lowestFree (s .bits))) s cell
 
 -- "Opening sets .. last t": here the number of slots served
-unfoldable pub unwrappedOpen : Record → List ℕ → Name → ℕ → ℕ → ℕ → Second → Called
-unwrappedOpen r words name m F C x = openCall r words name m F C x
+unfoldable pub unwrappedOpen : Record → List ℕ → ℕ → Name → ℕ → ℕ → ℕ → Second → Called
+unwrappedOpen r words who name m F C x = openCall r words who name m F C x
 
 unfoldable pub unwrappedDebt : ℕ → Connection → ℕ
 unwrappedDebt k vc = debtBy (λ t last. t - last) k vc
 
-unfoldable pub unwrappedClose : Record → List ℕ → Name → Called
-unwrappedClose r words name = closeBy unwrappedDebt r words name
+unfoldable pub unwrappedClose : Record → List ℕ → ℕ → Name → Called
+unwrappedClose r words who name = closeBy unwrappedDebt r words who name
 
 -- after setup no slot has been served; all else as setup leaves it
 unfoldable pub unwrappedFresh : ℕ → ℕ → Options → State

@@ -13,14 +13,14 @@ use Rattle.theory_clock.specs.Stored.{storedState}
 use Rattle.theory_clock.specs.Kept.{Kept}
 
 unfoldable pub unwrappedCall : Run → Call → Run
-unwrappedCall r (onOpenWith name m F C x) =
+unwrappedCall r (onOpenWith who name m F C x) =
     let s = r .state in
-    let c = unwrappedOpen (s .ctl) (s .words) name m F C x in
-    runOf (withWords s (c .words)) (opened (numberIn (s .ctl .v) name) m F C x (c .number) ∷ r .events)
-unwrappedCall r (onClose name) =
+    let c = unwrappedOpen (s .ctl) (s .words) who name m F C x in
+    runOf (withWords s (c .words)) (opened who (numberIn (s .ctl .v) name) m F C x (c .number) ∷ r .events)
+unwrappedCall r (onClose who name) =
     let s = r .state in
-    let c = unwrappedClose (s .ctl) (s .words) name in
-    runOf (withWords s (c .words)) (closed (numberIn (s .ctl .v) name) (c .number) ∷ r .events)
+    let c = unwrappedClose (s .ctl) (s .words) who name in
+    runOf (withWords s (c .words)) (closed who (numberIn (s .ctl .v) name) (c .number) ∷ r .events)
 unwrappedCall r (onSlot cell) =
     let w = unwrappedSlot (r .state) cell in
     runOf (w .state) (ran (letIn (r .state) cell .cell) (w .answer) (shown w) ∷ r .events)

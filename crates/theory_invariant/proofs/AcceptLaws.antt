@@ -1,5 +1,5 @@
--- Step 3 where the leak rules let the cell in, accepted or tagged: a space is free, no test of refusal 3 fails, and the cell
--- joins the entry of its due slot.
+-- Step 3 where the leak rules let the cell in, accepted or tagged: whichever free space x it takes, no test of refusal 3
+-- fails, and the cell joins the entry of its due slot.
 use Prim.Native.Nat.{ℕ, suc, _+_, _-_, _%_, _≤_, _<_}
 use mathlib.Core.Path.{_≡_, refl, sym, ap, _∙_, subst}
 use mathlib.Core.Bool.{true, _&&_, false}
@@ -7,11 +7,12 @@ use mathlib.Core.List.{List, [], _∷_, _++_}
 use mathlib.Core.Option.{Option, none, some}
 use native.Mathlib.Decide.{ℕ-discrete}
 use native.Mathlib.Omega.{arith}
-use borrow.Author.Tests.{lt-ltb}
+use borrow.Author.Tests.{ne-eqb, lt-ltb}
 use lib.ListN.{length}
 use Rattle.meaning.specs.Plain.{_=?_, next}
 use Rattle.meaning.specs.Numbers.{connectionsIn, unused, empty, accepted, letsIn}
-use Rattle.meaning.specs.State.{State, freeList, outputList, withRecord, recordWith, withCells, withLinks, withCalendar, withWords, withFreeList, writeCell}
+use Rattle.meaning.specs.State.{State, withRecord, recordWith, withCells, withLinks, withCalendar, withWords, withBits, withFree, writeCell}
+use Rattle.meaning.specs.Bits.{isFree, taken, marked}
 use Rattle.meaning.specs.Header.{headerAt, clpIn, connection, namesConnection}
 use Rattle.meaning.specs.Bucket.{bucketOf, delay, fill}
 use Rattle.meaning.specs.Words.{Connection, connectionAt, writeConnection, withWaiting, withBuckets}
@@ -24,26 +25,24 @@ use Rattle.meaning_runs.specs.Leak.{Opening, dueTime, dueSlot, leakAccepts, sus
 use Rattle.meaning_runs.specs.Seen.{ofConnection}
 use Rattle.meaning_runs.specs.Judged.{judgedOf, judgedBy}
 use Rattle.theory_queues.specs.Queue.{sum, sums, one, All, Alls, turn, put, Good}
-use Rattle.theory_queues.proofs.QueueLaws.{turn-sums, turn-flat, put-sums, all-map, alls-map, alls-turn, alls-put}
+use Rattle.theory_queues.proofs.QueueLaws.{map-put, map-turn, turn-sums, turn-flat, put-sums, all-map, alls-map, alls-turn, alls-put}
 use Rattle.theory_queues.proofs.LineLaws.{arrive-some, timed-turn}
 use Rattle.theory_queues.proofs.OrderLaws.{put-order}
 use Rattle.theory_queues.proofs.RisingLaws.{rising-add}
-use Rattle.theory_chains.specs.Strung.{self}
-use Rattle.theory_chains.proofs.StrungLaws.{TakenOff}
 use Rattle.theory_chains.proofs.CountLaws.{is-no, is-same}
 use Rattle.theory_table.specs.Stored.{stored, ConnectionIs, OpenConnection}
 use Rattle.theory_table.proofs.LeakLaws.{due-grows, rules-are}
 use Rattle.theory_table.proofs.VerdictLaws.{verdict-says}
 use Rattle.theory_table.proofs.ConnectionLaws.{delay-due, delay-low, moved, filled, filled-open}
-use Rattle.theory_memory.specs.Held.{Queued, dueOf, vciOf, Has}
-use Rattle.theory_memory.proofs.HasLaws.{free-fits, entry-fits, SomeFree, some-free, free-marked, free-taken, placed}
-use Rattle.theory_invariant.specs.Invariant.{isOf, waits, Under, Sits, Stage}
+use Rattle.theory_memory.specs.Held.{Queued, dueOf, vciOf}
+use Rattle.theory_memory.proofs.HasLaws.{entry-fits, some-number, placed}
+use Rattle.theory_invariant.specs.Invariant.{cellIn, isOf, waits, Under, Sits, Stage}
 use Rattle.theory_invariant.specs.Came.{onward, Came}
 use Rattle.theory_invariant.proofs.StepLaws.{Goes}
 use Rattle.theory_invariant.proofs.LengthLaws.{connections-few}
 use Rattle.theory_invariant.proofs.AfterLaws.{after-own, after-other, sits-after, waits-low}
 
-module _ (now : ℕ) (cell : List ℕ) (op : ℕ → Option Opening) (free : List ℕ) (out : List Queued) (cal : List (List Queued))
+module _ (x now : ℕ) (cell : List ℕ) (op : ℕ → Option Opening) (out : List Queued) (cal : List (List Queued))
     (w : Work) where
   abbrev s : State
   s = w .state
@@ -57,7 +56,7 @@ module _ (now : ℕ) (cell : List ℕ) (op : ℕ → Option Opening) (free : Lis
   abbrev kind : ℕ
   kind = s .ctl .kind
 
-  module _ (st : Stage N z kind (suc now) (suc now) (s .ctl .turn) s op free out (turn cal))
+  module _ (st : Stage N z kind (suc now) (suc now) (s .ctl .turn) s op out (turn cal)) (free : isFree (s .bits) x ≡ true)
       (good : Good dueOf (N - 1) now cal out)
       (sits-out : All (Sits kind z op) out) (sits-cal : Alls (Sits kind z op) cal) (blank : w .answer ≡ bareAnswer 0)
       (long : length cell ≡ 53)
@@ -94,7 +93,7 @@ module _ (now : ℕ) (cell : List ℕ) (op : ℕ → Option Opening) (free : Lis
     e = (s .ctl .turn + D) % N
 
     abbrev grown : Grown
-    grown = joinHead (s .links) (entryAt (s .calendar) e) (s .ctl .freehead)
+    grown = joinHead (s .links) (entryAt (s .calendar) e) x
 
     low : N ≤ empty
     low = omega (arith, st .ranges .N-high)
@@ -108,41 +107,28 @@ module _ (now : ℕ) (cell : List ℕ) (op : ℕ → Option Opening) (free : Lis
     room : sums one (turn cal) + sum one out < N
     room = omega (arith, turn-sums one cal, good .room, st .ranges .N-low)
 
-    spare : SomeFree free
-    spare =
-        some-free low (st .has) room
-
-    has : Has N (s .ctl .turn) (s .cells) (s .links) (s .calendar) (freeList s) (outputList s) (spare .x ∷ spare .rest) out
-        (turn cal)
-    has = rw (spare .is) at (st .has)
-
-    taken : TakenOff self N low (s .links) (freeList s)
-        (spare .rest)
-    taken =
-        free-taken low has
-
     abbrev new : Queued
     new = record {
       cell = record { vci = u; arrival = now; D = D; time = dueTime o now; due = dueSlot o now; octets = sent };
-      space = s .ctl .freehead;
+      space = x;
     }
 
     abbrev work : Work
     work =
         let w1 = withArrival (withConnection w u full) verdict u D in
-        let s1 = withFreeList (w1 .state) (taken .left) in
-        let s2 = withCells s1 (writeCell (s .cells) (s .ctl .freehead) sent) in
+        let s1 = withFree (w1 .state) (s .ctl .free - 1) (marked (taken (s .bits) x) e) in
+        let s2 = withCells s1 (writeCell (s .cells) x sent) in
         let s3 = withLinks s2 (grown .links) in
         withState w1 (withCalendar s3 (writeEntry (s .calendar) e (grown .ends)))
 
-    goes : accept cell verdict u w vc ≡ next work
-    unfolding accept place withFreeList withCells withLinks withCalendar withWords withRecord recordWith
+    goes : accept x cell verdict u w vc ≡ next work
+    unfolding accept place withFree withBits withCells withLinks withCalendar withWords withRecord recordWith
     goes =
         rw (
           lt-ltb q N (omega (arith, waits-low u (N - 1) out (turn cal) (omega (arith, room)), st .ranges .N-low)),
-          free-fits low (st .has),
-          free-marked low has,
-          taken .goes,
+          st .has .spaces-fit,
+          ne-eqb (s .ctl .free) 0 (some-number low (st .has) room),
+          free,
           entry-fits low (st .has) D D-low,
         )
 
@@ -196,8 +182,8 @@ module _ (now : ℕ) (cell : List ℕ) (op : ℕ → Option Opening) (free : Lis
     less : D ≡ dueSlot o now - now
     less = omega (arith, D-due)
 
-    pub accept-goes : Goes (accept cell verdict u w vc) (Came N z kind now cell op out cal)
-    unfolding withFreeList withCells withLinks withCalendar withWords withRecord recordWith
+    pub accept-goes : Goes (accept x cell verdict u w vc) (Came N z kind now cell op out cal)
+    unfolding withFree withBits withCells withLinks withCalendar withWords withRecord recordWith
     accept-goes =
         record {
           work = work;
@@ -208,7 +194,6 @@ module _ (now : ℕ) (cell : List ℕ) (op : ℕ → Option Opening) (free : Lis
             D = D;
             says = rw blank;
             judges = judges ∙ ap (judgedOf verdict u) (sym less);
-            free = spare .rest;
             new = new ∷ [];
             r = put D new (turn cal);
             stage = record {
@@ -220,7 +205,7 @@ module _ (now : ℕ) (cell : List ℕ) (op : ℕ → Option Opening) (free : Lis
               rotation-is = st .rotation-is;
               kind-is = st .kind-is;
               kind-fits = st .kind-fits;
-              has = placed low has D new D-low refl (sent-length verdict cell ∙ long) (taken .left) (taken .rest);
+              has = placed low (st .has) x free D new D-low refl (sent-length verdict cell ∙ long);
               words-long = write-length (s .words) u full ∙ st .words-long;
               table = λ v h1 h2. each v h1 h2 (ℕ-discrete v u);
             };
@@ -235,6 +220,7 @@ module _ (now : ℕ) (cell : List ℕ) (op : ℕ → Option Opening) (free : Lis
                 (alls-turn (λ b. vciOf b ≡ u → dueOf b < dueOf new) cal
                 (alls-map (Sits kind z op) (λ b. vciOf b ≡ u → dueOf b < dueOf new) behind cal sits-cal))
                 ∙ ap (λ l. ofConnection vciOf v l ++ ofConnection vciOf v (new ∷ [])) (turn-flat cal);
+            lies = map-put cellIn D new (turn cal) ∙ ap (put D (new .cell)) (map-turn cellIn cal);
             notes = rw (lets, o-is);
             delays = ((D-due, D-low), tt);
             named = ((sits-new .0, sits-new .1), tt);

@@ -1,5 +1,5 @@
--- Step 3 of a slot, from the invariant: nothing, unknown, excess, tagged or accepted, as the header and the leak rules say,
--- and never refused.
+-- Step 3 of a slot, from the invariant, x being any free space: nothing, unknown, excess, tagged or accepted, as the header and
+-- the leak rules say, and never refused.
 use Prim.Native.Nat.{ℕ, suc, _-_, _<_}
 use mathlib.Core.Path.{_≡_, refl, sym, ap, _∙_, subst, subst₂, fun-ext}
 use mathlib.Core.Logic.{_≢_}
@@ -13,6 +13,7 @@ use lib.ListN.{length}
 use Rattle.meaning.specs.Plain.{if_then_else_, _=?_, next}
 use Rattle.meaning.specs.Numbers.{connectionsIn, unused, excess, unknown, nothing, letsIn}
 use Rattle.meaning.specs.State.{State, withWords}
+use Rattle.meaning.specs.Bits.{isFree}
 use Rattle.meaning.specs.Header.{Header, headerAt, clpIn, noUserCell, connection, namesConnection}
 use Rattle.meaning.specs.Words.{Connection, connectionAt, writeConnection, upToDate}
 use Rattle.meaning.specs.Work.{Work, bareAnswer, withConnection, withArrival}
@@ -24,7 +25,7 @@ use Rattle.meaning_runs.specs.Leak.{Opening, dueSlot, verdictBy}
 use Rattle.meaning_runs.specs.Seen.{ofConnection}
 use Rattle.meaning_runs.specs.Judged.{judgedOf, judgedUnder, judgedBy}
 use Rattle.theory_queues.specs.Queue.{All, Alls, flat, turn, Good}
-use Rattle.theory_queues.proofs.QueueLaws.{turn-flat, alls-turn}
+use Rattle.theory_queues.proofs.QueueLaws.{map-turn, turn-flat, alls-turn}
 use Rattle.theory_queues.proofs.LineLaws.{arrive-none}
 use Rattle.theory_queues.proofs.RisingLaws.{rising-up}
 use Rattle.theory_table.specs.Stored.{stored, ConnectionIs, OpenConnection}
@@ -32,7 +33,7 @@ use Rattle.theory_table.proofs.ClockLaws.{clock-next}
 use Rattle.theory_table.proofs.VerdictLaws.{verdict-is, verdict-says}
 use Rattle.theory_table.proofs.ConnectionLaws.{word-fits, up-to-date, now-open}
 use Rattle.theory_memory.specs.Held.{Queued, dueOf, vciOf}
-use Rattle.theory_invariant.specs.Invariant.{waits, Sits, Stage}
+use Rattle.theory_invariant.specs.Invariant.{cellIn, waits, Sits, Stage}
 use Rattle.theory_invariant.specs.Came.{after, half, Came}
 use Rattle.theory_invariant.proofs.LengthLaws.{connections-few}
 use Rattle.theory_invariant.proofs.StepLaws.{Goes}
@@ -51,7 +52,7 @@ second : (a b : Bool) → a || b ≡ true → a ≡ false → b ≡ true
 second true b e f = absurd (let y : _≡_ {A = ℕ} 0 1 = cc in omega arith)
 second false b e f = e
 
-module _ (now : ℕ) (cell : List ℕ) (op : ℕ → Option Opening) (free : List ℕ) (out : List Queued) (cal : List (List Queued))
+module _ (x now : ℕ) (cell : List ℕ) (op : ℕ → Option Opening) (out : List Queued) (cal : List (List Queued))
   where
     module _ (w : Work) where
       abbrev s : State
@@ -73,13 +74,13 @@ module _ (now : ℕ) (cell : List ℕ) (op : ℕ → Option Opening) (free : Lis
       abbrev u : ℕ
       u = connection z h
 
-      module _ (st : Stage N z kind (suc now) (suc now) (s .ctl .turn) s op free out (turn cal))
+      module _ (st : Stage N z kind (suc now) (suc now) (s .ctl .turn) s op out (turn cal)) (free : isFree (s .bits) x ≡ true)
           (good : Good dueOf (N - 1) now cal out)
           (sits-out : All (Sits kind z op) out) (sits-cal : Alls (Sits kind z op) cal) (blank : w .answer ≡ bareAnswer 0) where
         -- no cell is let in
         quiet : (w′ : Work) (verdict vci : ℕ) → letsIn verdict ≡ false → w′ .answer ≡ half verdict vci 0
             → judgedBy kind z now op cell ≡ judgedOf verdict vci 0
-            → Stage N z kind (suc now) (suc now) (w′ .state .ctl .turn) (w′ .state) op free out (turn cal)
+            → Stage N z kind (suc now) (suc now) (w′ .state .ctl .turn) (w′ .state) op out (turn cal)
             → Came N z kind now cell op out cal w′
         quiet w′ verdict vci ne says judges st′ =
             record {
@@ -88,7 +89,6 @@ module _ (now : ℕ) (cell : List ℕ) (op : ℕ → Option Opening) (free : Lis
               D = 0;
               says = says;
               judges = judges;
-              free = free;
               new = [];
               r = turn cal;
               stage = rw (after-none now (clpIn cell) verdict vci op ne) st′;
@@ -96,6 +96,7 @@ module _ (now : ℕ) (cell : List ℕ) (op : ℕ → Option Opening) (free : Lis
               sits-out = rw (after-none now (clpIn cell) verdict vci op ne) sits-out;
               sits-cal = rw (after-none now (clpIn cell) verdict vci op ne) (alls-turn (Sits kind z op) cal sits-cal);
               order = λ v. ap (ofConnection vciOf v) (turn-flat cal) ∙ sym (append-nil (ofConnection vciOf v (flat cal)));
+              lies = map-turn cellIn cal;
               notes = rw ne;
               delays = tt;
               named = tt;
@@ -145,11 +146,11 @@ module _ (now : ℕ) (cell : List ℕ) (op : ℕ → Option Opening) (free : Lis
 
           judge-goes : (b : Bool) → letsIn verdict ≡ b → length cell ≡ 53 → namesConnection z (h) ≡ true
               → judgedBy kind z now op cell ≡ judgedOf verdict u (if b then dueSlot o now - now else 0)
-              → Goes (judge cell u w vc) (Came N z kind now cell op out cal)
+              → Goes (judge x cell u w vc) (Came N z kind now cell op out cal)
           unfolding judge
           judge-goes true e long named judges =
               rw (verdict-is o (clpIn cell) now (waits u out (turn cal)), not-excess verdict e)
-              (accept-goes now cell op free out cal w st good sits-out sits-cal blank long u named refl u-high o o-is
+              (accept-goes x now cell op out cal w st free good sits-out sits-cal blank long u named refl u-high o o-is
               opn verdict refl e judges)
           judge-goes false e long named judges =
               rw (verdict-is o (clpIn cell) now (waits u out (turn cal)), eq-eqb verdict excess is)
@@ -175,7 +176,7 @@ module _ (now : ℕ) (cell : List ℕ) (op : ℕ → Option Opening) (free : Lis
           under = rw (lent, user, named)
 
           known : (a : Option Opening) → op u ≡ a → ConnectionIs N (connectionsIn z) (suc now) u (connectionAt (s .words) u) (waits u out (turn cal)) a
-              → Goes (step3 cell w) (Came N z kind now cell op out cal)
+              → Goes (step3 x cell w) (Came N z kind now cell op out cal)
           unfolding step3
           known none e k =
               record {
@@ -209,17 +210,17 @@ module _ (now : ℕ) (cell : List ℕ) (op : ℕ → Option Opening) (free : Lis
               is-open : connectionAt (s .words) u .opened ≢ 0
               is-open y = omega (arith, ap (λ (c : Connection). c .opened) (k .is))
 
-        empty-goes : length cell =? 0 ≡ true → Goes (step3 cell w) (Came N z kind now cell op out cal)
+        empty-goes : length cell =? 0 ≡ true → Goes (step3 x cell w) (Came N z kind now cell op out cal)
         unfolding step3 judgedBy letsIn
         empty-goes e = record { work = w; goes = rw e; holds = quiet w nothing 0 refl blank (rw e) st }
 
-        no-user-goes : length cell =? 0 ≡ false → noUserCell h ≡ true → Goes (step3 cell w) (Came N z kind now cell op out cal)
+        no-user-goes : length cell =? 0 ≡ false → noUserCell h ≡ true → Goes (step3 x cell w) (Came N z kind now cell op out cal)
         unfolding step3 judgedBy letsIn
         no-user-goes e f =
             record { work = w; goes = rw (e, st .kind-fits, f); holds = quiet w nothing 0 refl blank (rw (e, f)) st }
 
         strange-goes : length cell =? 0 ≡ false → noUserCell h ≡ false → namesConnection z h ≡ false
-            → Goes (step3 cell w) (Came N z kind now cell op out cal)
+            → Goes (step3 x cell w) (Came N z kind now cell op out cal)
         unfolding step3 judgedBy
         strange-goes e f g =
             record {
@@ -228,11 +229,11 @@ module _ (now : ℕ) (cell : List ℕ) (op : ℕ → Option Opening) (free : Lis
               holds = strange (rw (e, f, g));
             }
 
-        step3-at : length cell =? 0 || length cell =? 53 ≡ true → Goes (step3 cell w) (Came N z kind now cell op out cal)
+        step3-at : length cell =? 0 || length cell =? 53 ≡ true → Goes (step3 x cell w) (Came N z kind now cell op out cal)
         step3-at fits = go (length cell =? 0) (noUserCell h) (namesConnection z h) refl refl refl
           where
             go : (a b c : Bool) → length cell =? 0 ≡ a → noUserCell h ≡ b → namesConnection z h ≡ c
-                → Goes (step3 cell w) (Came N z kind now cell op out cal)
+                → Goes (step3 x cell w) (Came N z kind now cell op out cal)
             go true b c e f g = empty-goes e
             go false true c e f g = no-user-goes e f
             go false false false e f g = strange-goes e f g
@@ -240,20 +241,20 @@ module _ (now : ℕ) (cell : List ℕ) (op : ℕ → Option Opening) (free : Lis
                 known e f g (eqb-true (length cell) 53 (second (length cell =? 0) (length cell =? 53) fits e)) (op u) refl
                 (st .table u (names-used z h g) (names-low z h g))
 
-    pub step3-goes : (N z kind : ℕ) (w : Work) → Stage N z kind (suc now) (suc now) (w .state .ctl .turn) (w .state) op free out
-        (turn cal) → Good dueOf (N - 1) now cal out
+    pub step3-goes : (N z kind : ℕ) (w : Work) → Stage N z kind (suc now) (suc now) (w .state .ctl .turn) (w .state) op out
+        (turn cal) → isFree (w .state .bits) x ≡ true → Good dueOf (N - 1) now cal out
         → All (Sits kind z op) out → Alls (Sits kind z op) cal → w .answer ≡ bareAnswer 0
         → length cell =? 0 || length cell =? 53 ≡ true
-        → Goes (step3 cell w) (Came N z kind now cell op out cal)
+        → Goes (step3 x cell w) (Came N z kind now cell op out cal)
     step3-goes N z kind w st =
-        subst (λ (k : ℕ). Stage N z k (suc now) (suc now) (w .state .ctl .turn) (w .state) op free out (turn cal)
-        → Good dueOf (N - 1) now cal out
+        subst (λ (k : ℕ). Stage N z k (suc now) (suc now) (w .state .ctl .turn) (w .state) op out (turn cal)
+        → isFree (w .state .bits) x ≡ true → Good dueOf (N - 1) now cal out
         → All (Sits k z op) out → Alls (Sits k z op) cal → w .answer ≡ bareAnswer 0 → length cell =? 0 || length cell =? 53 ≡ true
-        → Goes (step3 cell w) (Came N z k now cell op out cal))
+        → Goes (step3 x cell w) (Came N z k now cell op out cal))
         (st .kind-is)
-        (subst₂ (λ (n v : ℕ). Stage n v (w .state .ctl .kind) (suc now) (suc now) (w .state .ctl .turn) (w .state) op free out
-        (turn cal) → Good dueOf (n - 1) now cal out
+        (subst₂ (λ (n v : ℕ). Stage n v (w .state .ctl .kind) (suc now) (suc now) (w .state .ctl .turn) (w .state) op out
+        (turn cal) → isFree (w .state .bits) x ≡ true → Good dueOf (n - 1) now cal out
         → All (Sits (w .state .ctl .kind) v op) out → Alls (Sits (w .state .ctl .kind) v op) cal → w .answer ≡ bareAnswer 0
         → length cell =? 0 || length cell =? 53 ≡ true
-        → Goes (step3 cell w) (Came n v (w .state .ctl .kind) now cell op out cal))
+        → Goes (step3 x cell w) (Came n v (w .state .ctl .kind) now cell op out cal))
         (st .n-is) (st .v-is) (step3-at w)) st

@@ -1,8 +1,8 @@
 -- The invariant implies the audit's clauses: the calendar's queues, from the next slot on, turned back to entry after
 -- entry.
 use Prim.Native.Nat.{ℕ, _+_, _-_, _%_, _≤_, _<_}
-use mathlib.Core.Path.{_≡_, refl, sym, ap, ap₂, _∙_, subst}
-use mathlib.Core.Bool.{true, false}
+use mathlib.Core.Path.{_≡_, refl, sym, ap, ap₂, _∙_}
+use mathlib.Core.Bool.{Bool, true, false, not, _&&_}
 use mathlib.Core.List.{List, [], _∷_, _++_, map}
 use mathlib.Core.Option.{Option, none, some}
 use native.Mathlib.Nat.{mod-lt, mod-eq-of-lt, add-mod-right}
@@ -10,23 +10,25 @@ use native.Mathlib.Decide.{decLt}
 use native.Mathlib.Omega.{arith}
 use borrow.Author.Tests.{eq-eqb, leb-true}
 use lib.ListN.{length, getD, take, drop, take-append-drop}
-use Rattle.meaning.specs.Plain.{if_then_else_, _=?_}
-use Rattle.meaning.specs.Numbers.{connectionsIn, unused, kindFits, cellStart, openPlace}
-use Rattle.meaning.specs.State.{State, freeList, outputList}
+use Rattle.meaning.specs.Plain.{if_then_else_, _<?_, _=?_}
+use Rattle.meaning.specs.Numbers.{connectionsIn, unused, kindFits, cellStart, openPlace, splitsHold}
+use Rattle.meaning.specs.State.{State, outputList}
+use Rattle.meaning.specs.Bits.{isFree, spacesFit}
 use Rattle.meaning.specs.Header.{Header, headerAt, connection, namesOpen}
 use Rattle.meaning.specs.Words.{Connection, connectionAt, connectionFits}
-use Rattle.meaning.specs.Lists.{entryAt}
+use Rattle.meaning.specs.Lists.{isEmpty, entryAt}
 use Rattle.meaning.specs.Audit.{Chain, count, joined, connectionIn, AuditHolds}
 use Rattle.meaning.proofs.NamesLaws.{names-low, names-used}
 use Rattle.meaning_runs.specs.Run.{Event, served}
 use Rattle.meaning_runs.specs.Leak.{Opening, openingOf}
 use Rattle.theory_queues.specs.Queue.{sum, sums, All, flat, turn}
 use Rattle.theory_queues.proofs.QueueLaws.{map-append, map-length, sum-append, sums-flat, sum-getD, turn-at, getD-past, all-map, all-append, all-both, alls-flat, alls-turn}
-use Rattle.theory_chains.specs.Strung.{is, inside, self, cnt}
+use Rattle.theory_chains.specs.Strung.{is, self, cnt}
 use Rattle.theory_chains.proofs.CountLaws.{inside-yes, inside-no, inside-le}
 use Rattle.theory_chains.proofs.AuditLaws.{count-is, chain-is, joined-map, map-self}
 use Rattle.theory_table.specs.Stored.{ConnectionIs}
 use Rattle.theory_memory.specs.Held.{Queued, spaceOf, vciOf, Held}
+use Rattle.theory_memory.proofs.FreeLaws.{free-yes, free-no}
 use Rattle.theory_memory.proofs.ShownLaws.{header-in}
 use Rattle.theory_invariant.specs.Invariant.{isOf, waits, Under, Sits, Inv}
 use Rattle.theory_invariant.proofs.RoundLaws.{count-append, joined-append, getD-map, round, round-length, round-low, round-high, pick}
@@ -62,7 +64,7 @@ module _ (N z kind : ℕ) (h : List Event) (s : State) (i : Inv N z kind h s) wh
   queue-at : (j : ℕ) → getD r j [] ≡ map spaceOf (getD (turn (i .cal)) j [])
   queue-at j = getD-map (map spaceOf) (turn (i .cal)) j refl
 
-  once-each : (m : ℕ) → cnt self m (i .free) + cnt spaceOf m (i .out) + sums (λ c. is m (c .space)) (turn (i .cal)) ≤ 1
+  once-each : (m : ℕ) → cnt spaceOf m (i .out) + sums (λ c. is m (c .space)) (turn (i .cal)) ≤ 1
   once-each m = omega (arith, i .stage .has .parted m, inside-le m N)
 
   -- entry e holds the queue that is due e - b slots after the next, modulo N
@@ -113,31 +115,32 @@ module _ (N z kind : ℕ) (h : List Event) (s : State) (i : Inv N z kind h s) wh
       ∙ count-is spaceOf m (flat (turn (i .cal)))
       ∙ sums-flat (λ c. is m (c .space)) (turn (i .cal))
 
-  whole-count : (m : ℕ) → count m (i .free ++ (map spaceOf (i .out) ++ joined queues)) ≡ inside m N
-  whole-count m =
-      count-append m (i .free) (map spaceOf (i .out) ++ joined queues)
-      ∙ omega (
-        arith,
-        count-append m (map spaceOf (i .out)) (joined queues),
-        joined-count m,
-        count-is spaceOf m (i .out),
-        free-count,
-        i .stage .has .parted m,
-      )
-    where
-      free-count : count m (i .free) ≡ cnt self m (i .free)
-      free-count = ap (count m) (sym (map-self (i .free))) ∙ count-is self m (i .free)
+  queued-parts : (m : ℕ) → count m (map spaceOf (i .out) ++ joined queues)
+      ≡ cnt spaceOf m (i .out) + sums (λ c. is m (c .space)) (turn (i .cal))
+  queued-parts m =
+      count-append m (map spaceOf (i .out)) (joined queues) ∙ omega (arith, joined-count m, count-is spaceOf m (i .out))
 
   queued-count : (m : ℕ) → count m (map spaceOf (i .out) ++ joined queues) ≡ cnt spaceOf m all
   queued-count m =
-      count-append m (map spaceOf (i .out)) (joined queues)
+      queued-parts m
       ∙ omega (
         arith,
-        joined-count m,
-        count-is spaceOf m (i .out),
         sum-append (λ c. is m (c .space)) (i .out) (flat (turn (i .cal))),
         sums-flat (λ c. is m (c .space)) (turn (i .cal)),
       )
+
+  -- a space is queued once where it isn't free, and below N
+  below-count : (m : ℕ) → m < N → count m (map spaceOf (i .out) ++ joined queues) ≡ (if isFree (s .bits) m then 0 else 1)
+  below-count m low = go (isFree (s .bits) m) refl
+    where
+      go : (f : Bool) → isFree (s .bits) m ≡ f → count m (map spaceOf (i .out) ++ joined queues) ≡ (if f then 0 else 1)
+      go true e =
+          omega (arith, queued-parts m, i .stage .has .parted m, free-yes (s .bits) m e, inside-yes m N low)
+      go false e =
+          omega (arith, queued-parts m, i .stage .has .parted m, free-no (s .bits) m e, inside-yes m N low)
+
+  above-count : (m : ℕ) → N ≤ m → count m (map spaceOf (i .out) ++ joined queues) ≡ 0
+  above-count m high = omega (arith, queued-parts m, i .stage .has .parted m, inside-no m N high)
 
   -- what the memory says of a queued cell
   abbrev Known : Queued → Type 0
@@ -230,20 +233,21 @@ module _ (N z kind : ℕ) (h : List Event) (s : State) (i : Inv N z kind h s) wh
             (mod-lt (served h + (connectionsIn z - 1)) {m = connectionsIn z} (omega arith));
         raw-low = i .raw-low;
         mode-low = i .mode-low;
+        splits = ap (λ (v : ℕ). splitsHold v (s .ctl .splitvci) (s .ctl .splitpath)) (i .stage .v-is) ∙ i .splits;
         kind-low = leb-true (s .ctl .kind) 1 kind-fits;
         connections-fit = λ v h1 h2. ap (λ (n : ℕ). connectionFits n (connectionAt (s .words) v)) (i .stage .n-is)
             ∙ fits N z kind h s i v (at-z v h2) (omega (arith, i .stage .v-is));
-        free = i .free;
+        spaces-fit = ap (λ (n : ℕ). spacesFit n (s .ctl .free) (s .bits)) (i .stage .n-is) ∙ i .stage .has .spaces-fit;
+        marks-are = λ e he. i .stage .has .marks-are e he
+            ∙ ap (λ (n : ℕ). e <? n && not (isEmpty (entryAt (s .calendar) e))) (sym (i .stage .n-is));
         output = map spaceOf (i .out);
         queues = queues;
-        free-is = subst (λ l. Chain (s .links) (freeList s) l) (map-self (i .free))
-            (chain-is self (s .links) (freeList s) (i .free) (λ m. omega (arith, once-each m)) (i .stage .has .free-is));
         output-is = chain-is spaceOf (s .links) (outputList s) (i .out) (λ m. omega (arith, once-each m))
             (i .stage .has .out-is);
         queues-many = round-length k r (omega (arith, r-long)) ∙ r-long ∙ sym (i .stage .n-is);
         queues-are = λ e he. entry-is e (omega (arith, i .stage .n-is));
-        once = λ x hx. whole-count x ∙ inside-yes x N (omega (arith, i .stage .n-is));
-        no-other = λ x hx. whole-count x ∙ inside-no x N (omega (arith, i .stage .n-is));
+        once = λ x hx. below-count x (omega (arith, i .stage .n-is));
+        no-other = λ x hx. above-count x (omega (arith, i .stage .n-is));
         turn-empty = next-empty;
         named = λ x hx. ap₂ (λ (v k : ℕ). namesOpen v (s .words) (headerAt k (s .cells) (cellStart x))) (i .stage .v-is) (i .stage .kind-is)
             ∙ pick (λ (y : ℕ). namesOpen z (s .words) (headerAt kind (s .cells) (cellStart y)) ≡ true) x all all-names

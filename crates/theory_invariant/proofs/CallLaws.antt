@@ -8,12 +8,14 @@ use mathlib.Core.List.{List, [], _∷_}
 use mathlib.Core.Option.{Option}
 use native.Mathlib.Decide.{ℕ-discrete}
 use native.Mathlib.Omega.{arith}
-use Rattle.meaning.specs.Numbers.{rangesHold, connectionsIn, unused}
+use Rattle.meaning.specs.Numbers.{rangesHold, splitsHold, connectionsIn, unused}
 use Rattle.meaning.specs.State.{State, wordsLong, withWords}
 use Rattle.meaning.specs.Header.{Name, named, numberIn}
+use Rattle.meaning.specs.Operators.{owns}
 use Rattle.meaning.specs.Words.{Connection, connectionAt, writeConnection, connectionFits}
 use Rattle.meaning.specs.Calls.{sharedRefusal}
 use Rattle.meaning.proofs.NamesLaws.{number-low, number-used}
+use Rattle.meaning.proofs.OperatorsLaws.{shared-sixteen}
 use Rattle.meaning.proofs.WordsLaws.{write-length, write-read, write-read-other}
 use Rattle.meaning_runs.specs.Run.{Event, served}
 use Rattle.meaning_runs.specs.Leak.{Opening, openingOf}
@@ -62,10 +64,9 @@ module _ (N z kind : ℕ) (h : List Event) (s : State) (i : Inv N z kind h s) wh
   op v = openingOf v h
 
   -- a refused call changes nothing; nor does another verdict that accepts no cell
-  pub unchanged : (h′ : List Event) → Still h h′ → ((v : ℕ) → openingOf v h′ ≡ openingOf v h) → Inv N z kind h′ s
+  unfoldable pub unchanged : (h′ : List Event) → Still h h′ → ((v : ℕ) → openingOf v h′ ≡ openingOf v h) → Inv N z kind h′ s
   unchanged h′ same e =
       record {
-        free = i .free;
         out = i .out;
         cal = i .cal;
         left = i .left;
@@ -84,6 +85,7 @@ module _ (N z kind : ℕ) (h : List Event) (s : State) (i : Inv N z kind h s) wh
         };
         raw-low = i .raw-low;
         mode-low = i .mode-low;
+        splits = i .splits;
         good = rw (same .slots) (i .good);
         sits-out = all-map (Sits kind z op) (Sits kind z (λ v. openingOf v h′)) sits (i .out) (i .sits-out);
         sits-cal = alls-map (Sits kind z op) (Sits kind z (λ v. openingOf v h′)) sits (i .cal) (i .sits-cal);
@@ -108,7 +110,7 @@ module _ (N z kind : ℕ) (h : List Event) (s : State) (i : Inv N z kind h s) wh
     nobody : waits u (i .out) (turn (i .cal)) ≡ 0
     nobody = omega (arith, turn-sums (isOf u) (i .cal), away-sum u (i .out) away-out, away-sums u (i .cal) away-cal)
 
-    each : (v : ℕ) → unused z v ≡ false → v < connectionsIn z → Dec (v ≡ u) → ConnectionIs N (connectionsIn z) (served h′) v (connectionAt (writeConnection (s .words) u vc′) v)
+    pub each : (v : ℕ) → unused z v ≡ false → v < connectionsIn z → Dec (v ≡ u) → ConnectionIs N (connectionsIn z) (served h′) v (connectionAt (writeConnection (s .words) u vc′) v)
         (waits v (i .out) (turn (i .cal))) (openingOf v h′)
     each v h1 h2 (yes p) =
         subst (λ (k : ℕ). ConnectionIs N (connectionsIn z) (served h′) k (connectionAt (writeConnection (s .words) u vc′) k) (waits k (i .out) (turn (i .cal)))
@@ -116,14 +118,13 @@ module _ (N z kind : ℕ) (h : List Event) (s : State) (i : Inv N z kind h s) wh
         (rw (same .slots, write-read (s .words) u vc′ (omega (arith, i .stage .words-long)), nobody, own) is)
     each v h1 h2 (no p) = rw (same .slots, write-read-other (s .words) u vc′ v p, other v p) (i .stage .table v h1 h2)
 
-    sits-on : (c : Queued) → Sits kind z op c × Away u c → Sits kind z (λ v. openingOf v h′) c
+    pub sits-on : (c : Queued) → Sits kind z op c × Away u c → Sits kind z (λ v. openingOf v h′) c
     sits-on c p = (p .0 .0, p .0 .1, rw (other (vciOf c) (p .1)) (p .0 .2))
 
-    pub renewed : Inv N z kind h′ (withWords s (writeConnection (s .words) u vc′))
+    unfoldable pub renewed : Inv N z kind h′ (withWords s (writeConnection (s .words) u vc′))
     unfolding withWords
     renewed =
         record {
-          free = i .free;
           out = i .out;
           cal = i .cal;
           left = i .left;
@@ -142,6 +143,7 @@ module _ (N z kind : ℕ) (h : List Event) (s : State) (i : Inv N z kind h s) wh
           };
           raw-low = i .raw-low;
           mode-low = i .mode-low;
+          splits = i .splits;
           good = rw (same .slots) (i .good);
           sits-out = all-map (λ c. Sits kind z op c × Away u c) (Sits kind z (λ v. openingOf v h′)) sits-on (i .out)
               (all-both (Sits kind z op) (Away u) (i .out) (i .sits-out) away-out);
@@ -161,6 +163,9 @@ module _ (N z kind : ℕ) (h : List Event) (s : State) (i : Inv N z kind h s) wh
   ranges-at : rangesHold (s .ctl .n) (s .ctl .v) ≡ true
   ranges-at = rw (i .stage .n-is, i .stage .v-is) (ranges-hold N z (i .stage .ranges))
 
+  splits-at : splitsHold (s .ctl .v) (s .ctl .splitvci) (s .ctl .splitpath) ≡ true
+  splits-at = ap (λ (v : ℕ). splitsHold v (s .ctl .splitvci) (s .ctl .splitpath)) (i .stage .v-is) ∙ i .splits
+
   words-at : wordsLong (s .ctl .v) (s .words) ≡ true
   words-at = rw (i .stage .v-is) (words-hold z (s .words) (i .stage .words-long))
 
@@ -170,19 +175,28 @@ module _ (N z kind : ℕ) (h : List Event) (s : State) (i : Inv N z kind h s) wh
       (waits-low v N (i .out) (turn (i .cal))
       (omega (arith, turn-sums one (i .cal), i .good .room, i .stage .ranges .N-low))) (i .stage .table v h1 h2)
 
-  pub shared-in : (name : Name) → named (s .ctl .v) name ≡ true → sharedRefusal (s .ctl) (s .words) name ≡ 0
+  -- who owns the connection
+  pub shared-in : (who : ℕ) (name : Name) → named (s .ctl .v) name ≡ true → owns (s .ctl) who name ≡ true
+      → sharedRefusal (s .ctl) (s .words) who name ≡ 0
   unfolding sharedRefusal
-  shared-in name e =
+  shared-in who name e o =
       rw (
         ranges-at,
+        splits-at,
         words-at,
         e,
+        o,
         ap (λ (n : ℕ). connectionFits n (connectionAt (s .words) (numberIn (s .ctl .v) name))) (i .stage .n-is),
         fits (numberIn (s .ctl .v) name)
             (ap (λ (v : ℕ). unused v (numberIn (s .ctl .v) name)) (sym (i .stage .v-is)) ∙ number-used (s .ctl .v) name e)
             (omega (arith, number-low (s .ctl .v) name e, i .stage .v-is)),
       )
 
-  pub shared-out : (name : Name) → named (s .ctl .v) name ≡ false → sharedRefusal (s .ctl) (s .words) name ≡ 4
+  -- and who doesn't
+  pub shared-foreign : (who : ℕ) (name : Name) → named (s .ctl .v) name ≡ true → owns (s .ctl) who name ≡ false
+      → sharedRefusal (s .ctl) (s .words) who name ≡ 16
+  shared-foreign who name e o = shared-sixteen (s .ctl) (s .words) who name ranges-at splits-at words-at e o
+
+  pub shared-out : (who : ℕ) (name : Name) → named (s .ctl .v) name ≡ false → sharedRefusal (s .ctl) (s .words) who name ≡ 4
   unfolding sharedRefusal
-  shared-out name e = rw (ranges-at, words-at, e)
+  shared-out who name e = rw (ranges-at, splits-at, words-at, e)

@@ -3,7 +3,7 @@
 use Prim.Native.Nat.{ℕ, suc, _+_, _-_, _≤_, _<_}
 use mathlib.Core.Path.{_≡_, refl, sym, ap, _∙_, subst, subst₂}
 use mathlib.Core.Bool.{true, false}
-use mathlib.Core.List.{List, [], _∷_, _++_}
+use mathlib.Core.List.{List, [], _∷_}
 use mathlib.Core.Option.{Option, none, some}
 use native.Mathlib.Decide.{ℕ-discrete}
 use native.Mathlib.Omega.{arith}
@@ -11,10 +11,10 @@ use borrow.Author.Tests.{eq-eqb, le-leb}
 use lib.ListN.{getD}
 use Rattle.meaning.specs.Plain.{next}
 use Rattle.meaning.specs.Numbers.{connectionsIn, unused, empty, cellStart, openPlace}
-use Rattle.meaning.specs.State.{State, freeList, outputList, withRecord, recordWith, withLinks, withWords, withFreeList, withOutputList}
+use Rattle.meaning.specs.State.{State, outputList, withRecord, recordWith, withWords, withBits, withFree, withOutputList}
 use Rattle.meaning.specs.Header.{Header, headerAt, connection, namesOpen}
 use Rattle.meaning.specs.Words.{Connection, connectionAt, writeConnection, withWaiting}
-use Rattle.meaning.specs.Lists.{Grown, addTail}
+use Rattle.meaning.specs.Bits.{given}
 use Rattle.meaning.specs.Work.{Work, answerOf, withState, withConnection, withDeparture}
 use Rattle.meaning.specs.Slot.{step5, depart}
 use Rattle.meaning.proofs.NamesLaws.{names-low, names-used}
@@ -28,15 +28,14 @@ use Rattle.theory_table.specs.Stored.{ConnectionIs, OpenConnection}
 use Rattle.theory_table.proofs.ConnectionLaws.{left-open}
 use Rattle.theory_memory.specs.Held.{Queued, spaceOf, vciOf, octetsIn}
 use Rattle.theory_memory.proofs.ShownLaws.{header-in, line-cell}
-use Rattle.theory_memory.proofs.HasLaws.{free-fits}
-use Rattle.theory_memory.proofs.MoveLaws.{out-bare, out-marked, out-low, out-taken, departed}
+use Rattle.theory_memory.proofs.MoveLaws.{out-bare, out-marked, out-low, out-taken, head-not-free, departed}
 use Rattle.theory_invariant.specs.Invariant.{isOf, waits, Under, Sits, Stage}
 use Rattle.theory_invariant.specs.Gone.{Gone}
 use Rattle.theory_invariant.proofs.StepLaws.{Goes}
 use Rattle.theory_invariant.proofs.LengthLaws.{connections-few}
 use Rattle.theory_invariant.proofs.AfterLaws.{waits-low}
 
-module _ (now : ℕ) (op : ℕ → Option Opening) (free : List ℕ) (r : List (List Queued)) where
+module _ (now : ℕ) (op : ℕ → Option Opening) (r : List (List Queued)) where
   module _ (w : Work) where
     abbrev s : State
     s = w .state
@@ -54,16 +53,16 @@ module _ (now : ℕ) (op : ℕ → Option Opening) (free : List ℕ) (r : List (
     b = s .ctl .turn + 1
 
     -- nothing departs
-    idles : Stage N z kind (suc now) (suc now) b s op free [] r → Goes (step5 w) (Gone N z kind now op [] r w)
+    idles : Stage N z kind (suc now) (suc now) b s op [] r → Goes (step5 w) (Gone N z kind now op [] r w)
     unfolding step5
     idles st =
         record {
           work = w;
           goes = rw (out-bare (omega (arith, st .ranges .N-high)) (st .has));
-          holds = record { free = free; stage = st; departs = refl };
+          holds = record { stage = st; departs = refl };
         }
 
-    module _ (c : Queued) (o : List Queued) (st : Stage N z kind (suc now) (suc now) b s op free (c ∷ o) r) (sits : Sits kind z op c)
+    module _ (c : Queued) (o : List Queued) (st : Stage N z kind (suc now) (suc now) b s op (c ∷ o) r) (sits : Sits kind z op c)
         (few : sums one r + sum one (c ∷ o) ≤ N) where
       abbrev h : Header
       h = headerAt kind (c .cell .octets) 0
@@ -127,20 +126,17 @@ module _ (now : ℕ) (op : ℕ → Option Opening) (free : List ℕ) (r : List (
       taken : TakenOff spaceOf N low (s .links) (outputList s) o
       taken = out-taken low (st .has)
 
-      abbrev grown : Grown
-      grown = addTail (s .links) (freeList s) x
-
       abbrev less : Connection
       less = withWaiting vc (vc .waiting - 1)
 
       abbrev work : Work
       work =
           let s1 = withOutputList s (taken .left) in
-          let s2 = withLinks (withFreeList s1 (grown .ends)) (grown .links) in
+          let s2 = withFree s1 (s .ctl .free + 1) (given (s .bits) x) in
           withDeparture (withConnection (withState w s2) u less) x u
 
       goes : step5 w ≡ next work
-      unfolding step5 depart withOutputList withLinks withFreeList withWords withRecord recordWith
+      unfolding step5 depart withOutputList withFree withBits withWords withRecord recordWith
       goes =
           rw (
             out-marked low (st .has),
@@ -150,7 +146,8 @@ module _ (now : ℕ) (op : ℕ → Option Opening) (free : List ℕ) (r : List (
             names-open,
             le-leb 1 (vc .waiting) (omega (arith, waiting-is)),
             le-leb (vc .waiting) N few-wait,
-            free-fits low (st .has),
+            st .has .spaces-fit,
+            head-not-free low (st .has),
           )
 
       each : (v : ℕ) → unused z v ≡ false → v < connectionsIn z → Dec (v ≡ u) → ConnectionIs N (connectionsIn z) (suc now) v (connectionAt (writeConnection (s .words) u less) v) (waits v o r)
@@ -167,13 +164,12 @@ module _ (now : ℕ) (op : ℕ → Option Opening) (free : List ℕ) (r : List (
           same = omega (arith, is-no v (vciOf c) (λ e. p (e ∙ sym (sits .1))))
 
       leaves : Goes (step5 w) (Gone N z kind now op (c ∷ o) r w)
-      unfolding withOutputList withLinks withFreeList withWords withRecord recordWith
+      unfolding withOutputList withFree withBits withWords withRecord recordWith
       leaves =
           record {
             work = work;
             goes = goes;
             holds = record {
-              free = free ++ c .space ∷ [];
               stage = record {
                 ranges = st .ranges;
                 n-is = st .n-is;
@@ -183,8 +179,7 @@ module _ (now : ℕ) (op : ℕ → Option Opening) (free : List ℕ) (r : List (
                 rotation-is = st .rotation-is;
                 kind-is = st .kind-is;
                 kind-fits = st .kind-fits;
-                has = departed low (st .has)
-                    (taken .left) (taken .rest);
+                has = departed low (st .has) (taken .left) (taken .rest);
                 words-long = write-length (s .words) u less ∙ st .words-long;
                 table = λ v h1 h2. each v h1 h2 (ℕ-discrete v u);
               };
@@ -199,20 +194,20 @@ module _ (now : ℕ) (op : ℕ → Option Opening) (free : List ℕ) (r : List (
             };
           }
 
-    step5-at : (o : List Queued) → Stage N z kind (suc now) (suc now) b s op free o r → All (Sits kind z op) o
+    step5-at : (o : List Queued) → Stage N z kind (suc now) (suc now) b s op o r → All (Sits kind z op) o
         → sums one r + sum one o ≤ N → Goes (step5 w) (Gone N z kind now op o r w)
     step5-at [] st a few = idles st
     step5-at (c ∷ o) st a few = leaves c o st (a .0) few
 
   pub step5-goes : (N z kind : ℕ) (w : Work) (o : List Queued)
-      → Stage N z kind (suc now) (suc now) (w .state .ctl .turn + 1) (w .state) op free o r → All (Sits kind z op) o
+      → Stage N z kind (suc now) (suc now) (w .state .ctl .turn + 1) (w .state) op o r → All (Sits kind z op) o
       → sums one r + sum one o ≤ N → Goes (step5 w) (Gone N z kind now op o r w)
   step5-goes N z kind w o st =
-      subst (λ (k : ℕ). Stage N z k (suc now) (suc now) (w .state .ctl .turn + 1) (w .state) op free o r
+      subst (λ (k : ℕ). Stage N z k (suc now) (suc now) (w .state .ctl .turn + 1) (w .state) op o r
       → All (Sits k z op) o
       → sums one r + sum one o ≤ N → Goes (step5 w) (Gone N z k now op o r w))
       (st .kind-is)
-      (subst₂ (λ (n v : ℕ). Stage n v (w .state .ctl .kind) (suc now) (suc now) (w .state .ctl .turn + 1) (w .state) op free o r
+      (subst₂ (λ (n v : ℕ). Stage n v (w .state .ctl .kind) (suc now) (suc now) (w .state .ctl .turn + 1) (w .state) op o r
       → All (Sits (w .state .ctl .kind) v op) o
       → sums one r + sum one o ≤ n → Goes (step5 w) (Gone n v (w .state .ctl .kind) now op o r w))
       (st .n-is) (st .v-is) (step5-at w o)) st

@@ -10,16 +10,15 @@ use Rattle.meaning.specs.declared.Answer.{Answer}
 use Rattle.meaning.specs.Numbers.{octets, empty}
 use Rattle.meaning.specs.Work.{Work, answerOf}
 use Rattle.meaning.specs.Line.{lineCell}
-use Rattle.meaning.specs.Slot.{slot}
 use Rattle.meaning_runs.specs.Run.{Event, ran, shown, served, idle}
 use Rattle.meaning_runs.specs.Leak.{Opening, openingOf}
 use Rattle.meaning_runs.specs.Seen.{departuresIn}
 use Rattle.theory_queues.specs.Queue.{All, Moved}
 use Rattle.theory_queues.proofs.LineLaws.{head-in-time}
 use Rattle.theory_memory.specs.Held.{Queued, dueOf, vciOf}
-use Rattle.theory_invariant.specs.Invariant.{seenAs, InTime}
+use Rattle.theory_invariant.specs.Invariant.{seenAs, cellIn, InTime}
 use Rattle.theory_invariant.specs.Came.{onward, half}
-use Rattle.theory_invariant.specs.Gone.{Departs}
+use Rattle.theory_invariant.specs.Gone.{Departs, LeftAs}
 use Rattle.theory_invariant.proofs.KeptLaws.{leaving, served-ran, opening-ran, departures-none, departures-some}
 
 -- the event of a slot
@@ -52,6 +51,17 @@ module _ (N : ℕ) (small : N ≤ 1_024) (h : List Event) (cell : List ℕ) (w :
       ap (λ (a : Answer). departuresIn (ran cell a (shown w) ∷ h)) (d .1)
       ∙ departures-some h cell verdict vci D (d .0) (vciOf c) (shown w) ne
       ∙ ap (λ l. departuresIn h ++ (record { slot = served h; vci = vciOf c; octets = l } ∷ [])) line
+    where
+      ne : d .0 ≢ empty
+      ne e = omega (arith, d .2)
+
+      line : shown w ≡ c .cell .octets
+      line = shown-some w (d .0) (ap (λ (a : Answer). a .space) (d .1)) ne ∙ d .3
+
+  -- the same without its space
+  pub left-as : (o : List Queued) → Departs N o (half verdict vci D) w → LeftAs (map cellIn o) w
+  left-as [] d = (ap (λ (a : Answer). a .space) d, ap (λ (a : Answer). a .departing) d)
+  left-as (c ∷ o) d = (λ e. ne (sym (ap (λ (a : Answer). a .space) (d .1)) ∙ e), ap (λ (a : Answer). a .departing) (d .1), line)
     where
       ne : d .0 ≢ empty
       ne e = omega (arith, d .2)

@@ -6,7 +6,7 @@ use mathlib.Core.List.{List}
 use native.Mathlib.Omega.{arith}
 use borrow.Author.Tests.{eq-eqb, le-leb}
 use lib.ListN.{length}
-use Rattle.meaning.specs.Numbers.{rangesHold, connectionsIn, wordsIn}
+use Rattle.meaning.specs.Numbers.{rangesHold, connectionsIn, wordsIn, bitWords}
 use Rattle.meaning.specs.State.{wordsLong, lengthsHold}
 use Rattle.theory_invariant.specs.Invariant.{Ranges}
 
@@ -23,14 +23,15 @@ pub words-hold : (z : ℕ) (words : List ℕ) → length words ≡ wordsIn z →
 unfolding wordsLong
 words-hold z words e = eq-eqb (length words) (wordsIn z) e
 
-pub lengths-hold : (N z : ℕ) (cells links calendar words : List ℕ) → length cells ≡ 53 * N → length links ≡ N
-    → length calendar ≡ 2 * N → length words ≡ wordsIn z
-    → lengthsHold N z cells links calendar words ≡ true
+pub lengths-hold : (N z : ℕ) (cells links calendar words bits : List ℕ) → length cells ≡ 53 * N → length links ≡ N
+    → length calendar ≡ 2 * N → length words ≡ wordsIn z → length bits ≡ bitWords
+    → lengthsHold N z cells links calendar words bits ≡ true
 unfolding lengthsHold
-lengths-hold N z cells links calendar words e1 e2 e3 e4 =
+lengths-hold N z cells links calendar words bits e1 e2 e3 e4 e5 =
     rw (
       eq-eqb (length cells) (53 * N) e1,
       eq-eqb (length links) N e2,
       eq-eqb (length calendar) (2 * N) e3,
       words-hold z words e4,
+      eq-eqb (length bits) bitWords e5,
     )

@@ -13,6 +13,7 @@ use Rattle.meaning.specs.Numbers.{connectionsIn, unused}
 use Rattle.meaning.specs.Header.{Name, named, numberIn}
 use Rattle.meaning.specs.State.{State, withWords}
 use Rattle.meaning.specs.Bucket.{bucketOf, obeysRules}
+use Rattle.meaning.specs.Operators.{owns}
 use Rattle.meaning.specs.Words.{Connection, Second, connectionAt, writeConnection, secondObeys, openedConnection, closedConnection, debt}
 use Rattle.meaning.specs.Calls.{Called, calledOf, openCall, closeCall}
 use Rattle.meaning.proofs.NamesLaws.{number-low, number-used}
@@ -24,9 +25,9 @@ use Rattle.theory_queues.proofs.QueueLaws.{turn-sums, all-map, alls-map}
 use Rattle.theory_table.specs.Stored.{ConnectionIs}
 use Rattle.theory_table.proofs.ConnectionLaws.{opened-open}
 use Rattle.theory_memory.specs.Held.{Queued}
-use Rattle.theory_invariant.specs.Invariant.{isOf, waits, Under, Sits, Inv}
+use Rattle.theory_invariant.specs.Invariant.{isOf, waits, Under, Sits, Inv, waiting}
 use Rattle.theory_invariant.proofs.LengthLaws.{connections-few}
-use Rattle.theory_invariant.proofs.CallLaws.{Away, sum-away, sums-away, Still, unchanged, renewed, shared-in, shared-out}
+use Rattle.theory_invariant.proofs.CallLaws.{Away, sum-away, sums-away, Still, unchanged, renewed, shared-in, shared-foreign, shared-out}
 
 module _ (N z kind : ℕ) (h : List Event) (s : State) (i : Inv N z kind h s) where
   abbrev now : ℕ
@@ -43,24 +44,24 @@ module _ (N z kind : ℕ) (h : List Event) (s : State) (i : Inv N z kind h s) wh
   below name e = omega (arith, number-low (s .ctl .v) name e, i .stage .v-is)
 
   -- ── open ──
-  module _ (u m F C : ℕ) (x : Second) where
+  module _ (who u m F C : ℕ) (x : Second) where
     abbrev secondFits : Bool
     secondFits = secondObeys (bucketOf (x .m) (x .F) (x .C) 0) (x .tag)
 
-    still-open : (number : ℕ) → Still h (opened u m F C x number ∷ h)
+    still-open : (number : ℕ) → Still h (opened who u m F C x number ∷ h)
     unfolding served cellsIn departuresIn
     still-open number = record { slots = refl; cells = refl; departures = refl }
 
-    refused-open : (number : ℕ) → number ≢ 0 → Inv N z kind (opened u m F C x number ∷ h) s
+    refused-open : (number : ℕ) → number ≢ 0 → Inv N z kind (opened who u m F C x number ∷ h) s
     unfolding openingOf
     refused-open number ne =
-        unchanged N z kind h s i (opened u m F C x number ∷ h) (still-open number) (λ v. rw (ne-eqb number 0 ne))
+        unchanged N z kind h s i (opened who u m F C x number ∷ h) (still-open number) (λ v. rw (ne-eqb number 0 ne))
 
-    own-open : openingOf u (opened u m F C x 0 ∷ h) ≡ some (newOpening m F C x)
+    own-open : openingOf u (opened who u m F C x 0 ∷ h) ≡ some (newOpening m F C x)
     unfolding openingOf
     own-open = rw (eq-eqb u u refl)
 
-    other-open : (v : ℕ) → v ≢ u → openingOf v (opened u m F C x 0 ∷ h) ≡ openingOf v h
+    other-open : (v : ℕ) → v ≢ u → openingOf v (opened who u m F C x 0 ∷ h) ≡ openingOf v h
     unfolding openingOf
     other-open v ne = rw (ne-eqb u v (λ e. ne (sym e)))
 
@@ -73,12 +74,12 @@ module _ (N z kind : ℕ) (h : List Event) (s : State) (i : Inv N z kind h s) wh
     away e c p f = subst (λ (a : Option Opening). Under a (c .cell)) (ap op f ∙ e) (p .2)
 
     pub opens : unused z u ≡ false → u < connectionsIn z → connectionAt (s .words) u .opened ≢ 1 → obeysRules N (bucketOf m F C 0) ≡ true → secondFits ≡ true
-        → Inv N z kind (opened u m F C x 0 ∷ h) (withWords s (writeConnection (s .words) u (openedConnection (s .ctl .t) (bucketOf m F C 0) x)))
+        → Inv N z kind (opened who u m F C x 0 ∷ h) (withWords s (writeConnection (s .words) u (openedConnection (s .ctl .t) (bucketOf m F C 0) x)))
     opens h1 h2 ne rules rules2 =
         renewed N z kind h s i u h2 (all-map (Sits kind z op) (Away u) (away none-is) (i .out) (i .sits-out))
         (alls-map (Sits kind z op) (Away u) (away none-is) (i .cal) (i .sits-cal))
         (openedConnection (s .ctl .t) (bucketOf m F C 0) x) (some (newOpening m F C x))
-        (rw (i .stage .t-is) (opened-open N (connectionsIn z) (connections-few N z (i .stage .ranges)) now u m F C x rules rules2)) (opened u m F C x 0 ∷ h)
+        (rw (i .stage .t-is) (opened-open N (connectionsIn z) (connections-few N z (i .stage .ranges)) now u m F C x rules rules2)) (opened who u m F C x 0 ∷ h)
         (still-open 0) own-open other-open
       where
         none-is : op u ≡ none
@@ -86,70 +87,74 @@ module _ (N z kind : ℕ) (h : List Event) (s : State) (i : Inv N z kind h s) wh
 
     -- the number, and the invariant
     pub record Opens (c : Called) : Type 0 where
-      pub inv : Inv N z kind (opened u m F C x (c .number) ∷ h) (withWords s (c .words))
+      pub inv : Inv N z kind (opened who u m F C x (c .number) ∷ h) (withWords s (c .words))
+      pub waits-on : waiting inv ≡ waiting i
       pub not-three : c .number ≢ 3
 
     given : (number : ℕ) → number ≢ 0 → number ≢ 3 → Opens (calledOf number (s .words))
-    unfolding withWords
-    given number ne three = record { inv = refused-open number ne; not-three = three }
+    unfolding withWords refused-open unchanged
+    given number ne three = record { inv = refused-open number ne; waits-on = refl; not-three = three }
 
-  module _ (name : Name) (m F C : ℕ) (x : Second) where
+  module _ (who : ℕ) (name : Name) (m F C : ℕ) (x : Second) where
     abbrev which : ℕ
     which = numberIn (s .ctl .v) name
 
-    pub open-kept : Opens (numberIn (s .ctl .v) name) m F C x (openCall (s .ctl) (s .words) name m F C x)
-    unfolding openCall
+    pub open-kept : Opens who (numberIn (s .ctl .v) name) m F C x (openCall (s .ctl) (s .words) who name m F C x)
+    unfolding openCall opens renewed
     open-kept =
-        go (named (s .ctl .v) name) (connectionAt (s .words) which .opened =? 1) (obeysRules N (bucketOf m F C 0)) (secondFits which m F C x)
-        refl refl refl refl
+        go (named (s .ctl .v) name) (owns (s .ctl) who name) (connectionAt (s .words) which .opened =? 1) (obeysRules N (bucketOf m F C 0))
+        (secondFits who which m F C x) refl refl refl refl refl
       where
-        go : (a b c d : Bool) → named (s .ctl .v) name ≡ a → connectionAt (s .words) which .opened =? 1 ≡ b
-            → obeysRules N (bucketOf m F C 0) ≡ c → secondFits which m F C x ≡ d
-            → Opens which m F C x (openCall (s .ctl) (s .words) name m F C x)
-        go false b c d e f g k =
-            rw (shared-out N z kind h s i name e) (given which m F C x 4 (λ y. omega arith) (λ y. omega arith))
-        go true true c d e f g k =
-            rw (shared-in N z kind h s i name e, f) (given which m F C x 5 (λ y. omega arith) (λ y. omega arith))
-        go true false false d e f g k =
+        go : (a o b c d : Bool) → named (s .ctl .v) name ≡ a → owns (s .ctl) who name ≡ o → connectionAt (s .words) which .opened =? 1 ≡ b
+            → obeysRules N (bucketOf m F C 0) ≡ c → secondFits who which m F C x ≡ d
+            → Opens who which m F C x (openCall (s .ctl) (s .words) who name m F C x)
+        go false o b c d e p f g k =
+            rw (shared-out N z kind h s i who name e) (given who which m F C x 4 (λ y. omega arith) (λ y. omega arith))
+        go true false b c d e p f g k =
+            rw (shared-foreign N z kind h s i who name e p) (given who which m F C x 16 (λ y. omega arith) (λ y. omega arith))
+        go true true true c d e p f g k =
+            rw (shared-in N z kind h s i who name e p, f) (given who which m F C x 5 (λ y. omega arith) (λ y. omega arith))
+        go true true false false d e p f g k =
             rw (
-              shared-in N z kind h s i name e,
+              shared-in N z kind h s i who name e p,
               f,
               ap (λ (n : ℕ). obeysRules n (bucketOf m F C 0)) (i .stage .n-is) ∙ g,
-            ) (given which m F C x 6 (λ y. omega arith) (λ y. omega arith))
-        go true false true false e f g k =
+            ) (given who which m F C x 6 (λ y. omega arith) (λ y. omega arith))
+        go true true false true false e p f g k =
             rw (
-              shared-in N z kind h s i name e,
+              shared-in N z kind h s i who name e p,
               f,
               ap (λ (n : ℕ). obeysRules n (bucketOf m F C 0)) (i .stage .n-is) ∙ g,
               k,
-            ) (given which m F C x 11 (λ y. omega arith) (λ y. omega arith))
-        go true false true true e f g k =
+            ) (given who which m F C x 11 (λ y. omega arith) (λ y. omega arith))
+        go true true false true true e p f g k =
             rw (
-              shared-in N z kind h s i name e,
+              shared-in N z kind h s i who name e p,
               f,
               ap (λ (n : ℕ). obeysRules n (bucketOf m F C 0)) (i .stage .n-is) ∙ g,
               k,
             )
             (record {
-              inv = opens which m F C x (used name e) (below name e) (eqb-false (connectionAt (s .words) which .opened) 1 f) g k;
+              inv = opens who which m F C x (used name e) (below name e) (eqb-false (connectionAt (s .words) which .opened) 1 f) g k;
+              waits-on = refl;
               not-three = λ y. omega arith;
             })
 
   -- ── close ──
-  module _ (u : ℕ) where
-    still-close : (number : ℕ) → Still h (closed u number ∷ h)
+  module _ (who u : ℕ) where
+    still-close : (number : ℕ) → Still h (closed who u number ∷ h)
     unfolding served cellsIn departuresIn
     still-close number = record { slots = refl; cells = refl; departures = refl }
 
-    refused-close : (number : ℕ) → number ≢ 0 → Inv N z kind (closed u number ∷ h) s
+    refused-close : (number : ℕ) → number ≢ 0 → Inv N z kind (closed who u number ∷ h) s
     unfolding openingOf
-    refused-close number ne = unchanged N z kind h s i (closed u number ∷ h) (still-close number) (λ v. rw (ne-eqb number 0 ne))
+    refused-close number ne = unchanged N z kind h s i (closed who u number ∷ h) (still-close number) (λ v. rw (ne-eqb number 0 ne))
 
-    own-close : openingOf u (closed u 0 ∷ h) ≡ none
+    own-close : openingOf u (closed who u 0 ∷ h) ≡ none
     unfolding openingOf
     own-close = rw (eq-eqb u u refl)
 
-    other-close : (v : ℕ) → v ≢ u → openingOf v (closed u 0 ∷ h) ≡ openingOf v h
+    other-close : (v : ℕ) → v ≢ u → openingOf v (closed who u 0 ∷ h) ≡ openingOf v h
     unfolding openingOf
     other-close v ne = rw (ne-eqb u v (λ e. ne (sym e)))
 
@@ -159,31 +164,33 @@ module _ (N z kind : ℕ) (h : List Event) (s : State) (i : Inv N z kind h s) wh
     none-wait (some a) q k ne e = sym (ap (λ (c : Connection). c .waiting) (k .is)) ∙ e
 
     pub closes : unused z u ≡ false → u < connectionsIn z → connectionAt (s .words) u .opened ≢ 0 → connectionAt (s .words) u .waiting ≡ 0
-        → Inv N z kind (closed u 0 ∷ h) (withWords s (writeConnection (s .words) u closedConnection))
+        → Inv N z kind (closed who u 0 ∷ h) (withWords s (writeConnection (s .words) u closedConnection))
     unfolding closedConnection
     closes h1 h2 ne e =
         renewed N z kind h s i u h2 (sum-away u (i .out) (omega (arith, nobody-waits)))
         (sums-away u (i .cal) (omega (arith, nobody-waits, turn-sums (isOf u) (i .cal))))
-        closedConnection none refl (closed u 0 ∷ h) (still-close 0) own-close other-close
+        closedConnection none refl (closed who u 0 ∷ h) (still-close 0) own-close other-close
       where
         nobody-waits : waits u (i .out) (turn (i .cal)) ≡ 0
         nobody-waits = none-wait (op u) (waits u (i .out) (turn (i .cal))) (i .stage .table u h1 h2) ne e
 
     pub record Closes (c : Called) : Type 0 where
-      pub inv : Inv N z kind (closed u (c .number) ∷ h) (withWords s (c .words))
+      pub inv : Inv N z kind (closed who u (c .number) ∷ h) (withWords s (c .words))
+      pub waits-on : waiting inv ≡ waiting i
       pub not-three : c .number ≢ 3
 
     ended : (number : ℕ) → number ≢ 0 → number ≢ 3 → Closes (calledOf number (s .words))
-    unfolding withWords
-    ended number ne three = record { inv = refused-close number ne; not-three = three }
+    unfolding withWords refused-close unchanged
+    ended number ne three = record { inv = refused-close number ne; waits-on = refl; not-three = three }
 
-  module _ (name : Name) where
+  module _ (who : ℕ) (name : Name) where
     abbrev whose : ℕ
     whose = numberIn (s .ctl .v) name
 
-    pub close-kept : Closes (numberIn (s .ctl .v) name) (closeCall (s .ctl) (s .words) name)
-    unfolding closeCall
-    close-kept = go (named (s .ctl .v) name) (connectionAt (s .words) whose .opened =? 0) none-waits paid refl refl refl refl
+    pub close-kept : Closes who (numberIn (s .ctl .v) name) (closeCall (s .ctl) (s .words) who name)
+    unfolding closeCall closes renewed
+    close-kept =
+        go (named (s .ctl .v) name) (owns (s .ctl) who name) (connectionAt (s .words) whose .opened =? 0) none-waits paid refl refl refl refl refl
       where
         none-waits : Bool
         none-waits = connectionAt (s .words) whose .waiting =? 0
@@ -191,19 +198,23 @@ module _ (N z kind : ℕ) (h : List Event) (s : State) (i : Inv N z kind h s) wh
         paid : Bool
         paid = debt (s .ctl .t) (connectionAt (s .words) whose) =? 0
 
-        go : (a b c d : Bool) → named (s .ctl .v) name ≡ a → connectionAt (s .words) whose .opened =? 0 ≡ b → none-waits ≡ c
-            → paid ≡ d
-            → Closes whose (closeCall (s .ctl) (s .words) name)
-        go false b c d e f g p = rw (shared-out N z kind h s i name e) (ended whose 4 (λ y. omega arith) (λ y. omega arith))
-        go true true c d e f g p = rw (shared-in N z kind h s i name e, f) (ended whose 7 (λ y. omega arith) (λ y. omega arith))
-        go true false false d e f g p =
-            rw (shared-in N z kind h s i name e, f, g) (ended whose 8 (λ y. omega arith) (λ y. omega arith))
-        go true false true false e f g p =
-            rw (shared-in N z kind h s i name e, f, g, p) (ended whose 8 (λ y. omega arith) (λ y. omega arith))
-        go true false true true e f g p =
-            rw (shared-in N z kind h s i name e, f, g, p)
+        go : (a o b c d : Bool) → named (s .ctl .v) name ≡ a → owns (s .ctl) who name ≡ o → connectionAt (s .words) whose .opened =? 0 ≡ b
+            → none-waits ≡ c → paid ≡ d
+            → Closes who whose (closeCall (s .ctl) (s .words) who name)
+        go false o b c d e q f g p = rw (shared-out N z kind h s i who name e) (ended who whose 4 (λ y. omega arith) (λ y. omega arith))
+        go true false b c d e q f g p =
+            rw (shared-foreign N z kind h s i who name e q) (ended who whose 16 (λ y. omega arith) (λ y. omega arith))
+        go true true true c d e q f g p =
+            rw (shared-in N z kind h s i who name e q, f) (ended who whose 7 (λ y. omega arith) (λ y. omega arith))
+        go true true false false d e q f g p =
+            rw (shared-in N z kind h s i who name e q, f, g) (ended who whose 8 (λ y. omega arith) (λ y. omega arith))
+        go true true false true false e q f g p =
+            rw (shared-in N z kind h s i who name e q, f, g, p) (ended who whose 8 (λ y. omega arith) (λ y. omega arith))
+        go true true false true true e q f g p =
+            rw (shared-in N z kind h s i who name e q, f, g, p)
             (record {
-              inv = closes whose (used name e) (below name e) (eqb-false (connectionAt (s .words) whose .opened) 0 f)
+              inv = closes who whose (used name e) (below name e) (eqb-false (connectionAt (s .words) whose .opened) 0 f)
                   (eqb-true (connectionAt (s .words) whose .waiting) 0 g);
+              waits-on = refl;
               not-three = λ y. omega arith;
             })

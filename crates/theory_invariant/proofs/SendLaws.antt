@@ -1,5 +1,5 @@
--- Step 4 of a slot, from the invariant: entry T, if marked, joins the end of the Output List, and no test of refusal 3
--- fails.
+-- Step 4 of a slot, from the invariant: entry T, if marked, joins the end of the Output List and loses its mark, and no test of
+-- refusal 3 fails.
 use Prim.Native.Nat.{ℕ, suc, _+_, _≤_}
 use mathlib.Core.Path.{_≡_, refl, subst, subst₂}
 use mathlib.Core.List.{List, [], _∷_, _++_, tail, append-nil}
@@ -7,7 +7,8 @@ use mathlib.Core.Option.{Option}
 use native.Mathlib.Numerals.{add-one}
 use native.Mathlib.Omega.{arith}
 use Rattle.meaning.specs.Numbers.{empty, connectionsIn}
-use Rattle.meaning.specs.State.{State, outputList, withRecord, recordWith, withLinks, withCalendar, withOutputList}
+use Rattle.meaning.specs.State.{State, outputList, withRecord, recordWith, withLinks, withCalendar, withBits, withOutputList}
+use Rattle.meaning.specs.Bits.{unmarked}
 use Rattle.meaning.specs.Words.{connectionAt}
 use Rattle.meaning.specs.Lists.{emptyList, entryAt, writeEntry, Grown, joinTail}
 use Rattle.meaning.specs.Work.{Work, withState}
@@ -22,11 +23,11 @@ use Rattle.theory_memory.proofs.MoveLaws.{first-fits, first-bare, passed, first
 use Rattle.theory_invariant.specs.Invariant.{isOf, waits, Stage}
 use Rattle.theory_invariant.proofs.StepLaws.{Goes}
 
-module _ (now kind : ℕ) (op : ℕ → Option Opening) (free : List ℕ) where
+module _ (now kind : ℕ) (op : ℕ → Option Opening) where
   -- after step 4: b is T + 1
   pub record Sent (N z : ℕ) (o : List Queued) (r : List (List Queued)) (w w′ : Work) : Type 0 where
     pub answer-kept : w′ .answer ≡ w .answer
-    pub stage : Stage N z kind (suc now) (suc now) (w′ .state .ctl .turn + 1) (w′ .state) op free o r
+    pub stage : Stage N z kind (suc now) (suc now) (w′ .state .ctl .turn + 1) (w′ .state) op o r
 
   -- ── step 4 ──
   module _ (o : List Queued) where
@@ -43,9 +44,9 @@ module _ (now kind : ℕ) (op : ℕ → Option Opening) (free : List ℕ) where
       abbrev T : ℕ
       T = s .ctl .turn
 
-      moves : (r : List (List Queued)) → Stage N z kind (suc now) (suc now) T s op free o r
+      moves : (r : List (List Queued)) → Stage N z kind (suc now) (suc now) T s op o r
           → Goes (step4 w) (Sent N z (o ++ first r) (turn (tail r)) w)
-      unfolding step4 withOutputList withLinks withCalendar withRecord recordWith
+      unfolding step4 withOutputList withLinks withCalendar withBits withRecord recordWith
       moves [] st = absurd (omega (arith, st .has .wide, st .ranges .N-low))
       moves ([] ∷ r) st =
           record {
@@ -82,8 +83,8 @@ module _ (now kind : ℕ) (op : ℕ → Option Opening) (free : List ℕ) where
           same v = omega (arith, sum-append (isOf v) o [], turn-sums (isOf v) r)
       moves ((c ∷ q) ∷ r) st =
           record {
-            work = withState w (withCalendar (withLinks (withOutputList s (grown .ends)) (grown .links))
-                (writeEntry (s .calendar) T emptyList));
+            work = withState w (withBits (withCalendar (withLinks (withOutputList s (grown .ends)) (grown .links))
+                (writeEntry (s .calendar) T emptyList)) (unmarked (s .bits) T));
             goes = rw (
               first-fits low (st .turn-low) (st .has),
               out-fits low (st .has),
@@ -118,9 +119,9 @@ module _ (now kind : ℕ) (op : ℕ → Option Opening) (free : List ℕ) where
           same v = omega (arith, sum-append (isOf v) o (c ∷ q), turn-sums (isOf v) r)
 
     pub step4-goes : (N z : ℕ) (w : Work) (r : List (List Queued))
-        → Stage N z kind (suc now) (suc now) (w .state .ctl .turn) (w .state) op free o r
+        → Stage N z kind (suc now) (suc now) (w .state .ctl .turn) (w .state) op o r
         → Goes (step4 w) (Sent N z (o ++ first r) (turn (tail r)) w)
     step4-goes N z w r st =
-        subst₂ (λ (n v : ℕ). Stage n v kind (suc now) (suc now) (w .state .ctl .turn) (w .state) op free o r
+        subst₂ (λ (n v : ℕ). Stage n v kind (suc now) (suc now) (w .state .ctl .turn) (w .state) op o r
         → Goes (step4 w) (Sent n v (o ++ first r) (turn (tail r)) w))
         (st .n-is) (st .v-is) (moves w r) st

@@ -1,7 +1,8 @@
--- Document 01's slot keeps the invariant, is never refused with 3, and says of the arrival what the exact leak rules say.
--- Steps 1 to 5 one after the other.
-use Prim.Native.Nat.{ℕ, suc, _+_, _-_}
+-- Document 01's slot keeps the invariant, whichever free space its cell takes, is never refused with 3, and says of the
+-- arrival what the exact leak rules say. Steps 1 to 5 one after the other.
+use Prim.Native.Nat.{ℕ, suc, _+_, _-_, _<_}
 use mathlib.Core.Path.{_≡_, refl, sym, ap, _∙_, subst, subst₂}
+use mathlib.Core.Logic.{_≢_}
 use mathlib.Core.Bool.{true, false, _||_}
 use mathlib.Core.List.{List, [], _∷_, _++_, map, tail}
 use mathlib.Core.Option.{Option}
@@ -9,37 +10,42 @@ use native.Mathlib.Omega.{arith}
 use lib.ListN.{length}
 use Rattle.meaning.specs.declared.Answer.{Answer}
 use Rattle.meaning.specs.Plain.{_=?_, next}
-use Rattle.meaning.specs.Numbers.{rangesHold}
-use Rattle.meaning.specs.State.{State, lengthsHold}
+use Rattle.meaning.specs.Numbers.{rangesHold, splitsHold}
+use Rattle.meaning.specs.State.{State, sizesHold}
+use Rattle.meaning.specs.Bits.{isFree, lowestFree}
 use Rattle.meaning.specs.Work.{Work, workOf, bareAnswer}
-use Rattle.meaning.specs.Slot.{step1, step2, step3, step4, step5, fiveSteps, finish, uncheckedSlot}
+use Rattle.meaning.specs.Slot.{step1, step2, step3, step4, step5, fiveSteps, finish, uncheckedSlotAt}
 use Rattle.meaning_runs.specs.Run.{Event, ran, shown, served}
 use Rattle.meaning_runs.specs.Leak.{Opening, openingOf}
 use Rattle.meaning_runs.specs.Seen.{Cell, cellsIn, ofConnection}
 use Rattle.meaning_runs.specs.Judged.{judgedOf, judged}
 use Rattle.meaning_runs.proofs.OutLaws.{AllOut}
-use Rattle.meaning_runs.proofs.ModeLaws.{Moded, steps-moded}
-use Rattle.theory_queues.specs.Queue.{one, All, Alls, flat, first, turn, Rising, Good, Moved}
-use Rattle.theory_queues.proofs.QueueLaws.{map-append, all-append, all-tail, alls-first, alls-tail, turn-sums}
+use Rattle.meaning_runs.proofs.ModeLaws.{Fixed, Moded, steps-moded}
+use Rattle.theory_queues.specs.Queue.{sum, sums, one, All, Alls, flat, first, turn, Rising, Good, Moved}
+use Rattle.theory_queues.proofs.QueueLaws.{map-append, map-first, map-tail, all-append, all-tail, alls-first, alls-tail, turn-sums}
 use Rattle.theory_queues.proofs.LineLaws.{move, leave}
 use Rattle.theory_queues.proofs.OrderLaws.{ofConnection-append}
 use Rattle.theory_memory.specs.Held.{Queued, dueOf}
-use Rattle.theory_invariant.specs.Invariant.{seenAs, cellLeft, cellIn, connectionIn, Sits, Stage, InTime, Delayed, Named, Inv}
-use Rattle.theory_invariant.specs.Came.{onward, half, Came}
-use Rattle.theory_invariant.specs.Gone.{Departs, Gone}
+use Rattle.theory_memory.proofs.HasLaws.{some-number, lowest-is-free}
+use Rattle.theory_invariant.specs.Invariant.{seenAs, cellLeft, cellIn, connectionIn, Sits, Stage, InTime, Delayed, Named, Inv, Waiting, waiting}
+use Rattle.theory_invariant.specs.Came.{onward, half, noted, entered, Came}
+use Rattle.theory_invariant.specs.Gone.{Departs, Gone, newIn, ready, onwards, LeftAs}
 use Rattle.theory_invariant.proofs.StepLaws.{Goes, Ticked, step1-goes, step2-goes}
 use Rattle.theory_invariant.proofs.ArriveLaws.{step3-goes}
 use Rattle.theory_invariant.proofs.SendLaws.{Sent, step4-goes}
 use Rattle.theory_invariant.proofs.DepartLaws.{step5-goes}
 use Rattle.theory_invariant.proofs.KeptLaws.{leaving, left-rises, order-kept, cells-ran}
 use Rattle.theory_invariant.proofs.LengthLaws.{ranges-hold, lengths-hold}
-use Rattle.theory_invariant.proofs.EndLaws.{eventOf, Final, final, departs-seen, opened-after, slots-after, in-time-one}
+use Rattle.theory_invariant.proofs.EndLaws.{eventOf, Final, final, departs-seen, left-as, opened-after, slots-after, in-time-one}
 
 -- what a slot leaves
-pub record Ran (N z kind : ℕ) (h : List Event) (cell : List ℕ) (w : Work) : Type 0 where
+pub record Ran (N z kind : ℕ) (h : List Event) (before : Waiting) (cell : List ℕ) (w : Work) : Type 0 where
   pub inv : Inv N z kind (eventOf cell w ∷ h) (w .state)
   pub number : w .answer .number ≡ 0
   pub says : judgedOf (w .answer .verdict) (w .answer .vci) (w .answer .d) ≡ judged kind z h cell
+  -- spaces apart, what waits and what left follow from what waited
+  pub waits-on : waiting inv ≡ onwards (newIn h cell (w .answer)) before
+  pub left : LeftAs (ready (newIn h cell (w .answer)) before) w
 
 leaving-named : (kind z : ℕ) (f : ℕ → Option Opening) (n : ℕ) (o : List Queued) → All (Sits kind z f) o
     → All (λ p. Named kind z (p .cell)) (leaving n o)
@@ -57,10 +63,20 @@ module _ (N z kind : ℕ) (h : List Event) (s : State) (i : Inv N z kind h s) wh
   pub ranges-at : rangesHold (s .ctl .n) (s .ctl .v) ≡ true
   ranges-at = rw (i .stage .n-is, i .stage .v-is) (ranges-hold N z (i .stage .ranges))
 
-  pub lengths-at : lengthsHold (s .ctl .n) (s .ctl .v) (s .cells) (s .links) (s .calendar) (s .words) ≡ true
+  pub lengths-at : sizesHold s ≡ true
   lengths-at = rw (i .stage .n-is, i .stage .v-is)
-      (lengths-hold N z (s .cells) (s .links) (s .calendar) (s .words) (i .stage .has .cells-long)
-      (i .stage .has .links-long) (i .stage .has .calendar-long) (i .stage .words-long))
+      (lengths-hold N z (s .cells) (s .links) (s .calendar) (s .words) (s .bits) (i .stage .has .cells-long)
+      (i .stage .has .links-long) (i .stage .has .calendar-long) (i .stage .words-long) (i .stage .has .bits-long))
+
+  -- fewer than N cells wait, so a space is free, whatever comes
+  pub room : sums one (turn (i .cal)) + sum one (i .out) < N
+  room = omega (arith, turn-sums one (i .cal), i .good .room, i .stage .ranges .N-low)
+
+  pub some-space : s .ctl .free ≢ 0
+  some-space = some-number (omega (arith, i .stage .ranges .N-high)) (i .stage .has) room
+
+  pub lowest-space : isFree (s .bits) (lowestFree (s .bits)) ≡ true
+  lowest-space = lowest-is-free (omega (arith, i .stage .ranges .N-high)) (i .stage .has) room
 
   module _ (cell : List ℕ) where
     -- from the arrival and the departure to the invariant after the slot
@@ -72,7 +88,7 @@ module _ (N z kind : ℕ) (h : List Event) (s : State) (i : Inv N z kind h s) wh
       op′ v = onward now cell (came .verdict) (came .vci) op v
 
       module _ (gone : Gone N z kind now (λ v. op′ v) o1 (turn (tail (came .r))) w4 w5)
-          (moded : Moded (s .ctl .raw) (s .ctl .mode) (s .ctl .kind) w5) where
+          (moded : Moded (s .ctl) w5) where
         departs : Departs N o1 (half (came .verdict) (came .vci) (came .D)) w5
         departs = subst (λ (a : Answer). Departs N o1 a w5) (kept ∙ came .says) (gone .departs)
 
@@ -100,14 +116,14 @@ module _ (N z kind : ℕ) (h : List Event) (s : State) (i : Inv N z kind h s) wh
         inv-after : Inv N z kind h′ (w5 .state)
         inv-after =
             record {
-              free = gone .free;
               out = tail o1;
               cal = tail (came .r);
               left = i .left ++ leaving now o1;
               stage = subst₂ (λ (k : ℕ) (f : ℕ → Option Opening). Stage N z kind k k (w5 .state .ctl .turn + 1) (w5 .state) f
-                  (gone .free) (tail o1) (turn (tail (came .r)))) (sym slots-are) (sym openings-are) (gone .stage);
-              raw-low = omega (arith, moded .raw-is, i .raw-low);
-              mode-low = omega (arith, moded .mode-is, i .mode-low);
+                  (tail o1) (turn (tail (came .r)))) (sym slots-are) (sym openings-are) (gone .stage);
+              raw-low = omega (arith, ap (λ (f : Fixed). f .raw) (moded .0), i .raw-low);
+              mode-low = omega (arith, ap (λ (f : Fixed). f .mode) (moded .0), i .mode-low);
+              splits = ap (λ (f : Fixed). splitsHold z (f .splitvci) (f .splitpath)) (moded .0) ∙ i .splits;
               good = subst (λ (k : ℕ). Good dueOf (N - 1) k (tail (came .r)) (tail o1)) (sym slots-are)
                   (leave dueOf (N - 1) now (tail (came .r)) o1 line-moved);
               sits-out = subst (λ (f : ℕ → Option Opening). All (Sits kind z f) (tail o1)) (sym openings-are)
@@ -140,19 +156,43 @@ module _ (N z kind : ℕ) (h : List Event) (s : State) (i : Inv N z kind h s) wh
                   (sym cells-are) (came .rises (cellsIn h) (i .cells-rise));
             }
 
-        ran-all : Ran N z kind h cell w5
+        new-is : newIn h cell (w5 .answer) ≡ map cellIn (came .new)
+        new-is =
+            ap (λ (a : Answer). noted now (half (a .verdict) (a .vci) (a .d)) cell (λ v. openingOf v h)) (fin .says) ∙ came .notes
+
+        ready-is : map cellIn o1 ≡ ready (newIn h cell (w5 .answer)) (waiting i)
+        ready-is =
+            map-append cellIn (i .out) (first (came .r))
+            ∙ ap (λ l. map cellIn (i .out) ++ l) (map-first cellIn (came .r))
+            ∙ ap (λ r. map cellIn (i .out) ++ first r) (came .lies)
+            ∙ ap (λ new. ready new (waiting i)) (sym new-is)
+
+        rest-is : map (map cellIn) (tail (came .r)) ≡ tail (entered (newIn h cell (w5 .answer)) (turn (waiting i .cal)))
+        rest-is =
+            map-tail (map cellIn) (came .r)
+            ∙ ap tail (came .lies)
+            ∙ ap (λ new. tail (entered new (turn (waiting i .cal)))) (sym new-is)
+
+        heads-is : map cellIn (tail o1) ≡ tail (ready (newIn h cell (w5 .answer)) (waiting i))
+        heads-is = map-tail cellIn o1 ∙ ap tail ready-is
+
+        ran-all : Ran N z kind h (waiting i) cell w5
+        unfolding inv-after
         ran-all =
             record {
               inv = inv-after;
               number = ap (λ (a : Answer). a .number) (fin .says);
               says = ap (λ (a : Answer). judgedOf (a .verdict) (a .vci) (a .d)) (fin .says) ∙ sym (came .judges);
+              waits-on = λ j. record { out = heads-is j; cal = rest-is j };
+              left = subst (λ l. LeftAs l w5) ready-is
+                  (left-as N (i .stage .ranges .N-high) h cell w5 (came .verdict) (came .vci) (came .D) o1 departs);
             }
 
     -- the five steps, one after the other
-    pub five-steps : length cell =? 0 || length cell =? 53 ≡ true
-        → Goes (fiveSteps cell (workOf s (bareAnswer 0))) (Ran N z kind h cell)
+    pub five-steps : (x : ℕ) → isFree (s .bits) x ≡ true → length cell =? 0 || length cell =? 53 ≡ true
+        → Goes (fiveSteps x cell (workOf s (bareAnswer 0))) (Ran N z kind h (waiting i) cell)
     unfolding fiveSteps
-    five-steps fits =
+    five-steps x free fits =
         record {
           work = g5 .work;
           goes = through;
@@ -162,15 +202,18 @@ module _ (N z kind : ℕ) (h : List Event) (s : State) (i : Inv N z kind h s) wh
         w0 : Work
         w0 = workOf s (bareAnswer 0)
 
-        g1 : Goes (step1 w0) (Ticked kind op (i .free) (i .out) (turn (i .cal)) now N z now w0)
-        g1 = step1-goes kind op (i .free) (i .out) (turn (i .cal)) now N z w0 (i .stage)
+        g1 : Goes (step1 w0) (Ticked kind op (i .out) (turn (i .cal)) now N z now w0)
+        g1 = step1-goes kind op (i .out) (turn (i .cal)) now N z w0 (i .stage)
 
-        g2 : Goes (step2 (g1 .work)) (Ticked kind op (i .free) (i .out) (turn (i .cal)) now N z (suc now) (g1 .work))
-        g2 = step2-goes kind op (i .free) (i .out) (turn (i .cal)) now N z (g1 .work) (g1 .holds .stage)
+        g2 : Goes (step2 (g1 .work)) (Ticked kind op (i .out) (turn (i .cal)) now N z (suc now) (g1 .work))
+        g2 = step2-goes kind op (i .out) (turn (i .cal)) now N z (g1 .work) (g1 .holds .stage)
 
-        g3 : Goes (step3 cell (g2 .work)) (Came N z kind now cell op (i .out) (i .cal))
+        still-free : isFree (g2 .work .state .bits) x ≡ true
+        still-free = ap (λ (l : List ℕ). isFree l x) (g2 .holds .bits-kept ∙ g1 .holds .bits-kept) ∙ free
+
+        g3 : Goes (step3 x cell (g2 .work)) (Came N z kind now cell op (i .out) (i .cal))
         g3 =
-            step3-goes now cell op (i .free) (i .out) (i .cal) N z kind (g2 .work) (g2 .holds .stage) (i .good) (i .sits-out)
+            step3-goes x now cell op (i .out) (i .cal) N z kind (g2 .work) (g2 .holds .stage) still-free (i .good) (i .sits-out)
             (i .sits-cal) (g2 .holds .answer-kept ∙ g1 .holds .answer-kept) fits
 
         c : Came N z kind now cell op (i .out) (i .cal) (g3 .work)
@@ -179,34 +222,35 @@ module _ (N z kind : ℕ) (h : List Event) (s : State) (i : Inv N z kind h s) wh
         op3 : ℕ → Option Opening
         op3 v = onward now cell (c .verdict) (c .vci) op v
 
-        g4 : Goes (step4 (g3 .work)) (Sent now kind op3 (c .free) N z (i .out ++ first (c .r)) (turn (tail (c .r))) (g3 .work))
-        g4 = step4-goes now kind op3 (c .free) (i .out) N z (g3 .work) (c .r) (c .stage)
+        g4 : Goes (step4 (g3 .work)) (Sent now kind op3 N z (i .out ++ first (c .r)) (turn (tail (c .r))) (g3 .work))
+        g4 = step4-goes now kind op3 (i .out) N z (g3 .work) (c .r) (c .stage)
 
         mv : Moved dueOf (N - 1) now (tail (c .r)) (i .out ++ first (c .r))
         mv = move dueOf (N - 1) now (c .r) (i .out) (c .arrived)
 
         g5 : Goes (step5 (g4 .work)) (Gone N z kind now op3 (i .out ++ first (c .r)) (turn (tail (c .r))) (g4 .work))
-        g5 = step5-goes now op3 (c .free) (turn (tail (c .r))) N z kind (g4 .work) (i .out ++ first (c .r)) (g4 .holds .stage)
+        g5 = step5-goes now op3 (turn (tail (c .r))) N z kind (g4 .work) (i .out ++ first (c .r)) (g4 .holds .stage)
             (all-append (Sits kind z op3) (i .out) (first (c .r)) (c .sits-out) (alls-first (Sits kind z op3) (c .r) (c .sits-cal)))
             (omega (arith, turn-sums one (tail (c .r)), mv .room, i .stage .ranges .N-low))
 
-        through : fiveSteps cell w0 ≡ next (g5 .work)
+        through : fiveSteps x cell w0 ≡ next (g5 .work)
         through = rw (g1 .goes, g2 .goes, g3 .goes, g4 .goes, g5 .goes)
 
-        moded : Moded (s .ctl .raw) (s .ctl .mode) (s .ctl .kind) (g5 .work)
+        moded : Moded (s .ctl) (g5 .work)
         moded =
-            subst (AllOut (Moded (s .ctl .raw) (s .ctl .mode) (s .ctl .kind))) through
-            (steps-moded (s .ctl .raw) (s .ctl .mode) (s .ctl .kind) cell w0 (record { raw-is = refl; mode-is = refl; kind-is = refl; done = refl }))
+            subst (AllOut (Moded (s .ctl))) through
+            (steps-moded (s .ctl) x cell w0 (refl, refl))
 
     -- a slot that is served, and one that is refused, with 9
-    pub unchecked-served : length cell =? 0 || length cell =? 53 ≡ true → Ran N z kind h cell (uncheckedSlot s cell)
-    unfolding uncheckedSlot finish
-    unchecked-served fits = subst (Ran N z kind h cell) (sym is) (five-steps fits .holds)
-      where
-        is : uncheckedSlot s cell ≡ five-steps fits .work
-        is = rw (ranges-at, lengths-at, fits, five-steps fits .goes)
+    module _ (x : ℕ) where
+      pub unchecked-served : isFree (s .bits) x ≡ true → length cell =? 0 || length cell =? 53 ≡ true
+          → Ran N z kind h (waiting i) cell (uncheckedSlotAt x s cell)
+      unfolding uncheckedSlotAt finish
+      unchecked-served free fits = subst (Ran N z kind h (waiting i) cell) (sym is) (five-steps x free fits .holds)
+        where
+          is : uncheckedSlotAt x s cell ≡ five-steps x free fits .work
+          is = rw (ranges-at, lengths-at, fits, five-steps x free fits .goes)
 
-    pub unchecked-refused : length cell =? 0 || length cell =? 53 ≡ false → uncheckedSlot s cell ≡ workOf s (bareAnswer 9)
-    unfolding uncheckedSlot
-    unchecked-refused fits =
-        rw (ranges-at, lengths-at, fits)
+      pub unchecked-refused : length cell =? 0 || length cell =? 53 ≡ false → uncheckedSlotAt x s cell ≡ workOf s (bareAnswer 9)
+      unfolding uncheckedSlotAt
+      unchecked-refused fits = rw (ranges-at, lengths-at, fits)

@@ -33,14 +33,14 @@ pub record Goes (f : Out Work) (P : Work → Type 0) : Type 0 where
   pub goes : f ≡ next work
   pub holds : P work
 
-module _ (kind : ℕ) (openings : ℕ → Option Opening) (free : List ℕ) (o : List Queued) (r : List (List Queued)) (now : ℕ) where
+module _ (kind : ℕ) (openings : ℕ → Option Opening) (o : List Queued) (r : List (List Queued)) (now : ℕ) where
   -- after step 1 the clock is that of the slot; after step 2 the words are too
   pub record Ticked (N z j : ℕ) (w w′ : Work) : Type 0 where
     pub answer-kept : w′ .answer ≡ w .answer
-    pub stage : Stage N z kind (suc now) j (w′ .state .ctl .turn) (w′ .state) openings free o r
+    pub bits-kept : w′ .state .bits ≡ w .state .bits
+    pub stage : Stage N z kind (suc now) j (w′ .state .ctl .turn) (w′ .state) openings o r
 
-  step1-at : (w : Work) → Stage (w .state .ctl .n) (w .state .ctl .v) kind now now (w .state .ctl .turn + 1) (w .state) openings
-      free o r
+  step1-at : (w : Work) → Stage (w .state .ctl .n) (w .state .ctl .v) kind now now (w .state .ctl .turn + 1) (w .state) openings o r
       → Goes (step1 w) (Ticked (w .state .ctl .n) (w .state .ctl .v) now w)
   unfolding step1 withClock withRecord recordWith
   step1-at w st =
@@ -50,6 +50,7 @@ module _ (kind : ℕ) (openings : ℕ → Option Opening) (free : List ℕ) (o :
         goes = rw (lt-ltb (s .ctl .turn) N (st .turn-low), lt-ltb (s .ctl .rotation) (connectionsIn z) low);
         holds = record {
           answer-kept = refl;
+          bits-kept = refl;
           stage = record {
             ranges = st .ranges;
             n-is = refl;
@@ -79,16 +80,16 @@ module _ (kind : ℕ) (openings : ℕ → Option Opening) (free : List ℕ) (o :
       low : s .ctl .rotation < connectionsIn z
       low = omega (arith, st .rotation-is, mod-lt (now + (connectionsIn z - 1)) {m = connectionsIn z} (omega arith))
 
-  pub step1-goes : (N z : ℕ) (w : Work) → Stage N z kind now now (w .state .ctl .turn + 1) (w .state) openings free o r
+  pub step1-goes : (N z : ℕ) (w : Work) → Stage N z kind now now (w .state .ctl .turn + 1) (w .state) openings o r
       → Goes (step1 w) (Ticked N z now w)
   step1-goes N z w st =
-      subst₂ (λ (n v : ℕ). Stage n v kind now now (w .state .ctl .turn + 1) (w .state) openings free o r
+      subst₂ (λ (n v : ℕ). Stage n v kind now now (w .state .ctl .turn + 1) (w .state) openings o r
       → Goes (step1 w) (Ticked n v now w))
       (st .n-is) (st .v-is) (step1-at w) st
 
   -- ── step 2 ──
   module _ (w : Work) (st : Stage (w .state .ctl .n) (w .state .ctl .v) kind (suc now) now (w .state .ctl .turn) (w .state)
-      openings free o r) where
+      openings o r) where
     abbrev s : State
     s = w .state
 
@@ -110,7 +111,7 @@ module _ (kind : ℕ) (openings : ℕ → Option Opening) (free : List ℕ) (o :
     -- the words after step 2
     again : (words : List ℕ) → length words ≡ wordsIn z
         → ((v : ℕ) → unused z v ≡ false → v < connectionsIn z → ConnectionIs N (connectionsIn z) (suc now) v (connectionAt words v) (waits v o r) (openings v))
-        → Stage N z kind (suc now) (suc now) (s .ctl .turn) (withWords s words) openings free o r
+        → Stage N z kind (suc now) (suc now) (s .ctl .turn) (withWords s words) openings o r
     unfolding withWords
     again words len t =
         record {
@@ -135,7 +136,7 @@ module _ (kind : ℕ) (openings : ℕ → Option Opening) (free : List ℕ) (o :
     kept : ((v : ℕ) → unused z v ≡ false → v < connectionsIn z → ConnectionIs N (connectionsIn z) (suc now) v (connectionAt (s .words) v) (waits v o r) (openings v))
         → Ticked N z (suc now) w w
     unfolding withWords
-    kept t = record { answer-kept = refl; stage = again (s .words) (st .words-long) t }
+    kept t = record { answer-kept = refl; bits-kept = refl; stage = again (s .words) (st .words-long) t }
 
     closed-kept : (v : ℕ) (q : ℕ) (a : Option Opening) → a ≡ none → ConnectionIs N (connectionsIn z) now v (connectionAt (s .words) v) q a
         → ConnectionIs N (connectionsIn z) (suc now) v (connectionAt (s .words) v) q a
@@ -174,6 +175,7 @@ module _ (kind : ℕ) (openings : ℕ → Option Opening) (free : List ℕ) (o :
             );
             holds = record {
               answer-kept = refl;
+              bits-kept = refl;
               stage = again (writeConnection (s .words) rot new) (write-length (s .words) rot new ∙ st .words-long)
                   (λ v h1 h2. each v h1 h2 (ℕ-discrete v rot));
             };
@@ -213,9 +215,9 @@ module _ (kind : ℕ) (openings : ℕ → Option Opening) (free : List ℕ) (o :
         go true e = stays e
         go false e = visit e (openings rot) refl (st .table rot e rot-low)
 
-  pub step2-goes : (N z : ℕ) (w : Work) → Stage N z kind (suc now) now (w .state .ctl .turn) (w .state) openings free o r
+  pub step2-goes : (N z : ℕ) (w : Work) → Stage N z kind (suc now) now (w .state .ctl .turn) (w .state) openings o r
       → Goes (step2 w) (Ticked N z (suc now) w)
   step2-goes N z w st =
-      subst₂ (λ (n v : ℕ). Stage n v kind (suc now) now (w .state .ctl .turn) (w .state) openings free o r
+      subst₂ (λ (n v : ℕ). Stage n v kind (suc now) now (w .state .ctl .turn) (w .state) openings o r
       → Goes (step2 w) (Ticked n v (suc now) w))
       (st .n-is) (st .v-is) (step2-at w) st

@@ -14,7 +14,7 @@ use Rattle.meaning.specs.Work.{Work, answerOf}
 use Rattle.meaning_runs.specs.Leak.{Opening, afterCell}
 use Rattle.meaning_runs.specs.Seen.{Cell, cellUnder, ofConnection}
 use Rattle.meaning_runs.specs.Judged.{judgedOf, judgedBy}
-use Rattle.theory_queues.specs.Queue.{All, Alls, flat, Rising, Arrived}
+use Rattle.theory_queues.specs.Queue.{All, Alls, flat, turn, put, Rising, Arrived}
 use Rattle.theory_memory.specs.Held.{Queued, dueOf, vciOf}
 use Rattle.theory_invariant.specs.Invariant.{cellIn, Sits, Stage, Delayed, Named}
 
@@ -36,6 +36,11 @@ noted now a octets openings =
 abbrev pub onward : ℕ → List ℕ → ℕ → ℕ → (ℕ → Option Opening) → ℕ → Option Opening
 onward now cell verdict vci openings v = after now (clpIn cell) verdict vci openings v
 
+-- the calendar, without spaces, once the cell that is let in, if there is one, has joined the queue of its D
+abbrev pub entered : List Cell → List (List Cell) → List (List Cell)
+entered [] r = r
+entered (c ∷ new) r = put (c .D) c r
+
 pub record Came (N z kind now : ℕ) (cell : List ℕ) (openings : ℕ → Option Opening) (out : List Queued) (cal : List (List Queued))
     (w : Work) : Type 0 where
   pub verdict : ℕ
@@ -43,15 +48,15 @@ pub record Came (N z kind now : ℕ) (cell : List ℕ) (openings : ℕ → Optio
   pub D : ℕ
   pub says : w .answer ≡ half verdict vci D
   pub judges : judgedBy kind z now openings cell ≡ judgedOf verdict vci D
-  pub free : List ℕ
   pub new : List Queued
   pub r : List (List Queued)
-  pub stage : Stage N z kind (suc now) (suc now) (w .state .ctl .turn) (w .state) (λ v. onward now cell verdict vci openings v) free
+  pub stage : Stage N z kind (suc now) (suc now) (w .state .ctl .turn) (w .state) (λ v. onward now cell verdict vci openings v)
       out r
   pub arrived : Arrived dueOf (N - 1) now r out
   pub sits-out : All (Sits kind z (λ v. onward now cell verdict vci openings v)) out
   pub sits-cal : Alls (Sits kind z (λ v. onward now cell verdict vci openings v)) r
   pub order : (v : ℕ) → ofConnection vciOf v (flat r) ≡ ofConnection vciOf v (flat cal) ++ ofConnection vciOf v new
+  pub lies : map (map cellIn) r ≡ entered (map cellIn new) (turn (map (map cellIn) cal))
   pub notes : noted now (half verdict vci D) cell openings ≡ map cellIn new
   pub delays : All (Delayed N) (map cellIn new)
   pub named : All (Named kind z) (map cellIn new)

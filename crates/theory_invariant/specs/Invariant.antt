@@ -1,20 +1,22 @@
 -- THE INVARIANT: what holds after every call from a fresh state. It is stronger than the audit, since it ties S to due
 -- times: the words are those of the exact leak rule, each queued cell stands in the entry of its due slot, and each rest
--- of the calendar holds at most as many cells as it has entries. So no test of refusal 3 fails, and a space is free.
+-- of the calendar holds at most as many cells as it has entries. So no test of refusal 3 fails, and a space is free,
+-- whichever free spaces the cells were given.
 --
 --   Left           == an accepted cell that left, and the slot in which it did
 --   waits v o r    == how many cells of the connection v are queued
 --   Sits           == a queued cell's header names its connection, whose next cell is due at least F after it
 --   Stage          == the record and memories, at a stage of a slot: k slots begun, connections as after j slots
 --   Inv N z kind h s  == after the events h the state is s, on a line of this kind
+--   Waiting, waiting i  == the cells that wait, without their spaces
 use Prim.Native.Nat.{ℕ, _+_, _-_, _/_, _%_, _≤_, _<_}
 use mathlib.Core.Path.{_≡_}
 use mathlib.Core.Bool.{true, false}
 use mathlib.Core.List.{List, _++_, map}
 use mathlib.Core.Option.{Option, none, some}
 use lib.ListN.{length}
-use Rattle.meaning.specs.Numbers.{connectionsIn, unused, kindFits, wordsIn}
-use Rattle.meaning.specs.State.{State, freeList, outputList}
+use Rattle.meaning.specs.Numbers.{splitsHold, connectionsIn, unused, kindFits, wordsIn}
+use Rattle.meaning.specs.State.{State, outputList}
 use Rattle.meaning.specs.Header.{headerAt, connection, namesConnection}
 use Rattle.meaning.specs.Words.{connectionAt}
 use Rattle.meaning_runs.specs.Run.{Event, served}
@@ -64,7 +66,7 @@ pub record Ranges (N z : ℕ) : Type 0 where
   pub z-high : z ≤ 1_024
 
 -- b: the entry of the first queue of r, before it is taken modulo N
-pub record Stage (N z kind k j b : ℕ) (s : State) (openings : ℕ → Option Opening) (free : List ℕ) (o : List Queued)
+pub record Stage (N z kind k j b : ℕ) (s : State) (openings : ℕ → Option Opening) (o : List Queued)
     (r : List (List Queued)) : Type 0 where
   pub ranges : Ranges N z
   pub n-is : s .ctl .n ≡ N
@@ -76,7 +78,7 @@ pub record Stage (N z kind k j b : ℕ) (s : State) (openings : ℕ → Option O
   -- 0 or 1, and it stays
   pub kind-is : s .ctl .kind ≡ kind
   pub kind-fits : kindFits kind ≡ true
-  pub has : Has N b (s .cells) (s .links) (s .calendar) (freeList s) (outputList s) free o r
+  pub has : Has N b (s .cells) (s .links) (s .calendar) (outputList s) (s .ctl .free) (s .bits) o r
   pub words-long : length (s .words) ≡ wordsIn z
   pub table : (v : ℕ) → unused z v ≡ false → v < connectionsIn z → ConnectionIs N (connectionsIn z) j v (connectionAt (s .words) v) (waits v o r) (openings v)
 
@@ -95,15 +97,16 @@ Named kind z c =
     × (connection z (headerAt kind (c .octets) 0) ≡ c .vci)
 
 pub record Inv (N z kind : ℕ) (h : List Event) (s : State) : Type 0 where
-  -- the Free List; the Output List; the calendar from the next slot on; what left, in order
-  pub free : List ℕ
+  -- the Output List; the calendar from the next slot on; what left, in order
   pub out : List Queued
   pub cal : List (List Queued)
   pub left : List Left
-  pub stage : Stage N z kind (served h) (served h) (s .ctl .turn + 1) s (λ v. openingOf v h) free out (turn cal)
+  pub stage : Stage N z kind (served h) (served h) (s .ctl .turn + 1) s (λ v. openingOf v h) out (turn cal)
   -- document 02 (i): raw and mode are each 0 or 1
   pub raw-low : s .ctl .raw ≤ 1
   pub mode-low : s .ctl .mode ≤ 1
+  -- document 02 (xi): the splits are in their ranges
+  pub splits : splitsHold z (s .ctl .splitvci) (s .ctl .splitpath) ≡ true
   pub good : Good dueOf (N - 1) (served h) cal out
   pub sits-out : All (Sits kind z (λ v. openingOf v h)) out
   pub sits-cal : Alls (Sits kind z (λ v. openingOf v h)) cal
@@ -119,3 +122,11 @@ pub record Inv (N z kind : ℕ) (h : List Event) (s : State) : Type 0 where
   -- both in order of their slots
   pub left-rise : Rising (λ p. p .slot) 0 (served h) left
   pub cells-rise : Rising (λ c. c .arrival) 0 (served h) (cellsIn h)
+
+-- the Output List and the calendar from the next slot on
+pub record Waiting : Type 0 where
+  pub out : List Cell
+  pub cal : List (List Cell)
+
+abbrev pub waiting : {N z kind : ℕ} {h : List Event} {s : State} → Inv N z kind h s → Waiting
+waiting i = record { out = map cellIn (i .out); cal = map (map cellIn) (i .cal) }

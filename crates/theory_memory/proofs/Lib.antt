@@ -1,4 +1,5 @@
 pub mod RingLaws
+pub mod FreeLaws
 pub mod HeldLaws
 pub mod ShownLaws
 pub mod HasLaws

@@ -16,6 +16,32 @@ pub map-length : {A B : Type 0} (f : A → B) (l : List A) → length (map f l) 
 map-length f [] = refl
 map-length f (x ∷ l) = ap suc (map-length f l)
 
+-- queues through a map: a turn, a put, the first queue, the rest, and sums
+module _ {A B : Type 0} (f : A → B) where
+  pub map-turn : (r : List (List A)) → map (map f) (turn r) ≡ turn (map (map f) r)
+  map-turn r = map-append (map f) r ([] ∷ [])
+
+  pub map-put : (D : ℕ) (c : A) (r : List (List A)) → map (map f) (put D c r) ≡ put D (f c) (map (map f) r)
+  map-put D c [] = refl
+  map-put zero c (q ∷ r) = refl
+  map-put (suc D) c (q ∷ r) = ap (λ l. map f q ∷ l) (map-put D c r)
+
+  pub map-first : (r : List (List A)) → map f (first r) ≡ first (map (map f) r)
+  map-first [] = refl
+  map-first (q ∷ r) = refl
+
+  pub map-tail : (l : List A) → map f (tail l) ≡ tail (map f l)
+  map-tail [] = refl
+  map-tail (x ∷ l) = refl
+
+  pub sum-map : (g : B → ℕ) (q : List A) → sum g (map f q) ≡ sum (λ c. g (f c)) q
+  sum-map g [] = refl
+  sum-map g (c ∷ q) = ap (λ (n : ℕ). g (f c) + n) (sum-map g q)
+
+  pub sums-map : (g : B → ℕ) (r : List (List A)) → sums g (map (map f) r) ≡ sums (λ c. g (f c)) r
+  sums-map g [] = refl
+  sums-map g (q ∷ r) = omega (arith, sum-map g q, sums-map g r)
+
 pub sum-append : {C : Type 0} (f : C → ℕ) (a b : List C) → sum f (a ++ b) ≡ sum f a + sum f b
 sum-append f [] b = omega arith
 sum-append f (c ∷ cs) b = omega (arith, sum-append f cs b)

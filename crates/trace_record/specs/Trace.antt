@@ -6,12 +6,12 @@
 --   standsAt trace at    == what stands at place at of a trace
 --   saidOf r             == document 01's number and values of the reader's answer r, by case
 use Prim.Native.Nat.{ℕ, _+_, _*_}
-use mathlib.Core.Bool.{true, false, _&&_}
+use mathlib.Core.Bool.{Bool, true, false, _&&_}
 use mathlib.Core.List.{List}
 use lib.ListN.{length, getD}
 use Rattle.meaning.specs.Plain.{if_then_else_, _<?_, _≤?_, _=?_}
 use Rattle.meaning.specs.Words.{Second, secondOf}
-use Rattle.meaning.specs.Calls.{UNI, NNI, Options, optionsOf, plain}
+use Rattle.meaning.specs.Calls.{Kind, UNI, NNI, Options, optionsOf}
 pub use Rattle.trace_record.specs.Marks.{markOctets, markGM, markGR, markGN, markVO, markVX, markCA, markSL, markVS, markPO, markPX}
 pub use Rattle.trace_record.specs.Marks.{longGM, longVO, longVX, longCA, longSL, longVS, longPO, longPX}
 use Rattle.trace_record.specs.declared.Head.{Head}
@@ -23,10 +23,19 @@ use Rattle.trace_record.specs.declared.Found.the-variants.{Read, End, Un
 
 -- The first record is a GM, or in its place a GR or GN. Document 02 (i): "a trace beginning GR instead of GM is raw"; (vi): "GN in
 -- place of GM begins an NNI trace". There is no mark for a raw NNI trace.
+abbrev headRaw : Head → Bool
+headRaw Gm = false
+headRaw Gr = true
+headRaw Gn = false
+
+abbrev headKind : Head → Kind
+headKind Gm = UNI
+headKind Gr = UNI
+headKind Gn = NNI
+
+-- Nor is there one for splits (xi): all connections are the second operator's.
 abbrev pub headOptions : Head → Options
-headOptions Gm = plain
-headOptions Gr = optionsOf true UNI
-headOptions Gn = optionsOf false NNI
+headOptions head = optionsOf (headRaw head) (headKind head)
 
 abbrev pub headMark : Head → ℕ
 headMark Gm = markGM

@@ -17,7 +17,7 @@ seat-of-requires c κs =
     let arrives = c .before .before .arrived .ensures (not-false _ (c .if1 .left)) in (
       pre .0,
       pre .2,
-      pre .3,
+      pre .4,
       pre .5,
       arrives .is-accepted .near,
       pre .7,
@@ -27,7 +27,7 @@ returns-2 : tie.Need-returns-2
 returns-2 c =
     λ ok. let a = c .before .before .before .before .before .before .before .before .args in
     let seats = c .seat-of .ensures ok in
-    spotted-is (slotRecord (a .w)) (a .links .now) (a .calendar .now) (a .words .now) _ (c .seat-of .result) _ _ _ (seats .1) (seats .2) (seats .3)
+    spotted-is (slotRecord (a .w)) (a .calendar .now) (a .words .now) (a .bits .now) _ (c .seat-of .result) _ _ _ (seats .1) (seats .2) (seats .3)
     (c .before .before .before .arrived .ensures (not-false _ (c .before .if1 .left))) (seats .0)
 
 pub accepted-spot-spec : {M : Type 1} → statement M

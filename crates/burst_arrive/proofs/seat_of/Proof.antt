@@ -1,4 +1,4 @@
--- `burst_arrive::seat_of` meets its contract: both ends of the Free List are below N, and one comparison gives the entry.
+-- `burst_arrive::seat_of` meets its contract: the lowest free space, and one comparison gives the entry.
 use mathlib.Core.Path.{_≡_, refl, sym, _∙_}
 use mathlib.Core.Logic.{⊎-elim}
 use Prim.Native.Nat.{_+_, _*_, _<_}
@@ -8,50 +8,31 @@ use Rattle.slot_plan.proofs.Found.{no}
 use Rattle.mem_lists.specs.Spaces.{entryOf}
 use Rattle.mem_lists.proofs.SeatLaws.{entry-near, entry-far}
 use Rattle.burst_way.specs.Way.{slotRecord}
-use Rattle.burst_arrive.proofs.SpotLaws.{ends-low, entry-below, seats-is}
+use Rattle.burst_arrive.proofs.SpotLaws.{entry-below, seats-is}
 use borrow.Author.Needs.{needs}
 use Rattle.burst_arrive.proofs.seat_of.Statement.{statement}
 use Rattle.burst_arrive.proofs.seat_of.Tie as tie
 
--- the Free List's head
-head-low : (c : tie.Else1) → c .before .before .before .before .args .w .freehead < c .before .before .before .before .args .w .n
-head-low c =
-    let start = c .before .before .before .before in
-    let w = start .args .w in
-    ends-low (w .n) (w .freehead) (w .freetail) (start .pre .0) (start .pre .5) (c .if1 .left) .0
-
 -- the entry
-abbrev start-of : tie.Joined3 → tie.Start
-start-of c = c .before .before .before .before .before .before .before .before .before .before .before
+abbrev start-of : tie.Joined2 → tie.Start
+start-of c = c .before .before .before .before .before .before .before .before .before
 
-entry-is : (c : tie.Joined3) → c .if3 .e ≡ entryOf (start-of c .args .w .n) (start-of c .args .w .turn) (start-of c .args .a .d)
+entry-is : (c : tie.Joined2) → c .if2 .e ≡ entryOf (start-of c .args .w .n) (start-of c .args .w .turn) (start-of c .args .a .d)
 entry-is c =
     let a = start-of c .args in
     ⊎-elim
     (λ q. q .1 ∙ entry-near (a .w .n) (a .w .turn) (a .a .d) (q .0 .taken))
     (λ q. q .2 ∙ entry-far (a .w .n) (a .w .turn) (a .a .d) (q .0 .left))
-    (c .if3 .came)
+    (c .if2 .came)
 
-entry-low : (c : tie.Joined3) → c .if3 .e < start-of c .args .w .n
+entry-low : (c : tie.Joined2) → c .if2 .e < start-of c .args .w .n
 entry-low c =
     let start = start-of c in
     let a = start .args in
-    entry-below (a .w .n) (a .w .turn) (a .a .d) (c .if3 .e) (start .pre .3) (start .pre .4) (entry-is c)
+    entry-below (a .w .n) (a .w .turn) (a .a .d) (c .if2 .e) (start .pre .3) (start .pre .4) (entry-is c)
 
 returns : tie.Need-returns
 returns c = λ e. no (sym (c .no-spot .ensures) ∙ e)
-
-mul-link : tie.Need-mul-link
-mul-link c = search (needs, head-low c)
-
-shared-slice-read-link : tie.Need-shared-slice-read-link
-shared-slice-read-link c = omega (arith, head-low (c .before), c .before .before .before .before .before .pre .1)
-
-cast-link : tie.Need-cast-link
-cast-link c = search (needs, c .shared-slice-known3 .given (c .before .before .before .before .before .args .w .freehead))
-
-returns-2 : tie.Need-returns-2
-returns-2 c = λ e. no (sym (c .no-spot2 .ensures) ∙ e)
 
 mul-head : tie.Need-mul-head
 mul-head c = omega (arith, entry-low (c .before), start-of (c .before) .pre .0)
@@ -60,10 +41,10 @@ mul-head-2 : tie.Need-mul-head-2
 mul-head-2 c = omega (arith, entry-low (c .before), start-of (c .before) .pre .0)
 
 shared-slice-read-head : tie.Need-shared-slice-read-head
-shared-slice-read-head c = omega (arith, entry-low (c .before .before), start-of (c .before .before) .pre .2)
+shared-slice-read-head c = omega (arith, entry-low (c .before .before), start-of (c .before .before) .pre .1)
 
 cast-head : tie.Need-cast-head
-cast-head c = search (needs, c .shared-slice-known4 .given (2 * c .before .before .if3 .e))
+cast-head c = search (needs, c .shared-slice-known3 .given (2 * c .before .before .if2 .e))
 
 mul-tail : tie.Need-mul-tail
 mul-tail c = omega (arith, entry-low (c .before .before), start-of (c .before .before) .pre .0)
@@ -75,23 +56,23 @@ mul-tail-2 : tie.Need-mul-tail-2
 mul-tail-2 c = omega (arith, entry-low (c .before .before), start-of (c .before .before) .pre .0)
 
 shared-slice-read-tail : tie.Need-shared-slice-read-tail
-shared-slice-read-tail c = omega (arith, entry-low (c .before .before .before), start-of (c .before .before .before) .pre .2)
+shared-slice-read-tail c = omega (arith, entry-low (c .before .before .before), start-of (c .before .before .before) .pre .1)
 
 cast-tail : tie.Need-cast-tail
-cast-tail c = search (needs, c .shared-slice-known5 .given (2 * c .before .before .before .if3 .e + 1))
+cast-tail c = search (needs, c .shared-slice-known4 .given (2 * c .before .before .before .if2 .e + 1))
+
+returns-2 : tie.Need-returns-2
+returns-2 c = λ e. no (sym (c .no-spot2 .ensures) ∙ e)
 
 returns-3 : tie.Need-returns-3
-returns-3 c = λ e. no (sym (c .no-spot3 .ensures) ∙ e)
-
-returns-4 : tie.Need-returns-4
-returns-4 c =
-    λ ok. let at3 = c .before .before .before .before .before in
-    let at2 = at3 .before .before .before .before in
-    let at1 = at2 .before .before .before in
+returns-3 c =
+    λ ok. let at2 = c .before .before .before .before .before in
+    let at-lowest = at2 .before .before .before .before in
+    let at1 = at-lowest .before in
     let start = at1 .before .before .before .before in
     let a = start .args in (
-      seats-is (slotRecord (a .w)) (a .links .now) (a .calendar .now) (a .a .d) (at3 .if3 .e) (a .a .vci) (a .a .s) (start .pre .0) (start .pre .5)
-          (at1 .if1 .left) (at2 .if2 .left) (sym (c .before .fits2 .ensures) ∙ not-false _ (c .if4 .left)) (entry-is at3),
+      seats-is (slotRecord (a .w)) (a .calendar .now) (a .bits .now) (at-lowest .lowest .result) (a .a .d) (at2 .if2 .e) (a .a .vci) (a .a .s) (start .pre .5)
+          (at1 .if1 .left) (at-lowest .lowest .ensures) (sym (c .before .fits2 .ensures) ∙ not-false _ (c .if3 .left)) (entry-is at2),
       refl,
       refl,
       refl,
@@ -103,11 +84,8 @@ seat-of-spec =
     (tie.spec
     (λ c κs. search needs)
     returns
-    mul-link
-    shared-slice-read-link
-    cast-link
     (λ c κs. search needs)
-    returns-2
+    (λ c. search needs)
     (λ c. search needs)
     mul-head
     mul-head-2
@@ -120,5 +98,5 @@ seat-of-spec =
     cast-tail
     (λ c κs. search needs)
     (λ c κs. search needs)
-    returns-3
-    returns-4)
+    returns-2
+    returns-3)

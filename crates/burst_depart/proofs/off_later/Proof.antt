@@ -1,8 +1,9 @@
--- `burst_depart::off_later` meets its contract: as off_quiet, and the cell that was accepted is in another space.
+-- `burst_depart::off_later` meets its contract: as off_quiet, and the cell that was accepted is in another space, which was free.
 use Rattle.burst_depart.proofs.LeaveLaws.{plan-none, plan-low, later-leaves}
 use Rattle.burst_depart.proofs.PlanLaws.{low-in}
 use Rattle.burst_depart.specs.Leaving.{OffThen}
 use Rattle.burst_way.specs.Way.{slotRecord}
+use Rattle.meaning.specs.Bits.{taken}
 use Rattle.meaning.specs.Lists.{entryAt}
 use Rattle.slot_plan.proofs.Found.{no}
 use borrow.Author.Tests.{not-false}
@@ -18,13 +19,29 @@ returns c =
 
 returns-2 : tie.Need-returns-2
 returns-2 c =
-    let from = c .before .before .before .before .before .before .before .before in
+    let from = c .before .before .before .before .before .before .before .before .before in
     let a = from .args in
     let k = slotRecord (a .w) in
     let entry = entryAt (a .calendar .now) (a .w .turn) in
     let o = c .before .before .before .plan .result in
     λ ok.
-    plan-none k (a .links .now) entry o (OffThen k (a .p) (a .cells .now) (a .links .now) (a .words .now)) (c .before .before .before .plan .ensures ok) (c .if2 .taken)
+    plan-none k (a .links .now) (taken (a .bits .now) (a .p .x)) entry o (OffThen k (a .p) (a .cells .now) (a .links .now) (a .words .now)) (c .before .before .before .plan .ensures ok) (c .if2 .taken)
+
+cast-is-free : tie.Need-cast-is-free
+cast-is-free c =
+    let from = c .before .before .before .before .before .before .before .before .before .before in
+    let a = from .args in
+    let low = plan-low (slotRecord (a .w)) (a .links .now) (entryAt (a .calendar .now) (a .w .turn)) (c .before .before .before .before .plan .result) (c .before .before .before .before .plan .ensures (not-false _ (c .before .before .if1 .left))) (c .before .if2 .left) in
+    let most = from .pre .0 .n-high in
+    omega (arith, low, most)
+
+is-free-requires : tie.Need-is-free-requires
+is-free-requires c κs =
+    let from = c .before .before .before .before .before .before .before .before .before .before in
+    let a = from .args in
+    let low = plan-low (slotRecord (a .w)) (a .links .now) (entryAt (a .calendar .now) (a .w .turn)) (c .before .before .before .before .plan .result) (c .before .before .before .before .plan .ensures (not-false _ (c .before .before .if1 .left))) (c .before .if2 .left) in
+    let most = from .pre .0 .n-high in
+    (omega (arith, low, most), from .pre .0 .bits-long)
 
 returns-3 : tie.Need-returns-3
 returns-3 c =
@@ -32,7 +49,7 @@ returns-3 c =
 
 seen-requires : tie.Need-seen-requires
 seen-requires c κs =
-    let from = c .before .before .before .before .before .before .before .before .before .before .before in
+    let from = c .before .before .before .before .before .before .before .before .before .before .before .before in
     let a = from .args in
     let k = slotRecord (a .w) in
     let entry = entryAt (a .calendar .now) (a .w .turn) in
@@ -42,22 +59,22 @@ seen-requires c κs =
 
 returns-4 : tie.Need-returns-4
 returns-4 c =
-    let from = c .before .before .before .before .before .before .before .before .before .before .before .before .before in
+    let from = c .before .before .before .before .before .before .before .before .before .before .before .before .before .before in
     let a = from .args in
     let k = slotRecord (a .w) in
     let entry = entryAt (a .calendar .now) (a .w .turn) in
     let o = c .before .before .before .before .before .before .before .before .plan .result in
-    let plan = c .before .before .before .before .before .before .before .before .plan .ensures (not-false _ (c .before .before .before .before .before .before .if1 .left)) in
     λ ok.
-    later-leaves k (a .cells .now) (a .links .now) (a .words .now) entry o (c .before .seen .result) (c .with-vci .result)
-    plan
+    later-leaves k (a .cells .now) (a .links .now) (a .words .now) (a .bits .now) entry o (c .before .seen .result) (c .with-vci .result)
+    (c .before .before .before .before .before .before .before .before .plan .ensures (not-false _ (c .before .before .before .before .before .before .if1 .left)))
     (c .before .before .before .before .before .if2 .left)
+    (sym (c .before .before .before .is-free .ensures) ∙ c .before .before .if3 .left)
     (sym (c .before .seen .ensures))
     (c .with-vci .ensures)
     ok
     (a .p)
-    (low-in _ (a .w .n) _ (plan-low k (a .links .now) entry o plan (c .before .before .before .before .before .if2 .left)) (from .pre .0 .links-long))
-    (c .before .before .if3 .left)
+    (from .pre .1 .3)
+    (low-in _ (a .w .n) _ (plan-low k (a .links .now) entry o (c .before .before .before .before .before .before .before .before .plan .ensures (not-false _ (c .before .before .before .before .before .before .if1 .left))) (c .before .before .before .before .before .if2 .left)) (from .pre .0 .links-long))
 
 pub off-later-spec : {M : Type 1} → statement M
 off-later-spec =
@@ -67,6 +84,8 @@ off-later-spec =
     (λ c κs. search needs)
     returns
     returns-2
+    cast-is-free
+    is-free-requires
     (λ c κs. search needs)
     returns-3
     seen-requires

@@ -16,10 +16,24 @@ use Rattle.burst_depart.proofs.off_now.Tie as tie
 
 returns : tie.Need-returns
 returns c =
-    let from = c .before .before .before .before .before .before in
+    let from = c .before .before .before .before .before .before .before in
     let a = from .args in
     let k = slotRecord (a .w) in
-    λ ok. alone-leaves k (a .p) (a .cells .now) (a .links .now) (a .words .now) (from .pre .0 .0) (from .pre .0 .3) (from .pre .1 .1) (from .pre .1 .2) (from .pre .1 .3) (c .before .if1 .taken) ok
+    λ ok. alone-leaves k (a .p) (a .cells .now) (a .links .now) (a .words .now) (a .bits .now) (from .pre .0 .0) (from .pre .0 .3) (from .pre .1 .1) (from .pre .1 .2) (from .pre .1 .3) (from .pre .1 .5) (c .before .if1 .taken) ok
+
+cast-is-free : tie.Need-cast-is-free
+cast-is-free c =
+    let from = c .before .before .before .before .before .before .before in
+    let w = from .args .w in
+    let low = fit-head (w .n) (endsOf (w .outhead) (w .outtail)) (from .pre .1 .0) (c .before .if1 .left) in
+    omega (arith, low, from .pre .0 .0)
+
+is-free-requires : tie.Need-is-free-requires
+is-free-requires c κs =
+    let from = c .before .before .before .before .before .before .before in
+    let w = from .args .w in
+    let low = fit-head (w .n) (endsOf (w .outhead) (w .outtail)) (from .pre .1 .0) (c .before .if1 .left) in
+    (omega (arith, low, from .pre .0 .0), from .pre .0 .5)
 
 returns-2 : tie.Need-returns-2
 returns-2 c =
@@ -27,7 +41,7 @@ returns-2 c =
 
 rest-joined-requires : tie.Need-rest-joined-requires
 rest-joined-requires c κs =
-    let from = c .before .before .before .before .before .before .before .before .before .before in
+    let from = c .before .before .before .before .before .before .before .before .before .before .before in
     let a = from .args in
     let k = slotRecord (a .w) in
     let w = a .w in (
@@ -41,7 +55,7 @@ returns-3 c =
 
 seen-requires : tie.Need-seen-requires
 seen-requires c κs =
-    let from = c .before .before .before .before .before .before .before .before .before .before .before .before .before in
+    let from = c .before .before .before .before .before .before .before .before .before .before .before .before .before .before in
     let a = from .args in
     let k = slotRecord (a .w) in
     let w = a .w in
@@ -50,7 +64,7 @@ seen-requires c κs =
 
 returns-4 : tie.Need-returns-4
 returns-4 c =
-    let from = c .before .before .before .before .before .before .before .before .before .before .before .before .before .before in
+    let from = c .before .before .before .before .before .before .before .before .before .before .before .before .before .before .before in
     let a = from .args in
     let k = slotRecord (a .w) in
     let w = a .w in
@@ -58,12 +72,12 @@ returns-4 c =
     let r = c .before .before .before .rest-joined .result in
     let joined = set (a .links .now) (w .outtail) (a .p .x) in
     λ ok.
-    behind-leaves k (a .p) (a .cells .now) (a .links .now) (a .words .now) (from .pre .0 .0) (from .pre .0 .3) (from .pre .1 .1) (from .pre .1 .2) (from .pre .1 .3)
+    behind-leaves k (a .p) (a .cells .now) (a .links .now) (a .words .now) (a .bits .now) (from .pre .0 .0) (from .pre .0 .3) (from .pre .1 .1) (from .pre .1 .2) (from .pre .1 .3) (from .pre .1 .5)
     (c .before .before .before .before .before .before .before .before .before .if1 .left)
     (from .pre .1 .0)
-    (c .before .before .before .before .before .before .if2 .left)
+    (sym (c .before .before .before .before .before .before .before .is-free .ensures) ∙ c .before .before .before .before .before .before .if2 .left)
     t (r .next) (r .tail) (c .seen .result)
-    (tail-is k (a .p) (a .cells .now) (a .links .now) (a .words .now) (from .pre .0 .0) (from .pre .0 .3) (from .pre .1 .1) (from .pre .1 .2) (from .pre .1 .3) t
+    (tail-is k (a .p) (a .cells .now) (a .links .now) (a .words .now) (a .bits .now) (from .pre .0 .0) (from .pre .0 .3) (from .pre .1 .1) (from .pre .1 .2) (from .pre .1 .3) (from .pre .1 .5) t
     (⊎-elim (λ v. inl (v .0 .taken, v .1)) (λ v. inr (v .0 .left, v .1)) (c .before .before .before .before .if3 .came)))
     (left-count (length (a .links .now)) (w .n) joined (w .outhead) t (r .next) (r .tail) (from .pre .0 .3)
     (c .before .before .before .rest-joined .ensures (not-false _ (c .before .if4 .left))))
@@ -75,6 +89,8 @@ off-now-spec =
     tie.close
     (tie.spec
     returns
+    cast-is-free
+    is-free-requires
     (λ c κs. search needs)
     returns-2
     rest-joined-requires

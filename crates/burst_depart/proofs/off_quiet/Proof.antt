@@ -1,4 +1,4 @@
--- `burst_depart::off_quiet` meets its contract: the plan, and the connection that the header of its space names.
+-- `burst_depart::off_quiet` meets its contract: the plan, whose space is not free, and the connection that the header there names.
 use Rattle.burst_depart.proofs.LeaveLaws.{plan-none, plan-low, quiet-leaves}
 use Rattle.burst_depart.specs.Leaving.{OffHere}
 use Rattle.burst_way.specs.Way.{slotRecord}
@@ -17,35 +17,56 @@ returns c =
 
 returns-2 : tie.Need-returns-2
 returns-2 c =
-    let from = c .before .before .before .before .before .before .before .before in
+    let from = c .before .before .before .before .before .before .before .before .before in
     let a = from .args in
     let k = slotRecord (a .w) in
     let entry = entryAt (a .calendar .now) (a .w .turn) in
     let o = c .before .before .before .plan .result in
     λ ok.
-    plan-none k (a .links .now) entry o (OffHere k (a .cells .now) (a .links .now) (a .words .now)) (c .before .before .before .plan .ensures ok) (c .if2 .taken)
+    plan-none k (a .links .now) (a .bits .now) entry o (OffHere k (a .cells .now) (a .links .now) (a .words .now)) (c .before .before .before .plan .ensures ok) (c .if2 .taken)
 
-seen-requires : tie.Need-seen-requires
-seen-requires c κs =
-    let from = c .before .before .before .before .before .before .before .before in
+cast-is-free : tie.Need-cast-is-free
+cast-is-free c =
+    let from = c .before .before .before .before .before .before .before .before .before .before in
     let a = from .args in
-    let k = slotRecord (a .w) in
-    let entry = entryAt (a .calendar .now) (a .w .turn) in
-    let o = c .before .before .before .plan .result in
-    let low = plan-low k (a .links .now) entry o (c .before .before .before .plan .ensures (not-false _ (c .before .if1 .left))) (c .if2 .left) in
-    (from .pre .0 .n-high, from .pre .0 .v-high, omega (arith, low, from .pre .0 .cells-long), from .pre .0 .words-long)
+    let low = plan-low (slotRecord (a .w)) (a .links .now) (entryAt (a .calendar .now) (a .w .turn)) (c .before .before .before .before .plan .result) (c .before .before .before .before .plan .ensures (not-false _ (c .before .before .if1 .left))) (c .before .if2 .left) in
+    let most = from .pre .0 .n-high in
+    omega (arith, low, most)
+
+is-free-requires : tie.Need-is-free-requires
+is-free-requires c κs =
+    let from = c .before .before .before .before .before .before .before .before .before .before in
+    let a = from .args in
+    let low = plan-low (slotRecord (a .w)) (a .links .now) (entryAt (a .calendar .now) (a .w .turn)) (c .before .before .before .before .plan .result) (c .before .before .before .before .plan .ensures (not-false _ (c .before .before .if1 .left))) (c .before .if2 .left) in
+    let most = from .pre .0 .n-high in
+    (omega (arith, low, most), from .pre .0 .bits-long)
 
 returns-3 : tie.Need-returns-3
 returns-3 c =
-    let from = c .before .before .before .before .before .before .before .before .before .before in
+    λ ok. no (sym (c .stuck2 .ensures) ∙ ok)
+
+seen-requires : tie.Need-seen-requires
+seen-requires c κs =
+    let from = c .before .before .before .before .before .before .before .before .before .before .before .before in
     let a = from .args in
     let k = slotRecord (a .w) in
     let entry = entryAt (a .calendar .now) (a .w .turn) in
-    let o = c .before .before .before .before .before .plan .result in
+    let o = c .before .before .before .before .before .before .plan .result in
+    let low = plan-low k (a .links .now) entry o (c .before .before .before .before .before .before .plan .ensures (not-false _ (c .before .before .before .before .if1 .left))) (c .before .before .before .if2 .left) in
+    (from .pre .0 .n-high, from .pre .0 .v-high, omega (arith, low, from .pre .0 .cells-long), from .pre .0 .words-long)
+
+returns-4 : tie.Need-returns-4
+returns-4 c =
+    let from = c .before .before .before .before .before .before .before .before .before .before .before .before .before .before in
+    let a = from .args in
+    let k = slotRecord (a .w) in
+    let entry = entryAt (a .calendar .now) (a .w .turn) in
+    let o = c .before .before .before .before .before .before .before .before .plan .result in
     λ ok.
-    quiet-leaves k (a .cells .now) (a .links .now) (a .words .now) entry o (c .before .seen .result) (c .with-vci .result)
-    (c .before .before .before .before .before .plan .ensures (not-false _ (c .before .before .before .if1 .left)))
-    (c .before .before .if2 .left)
+    quiet-leaves k (a .cells .now) (a .links .now) (a .words .now) (a .bits .now) entry o (c .before .seen .result) (c .with-vci .result)
+    (c .before .before .before .before .before .before .before .before .plan .ensures (not-false _ (c .before .before .before .before .before .before .if1 .left)))
+    (c .before .before .before .before .before .if2 .left)
+    (sym (c .before .before .before .is-free .ensures) ∙ c .before .before .if3 .left)
     (sym (c .before .seen .ensures))
     (c .with-vci .ensures)
     ok
@@ -58,6 +79,10 @@ off-quiet-spec =
     (λ c κs. search needs)
     returns
     returns-2
+    cast-is-free
+    is-free-requires
+    (λ c κs. search needs)
+    returns-3
     seen-requires
     (λ c κs. search needs)
-    returns-3)
+    returns-4)

@@ -10,7 +10,7 @@ use Rattle.burst_way.proofs.record_of.Tie as tie
 returns : tie.Need-returns
 unfolding lastRecord slotNumbers
 returns c =
-    let at-back2 = c .before .before .before .before .before .before in
+    let at-back2 = c .before .before .before .before .before in
     let at-all = at-back2 .before in
     let at-back = at-all .before in
     rw (at-back2 .one-back2 .ensures .0, at-all .connections .ensures, at-back .one-back .ensures .0, t-back (at-back .before .wrapping-sub-u32 .result) (at-back .before .before .args .w .t) (omega arith) (at-back .before .wrapping-sub-u32 .ensures))
@@ -23,7 +23,6 @@ record-of-spec =
     (λ c κs. search needs)
     (λ c κs. search needs)
     (λ c κs. search needs)
-    (λ c. search needs)
     (λ c. search needs)
     (λ c. search needs)
     (λ c. search needs)

@@ -1,4 +1,4 @@
--- `burst_way::stepped` meets its contract: one slot further, the lists as they are.
+-- `burst_way::stepped` meets its contract: one slot further, the rest as it is.
 use mathlib.Core.Path.{_∙_}
 use Rattle.meaning.specs.Numbers.{slotNumbers}
 use borrow.Author.Needs.{needs}

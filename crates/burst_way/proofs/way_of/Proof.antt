@@ -13,7 +13,7 @@ use Rattle.burst_way.proofs.way_of.Tie as tie
 returns : tie.Need-returns
 unfolding clocked recordWith slotNumbers
 returns c =
-    let at-after2 = c .before .before .before .before in
+    let at-after2 = c .before .before .before in
     let at-all = at-after2 .before .before in
     let at-after = at-all .before in
     let at-add = at-after .before .before in
@@ -35,7 +35,6 @@ way-of-spec =
     (λ c κs. search needs)
     (λ c. search needs)
     (λ c κs. search needs)
-    (λ c. search needs)
     (λ c. search needs)
     (λ c. search needs)
     (λ c. search needs)

@@ -24,8 +24,8 @@ returns-5 c =
       not-raw = c .before .before .before .before .before .before .before .before .if1 .left;
       turn-low = c .before .before .before .before .before .before .if2 .left;
       rotation-low = c .before .before .before .if3 .left;
-      free-fits = sym (c .before .before .pair .ensures) ∙ not-false _ (c .before .if4 .left);
-      output-fits = sym (c .pair2 .ensures) ∙ e;
+      spaces-fit = sym (c .fits2 .ensures) ∙ e;
+      output-fits = sym (c .before .before .pair .ensures) ∙ not-false _ (c .before .if4 .left);
     }
 
 pub may-try-spec : {M : Type 1} → statement M

@@ -17,7 +17,7 @@ use Rattle.call_connection.proofs.close_named.Tie as tie
 -- no refusal that open and close share is given
 none-shared : (c : tie.Else1)
     → let a = c .before .before .before .before .args in
-    sharedRefusal (a .ctl) (a .words .now) (nameOf (a .path) (a .number)) ≡ 0
+    sharedRefusal (a .ctl) (a .words .now) (a .owner) (nameOf (a .path) (a .number)) ≡ 0
 none-shared c = sym (c .before .shared-refusal .ensures) ∙ c .if1 .left
 
 -- then the connection's words are lent
@@ -25,7 +25,7 @@ none-lent : (c : tie.After-number-of)
     → let a = c .before .before .before .before .before .args in HasConnection (c .number-of .result) (a .words .now)
 none-lent c =
     let a = c .before .before .before .before .before .args in
-    omega (arith, c .number-of .ensures, shared-lent (a .ctl) (a .words .now) (nameOf (a .path) (a .number)) (none-shared (c .before)))
+    omega (arith, c .number-of .ensures, shared-lent (a .ctl) (a .words .now) (a .owner) (nameOf (a .path) (a .number)) (none-shared (c .before)))
 
 -- and the connection is open
 is-open : (c : tie.Else2)
@@ -40,11 +40,11 @@ returns c =
     let a = c .before .before .before .before .args in
     let e = c .before .shared-refusal .ensures in
     ap (λ (k : ℕ). calledOf k (a .words .now)) e
-    ∙ close-shared (a .ctl) (a .words .now) (nameOf (a .path) (a .number)) (λ z. c .if1 .taken (e ∙ z))
+    ∙ close-shared (a .ctl) (a .words .now) (a .owner) (nameOf (a .path) (a .number)) (λ z. c .if1 .taken (e ∙ z))
 
 number-of-requires : tie.Need-number-of-requires
 number-of-requires c κs =
-    let a = c .before .before .before .before .args in shared-named (a .ctl) (a .words .now) (nameOf (a .path) (a .number)) (none-shared c)
+    let a = c .before .before .before .before .args in shared-named (a .ctl) (a .words .now) (a .owner) (nameOf (a .path) (a .number)) (none-shared c)
 
 slice-read-opened : tie.Need-slice-read-opened
 slice-read-opened c = omega (arith, none-lent (c .before))
@@ -53,7 +53,7 @@ returns-2 : tie.Need-returns-2
 returns-2 c =
     let a = c .before .before .before .before .before .before .before .args in
     let conn = c .before .before in
-    close-closed (a .ctl) (a .words .now) (nameOf (a .path) (a .number)) (conn .number-of .result) (conn .number-of .ensures) (none-shared (conn .before))
+    close-closed (a .ctl) (a .words .now) (a .owner) (nameOf (a .path) (a .number)) (conn .number-of .result) (conn .number-of .ensures) (none-shared (conn .before))
     (opened-at (a .words .now) (conn .number-of .result) ∙ c .if2 .taken)
 
 not-yet-requires : tie.Need-not-yet-requires
@@ -61,7 +61,7 @@ not-yet-requires c κs =
     let a = c .before .before .before .before .before .before .before .before .args in
     let conn = c .before .before .before in (
       none-lent conn,
-      shared-m (a .ctl) (a .words .now) (nameOf (a .path) (a .number)) (conn .number-of .result) (conn .number-of .ensures)
+      shared-m (a .ctl) (a .words .now) (a .owner) (nameOf (a .path) (a .number)) (conn .number-of .result) (conn .number-of .ensures)
           (none-shared (conn .before)) (is-open (c .before)),
     )
 
@@ -71,7 +71,7 @@ returns-3 c =
     let conn = c .before .before .before .before .before in
     let e = c .before .not-yet .ensures in
     ap (λ (k : ℕ). calledOf k (a .words .now)) e
-    ∙ close-not-yet (a .ctl) (a .words .now) (nameOf (a .path) (a .number)) (conn .number-of .result) (conn .number-of .ensures)
+    ∙ close-not-yet (a .ctl) (a .words .now) (a .owner) (nameOf (a .path) (a .number)) (conn .number-of .result) (conn .number-of .ensures)
     (none-shared (conn .before)) (is-open (c .before .before .before))
     (λ z. c .if3 .taken (e ∙ z))
 
@@ -84,7 +84,7 @@ returns-4 c =
     let a = c .before .before .before .before .before .before .before .before .before .before .before .before .before .before .args in
     let conn = c .before .before .before .before .before .before .before .before .before in
     ap (λ (w : List ℕ). calledOf 0 w) (c .before .before .write-connection .ensures)
-    ∙ close-done (a .ctl) (a .words .now) (nameOf (a .path) (a .number)) (conn .number-of .result) (conn .number-of .ensures)
+    ∙ close-done (a .ctl) (a .words .now) (a .owner) (nameOf (a .path) (a .number)) (conn .number-of .result) (conn .number-of .ensures)
     (none-shared (conn .before)) (is-open (c .before .before .before .before .before .before .before))
     (sym (c .before .before .before .before .before .not-yet .ensures) ∙ c .before .before .before .before .if3 .left)
 

@@ -18,7 +18,7 @@ use Rattle.call_connection.proofs.open_named.Tie as tie
 -- no refusal that open and close share is given
 none-shared : (c : tie.Else1)
     → let a = c .before .before .before .before .args in
-    sharedRefusal (a .ctl) (a .words .now) (nameOf (a .path) (a .number)) ≡ 0
+    sharedRefusal (a .ctl) (a .words .now) (a .owner) (nameOf (a .path) (a .number)) ≡ 0
 none-shared c = sym (c .before .shared-refusal .ensures) ∙ c .if1 .left
 
 -- then the connection's words are lent
@@ -26,7 +26,7 @@ none-lent : (c : tie.After-number-of)
     → let a = c .before .before .before .before .before .args in HasConnection (c .number-of .result) (a .words .now)
 none-lent c =
     let a = c .before .before .before .before .before .args in
-    omega (arith, c .number-of .ensures, shared-lent (a .ctl) (a .words .now) (nameOf (a .path) (a .number)) (none-shared (c .before)))
+    omega (arith, c .number-of .ensures, shared-lent (a .ctl) (a .words .now) (a .owner) (nameOf (a .path) (a .number)) (none-shared (c .before)))
 
 -- its own refusals, by the open word
 own-is : (c : tie.After-own-refusal)
@@ -45,11 +45,11 @@ returns c =
     let a = c .before .before .before .before .args in
     let e = c .before .shared-refusal .ensures in
     ap (λ (k : ℕ). calledOf k (a .words .now)) e
-    ∙ open-shared (a .ctl) (a .words .now) (nameOf (a .path) (a .number)) (λ z. c .if1 .taken (e ∙ z)) (a .m) (a .f) (a .c) (secondOf (a .m2) (a .f2) (a .c2) (a .tag))
+    ∙ open-shared (a .ctl) (a .words .now) (a .owner) (nameOf (a .path) (a .number)) (λ z. c .if1 .taken (e ∙ z)) (a .m) (a .f) (a .c) (secondOf (a .m2) (a .f2) (a .c2) (a .tag))
 
 number-of-requires : tie.Need-number-of-requires
 number-of-requires c κs =
-    let a = c .before .before .before .before .args in shared-named (a .ctl) (a .words .now) (nameOf (a .path) (a .number)) (none-shared c)
+    let a = c .before .before .before .before .args in shared-named (a .ctl) (a .words .now) (a .owner) (nameOf (a .path) (a .number)) (none-shared c)
 
 slice-read-opened : tie.Need-slice-read-opened
 slice-read-opened c = omega (arith, none-lent (c .before))
@@ -60,7 +60,7 @@ returns-2 c =
     let conn = c .before .before .before in
     let e = own-is (c .before) in
     ap (λ (k : ℕ). calledOf k (a .words .now)) e
-    ∙ open-refused (a .ctl) (a .words .now) (nameOf (a .path) (a .number)) (conn .number-of .result) (conn .number-of .ensures) (a .m) (a .f) (a .c) (secondOf (a .m2) (a .f2) (a .c2) (a .tag))
+    ∙ open-refused (a .ctl) (a .words .now) (a .owner) (nameOf (a .path) (a .number)) (conn .number-of .result) (conn .number-of .ensures) (a .m) (a .f) (a .c) (secondOf (a .m2) (a .f2) (a .c2) (a .tag))
     (none-shared (conn .before))
     (λ z. c .if2 .taken (e ∙ z))
 
@@ -74,7 +74,7 @@ returns-3 c =
     let conn = c .before .before .before .before .before .before .before in
     let e = own-is (c .before .before .before .before .before) in
     ap (λ (w : List ℕ). calledOf 0 w) (c .before .before .write-connection .ensures)
-    ∙ open-done (a .ctl) (a .words .now) (nameOf (a .path) (a .number)) (conn .number-of .result) (conn .number-of .ensures) (a .m) (a .f) (a .c) (secondOf (a .m2) (a .f2) (a .c2) (a .tag))
+    ∙ open-done (a .ctl) (a .words .now) (a .owner) (nameOf (a .path) (a .number)) (conn .number-of .result) (conn .number-of .ensures) (a .m) (a .f) (a .c) (secondOf (a .m2) (a .f2) (a .c2) (a .tag))
     (none-shared (conn .before))
     (sym e ∙ c .before .before .before .before .if2 .left)
 

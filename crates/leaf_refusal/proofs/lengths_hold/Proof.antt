@@ -1,5 +1,6 @@
--- `leaf_refusal::lengths_hold` meets its contract: its four tests are the contract's own.
+-- `leaf_refusal::lengths_hold` meets its contract: its five tests are the contract's own.
 use borrow.Author.Tests.{eq-eqb, ne-eqb}
+use mathlib.Core.Path.{sym, _∙_}
 use borrow.Author.Needs.{needs}
 use Rattle.leaf_refusal.proofs.lengths_hold.Statement.{statement}
 use Rattle.leaf_refusal.proofs.lengths_hold.Tie as tie
@@ -19,12 +20,20 @@ returns-3 c = simp (
 
 returns-4 : tie.Need-returns-4
 returns-4 c = simp (
-  c .words-in .ensures,
-  eq-eqb _ _ (c .before .before .before .if1 .left),
-  eq-eqb _ _ (c .before .before .if2 .left),
-  eq-eqb _ _ (c .before .if3 .left),
+  eq-eqb _ _ (c .before .before .before .before .if1 .left),
+  eq-eqb _ _ (c .before .before .before .if2 .left),
+  eq-eqb _ _ (c .before .before .if3 .left),
+  ne-eqb _ _ (λ e. c .if4 .taken (e ∙ sym (c .before .words-in .ensures))),
+)
+
+returns-5 : tie.Need-returns-5
+returns-5 c = simp (
+  eq-eqb _ _ (c .before .before .before .before .if1 .left),
+  eq-eqb _ _ (c .before .before .before .if2 .left),
+  eq-eqb _ _ (c .before .before .if3 .left),
+  eq-eqb _ _ (c .if4 .left ∙ c .before .words-in .ensures),
 )
 
 pub lengths-hold-spec : {M : Type 1} → statement M
 lengths-hold-spec =
-    tie.close (tie.spec (λ c. search needs) returns returns-2 (λ c. search needs) returns-3 (λ c. search needs) returns-4)
+    tie.close (tie.spec (λ c. search needs) returns returns-2 (λ c. search needs) returns-3 (λ c. search needs) returns-4 returns-5)

@@ -21,38 +21,24 @@ record Filling (more : Bool) (trace : List ℕ) (w₀ : World) (out₀ : List �
   pub within : used ≤ length out₀
 
 abbrev Inv-loop : tie.InvT-loop
-Inv-loop trace more cells₀ links₀ calendar₀ words₀ out₀ now₀ used₀ cells links calendar words out now used =
-    Filling more trace (worldOf now₀ cells₀ links₀ calendar₀ words₀) out₀ (worldOf now cells links calendar words) out used
+Inv-loop trace more cells₀ links₀ calendar₀ words₀ bits₀ out₀ now₀ used₀ cells links calendar words bits out now used =
+    Filling more trace (worldOf now₀ cells₀ links₀ calendar₀ words₀ bits₀) out₀ (worldOf now cells links calendar words bits) out used
     × (length cells ≡ length cells₀)
     × (length links ≡ length links₀)
     × (length calendar ≡ length calendar₀)
     × (length words ≡ length words₀)
+    × (length bits ≡ length bits₀)
     × (length out ≡ length out₀)
 
 abbrev μ-loop : tie.MeasureT-loop
-μ-loop trace more cells₀ links₀ calendar₀ words₀ out₀ now₀ used₀ cells links calendar words out now used =
-    weight (length trace) (worldOf now cells links calendar words)
+μ-loop trace more cells₀ links₀ calendar₀ words₀ bits₀ out₀ now₀ used₀ cells links calendar words bits out now used =
+    weight (length trace) (worldOf now cells links calendar words bits)
 
 loop-holds : tie.Need-loop-holds Inv-loop μ-loop
-loop-holds c = (record { steps = 0; ran = ran-none _ _ _ _ _; within = search needs }, refl, refl, refl, refl, refl)
+loop-holds c = (record { steps = 0; ran = ran-none _ _ _ _ _; within = search needs }, refl, refl, refl, refl, refl, refl)
 
 sub-loop : tie.Need-sub-loop Inv-loop μ-loop
 sub-loop c = search needs
-
-same-length : tie.Need-same-length Inv-loop μ-loop
-same-length c = search needs
-
-same-length-2 : tie.Need-same-length-2 Inv-loop μ-loop
-same-length-2 c = search needs
-
-same-length-3 : tie.Need-same-length-3 Inv-loop μ-loop
-same-length-3 c = search needs
-
-same-length-4 : tie.Need-same-length-4 Inv-loop μ-loop
-same-length-4 c = search needs
-
-same-length-5 : tie.Need-same-length-5 Inv-loop μ-loop
-same-length-5 c = search needs
 
 returns : tie.Need-returns Inv-loop μ-loop
 returns c =
@@ -61,25 +47,26 @@ returns c =
 
 advance-requires : tie.Need-advance-requires Inv-loop μ-loop
 advance-requires c κs =
-    let h = c .before .before .before .before .before .before .before .loop in
-    ((omega (arith, c .before .before .before .before .before .before .loop-test .taken, h .inv .0 .within, h .inv .5), c .before .before .before .before .before .if1 .left), c .before .before .before .before .before .before .before .before .before .before .before .before .before .before .pre)
+    let h = c .before .before .before .before .before .before .before .before .loop in
+    ((omega (arith, c .before .before .before .before .before .before .before .loop-test .taken, h .inv .0 .within, h .inv .6), c .before .before .before .before .before .before .if1 .left), c .before .before .before .before .before .before .before .before .before .before .before .before .before .before .before .before .pre)
 
 loop-less : tie.Need-loop-less Inv-loop μ-loop
 loop-less c =
-    let a = c .before .before .before .before .before .before .before .before .before .before .before .advance in
-    let h = c .before .before .before .before .before .before .before .before .before .before .before .before .before .before .before .before .before .before .before .loop in
-    weight-falls _ (worldOf (h .now) (h .cells) (h .links) (h .calendar) (h .words)) _ (c .before .before .before .before .before .before .before .before .before .before .before .before .before .before .before .before .before .if1 .left) (omega arith) (advanced-onward _ _ _ _ _ _ _ _ (a .ensures))
+    let a = c .before .before .before .before .before .before .before .before .before .before .before .before .before .advance in
+    let h = c .before .before .before .before .before .before .before .before .before .before .before .before .before .before .before .before .before .before .before .before .before .before .loop in
+    weight-falls _ (worldOf (h .now) (h .cells) (h .links) (h .calendar) (h .words) (h .bits)) _ (c .before .before .before .before .before .before .before .before .before .before .before .before .before .before .before .before .before .before .before .before .if1 .left) (omega arith) (advanced-onward _ _ _ _ _ _ _ _ (a .ensures))
 
 loop-again : tie.Need-loop-again Inv-loop μ-loop
 loop-again c =
-    let a = c .before .before .before .before .before .before .before .before .before .before .before .advance in
-    let h = c .before .before .before .before .before .before .before .before .before .before .before .before .before .before .before .before .before .before .before .loop in
+    let a = c .before .before .before .before .before .before .before .before .before .before .before .before .before .advance in
+    let h = c .before .before .before .before .before .before .before .before .before .before .before .before .before .before .before .before .before .before .before .before .before .before .loop in
     let i = h .inv .0 in (
       record {
         steps = i .steps + a .ensures .steps;
-        ran = ran-then _ _ _ _ _ _ _ _ (h .out) _ _ (h .used) _ (h .inv .5) (i .ran) (a .ensures .ran);
-        within = omega (arith, a .ensures .within, h .inv .5);
+        ran = ran-then _ _ _ _ _ _ _ _ (h .out) _ _ (h .used) _ (h .inv .6) (i .ran) (a .ensures .ran);
+        within = omega (arith, a .ensures .within, h .inv .6);
       },
+      search needs,
       search needs,
       search needs,
       search needs,
@@ -87,28 +74,13 @@ loop-again c =
       search needs,
     )
 
-same-length-6 : tie.Need-same-length-6 Inv-loop μ-loop
-same-length-6 c = search needs
-
-same-length-7 : tie.Need-same-length-7 Inv-loop μ-loop
-same-length-7 c = search needs
-
-same-length-8 : tie.Need-same-length-8 Inv-loop μ-loop
-same-length-8 c = search needs
-
-same-length-9 : tie.Need-same-length-9 Inv-loop μ-loop
-same-length-9 c = search needs
-
-same-length-10 : tie.Need-same-length-10 Inv-loop μ-loop
-same-length-10 c = search needs
-
 returns-2 : tie.Need-returns-2 Inv-loop μ-loop
 returns-2 c =
     let h = c .before .loop in
     record {
       steps = h .inv .0 .steps;
       ran = h .inv .0 .ran;
-      full = inr (omega (arith, c .loop-test .left, h .inv .0 .within, h .inv .5));
+      full = inr (omega (arith, c .loop-test .left, h .inv .0 .within, h .inv .6));
       within = h .inv .0 .within;
     }
 
@@ -120,18 +92,20 @@ fill-trace-spec =
     μ-loop
     loop-holds
     sub-loop
-    same-length
-    same-length-2
-    same-length-3
-    same-length-4
-    same-length-5
+    (λ c. search needs)
+    (λ c. search needs)
+    (λ c. search needs)
+    (λ c. search needs)
+    (λ c. search needs)
+    (λ c. search needs)
     returns
     advance-requires
     loop-less
     loop-again
-    same-length-6
-    same-length-7
-    same-length-8
-    same-length-9
-    same-length-10
+    (λ c. search needs)
+    (λ c. search needs)
+    (λ c. search needs)
+    (λ c. search needs)
+    (λ c. search needs)
+    (λ c. search needs)
     returns-2)

@@ -9,26 +9,26 @@ use Rattle.list_step.proofs.set_up.Tie as tie
 returns : tie.Need-returns
 returns c run =
     let l = c .before .before .before .before in
-    let s = l .before .before .before .before .before .before .before .before .before .before .before in
-    let k = s .before .before .before .before .before in
-    let o = headOptions (k .before .before .before .before .before .before .before .args .head) in
-    setup-did run _ _ o _ _ _ _ _ _ _ _ _ _ _ _ _ _ (k .before .is-raw .ensures) (k .line-kind .ensures) (s .setup .ensures) _ _ (c .if1 .taken) (l .setup-line .ensures .0) (l .setup-line .ensures .1)
+    let s = l .before .before .before .before .before .before .before .before .before .before .before .before .before in
+    let k = s .before .before .before .before .before .before in
+    let o = headOptions (k .before .before .before .before .before .before .before .before .args .head) in
+    setup-did run _ _ o _ _ _ _ _ _ _ _ _ _ _ _ _ _ _ _ (k .before .is-raw .ensures) (k .line-kind .ensures) (s .setup .ensures) _ _ (c .if1 .taken) (l .setup-line .ensures .0) (l .setup-line .ensures .1)
 
 end-tally-requires : tie.Need-end-tally-requires
 end-tally-requires c κs =
     let l = c .before .before .before .before .before in
-    let s = l .before .before .before .before .before .before .before .before .before .before .before in
-    let k = s .before .before .before .before .before in
-    omega (arith, l .setup-line .ensures .1, k .before .before .before .before .before .before .before .pre)
+    let s = l .before .before .before .before .before .before .before .before .before .before .before .before .before in
+    let k = s .before .before .before .before .before .before in
+    omega (arith, l .setup-line .ensures .1, k .before .before .before .before .before .before .before .before .pre)
 
 returns-2 : tie.Need-returns-2
 returns-2 c run =
     let e = c .before .before in
     let l = e .before .before .before .before .before .before in
-    let s = l .before .before .before .before .before .before .before .before .before .before .before in
-    let k = s .before .before .before .before .before in
-    let o = headOptions (k .before .before .before .before .before .before .before .args .head) in
-    setup-ends run _ _ o _ _ _ _ _ _ _ _ _ _ _ _ _ _ (k .before .is-raw .ensures) (k .line-kind .ensures) (s .setup .ensures) _ _ _ _ (e .before .before .if1 .left) (l .setup-line .ensures .0) (l .setup-line .ensures .1) (e .end-tally .ensures .0) (e .end-tally .ensures .1)
+    let s = l .before .before .before .before .before .before .before .before .before .before .before .before .before in
+    let k = s .before .before .before .before .before .before in
+    let o = headOptions (k .before .before .before .before .before .before .before .before .args .head) in
+    setup-ends run _ _ o _ _ _ _ _ _ _ _ _ _ _ _ _ _ _ _ (k .before .is-raw .ensures) (k .line-kind .ensures) (s .setup .ensures) _ _ _ _ (e .before .before .if1 .left) (l .setup-line .ensures .0) (l .setup-line .ensures .1) (e .end-tally .ensures .0) (e .end-tally .ensures .1)
 
 pub set-up-spec : {M : Type 1} → statement M
 set-up-spec =
@@ -43,8 +43,10 @@ set-up-spec =
     (λ c. search needs)
     (λ c. search needs)
     (λ c. search needs)
+    (λ c. search needs)
     returns
     end-tally-requires
+    (λ c. search needs)
     (λ c. search needs)
     (λ c. search needs)
     (λ c. search needs)

@@ -1,4 +1,4 @@
--- `meaning::fresh_record` meets its contract: its twelve numbers are those of `freshRecord`, raw among them as 1 or 0.
+-- `meaning::fresh_record` meets its contract: its thirteen numbers are those of `freshRecord`, raw among them as 1 or 0.
 use Prim.Native.Nat.{ℕ, zero, suc, _+_, _-_, _≤_}
 use mathlib.Core.Path.{_≡_, refl}
 use mathlib.Core.Bool.{Bool, true, false}
@@ -29,4 +29,4 @@ returns c = rw (byte-is (c .args .raw), kind-is (c .args .kind) (c .pre .2), las
     last = omega arith
 
 pub fresh-record-spec : {M : Type 1} → statement M
-fresh-record-spec = tie.close (tie.spec (λ c. search needs) (λ c. search needs) (λ c. search needs) (λ c. search needs) returns)
+fresh-record-spec = tie.close (tie.spec (λ c. search needs) (λ c. search needs) (λ c. search needs) returns)

@@ -6,12 +6,12 @@ use Rattle.mem_walks.proofs.list.Statement.{statement}
 use Rattle.mem_walks.proofs.list.Tie as tie
 
 returns : tie.Need-returns
-returns c = list-empty _ _ _ _ _ _ _ (c .if1 .taken)
+returns c = list-empty _ _ _ _ _ _ (c .if1 .taken)
 
 returns-2 : tie.Need-returns-2
 returns-2 c =
     let k = c .before .before .before .before in
-    k .walk .ensures ∙ list-some _ _ _ _ _ _ _ (k .before .before .before .if1 .left)
+    k .walk .ensures ∙ list-some _ _ _ _ _ _ (k .before .before .before .if1 .left)
 
 pub list-spec : {M : Type 1} → statement M
 list-spec = tie.close (tie.spec returns (λ c κs. search needs) (λ c. search needs) (λ c. search needs) returns-2)

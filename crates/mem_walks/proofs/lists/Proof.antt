@@ -1,7 +1,7 @@
--- `mem_walks::lists` walks the Free List, the Output List and the queues, and stops as `listsOf` does.
+-- `mem_walks::lists` walks the Output List and the queues, and stops as `listsOf` does.
 use mathlib.Core.Path.{_∙_}
 use Rattle.mem_walks.specs.Walk.{walked}
-use Rattle.mem_walks.proofs.StoredLaws.{lists-free, lists-output, lists-on}
+use Rattle.mem_walks.proofs.StoredLaws.{lists-output, lists-on}
 use borrow.Author.Needs.{needs}
 use Rattle.mem_walks.proofs.lists.Statement.{statement}
 use Rattle.mem_walks.proofs.lists.Tie as tie
@@ -9,28 +9,15 @@ use Rattle.mem_walks.proofs.lists.Tie as tie
 returns : tie.Need-returns
 returns c =
     let e = c .before .before .before .before in
-    let d = e .before .before .before .before .before .before .before .before in
-    let a = d .before .before .before .before .before .before .before .before in
-    let r₀ = walked (a .list .result) (a .list .last .1 .1 .1 .1 .0) (a .list .last .1 .1 .1 .1 .1 .0) in
-    let r₁ = walked (d .list2 .result) (d .list2 .last .1 .1 .1 .1 .0) (d .list2 .last .1 .1 .1 .1 .1 .0) in
-    e .entries .ensures
-    ∙ lists-on _ _ _ _ _ _ _ _ r₀ (a .list .ensures) r₁ (d .list2 .ensures)
-    (d .before .before .before .if1 .taken) (e .before .before .before .if2 .taken)
+    let a = e .before .before .before .before .before .before .before .before in
+    let r₁ = walked (a .list .result) (a .list .last .1 .1 .1 .1 .0) (a .list .last .1 .1 .1 .1 .1 .0) in
+    e .entries .ensures ∙ lists-on _ _ _ _ _ _ _ r₁ (a .list .ensures) (e .before .before .before .if1 .taken)
 
 returns-2 : tie.Need-returns-2
 returns-2 c =
-    let d = c .before .before .before .before .before in
-    let a = d .before .before .before .before .before .before .before .before in
-    let r₀ = walked (a .list .result) (a .list .last .1 .1 .1 .1 .0) (a .list .last .1 .1 .1 .1 .1 .0) in
-    let r₁ = walked (d .list2 .result) (d .list2 .last .1 .1 .1 .1 .0) (d .list2 .last .1 .1 .1 .1 .1 .0) in
-    lists-output _ _ _ _ _ _ _ _ r₀ (a .list .ensures) r₁ (d .list2 .ensures)
-    (d .before .before .before .if1 .taken) (c .if2 .left)
-
-returns-3 : tie.Need-returns-3
-returns-3 c =
     let a = c .before .before .before .before .before in
-    let r₀ = walked (a .list .result) (a .list .last .1 .1 .1 .1 .0) (a .list .last .1 .1 .1 .1 .1 .0) in
-    lists-free _ _ _ _ _ _ _ _ r₀ (a .list .ensures) (c .if1 .left)
+    let r₁ = walked (a .list .result) (a .list .last .1 .1 .1 .1 .0) (a .list .last .1 .1 .1 .1 .1 .0) in
+    lists-output _ _ _ _ _ _ _ r₁ (a .list .ensures) (c .if1 .left)
 
 pub lists-spec : {M : Type 1} → statement M
 lists-spec =
@@ -38,13 +25,9 @@ lists-spec =
     (tie.spec
     (λ c κs. search needs)
     (λ c κs. search needs)
-    (λ c κs. search needs)
     (λ c. search needs)
     (λ c. search needs)
     returns
     (λ c. search needs)
     (λ c. search needs)
-    returns-2
-    (λ c. search needs)
-    (λ c. search needs)
-    returns-3)
+    returns-2)

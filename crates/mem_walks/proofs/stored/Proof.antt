@@ -14,10 +14,10 @@ returns c =
     let s = k .before .before .before .before .before .before .before .before in
     let spaces = g .gone .ensures .0 (c .before .before .if2 .taken) in
     let r = walked (k .lists .result) (k .lists .last .1 .1 .1 .1 .0) (k .lists .last .1 .1 .1 .1 .1 .0) in (
-      (λ h. stored-sound _ _ _ _ _ _ _ _ r (k .lists .ensures) (g .before .before .if1 .taken) spaces
+      (λ h. stored-sound _ _ _ _ _ _ _ r (k .lists .ensures) (g .before .before .if1 .taken) spaces
           (c .gone2 .ensures .0 h)),
       (
-        (λ t. c .gone2 .ensures .1 (stored-cells _ _ _ _ _ _ _ _ r (k .lists .ensures) (s .pre) t)),
+        (λ t. c .gone2 .ensures .1 (stored-cells _ _ _ _ _ _ _ r (k .lists .ensures) (s .pre) t)),
         (ap (λ (z : Walked). z .spaces) (k .lists .ensures), ap (λ (z : Walked). z .waits) (k .lists .ensures)),
       ),
     )
@@ -27,7 +27,7 @@ returns-2 c =
     let k = c .before .before .before .before .before .before .before .before in
     let s = k .before .before .before .before .before .before .before .before in
     let r = walked (k .lists .result) (k .lists .last .1 .1 .1 .1 .0) (k .lists .last .1 .1 .1 .1 .1 .0) in
-    let spaces = stored-spaces _ _ _ _ _ _ _ _ r (k .lists .ensures) (s .pre) in (
+    let spaces = stored-spaces _ _ _ _ _ _ _ r (k .lists .ensures) (s .pre) in (
       (λ h. false-true h),
       (
         (λ t. sym (c .if2 .left) ∙ c .before .gone .ensures .1 (spaces t)),
@@ -42,7 +42,7 @@ returns-3 c =
     let r = walked (k .lists .result) (k .lists .last .1 .1 .1 .1 .0) (k .lists .last .1 .1 .1 .1 .1 .0) in (
       (λ h. false-true h),
       (
-        (λ t. sym (c .if1 .left) ∙ stored-ok _ _ _ _ _ _ _ _ r (k .lists .ensures) (s .pre) t),
+        (λ t. sym (c .if1 .left) ∙ stored-ok _ _ _ _ _ _ _ r (k .lists .ensures) (s .pre) t),
         (ap (λ (z : Walked). z .spaces) (k .lists .ensures), ap (λ (z : Walked). z .waits) (k .lists .ensures)),
       ),
     )

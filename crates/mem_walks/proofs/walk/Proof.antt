@@ -10,12 +10,12 @@ use Rattle.mem_walks.proofs.walk.Statement.{statement}
 use Rattle.mem_walks.proofs.walk.Tie as tie
 
 abbrev Inv-loop : tie.InvT-loop
-Inv-loop links cells kind v spaces₀ waits₀ queued tail head x₀ spaces waits x =
+Inv-loop links cells kind v spaces₀ waits₀ tail head x₀ spaces waits x =
     (x < 65536) × (length spaces ≡ length spaces₀) × (length waits ≡ length waits₀)
-    × (walk links (nameOf kind v cells) queued tail x spaces waits ≡ walk links (nameOf kind v cells) queued tail head spaces₀ waits₀)
+    × (walk links (nameOf kind v cells) tail x spaces waits ≡ walk links (nameOf kind v cells) tail head spaces₀ waits₀)
 
 abbrev μ-loop : tie.MeasureT-loop
-μ-loop links cells kind v spaces₀ waits₀ queued tail head x₀ spaces waits x = sum spaces
+μ-loop links cells kind v spaces₀ waits₀ tail head x₀ spaces waits x = sum spaces
 
 loop-holds : tie.Need-loop-holds Inv-loop μ-loop
 loop-holds c = (search needs, refl, refl, refl)
@@ -26,7 +26,7 @@ returns c =
     let i = v .before .before in
     let k = i .before .before .before in
     let a = k .before .before in
-    turn-end _ _ _ _ _ _ _ _ _ (k .take .ensures) _ _ (v .visit .ensures)
+    turn-end _ _ _ _ _ _ _ _ (k .take .ensures) _ _ (v .visit .ensures)
     (i .if1 .taken) (c .before .if2 .taken) (c .if3 .taken)
     ∙ a .loop .inv .3
 
@@ -46,7 +46,7 @@ loop-again c =
       search needs,
       search needs,
       search needs,
-      turn-on _ _ _ _ _ _ _ _ _ (k .take .ensures) _ _ (v .visit .ensures)
+      turn-on _ _ _ _ _ _ _ _ (k .take .ensures) _ _ (v .visit .ensures)
           (i .if1 .taken) (c .before .before .if2 .taken) (c .before .if3 .left) _ (c .number-at .ensures)
           ∙ a .loop .inv .3,
     )
@@ -57,13 +57,13 @@ returns-2 c =
     let i = v .before .before in
     let k = i .before .before .before in
     let a = k .before .before in
-    turn-named _ _ _ _ _ _ _ _ _ (k .take .ensures) _ _ (v .visit .ensures) (i .if1 .taken) (c .if2 .left) ∙ a .loop .inv .3
+    turn-named _ _ _ _ _ _ _ _ (k .take .ensures) _ _ (v .visit .ensures) (i .if1 .taken) (c .if2 .left) ∙ a .loop .inv .3
 
 returns-3 : tie.Need-returns-3 Inv-loop μ-loop
 returns-3 c =
     let k = c .before .before .before in
     let a = k .before .before in
-    turn-taken _ _ _ _ _ _ _ _ _ (k .take .ensures) (c .if1 .left) ∙ a .loop .inv .3
+    turn-taken _ _ _ _ _ _ _ _ (k .take .ensures) (c .if1 .left) ∙ a .loop .inv .3
 
 pub walk-spec : {M : Type 1} → statement M
 walk-spec =

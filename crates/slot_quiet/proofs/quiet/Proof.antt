@@ -18,24 +18,30 @@ unfolding quietWork
 returns c =
     let at-if2 = c .before in
     let at-if1 = at-if2 .before in
-    let start = at-if1 .before .before .before .before .before .before .before .before in
+    let start = at-if1 .before .before .before .before .before .before .before .before .before in
     let a = start .args in
-    as-came (a .r) (now (a .cells)) (now (a .links)) (now (a .calendar)) (now (a .words)) _ _ (c .refuse .ensures)
-    (unfit-entry (quiet-work (a .k) (a .b) (a .j) (now (a .cells)) (now (a .links)) (now (a .calendar)) (now (a .words))) _
-    (quiet-entry (a .k) (a .b) (a .j) (now (a .cells)) (now (a .links)) (now (a .calendar)) (now (a .words)))
+    as-came (a .r) (now (a .cells)) (now (a .links)) (now (a .calendar)) (now (a .words)) (now (a .bits)) _ _ (c .refuse .ensures)
+    (unfit-entry (quiet-work (a .k) (a .b) (a .j) (now (a .cells)) (now (a .links)) (now (a .calendar)) (now (a .words)) (now (a .bits))) _
+    (quiet-entry (a .k) (a .b) (a .j) (now (a .cells)) (now (a .links)) (now (a .calendar)) (now (a .words)) (now (a .bits)))
     (tail-left _ _ _ (start .pre .0 .n-high) (at-if1 .if1 .taken) (at-if2 .if2 .taken)))
+
+quiet-unmarked-requires : tie.Need-quiet-unmarked-requires
+quiet-unmarked-requires c κs =
+    let pre = c .before .before .before .before .before .before .before .before .before .before .before .before .before .pre in
+    let z = pre .0 in
+    ((z .n-high, z .v-high, z .cells-long, z .links-long, z .words-long, z .rotation-low), (z .bits-long, pre .1))
 
 returns-2 : tie.Need-returns-2
 unfolding quietWork entryAt
 returns-2 c =
-    let at-quiet-unmarked = c .before .before .before .before in
-    let at-if2 = at-quiet-unmarked .before .before .before in
+    let at-quiet-unmarked = c .before .before .before .before .before .before in
+    let at-if2 = at-quiet-unmarked .before .before .before .before in
     let at-if1 = at-if2 .before in
-    let start = at-if1 .before .before .before .before .before .before .before .before in
+    let start = at-if1 .before .before .before .before .before .before .before .before .before in
     let a = start .args in
     at-quiet-unmarked .quiet-unmarked .ensures (now (a .calendar))
-    ∙ ap (finish (stateOf (a .r) (now (a .cells)) (now (a .links)) (now (a .calendar)) (now (a .words))))
-    (sym (unmarked (quiet-work (a .k) (a .b) (a .j) (now (a .cells)) (now (a .links)) (now (a .calendar)) (now (a .words)))
+    ∙ ap (finish (stateOf (a .r) (now (a .cells)) (now (a .links)) (now (a .calendar)) (now (a .words)) (now (a .bits))))
+    (sym (unmarked (quiet-work (a .k) (a .b) (a .j) (now (a .cells)) (now (a .links)) (now (a .calendar)) (now (a .words)) (now (a .bits)))
     (λ i. record { head = at-if1 .if1 .taken i; tail = at-if2 .if2 .left i })))
 
 returns-3 : tie.Need-returns-3
@@ -43,11 +49,11 @@ unfolding quietWork
 returns-3 c =
     let at-if3 = c .before in
     let at-if1 = at-if3 .before .before in
-    let start = at-if1 .before .before .before .before .before .before .before .before in
+    let start = at-if1 .before .before .before .before .before .before .before .before .before in
     let a = start .args in
-    as-came (a .r) (now (a .cells)) (now (a .links)) (now (a .calendar)) (now (a .words)) _ _ (c .refuse2 .ensures)
-    (unfit-entry (quiet-work (a .k) (a .b) (a .j) (now (a .cells)) (now (a .links)) (now (a .calendar)) (now (a .words))) _
-    (quiet-entry (a .k) (a .b) (a .j) (now (a .cells)) (now (a .links)) (now (a .calendar)) (now (a .words)))
+    as-came (a .r) (now (a .cells)) (now (a .links)) (now (a .calendar)) (now (a .words)) (now (a .bits)) _ _ (c .refuse2 .ensures)
+    (unfit-entry (quiet-work (a .k) (a .b) (a .j) (now (a .cells)) (now (a .links)) (now (a .calendar)) (now (a .words)) (now (a .bits))) _
+    (quiet-entry (a .k) (a .b) (a .j) (now (a .cells)) (now (a .links)) (now (a .calendar)) (now (a .words)) (now (a .bits)))
     (head-high _ _ _ (at-if1 .if1 .left) (at-if3 .if3 .taken)))
 
 returns-4 : tie.Need-returns-4
@@ -55,11 +61,11 @@ unfolding quietWork
 returns-4 c =
     let at-if4 = c .before in
     let at-if3 = at-if4 .before .before in
-    let start = at-if3 .before .before .before .before .before .before .before .before .before .before in
+    let start = at-if3 .before .before .before .before .before .before .before .before .before .before .before in
     let a = start .args in
-    as-came (a .r) (now (a .cells)) (now (a .links)) (now (a .calendar)) (now (a .words)) _ _ (c .refuse3 .ensures)
-    (unfit-entry (quiet-work (a .k) (a .b) (a .j) (now (a .cells)) (now (a .links)) (now (a .calendar)) (now (a .words))) _
-    (quiet-entry (a .k) (a .b) (a .j) (now (a .cells)) (now (a .links)) (now (a .calendar)) (now (a .words)))
+    as-came (a .r) (now (a .cells)) (now (a .links)) (now (a .calendar)) (now (a .words)) (now (a .bits)) _ _ (c .refuse3 .ensures)
+    (unfit-entry (quiet-work (a .k) (a .b) (a .j) (now (a .cells)) (now (a .links)) (now (a .calendar)) (now (a .words)) (now (a .bits))) _
+    (quiet-entry (a .k) (a .b) (a .j) (now (a .cells)) (now (a .links)) (now (a .calendar)) (now (a .words)) (now (a .bits)))
     (tail-high _ _ _ (start .pre .0 .n-high) (at-if3 .if3 .left) (at-if4 .if4 .taken)))
 
 returns-5 : tie.Need-returns-5
@@ -68,37 +74,37 @@ returns-5 c =
     let at-if5 = c .before in
     let at-pair = at-if5 .before in
     let at-if1 = at-pair .before .before .before .before .before in
-    let start = at-if1 .before .before .before .before .before .before .before .before in
+    let start = at-if1 .before .before .before .before .before .before .before .before .before in
     let a = start .args in
-    as-came (a .r) (now (a .cells)) (now (a .links)) (now (a .calendar)) (now (a .words)) _ _ (c .refuse4 .ensures)
-    (unfit-output (quiet-work (a .k) (a .b) (a .j) (now (a .cells)) (now (a .links)) (now (a .calendar)) (now (a .words))) _
-    (quiet-entry (a .k) (a .b) (a .j) (now (a .cells)) (now (a .links)) (now (a .calendar)) (now (a .words)))
+    as-came (a .r) (now (a .cells)) (now (a .links)) (now (a .calendar)) (now (a .words)) (now (a .bits)) _ _ (c .refuse4 .ensures)
+    (unfit-output (quiet-work (a .k) (a .b) (a .j) (now (a .cells)) (now (a .links)) (now (a .calendar)) (now (a .words)) (now (a .bits))) _
+    (quiet-entry (a .k) (a .b) (a .j) (now (a .cells)) (now (a .links)) (now (a .calendar)) (now (a .words)) (now (a .bits)))
     (not-shown _ _ (at-pair .pair .ensures) (at-if5 .if5 .taken)))
 
 quiet-marked-requires : tie.Need-quiet-marked-requires
 quiet-marked-requires c κs =
-    let at-if5 = c .before .before .before in
+    let at-if5 = c .before .before .before .before in
     let at-pair = at-if5 .before in
     let at-if3 = at-pair .before .before .before in
-    let start = at-if3 .before .before .before .before .before .before .before .before .before .before in
+    let start = at-if3 .before .before .before .before .before .before .before .before .before .before .before in
     let pre = start .pre in
     (pre .0, (pre .1, (at-if3 .if3 .left, shown _ _ (at-pair .pair .ensures) (at-if5 .if5 .left))))
 
 returns-6 : tie.Need-returns-6
 unfolding quietWork
 returns-6 c =
-    let at-quiet-marked = c .before .before .before .before .before .before in
-    let at-if5 = at-quiet-marked .before .before .before .before in
+    let at-quiet-marked = c .before .before .before .before .before .before .before .before in
+    let at-if5 = at-quiet-marked .before .before .before .before .before in
     let at-pair = at-if5 .before in
     let at-if4 = at-pair .before in
     let at-if3 = at-if4 .before .before in
     let at-if1 = at-if3 .before .before in
-    let start = at-if1 .before .before .before .before .before .before .before .before in
+    let start = at-if1 .before .before .before .before .before .before .before .before .before in
     let a = start .args in
     at-quiet-marked .quiet-marked .ensures
-    ∙ ap (finish (stateOf (a .r) (now (a .cells)) (now (a .links)) (now (a .calendar)) (now (a .words))))
-    (sym (marked (quiet-work (a .k) (a .b) (a .j) (now (a .cells)) (now (a .links)) (now (a .calendar)) (now (a .words))) _
-    (quiet-entry (a .k) (a .b) (a .j) (now (a .cells)) (now (a .links)) (now (a .calendar)) (now (a .words)))
+    ∙ ap (finish (stateOf (a .r) (now (a .cells)) (now (a .links)) (now (a .calendar)) (now (a .words)) (now (a .bits))))
+    (sym (marked (quiet-work (a .k) (a .b) (a .j) (now (a .cells)) (now (a .links)) (now (a .calendar)) (now (a .words)) (now (a .bits))) _
+    (quiet-entry (a .k) (a .b) (a .j) (now (a .cells)) (now (a .links)) (now (a .calendar)) (now (a .words)) (now (a .bits)))
     (both-low _ _ _ (at-if3 .if3 .left) (at-if4 .if4 .left))
     (shown _ _ (at-pair .pair .ensures) (at-if5 .if5 .left)) (at-if1 .if1 .left)))
 
@@ -115,7 +121,8 @@ quiet-spec =
     (λ c. search needs)
     (λ c κs. search needs)
     returns
-    (λ c κs. search needs)
+    quiet-unmarked-requires
+    (λ c. search needs)
     (λ c. search needs)
     (λ c. search needs)
     returns-2
@@ -127,6 +134,7 @@ quiet-spec =
     (λ c κs. search needs)
     returns-5
     quiet-marked-requires
+    (λ c. search needs)
     (λ c. search needs)
     (λ c. search needs)
     (λ c. search needs)

@@ -1,9 +1,7 @@
 -- `slot_quiet::quiet_end` meets its contract: steps 2 and 3 keep what waits, so that the departing VC has a cell waiting.
 use native.Mathlib.Omega.{arith}
-use borrow.Author.Tests.{eqb-false, not-true}
 use denote.Ref.{now}
 use mathlib.Core.List.{[]}
-use Rattle.meaning.proofs.ListsLaws.{fit-tail}
 use Rattle.slot_plan.proofs.Cases.{quiet-kept}
 use Rattle.slot_plan.proofs.Ends.{read-same, quiet-left}
 use borrow.Author.Needs.{needs}
@@ -12,40 +10,43 @@ use Rattle.slot_quiet.proofs.quiet_end.Tie as tie
 
 words-fall-requires : tie.Need-words-fall-requires
 words-fall-requires c κs =
-    let start = c .before .before .before in
+    let start = c .before .before .before .before in
     let pre = start .pre in (λ e. omega arith, λ e. let h = pre .1 .0 e in omega (arith, h))
 
 put-less-requires : tie.Need-put-less-requires
 put-less-requires c κs =
     let at-words-fall = c .before .before .before in
-    let start = at-words-fall .before .before .before .before in
+    let start = at-words-fall .before .before .before .before .before in
     let a = start .args in
     let pre = start .pre in (
       omega arith,
       read-same _ _ _ (at-words-fall .words-fall .ensures)
-          (rw (quiet-kept (a .k) (a .b) (a .j) [] [] [] (now (a .words)) .waiting (a .o .vci)) (pre .0 .4)),
+          (rw (quiet-kept (a .k) (a .b) (a .j) [] [] [] (now (a .words)) [] .waiting (a .o .vci)) (pre .0 .4)),
     )
 
-links-leave-requires : tie.Need-links-leave-requires
-links-leave-requires c κs =
-    let start = c .before .before .before .before .before .before .before .before .before .before .before in
-    let pre = start .pre in (
-      λ e. let h = pre .1 .1 .0 e in omega (arith, h),
-      λ e. let h = fit-tail _ _ (pre .1 .1 .1)
-          (eqb-false _ _ (not-true _ e)) in omega (arith, h),
-    )
+put-link-requires : tie.Need-put-link-requires
+put-link-requires c κs =
+    let start = c .before .before .before .before .before .before .before .before .before .before .before .before in
+    let pre = start .pre in
+    λ e. let h = pre .1 .1 .0 e in omega (arith, h)
+
+same-length-2 : tie.Need-same-length-2
+same-length-2 c =
+    let at-put-less = c .before .before .before .before .before .before .before .before .before .before .before .before in
+    let at-words-fall = at-put-less .before .before .before .before in
+    omega (arith, at-words-fall .words-fall .kept, at-put-less .put-less .kept)
 
 returns : tie.Need-returns
 returns c =
-    let at-links-leave = c .before .before .before in
-    let at-put-less = at-links-leave .before .before .before .before in
+    let at-put-link = c .before .before .before .before .before .before .before .before in
+    let at-put-less = at-put-link .before .before .before .before in
     let at-words-fall = at-put-less .before .before .before .before in
-    let start = at-words-fall .before .before .before .before in
+    let start = at-words-fall .before .before .before .before .before in
     λ cells calendar calendar′.
     let a = start .args in
-    quiet-left (a .k) (a .b) (a .j) (a .o) cells (now (a .links)) calendar (now (a .words)) (c .left .result) _ _ calendar′ _
-    _ (c .left .ensures) (at-links-leave .links-leave .ensures) (at-words-fall .words-fall .ensures)
-    (at-put-less .put-less .ensures)
+    quiet-left (a .k) (a .b) (a .j) (a .o) cells (now (a .links)) calendar (now (a .words)) (now (a .bits)) (c .left .result) _ _ calendar′ _
+    _ _ _ (c .left .ensures) (at-put-link .put-link .ensures) (at-words-fall .words-fall .ensures)
+    (at-put-less .put-less .ensures) (c .before .before .before .before .release .ensures)
 
 pub quiet-end-spec : {M : Type 1} → statement M
 quiet-end-spec =
@@ -53,8 +54,11 @@ quiet-end-spec =
     (tie.spec
     words-fall-requires
     put-less-requires
-    links-leave-requires
+    put-link-requires
+    (λ c κs. search needs)
+    (λ c. record { fits = omega (arith, c .before .before .before .before .before .before .before .before .before .before .before .before .before .before .before .before .before .before .before .before .pre .1 .1 .1 .0) })
     (λ c κs. search needs)
     (λ c. search needs)
+    same-length-2
     (λ c. search needs)
     returns)

@@ -16,9 +16,14 @@ returns : tie.Need-returns
 returns c =
     let at-words-fall = c .before .before in
     let start = at-words-fall .before .before .before in
-    λ cells links calendar.
+    λ cells links calendar bits.
     let a = start .args in
-    quiet-served (a .k) (a .b) (a .j) cells links calendar (now (a .words)) _ _ refl refl (at-words-fall .words-fall .ensures)
+    quiet-served (a .k) (a .b) (a .j) cells links calendar (now (a .words)) bits _ _ refl refl (at-words-fall .words-fall .ensures)
 
 pub quiet-none-spec : {M : Type 1} → statement M
-quiet-none-spec = tie.close (tie.spec words-fall-requires (λ c. search needs) returns)
+quiet-none-spec =
+    tie.close
+    (tie.spec
+    words-fall-requires
+    (λ c. search needs)
+    returns)

@@ -17,11 +17,11 @@ unfolding quietWork
 returns c =
     let at-if2 = c .before in
     let at-if1 = at-if2 .before .before in
-    let start = at-if1 .before .before .before .before .before in
+    let start = at-if1 .before .before .before .before .before .before in
     λ calendar.
     let a = start .args in
-    as-came (a .r) (now (a .cells)) (now (a .links)) calendar (now (a .words)) _ _ (c .refuse .ensures)
-    (unmarked-unfit (quiet-work (a .k) (a .b) (a .j) (now (a .cells)) (now (a .links)) calendar (now (a .words)))
+    as-came (a .r) (now (a .cells)) (now (a .links)) calendar (now (a .words)) (now (a .bits)) _ _ (c .refuse .ensures)
+    (unmarked-unfit (quiet-work (a .k) (a .b) (a .j) (now (a .cells)) (now (a .links)) calendar (now (a .words)) (now (a .bits)))
     (tail-left _ _ _ (start .pre .0 .0) (at-if1 .if1 .taken) (at-if2 .if2 .taken)))
 
 returns-2 : tie.Need-returns-2
@@ -30,24 +30,24 @@ returns-2 c =
     let at-quiet-none = c .before .before in
     let at-if2 = at-quiet-none .before .before in
     let at-if1 = at-if2 .before .before in
-    let start = at-if1 .before .before .before .before .before in
+    let start = at-if1 .before .before .before .before .before .before in
     λ calendar.
     let a = start .args in
-    went (a .r) (now (a .cells)) (now (a .links)) calendar (now (a .words)) _ _ _
-    (unmarked-none (quiet-work (a .k) (a .b) (a .j) (now (a .cells)) (now (a .links)) calendar (now (a .words)))
+    went (a .r) (now (a .cells)) (now (a .links)) calendar (now (a .words)) (now (a .bits)) _ _ _
+    (unmarked-none (quiet-work (a .k) (a .b) (a .j) (now (a .cells)) (now (a .links)) calendar (now (a .words)) (now (a .bits)))
     (both-empty _ _ _ (start .pre .0 .0) (at-if1 .if1 .taken) (at-if2 .if2 .left)) (at-if1 .if1 .taken))
-    (at-quiet-none .quiet-none .ensures (now (a .cells)) (now (a .links)) calendar)
+    (at-quiet-none .quiet-none .ensures (now (a .cells)) (now (a .links)) calendar (now (a .bits)))
 
 returns-3 : tie.Need-returns-3
 unfolding quietWork
 returns-3 c =
     let at-if3 = c .before in
     let at-if1 = at-if3 .before .before in
-    let start = at-if1 .before .before .before .before .before in
+    let start = at-if1 .before .before .before .before .before .before in
     λ calendar.
     let a = start .args in
-    as-came (a .r) (now (a .cells)) (now (a .links)) calendar (now (a .words)) _ _ (c .refuse2 .ensures)
-    (unmarked-unfit (quiet-work (a .k) (a .b) (a .j) (now (a .cells)) (now (a .links)) calendar (now (a .words)))
+    as-came (a .r) (now (a .cells)) (now (a .links)) calendar (now (a .words)) (now (a .bits)) _ _ (c .refuse2 .ensures)
+    (unmarked-unfit (quiet-work (a .k) (a .b) (a .j) (now (a .cells)) (now (a .links)) calendar (now (a .words)) (now (a .bits)))
     (head-high _ _ (a .k .outtail) (at-if1 .if1 .left) (at-if3 .if3 .taken)))
 
 returns-4 : tie.Need-returns-4
@@ -55,26 +55,32 @@ unfolding quietWork
 returns-4 c =
     let at-if4 = c .before in
     let at-if3 = at-if4 .before .before in
-    let start = at-if3 .before .before .before .before .before .before .before in
+    let start = at-if3 .before .before .before .before .before .before .before .before in
     λ calendar.
     let a = start .args in
-    as-came (a .r) (now (a .cells)) (now (a .links)) calendar (now (a .words)) _ _ (c .refuse3 .ensures)
-    (unmarked-unfit (quiet-work (a .k) (a .b) (a .j) (now (a .cells)) (now (a .links)) calendar (now (a .words)))
+    as-came (a .r) (now (a .cells)) (now (a .links)) calendar (now (a .words)) (now (a .bits)) _ _ (c .refuse3 .ensures)
+    (unmarked-unfit (quiet-work (a .k) (a .b) (a .j) (now (a .cells)) (now (a .links)) calendar (now (a .words)) (now (a .bits)))
     (tail-high _ _ _ (start .pre .0 .0) (at-if3 .if3 .left) (at-if4 .if4 .taken)))
+
+quiet-output-requires : tie.Need-quiet-output-requires
+quiet-output-requires c κs =
+    let at-if3 = c .before .before .before .before .before in
+    let pre = c .before .before .before .before .before .before .before .before .before .before .before .before .before .pre in
+    (pre .0, (pre .1 .0, (at-if3 .if3 .left, pre .1 .1)))
 
 returns-5 : tie.Need-returns-5
 unfolding quietWork
 returns-5 c =
-    let at-quiet-output = c .before .before .before .before in
-    let at-if4 = at-quiet-output .before .before .before in
+    let at-quiet-output = c .before .before .before .before .before .before in
+    let at-if4 = at-quiet-output .before .before .before .before in
     let at-if3 = at-if4 .before .before in
     let at-if1 = at-if3 .before .before in
-    let start = at-if1 .before .before .before .before .before in
+    let start = at-if1 .before .before .before .before .before .before in
     λ calendar.
     let a = start .args in
     at-quiet-output .quiet-output .ensures calendar
-    ∙ ap (finish (stateOf (a .r) (now (a .cells)) (now (a .links)) calendar (now (a .words))))
-    (sym (unmarked-output (quiet-work (a .k) (a .b) (a .j) (now (a .cells)) (now (a .links)) calendar (now (a .words)))
+    ∙ ap (finish (stateOf (a .r) (now (a .cells)) (now (a .links)) calendar (now (a .words)) (now (a .bits))))
+    (sym (unmarked-output (quiet-work (a .k) (a .b) (a .j) (now (a .cells)) (now (a .links)) calendar (now (a .words)) (now (a .bits)))
     (both-low _ _ _ (at-if3 .if3 .left) (at-if4 .if4 .left)) (at-if1 .if1 .left)))
 
 pub quiet-unmarked-spec : {M : Type 1} → statement M
@@ -90,7 +96,8 @@ quiet-unmarked-spec =
     returns-3
     (λ c κs. search needs)
     returns-4
-    (λ c κs. search needs)
+    quiet-output-requires
+    (λ c. search needs)
     (λ c. search needs)
     (λ c. search needs)
     returns-5)

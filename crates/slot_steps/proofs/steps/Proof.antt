@@ -3,6 +3,7 @@ use mathlib.Core.Path.{sym, _∙_, ap}
 use native.Mathlib.Omega.{arith}
 use denote.Ref.{now}
 use borrow.Author.Tests.{eq-eqb, eqb-true, not-true, not-false}
+use Rattle.meaning.specs.Bits.{lowestFree}
 use Rattle.meaning.specs.State.{stateOf}
 use Rattle.meaning.specs.Slot.{finish}
 use Rattle.slot_arrive.specs.declared.Judged.{Judged}
@@ -20,11 +21,11 @@ returns : tie.Need-returns
 returns c =
     let at-if1 = c .before in
     let at-bring = at-if1 .before .before in
-    let start = at-bring .before .before .before .before .before .before .before in
+    let start = at-bring .before .before .before .before .before .before .before .before in
     let a = start .args in
     let pre = start .pre in
-    as-came (a .r) (now (a .cells)) (now (a .links)) (now (a .calendar)) (now (a .words)) _ _ (c .refuse .ensures)
-    (rotating-none (a .k) (now (a .cell)) (now (a .cells)) (now (a .links)) (now (a .calendar)) (now (a .words)) _
+    as-came (a .r) (now (a .cells)) (now (a .links)) (now (a .calendar)) (now (a .words)) (now (a .bits)) _ _ (c .refuse .ensures)
+    (rotating-none (a .k) (lowestFree (now (a .bits))) (now (a .cell)) (now (a .cells)) (now (a .links)) (now (a .calendar)) (now (a .words)) (now (a .bits)) _
     (at-bring .bring .ensures) (not-true _ (at-if1 .if1 .taken)))
 
 returns-2 : tie.Need-returns-2
@@ -34,11 +35,11 @@ returns-2 c =
     let at-name = at-judge .before .before in
     let at-if1 = at-name .before in
     let at-bring = at-if1 .before .before in
-    let start = at-bring .before .before .before .before .before .before .before in
+    let start = at-bring .before .before .before .before .before .before .before .before in
     let a = start .args in
     let pre = start .pre in
-    as-came (a .r) (now (a .cells)) (now (a .links)) (now (a .calendar)) (now (a .words)) _ _ (c .refuse2 .ensures)
-    (arriving-none (a .k) (now (a .cell)) (now (a .cells)) (now (a .links)) (now (a .calendar)) (now (a .words)) _
+    as-came (a .r) (now (a .cells)) (now (a .links)) (now (a .calendar)) (now (a .words)) (now (a .bits)) _ _ (c .refuse2 .ensures)
+    (arriving-none (a .k) (lowestFree (now (a .bits))) (now (a .cell)) (now (a .cells)) (now (a .links)) (now (a .calendar)) (now (a .words)) (now (a .bits)) _
     (at-bring .bring .ensures) _ (at-judge .judge .ensures
     ∙ judged-cell (a .k .n) (a .k .v) (a .k .kind) (a .k .t) (now (a .words)) (now (a .cell)) _ (omega (arith, pre .0 .v-high))
     (at-name .name-of .ensures .0) (at-name .name-of .ensures .1)) (omega (arith, pre .0 .rotation-low, pre .0 .words-long))
@@ -48,17 +49,17 @@ returns-2 c =
 judge-requires : tie.Need-judge-requires
 unfolding cellName
 judge-requires c κs =
-    let start = c .before .before .before .before .before .before .before .before .before .before .before in
+    let start = c .before .before .before .before .before .before .before .before .before .before .before .before in
     let pre = start .pre in
     (omega (arith, pre .0 .words-long), pre .0 .v-high, λ ne. pre .1 (λ z. ne (c .before .name-of .ensures .0 ∙ simp (eq-eqb _ _ z))))
 
 accept-requires : tie.Need-accept-requires
 accept-requires c κs =
-    let at-if3 = c .before .before .before .before in
+    let at-if3 = c .before .before .before .before .before in
     let at-if2 = at-if3 .before .before in
     let at-judge = at-if2 .before .before in
     let at-name = at-judge .before .before in
-    let start = at-name .before .before .before .before .before .before .before .before .before .before in
+    let start = at-name .before .before .before .before .before .before .before .before .before .before .before in
     let a = start .args in
     let pre = start .pre in
     let e = at-judge .judge .ensures
@@ -72,19 +73,19 @@ accept-requires c κs =
 
 returns-3 : tie.Need-returns-3
 returns-3 c =
-    let at-accept = c .before .before .before .before .before .before .before .before in
-    let at-if3 = at-accept .before .before .before .before .before in
+    let at-accept = c .before .before .before .before .before .before .before .before .before .before in
+    let at-if3 = at-accept .before .before .before .before .before .before in
     let at-if2 = at-if3 .before .before in
     let at-judge = at-if2 .before .before in
     let at-name = at-judge .before .before in
     let at-if1 = at-name .before in
     let at-bring = at-if1 .before .before in
-    let start = at-bring .before .before .before .before .before .before .before in
+    let start = at-bring .before .before .before .before .before .before .before .before in
     let a = start .args in
     let pre = start .pre in
     at-accept .accept .ensures ∙ ap (finish (stateOf (a .r) (now (a .cells)) (now (a .links)) (now (a .calendar))
-    (now (a .words)))) (sym (arriving-accepted (a .k) (now (a .cell)) (now (a .cells)) (now (a .links)) (now (a .calendar))
-    (now (a .words)) _ (at-bring .bring .ensures) _ (at-judge .judge .ensures
+    (now (a .words)) (now (a .bits)))) (sym (arriving-accepted (a .k) (lowestFree (now (a .bits))) (now (a .cell)) (now (a .cells)) (now (a .links)) (now (a .calendar))
+    (now (a .words)) (now (a .bits)) _ (at-bring .bring .ensures) _ (at-judge .judge .ensures
     ∙ judged-cell (a .k .n) (a .k .v) (a .k .kind) (a .k .t) (now (a .words)) (now (a .cell)) _ (omega (arith, pre .0 .v-high))
     (at-name .name-of .ensures .0) (at-name .name-of .ensures .1))
     (omega (arith, pre .0 .rotation-low, pre .0 .words-long)) (not-false _ (at-if1 .if1 .left))
@@ -92,10 +93,10 @@ returns-3 c =
 
 quiet-requires : tie.Need-quiet-requires
 quiet-requires c κs =
-    let at-if2 = c .before .before .before .before .before .before in
+    let at-if2 = c .before .before .before .before .before .before .before in
     let at-judge = at-if2 .before .before in
     let at-name = at-judge .before .before in
-    let start = at-name .before .before .before .before .before .before .before .before .before .before in
+    let start = at-name .before .before .before .before .before .before .before .before .before .before .before in
     let a = start .args in
     let pre = start .pre in
     let e = at-judge .judge .ensures
@@ -109,19 +110,19 @@ quiet-requires c κs =
 
 returns-4 : tie.Need-returns-4
 returns-4 c =
-    let at-quiet = c .before .before .before .before .before .before in
-    let at-if3 = at-quiet .before .before .before .before .before in
+    let at-quiet = c .before .before .before .before .before .before .before .before in
+    let at-if3 = at-quiet .before .before .before .before .before .before in
     let at-if2 = at-if3 .before .before in
     let at-judge = at-if2 .before .before in
     let at-name = at-judge .before .before in
     let at-if1 = at-name .before in
     let at-bring = at-if1 .before .before in
-    let start = at-bring .before .before .before .before .before .before .before in
+    let start = at-bring .before .before .before .before .before .before .before .before in
     let a = start .args in
     let pre = start .pre in
     at-quiet .quiet .ensures ∙ ap (finish (stateOf (a .r) (now (a .cells)) (now (a .links)) (now (a .calendar))
-    (now (a .words)))) (sym (arriving-quiet (a .k) (now (a .cell)) (now (a .cells)) (now (a .links)) (now (a .calendar))
-    (now (a .words)) _ (at-bring .bring .ensures) _ (at-judge .judge .ensures
+    (now (a .words)) (now (a .bits)))) (sym (arriving-quiet (a .k) (lowestFree (now (a .bits))) (now (a .cell)) (now (a .cells)) (now (a .links)) (now (a .calendar))
+    (now (a .words)) (now (a .bits)) _ (at-bring .bring .ensures) _ (at-judge .judge .ensures
     ∙ judged-cell (a .k .n) (a .k .v) (a .k .kind) (a .k .t) (now (a .words)) (now (a .cell)) _ (omega (arith, pre .0 .v-high))
     (at-name .name-of .ensures .0) (at-name .name-of .ensures .1))
     (omega (arith, pre .0 .rotation-low, pre .0 .words-long)) (not-false _ (at-if1 .if1 .left))
@@ -146,8 +147,10 @@ steps-spec =
     (λ c. search needs)
     (λ c. search needs)
     (λ c. search needs)
+    (λ c. search needs)
     returns-3
     quiet-requires
+    (λ c. search needs)
     (λ c. search needs)
     (λ c. search needs)
     (λ c. search needs)

@@ -1,0 +1,4 @@
+pub mod Tally
+pub mod Step
+pub mod Delays
+pub mod Laws

@@ -1,0 +1,1 @@
+// The slot with a Free List, as it was before the bits: no code, only what it means.

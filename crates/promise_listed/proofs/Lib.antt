@@ -1,0 +1,9 @@
+pub mod FollowLaws
+pub mod ChainLaws
+pub mod TiedLaws
+pub mod StepLaws
+pub mod SlotLaws
+pub mod FreshLaws
+pub mod RunLaws
+pub mod Top
+pub mod Differs

@@ -1,0 +1,3 @@
+pub mod Operators
+pub mod Untouched
+pub mod Pairs
