@@ -7,7 +7,6 @@ pub mod TableRule
 pub mod Flip
 pub mod Syndrome
 pub mod Errors
-pub mod Counts
 pub mod ModeLaws
 pub mod WordLaws
 pub mod CellLaws

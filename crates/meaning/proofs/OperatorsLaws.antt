@@ -13,7 +13,7 @@ use Rattle.meaning.specs.Plain.{if_then_else_, _<?_, _≤?_, _=?_}
 use Rattle.meaning.specs.Numbers.{mostN, leastV, mostV, rangesHold, splitsHold, paths}
 use Rattle.meaning.specs.State.{wordsLong}
 use Rattle.meaning.specs.Header.{Name, byVci, byVpi, named, numberIn}
-use Rattle.meaning.specs.Operators.{secondOperator, ownerOf, owns}
+use Rattle.meaning.specs.Operators.{firstOperator, secondOperator, ownerOf, owns}
 use Rattle.meaning.specs.Bucket.{bucketOf, obeysRules}
 use Rattle.meaning.specs.Words.{Connection, Second, connectionAt, writeConnection, connectionFits, secondObeys, openedConnection, closedConnection, debt}
 use Rattle.meaning.specs.Calls.{Kind, optionsOf, Allowed, Called, calledOf, sharedRefusal, openCall, closeCall}
@@ -49,6 +49,12 @@ pub alone-owns : (r : Record) (name : Name) → r .splitvci ≡ 1 → r .splitpa
 unfolding owns ownerOf named
 alone-owns r (byVci vci) e f is = rw (e, le-ltb vci 1 (leb-true 1 vci (both (1 ≤? vci) (vci <? r .v) is .0)))
 alone-owns r (byVpi vpi) e f is = rw (f, le-ltb vpi 1 (leb-true 1 vpi (both (1 ≤? vpi) (vpi <? paths) is .0)))
+
+-- a path is judged by the split path number alone
+pub path-owner : (splitvci splitpath vpi : ℕ)
+    → ownerOf splitvci splitpath (byVpi vpi) ≡ (if vpi <? splitpath then firstOperator else secondOperator)
+unfolding ownerOf
+path-owner splitvci splitpath vpi = refl
 
 -- ── 16, before any word is read ──
 module _ (r : Record) (words : List ℕ) (who : ℕ) (name : Name) (ranges : rangesHold (r .n) (r .v) ≡ true)

@@ -23,7 +23,7 @@ use Rattle.meaning.specs.Next.{waitOf, waitFor}
 use Rattle.meaning.specs.Calls.{UNI, optionsWith}
 use Rattle.meaning_runs.specs.Run.{Call, onOpenWith, onClose, onSlot, Event, opened, closed, ran, numberOf, Run, calls, freshRun}
 use Rattle.meaning_runs.specs.Seen.{cellsOf, departureAt}
-use Rattle.promises.specs.Reached.{cleanFor}
+use Rattle.promise_limits.specs.Reached.{cleanFor}
 use Rattle.promise_operators.specs.Operators.{Card, Ask, asked, closedWith}
 
 abbrev pub cardOf : ℕ → Card

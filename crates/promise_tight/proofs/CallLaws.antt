@@ -33,7 +33,7 @@ use Rattle.theory_table.specs.Stored.{ConnectionIs}
 use Rattle.theory_invariant.proofs.CallLaws.{shared-in}
 use Rattle.theory_invariant.proofs.CheckLaws.{slot-served}
 use Rattle.theory_invariant.proofs.RunLaws.{Kept}
-use Rattle.promises.specs.Reached.{cleanFor}
+use Rattle.promise_limits.specs.Reached.{cleanFor}
 use Rattle.promises.specs.Sustained.{byPeak}
 use Rattle.promises.proofs.SustainedLaws.{peak-alone, none-above}
 use Rattle.promise_bound.proofs.CellLaws.{cells-new, cells-not}

@@ -18,7 +18,7 @@ use Rattle.meaning_runs.specs.Seen.{noDeparture, departuresOf, cellAt, departur
 use Rattle.theory_invariant.proofs.FreshLaws.{ranges-are}
 use Rattle.promises.specs.Demand3.{Demand3}
 use Rattle.promises.proofs.Demand3Laws.{demanded}
-use Rattle.promises.proofs.ReachedLaws.{not-within}
+use Rattle.promise_limits.proofs.ReachedLaws.{not-within}
 use Rattle.promise_bound.specs.Bound.{inWindow}
 use Rattle.promise_bound.proofs.CountLaws.{count}
 use Rattle.promise_tight.specs.Tight.{lateCalls, LateIn, LateAtEveryN, LeastLate}

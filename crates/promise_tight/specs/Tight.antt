@@ -15,7 +15,7 @@ use Rattle.meaning.specs.Numbers.{rangesHold}
 use Rattle.meaning.specs.Header.{byVci}
 use Rattle.meaning.specs.Calls.{Kind, Options, optionsOf, Allowed}
 use Rattle.meaning_runs.specs.Run.{Call, onOpen, onClose, onSlot, calls, freshRun}
-use Rattle.promises.specs.Reached.{Reached, Within, cleanFor}
+use Rattle.promise_limits.specs.Reached.{Reached, Within, cleanFor}
 use Rattle.promise_bound.specs.Bound.{OneOpening, gone, leaving, spread}
 
 abbrev pub cellOf : ℕ → Call

@@ -2,7 +2,6 @@ pub mod VerdictLaws
 pub mod Demand3Laws
 pub mod SustainedLaws
 pub mod Top
-pub mod ReachedLaws
 pub mod QuotedLaws
 pub mod WipedLaws
 pub mod DebtLaws

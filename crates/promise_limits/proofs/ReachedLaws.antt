@@ -16,7 +16,7 @@ use Rattle.meaning_runs.specs.Leak.{openingWith}
 use Rattle.meaning_runs.specs.Seen.{departureAt}
 use Rattle.meaning_runs.specs.Eight.{eightCalls, eightEvents}
 use Rattle.meaning_runs.specs.Computed.{byComputation}
-use Rattle.promises.specs.Reached.{Reached, Within, lateAtTwo, lateAtFive, PeakKept}
+use Rattle.promise_limits.specs.Reached.{Reached, Within, lateAtTwo, lateAtFive, PeakKept}
 
 pub reached-at-two : (raw : Bool) (kind : Kind) → Reached 2 3 (optionsOf raw kind) lateAtTwo 2 1
 unfolding byComputation
@@ -25,12 +25,10 @@ reached-at-two false UNI = record { leaves = lit< tt; late = refl }
 reached-at-two true NNI = record { leaves = lit< tt; late = refl }
 reached-at-two false NNI = record { leaves = lit< tt; late = refl }
 
-pub reached-at-five : (raw : Bool) (kind : Kind) → Reached 5 3 (optionsOf raw kind) lateAtFive 2 19
+-- at N 5 by document 01's own policer alone: promise_tight has every N, raw or not, on either kind of line
+pub reached-at-five : Reached 5 3 plain lateAtFive 2 19
 unfolding byComputation
-reached-at-five true UNI = record { leaves = lit< tt; late = refl }
-reached-at-five false UNI = record { leaves = lit< tt; late = refl }
-reached-at-five true NNI = record { leaves = lit< tt; late = refl }
-reached-at-five false NNI = record { leaves = lit< tt; late = refl }
+reached-at-five = record { leaves = lit< tt; late = refl }
 
 -- so no smaller bound holds there
 pub not-within : (N z w : ℕ) (o : Options) (cs : List Call) (v k : ℕ) → Allowed N z o → Reached N z o cs v k
@@ -49,9 +47,8 @@ pub least-at-two : (raw : Bool) (kind : Kind) (w : ℕ) → Within 2 (optionsOf 
 least-at-two raw kind w b =
     not-within 2 3 w (optionsOf raw kind) lateAtTwo 2 1 (alone-allowed 2 3 raw kind two-allowed) (reached-at-two raw kind) b
 
-pub least-at-five : (raw : Bool) (kind : Kind) (w : ℕ) → Within 5 (optionsOf raw kind) w → 4 ≤ w
-least-at-five raw kind w b =
-    not-within 5 3 w (optionsOf raw kind) lateAtFive 2 19 (alone-allowed 5 3 raw kind five-allowed) (reached-at-five raw kind) b
+pub least-at-five : (w : ℕ) → Within 5 plain w → 4 ≤ w
+least-at-five w b = not-within 5 3 w plain lateAtFive 2 19 (alone-allowed 5 3 false UNI five-allowed) reached-at-five b
 
 -- departures 6 and 7, though F/L is 2.5
 pub departures-six-seven : (departureAt 40 2 eightEvents .slot ≡ 6) × (departureAt 40 3 eightEvents .slot ≡ 7)

@@ -1,0 +1,1 @@
+// What demand 3 cannot promise, and why: runs in which it happens. No code.
