@@ -2,10 +2,11 @@
 use Prim.Native.Nat.{ℕ, _+_, _-_, _%_}
 use mathlib.Core.Bool.{not, _&&_}
 use mathlib.Core.List.{List}
+use lib.ListN.{set}
 use Rattle.meaning.specs.Plain.{if_then_else_, _<?_, _=?_, Out, next, needs}
 use Rattle.meaning.specs.Numbers.{accepted, excess, tagged}
 use Rattle.meaning.specs.Bits.{isFree, spacesFit, taken, marked}
-use Rattle.meaning.specs.State.{withCells, withLinks, withCalendar, withFree, writeCell}
+use Rattle.meaning.specs.State.{withCells, withLinks, withCalendar, withFree, withArrived, writeCell}
 use Rattle.meaning.specs.Bucket.{Bucket, isExcess, delay, fill}
 use Rattle.meaning.specs.Words.{Connection, withWaiting, withBuckets}
 use Rattle.meaning.specs.Header.{clpIn, taggedCell}
@@ -13,7 +14,7 @@ use Rattle.meaning.specs.Lists.{endsFit, entryAt, writeEntry, joinHead}
 use Rattle.meaning.specs.Work.{Work, withState, withConnection, withArrival}
 
 -- 3, space x being the cell's: "The cell is written into its own 53 octets .. It joins calendar entry (T+D) modulo N at
--- the head"; document 02 (ix): the entry's bit is set
+-- the head"; document 02 (ix): the entry's bit is set; (x): "Arrival slots are kept beside the cells, 32 bits, wrapping"
 unfoldable pub place : List ℕ → ℕ → ℕ → Work → Out Work
 place cell D x w =
     let s = w .state in
@@ -24,7 +25,8 @@ place cell D x w =
     let s2 = withCells s1 (writeCell (s .cells) x cell) in
     let s3 = withLinks s2 (grown .links) in
     let s4 = withCalendar s3 (writeEntry (s .calendar) e (grown .ends)) in
-    needs (endsFit (s .ctl .n) entry) (next (withState w s4))
+    let s5 = withArrived s4 (set (s .arrived) x (s .ctl .t)) in
+    needs (endsFit (s .ctl .n) entry) (next (withState w s5))
 
 -- Document 02 (iv): "A cell above the peak is excess. A CLP 0 cell within the peak but above the sustainable rate is tagged if
 -- the flag is set .. and otherwise excess." Both buckets are judged before either is filled.

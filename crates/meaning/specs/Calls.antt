@@ -119,7 +119,7 @@ freshRecord N z o =
     }
 
 -- "Setup clears all lent memory, then chains spaces 0 to N-1 into the Free List in that order and empties the calendar"; by document
--- 02 (vii) they are free by their bits, and all links are 0
+-- 02 (vii) they are free by their bits, and all links are 0; so are the arrival slots of (x)
 unfoldable pub freshState : ℕ → ℕ → Options → State
 freshState N z o =
     record {
@@ -129,6 +129,7 @@ freshState N z o =
       calendar = replicate (perEntry * N) empty;
       words = replicate (wordsIn z) 0;
       bits = allFree N;
+      arrived = replicate N 0;
     }
 
 -- "Setup is handed no record": N, V, what is chosen, and the memories; of what is lent the record doesn't matter. Document 02
@@ -139,7 +140,7 @@ setup N z a lent =
     if not (rangesHold N z) then setUpOf 1 asItCame
     else if not (splitsHold z (a .splitvci) (a .splitpath)) then setUpOf 1 asItCame
     else if not (kindFits (a .kind)) then setUpOf 13 asItCame
-    else if not (lengthsHold N z (lent .cells) (lent .links) (lent .calendar) (lent .words) (lent .bits)) then setUpOf 2 asItCame
+    else if not (lengthsHold N z (lent .cells) (lent .links) (lent .calendar) (lent .words) (lent .bits) (lent .arrived)) then setUpOf 2 asItCame
     else setUpOf 0 (freshState N z (chosen a))
 
 -- what open and close give back: the refusal number, and the VC words afterwards. They are lent no other memory,

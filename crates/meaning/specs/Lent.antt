@@ -27,23 +27,23 @@ Slice = RefT (List ℕ)
 abbrev pub Lent : Type 0
 Lent = Both Slice Slice
 
-abbrev pub here : Record → Slice → Slice → Slice → Slice → Slice → State
-here r cells links calendar words bits = stateOf r (cells .now) (links .now) (calendar .now) (words .now) (bits .now)
+abbrev pub here : Record → Slice → Slice → Slice → Slice → Slice → Slice → State
+here r cells links calendar words bits arrived = stateOf r (cells .now) (links .now) (calendar .now) (words .now) (bits .now) (arrived .now)
 
-abbrev pub before : Record → Lent → Lent → Lent → Lent → Lent → State
-before r cells links calendar words bits =
-    stateOf r (cells .entry .now) (links .entry .now) (calendar .entry .now) (words .entry .now) (bits .entry .now)
+abbrev pub before : Record → Lent → Lent → Lent → Lent → Lent → Lent → State
+before r cells links calendar words bits arrived =
+    stateOf r (cells .entry .now) (links .entry .now) (calendar .entry .now) (words .entry .now) (bits .entry .now) (arrived .entry .now)
 
-abbrev pub after : Record → Lent → Lent → Lent → Lent → Lent → State
-after r cells links calendar words bits =
-    stateOf r (cells .exit .now) (links .exit .now) (calendar .exit .now) (words .exit .now) (bits .exit .now)
+abbrev pub after : Record → Lent → Lent → Lent → Lent → Lent → Lent → State
+after r cells links calendar words bits arrived =
+    stateOf r (cells .exit .now) (links .exit .now) (calendar .exit .now) (words .exit .now) (bits .exit .now) (arrived .exit .now)
 
-abbrev pub setUpAfter : Fresh → Lent → Lent → Lent → Lent → Lent → SetUp
-setUpAfter s cells links calendar words bits = setUpOf (s .number) (after (s .ctl) cells links calendar words bits)
+abbrev pub setUpAfter : Fresh → Lent → Lent → Lent → Lent → Lent → Lent → SetUp
+setUpAfter s cells links calendar words bits arrived = setUpOf (s .number) (after (s .ctl) cells links calendar words bits arrived)
 
-abbrev pub servedAfter : Served → Lent → Lent → Lent → Lent → Lent → Work
-servedAfter s cells links calendar words bits = workOf (after (s .ctl) cells links calendar words bits) (s .answer)
+abbrev pub servedAfter : Served → Lent → Lent → Lent → Lent → Lent → Lent → Work
+servedAfter s cells links calendar words bits arrived = workOf (after (s .ctl) cells links calendar words bits arrived) (s .answer)
 
-abbrev pub Gives : Record → Out Work → Served → Lent → Lent → Lent → Lent → Lent → Type 0
-Gives r o s cells links calendar words bits =
-    servedAfter s cells links calendar words bits ≡ finish (before r cells links calendar words bits) o
+abbrev pub Gives : Record → Out Work → Served → Lent → Lent → Lent → Lent → Lent → Lent → Type 0
+Gives r o s cells links calendar words bits arrived =
+    servedAfter s cells links calendar words bits arrived ≡ finish (before r cells links calendar words bits arrived) o

@@ -1,6 +1,6 @@
 -- Document 01, "Numbers": the control record and the lent memories, and how each group of fields is changed. Document 02 (vii): the
 -- number of free spaces stands in the record, their bits are a fifth memory; links serve the queues and the Output List alone. (ix): the
--- bits of the entries stand in it too.
+-- bits of the entries stand in it too. (x): the arrival slots of the cells are a sixth.
 use Prim.Native.Nat.{ℕ, _+_, _*_, _≤_}
 use mathlib.Core.Bool.{Bool, _&&_}
 use mathlib.Core.List.{List, _++_}
@@ -18,10 +18,11 @@ pub record State : Type 0 where
   pub calendar : List ℕ
   pub words : List ℕ
   pub bits : List ℕ
+  pub arrived : List ℕ
 
-abbrev pub stateOf : Record → List ℕ → List ℕ → List ℕ → List ℕ → List ℕ → State
-stateOf r cells links calendar words bits =
-    record { ctl = r; cells = cells; links = links; calendar = calendar; words = words; bits = bits }
+abbrev pub stateOf : Record → List ℕ → List ℕ → List ℕ → List ℕ → List ℕ → List ℕ → State
+stateOf r cells links calendar words bits arrived =
+    record { ctl = r; cells = cells; links = links; calendar = calendar; words = words; bits = bits; arrived = arrived }
 
 -- "head and tail" of one list of spaces
 pub record Ends : Type 0 where
@@ -42,32 +43,36 @@ wordsLong z words = length words =? wordsIn z
 abbrev pub HasConnection : ℕ → List ℕ → Type 0
 HasConnection c words = connectionPlace c + wordsPerConnection ≤ length words
 
-unfoldable pub lengthsHold : ℕ → ℕ → List ℕ → List ℕ → List ℕ → List ℕ → List ℕ → Bool
-lengthsHold N z cells links calendar words bits =
+unfoldable pub lengthsHold : ℕ → ℕ → List ℕ → List ℕ → List ℕ → List ℕ → List ℕ → List ℕ → Bool
+lengthsHold N z cells links calendar words bits arrived =
     length cells =? octets * N && length links =? N && length calendar =? perEntry * N && wordsLong z words && length bits =? bitWords
+    && length arrived =? N
 
 -- the same of a whole state
 abbrev pub sizesHold : State → Bool
-sizesHold s = lengthsHold (s .ctl .n) (s .ctl .v) (s .cells) (s .links) (s .calendar) (s .words) (s .bits)
+sizesHold s = lengthsHold (s .ctl .n) (s .ctl .v) (s .cells) (s .links) (s .calendar) (s .words) (s .bits) (s .arrived)
 
 -- one group of fields changed, all others kept
 unfoldable pub withRecord : State → Record → State
-withRecord s r = stateOf r (s .cells) (s .links) (s .calendar) (s .words) (s .bits)
+withRecord s r = stateOf r (s .cells) (s .links) (s .calendar) (s .words) (s .bits) (s .arrived)
 
 unfoldable pub withCells : State → List ℕ → State
-withCells s l = stateOf (s .ctl) l (s .links) (s .calendar) (s .words) (s .bits)
+withCells s l = stateOf (s .ctl) l (s .links) (s .calendar) (s .words) (s .bits) (s .arrived)
 
 unfoldable pub withLinks : State → List ℕ → State
-withLinks s l = stateOf (s .ctl) (s .cells) l (s .calendar) (s .words) (s .bits)
+withLinks s l = stateOf (s .ctl) (s .cells) l (s .calendar) (s .words) (s .bits) (s .arrived)
 
 unfoldable pub withCalendar : State → List ℕ → State
-withCalendar s l = stateOf (s .ctl) (s .cells) (s .links) l (s .words) (s .bits)
+withCalendar s l = stateOf (s .ctl) (s .cells) (s .links) l (s .words) (s .bits) (s .arrived)
 
 unfoldable pub withWords : State → List ℕ → State
-withWords s l = stateOf (s .ctl) (s .cells) (s .links) (s .calendar) l (s .bits)
+withWords s l = stateOf (s .ctl) (s .cells) (s .links) (s .calendar) l (s .bits) (s .arrived)
 
 unfoldable pub withBits : State → List ℕ → State
-withBits s l = stateOf (s .ctl) (s .cells) (s .links) (s .calendar) (s .words) l
+withBits s l = stateOf (s .ctl) (s .cells) (s .links) (s .calendar) (s .words) l (s .arrived)
+
+unfoldable pub withArrived : State → List ℕ → State
+withArrived s l = stateOf (s .ctl) (s .cells) (s .links) (s .calendar) (s .words) (s .bits) l
 
 -- the record with another clock, another number of free spaces and another Output List; whatever else it holds is kept here, in
 -- one place

@@ -2,17 +2,18 @@
 -- that the bits are held against: whatever is called, both say the same, but for the space that a cell has.
 --
 --   Listed      == a state of the old form: record, cells, links, calendar and words as in a state, and the Free List's head and tail;
---                  of the number and the bits of free spaces it knows nothing, nor of the bits of entries, (ix)
+--                  of the number and the bits of free spaces it knows nothing, nor of the bits of entries, (ix). It writes the
+--                  arrival slot of (x) beside the cell, and reads none
 --   takes, gives   == the head of the Free List is taken; a space goes to its tail
 --   slotListed  == the slot; freshListed the state after setup
 use Prim.Native.Nat.{ℕ, zero, suc, _+_, _-_, _*_, _%_}
 use mathlib.Core.Bool.{Bool, not, _&&_, _||_}
 use mathlib.Core.List.{List, [], _∷_, _++_}
-use lib.ListN.{length}
+use lib.ListN.{length, set}
 use Rattle.base_hec.specs.Modes.{arriving, arrivingFits}
 use Rattle.meaning.specs.Plain.{if_then_else_, _<?_, _≤?_, _=?_, Out, refused, next, needs, _andThen_}
 use Rattle.meaning.specs.Numbers.{rangesHold, octets, perEntry, cellStart, connectionsIn, wordsIn, unused, kindFits, excess, unknown}
-use Rattle.meaning.specs.State.{State, Ends, endsOf, outputList, withCells, withLinks, withCalendar, withOutputList, withMode, writeCell}
+use Rattle.meaning.specs.State.{State, Ends, endsOf, outputList, withCells, withLinks, withCalendar, withOutputList, withArrived, withMode, writeCell}
 use Rattle.meaning.specs.Header.{headerAt, clpIn, noUserCell, connection, namesConnection, namesOpen}
 use Rattle.meaning.specs.Bucket.{delay, fill}
 use Rattle.meaning.specs.Words.{Connection, connectionAt, withWaiting, withBuckets, openWordFits, upToDate}
@@ -52,7 +53,8 @@ placeListed cell D w taken =
     let s1 = withCells s (writeCell (s .cells) x cell) in
     let s2 = withLinks s1 (grown .links) in
     let s3 = withCalendar s2 (writeEntry (s .calendar) e (grown .ends)) in
-    needs (endsFit (s .ctl .n) entry) (next (workWith (withState w s3) (taken .left)))
+    let s4 = withArrived s3 (set (s .arrived) x (s .ctl .t)) in
+    needs (endsFit (s .ctl .n) entry) (next (workWith (withState w s4) (taken .left)))
 
 -- 3, not excess: "D = floor(S/L), S grows by F, waiting by one. The head of the Free List is taken." "the Free List isn't empty when a
 -- space is taken"

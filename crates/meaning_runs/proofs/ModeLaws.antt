@@ -12,7 +12,7 @@ use Rattle.base_hec.specs.Modes.{arrivingFits}
 use Rattle.meaning.specs.declared.Record.{Record}
 use Rattle.meaning.specs.Plain.{_<?_, _≤?_, _=?_, Out, refused, next, _andThen_}
 use Rattle.meaning.specs.Numbers.{rangesHold, octets, cellStart, connectionsIn, unused, kindFits, excess}
-use Rattle.meaning.specs.State.{State, sizesHold, outputList, withRecord, withCells, withLinks, withCalendar, withWords, withBits}
+use Rattle.meaning.specs.State.{State, sizesHold, outputList, withRecord, withCells, withLinks, withCalendar, withWords, withBits, withArrived}
 use Rattle.meaning.specs.State.{recordWith, withClock, withFree, withOutputList, recordInMode, withMode}
 use Rattle.meaning.specs.Header.{Name, headerAt, clpIn, noUserCell, connection, namesConnection, namesOpen}
 use Rattle.meaning.specs.Operators.{owns}
@@ -65,7 +65,7 @@ module _ (r₀ : Record) where
       (λ now. h))))
 
   judge-moded : (x : ℕ) (cell : List ℕ) (v : ℕ) (w : Work) (vc : Connection) → Q w → AllOut Q (judge x cell v w vc)
-  unfolding judge accept place withWords withCells withLinks withCalendar withFree withBits withRecord recordWith
+  unfolding judge accept place withWords withCells withLinks withCalendar withFree withBits withArrived withRecord recordWith
   judge-moded x cell v w vc h =
       let s = w .state in
       if-all Q (verdictOn (clpIn cell) vc =? excess) _ _ (λ _. h)
