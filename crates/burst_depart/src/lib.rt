@@ -8,11 +8,10 @@ ghost use lib.ListN.{length, set};
 ghost use Rattle.meaning.specs.Numbers.{mostN, mostV, octets, cellStart, perEntry, connectionsIn, wordsIn, bitWords};
 ghost use Rattle.meaning.specs.Bits.{isFree, taken};
 ghost use Rattle.meaning.specs.Lists.{endsFit, entryAt, writeEntry};
-ghost use Rattle.meaning.specs.Lent.{here};
 ghost use Rattle.mem_lists.specs.Spaces.{endsOf};
 ghost use Rattle.mem_lists.specs.Leaver.{leaverOf};
 ghost use Rattle.slot_plan.specs.Plan.{seatEnds};
-ghost use Rattle.slot_plan.specs.Facts.{Sized};
+ghost use Rattle.slot_plan.specs.Facts.{SizedWith};
 ghost use Rattle.burst_way.specs.Way.{slotRecord};
 ghost use Rattle.burst_arrive.specs.Arriving.{seatAt, Seats};
 ghost use Rattle.burst_depart.specs.Leaving.{Left, PlannedUnmarked, PlannedMarked, Planned, Leaves, leaveWith, OffHereIn, OffThenIn, entryThen, MayRead};
@@ -234,7 +233,7 @@ pub fn off_quiet(
     words: &[u32],
     bits: &[u64],
 ) -> Leave
-    requires { ⌜ Sized (here (slotRecord w) cells links calendar words bits) ⌝ }
+    requires { ⌜ SizedWith (slotRecord w) cells links calendar words bits ⌝ }
     requires { ⌜ endsFit (w .n) (endsOf (w .outhead) (w .outtail)) ≡ true ⌝ }
     ensures { λ o. ⌜ (o .ok ≡ true
         → Leaves (slotRecord w) (now (bits .entry)) (entryAt (now (calendar .entry)) (w .turn)) o (OffHereIn w cells links words)) ⌝ }
@@ -307,7 +306,7 @@ fn off_later(
     words: &[u32],
     bits: &[u64],
 ) -> Leave
-    requires { ⌜ Sized (here (slotRecord w) cells links calendar words bits) ⌝ }
+    requires { ⌜ SizedWith (slotRecord w) cells links calendar words bits ⌝ }
     requires { ⌜ (endsFit (w .n) (endsOf (w .outhead) (w .outtail)) ≡ true) × (1 ≤ p .vci) × (p .vci < connectionsIn (w .v))
         × (isFree (now bits) (p .x) ≡ true) ⌝ }
     ensures { λ o. ⌜ (o .ok ≡ true
@@ -337,7 +336,7 @@ pub fn off_accept(
     words: &[u32],
     bits: &[u64],
 ) -> Leave
-    requires { ⌜ Sized (here (slotRecord w) cells links calendar words bits) ⌝ }
+    requires { ⌜ SizedWith (slotRecord w) cells links calendar words bits ⌝ }
     requires { ⌜ endsFit (w .n) (endsOf (w .outhead) (w .outtail)) ≡ true ⌝ }
     requires { ⌜ Seats (slotRecord w) (now calendar) (now bits) p ⌝ }
     requires { ⌜ (p .d < w .n) × (1 ≤ p .vci) × (p .vci < connectionsIn (w .v)) ⌝ }

@@ -6,7 +6,7 @@ use mathlib.Core.Bool.{Bool, true, false, not}
 use mathlib.Core.List.{List}
 use native.Mathlib.Omega.{arith}
 use borrow.Author.Tests.{eqb-false, not-true}
-use lib.ListN.{length, getD, take, drop}
+use lib.ListN.{length, getD, set, take, drop}
 use Rattle.meaning.specs.declared.Record.{Record}
 use Rattle.meaning.specs.declared.Answer.{Answer}
 use Rattle.meaning.specs.declared.Served.{Served}
@@ -46,7 +46,7 @@ use Rattle.burst_likely.proofs.ClearLaws.{clear-length, clear-free, cle
 use Rattle.burst_likely.proofs.StoreLaws.{stored-long, sent-is}
 use Rattle.burst_likely.proofs.EitherLaws.{allowed-long, linked-same, ends-with}
 
-module _ (w : Way) (p : Spot) (cell cells links calendar words bits : List ℕ) (ready : Ready w cells links calendar words bits)
+module _ (w : Way) (p : Spot) (cell cells links calendar words bits arrived : List ℕ) (ready : Ready w cells links calendar words bits arrived)
     (brought : broughtOf (w .n) (w .v) (w .t) words (w .rotation) .ok ≡ true)
     (spot : Spotted (slotRecord w) calendar words bits cell p) where
   abbrev k : Record
@@ -61,7 +61,7 @@ module _ (w : Way) (p : Spot) (cell cells links calendar words bits : List ℕ) 
   abbrev a : Seat
   a = seatAt p
 
-  -- the links, the calendar, the words and the bits once the cell is stored
+  -- the links, the calendar, the words, the bits and the arrival slots once the cell is stored
   abbrev links₃ : List ℕ
   links₃ = linked (not (p .head =? empty)) (p .x) (p .head) links
 
@@ -74,11 +74,14 @@ module _ (w : Way) (p : Spot) (cell cells links calendar words bits : List ℕ) 
   abbrev bits₃ : List ℕ
   bits₃ = marked (taken bits (p .x)) (p .e)
 
+  abbrev arrived₃ : List ℕ
+  arrived₃ = set arrived (p .x) (w .t)
+
   abbrev entry : Ends
   entry = entryAt calendar₃ (w .turn)
 
   abbrev work : Work
-  work = acceptWork k j a cell cells links calendar (rotated k b words) bits
+  work = acceptWork k j a cell cells links calendar (rotated k b words) bits arrived
 
   is-seated : Seated k a bits
   is-seated =
@@ -94,12 +97,12 @@ module _ (w : Way) (p : Spot) (cell cells links calendar words bits : List ℕ) 
   some : w .free ≢ 0
   some q = let one = spot .seats .some-free in omega (arith, one, q)
 
-  steps-3 : from2 k cell cells links calendar words bits ≡ (step4 work andThen step5)
+  steps-3 : from2 k cell cells links calendar words bits arrived ≡ (step4 work andThen step5)
   unfolding letsIn
   steps-3 =
-      arriving-accepted k (lowestFree bits) cell cells links calendar words bits b refl j (spot .judged)
+      arriving-accepted k (lowestFree bits) cell cells links calendar words bits arrived b refl j (spot .judged)
       (let long = ready .sized .words-long in let low = ready .sized .rotation-low in omega (arith, long, low)) brought refl refl
-      ∙ seating-goes k j cell cells links calendar (rotated k b words) bits (ready .sized .turn-low) (spot .is-accepted .near) a
+      ∙ seating-goes k j cell cells links calendar (rotated k b words) bits arrived (ready .sized .turn-low) (spot .is-accepted .near) a
       (lowestFree bits) (ready .spaces-fit) some (lowest-free (w .n) (w .free) bits (ready .spaces-fit) some) (spot .seats .seat) refl
 
   -- the words of free spaces fit again once the cell's is taken
@@ -120,30 +123,31 @@ module _ (w : Way) (p : Spot) (cell cells links calendar words bits : List ℕ) 
 
   module _ (entry-fits : endsFit (w .n) entry ≡ true) where
     -- ---- nothing departs
-    none-goes : entry .head ≡ empty → w .outhead ≡ empty → from2 k cell cells links calendar words bits ≡ next work
+    none-goes : entry .head ≡ empty → w .outhead ≡ empty → from2 k cell cells links calendar words bits arrived ≡ next work
     none-goes e o =
         steps-3
-        ∙ seated-none k b j a cell cells links calendar words bits (entry .head) (entry .tail) refl refl entry-fits (ready .output-fits) e o
+        ∙ seated-none k b j a cell cells links calendar words bits arrived (entry .head) (entry .tail) refl refl entry-fits (ready .output-fits) e o
 
     abbrev none-answer : Answer
     none-answer = answerOf 0 1 (p .vci) (p .d) 65535 0
 
-    pub none-done : (w′ : Way) (cells′ links′ calendar′ words′ bits′ answers answers′ : List ℕ) (i : ℕ) → entry .head ≡ empty → w .outhead ≡ empty
+    pub none-done : (w′ : Way) (cells′ links′ calendar′ words′ bits′ arrived′ answers answers′ : List ℕ) (i : ℕ) → entry .head ≡ empty → w .outhead ≡ empty
         → w′ ≡ wayWith w (w .t) (w .turn) (w .rotation) (w .free - 1) (w .outhead) (w .outtail)
         → cells′ ≡ writeCell cells (p .x) cell
         → links′ ≡ links₃
         → calendar′ ≡ calendar₃
         → words′ ≡ words₃
         → bits′ ≡ bits₃
+        → arrived′ ≡ arrived₃
         → answers′ ≡ writeAnswer answers i none-answer
-        → Silent k (from2 k cell cells links calendar words bits) w′ cells′ links′ calendar′ words′ bits′ answers answers′ i
-    none-done w′ cells′ links′ calendar′ words′ bits′ answers answers′ i e o way c l d f g told =
+        → Silent k (from2 k cell cells links calendar words bits arrived) w′ cells′ links′ calendar′ words′ bits′ arrived′ answers answers′ i
+    none-done w′ cells′ links′ calendar′ words′ bits′ arrived′ answers answers′ i e o way c l d f g h told =
         record {
           answer = none-answer;
           number = refl;
           none = refl;
           allowed = cells-allowed cells′ c;
-          is = none-goes e o ∙ ap next (sym (accept-served k b j a cell cells links calendar words bits served cells′ links′ calendar′ words′ bits′ (ends-with w w′ _ _ _ way) refl (c ∙ sent-is cells (p .x) cell) l d f g));
+          is = none-goes e o ∙ ap next (sym (accept-served k b j a cell cells links calendar words bits arrived served cells′ links′ calendar′ words′ bits′ arrived′ (ends-with w w′ _ _ _ way) refl (c ∙ sent-is cells (p .x) cell) l d f g h));
           told = told;
           free = w .free - 1;
           output = outputEnds k;
@@ -166,31 +170,31 @@ module _ (w : Way) (p : Spot) (cell cells links calendar words bits : List ℕ) 
       abbrev bits₄ : List ℕ
       bits₄ = if o .marked then unmarked bits₃ (w .turn) else bits₃
 
-      marked-goes : o .marked ≡ true → from2 k cell cells links calendar words bits ≡ next (leftBy work links₄ (writeEntry calendar₃ (w .turn) emptyList) (unmarked bits₃ (w .turn)) (offAt o))
+      marked-goes : o .marked ≡ true → from2 k cell cells links calendar words bits arrived ≡ next (leftBy work links₄ (writeEntry calendar₃ (w .turn) emptyList) (unmarked bits₃ (w .turn)) (offAt o))
       marked-goes m =
           let g = goes .marked m in
           steps-3
-          ∙ seated-marked k b j a cell cells links calendar words bits (entry .head) (entry .tail) refl refl entry-fits (ready .output-fits) (g .0)
-          ∙ accept-marked-goes k b j a cell cells links calendar words bits (ready .sized) (spot .is-accepted) is-seated entry (offAt o) (g .3) refl (goes .not-free)
+          ∙ seated-marked k b j a cell cells links calendar words bits arrived (entry .head) (entry .tail) refl refl entry-fits (ready .output-fits) (g .0)
+          ∙ accept-marked-goes k b j a cell cells links calendar words bits arrived (ready .sized) (spot .is-accepted) is-seated entry (offAt o) (g .3) refl (goes .not-free)
           ∙ ap (λ (l : List ℕ). next (leftBy work l (writeEntry calendar₃ (w .turn) emptyList) (unmarked bits₃ (w .turn)) (offAt o)))
           (linked-same (not (w .outhead =? empty)) (o .follows) (w .outtail) (entry .head) (o .head) links₃ (sym (g .1))
           (λ q. sym (g .2 (g .1 ∙ q))))
 
-      output-goes : o .marked ≡ false → from2 k cell cells links calendar words bits ≡ next (leftBy work links₄ calendar₃ bits₃ (offAt o))
+      output-goes : o .marked ≡ false → from2 k cell cells links calendar words bits arrived ≡ next (leftBy work links₄ calendar₃ bits₃ (offAt o))
       output-goes m =
           let g = goes .unmarked m in
           steps-3
-          ∙ seated-output k b j a cell cells links calendar words bits (entry .head) (entry .tail) refl refl entry-fits (ready .output-fits) (g .0) (g .1)
-          ∙ accept-output-goes k b j a cell cells links calendar words bits (ready .sized) (spot .is-accepted) is-seated
+          ∙ seated-output k b j a cell cells links calendar words bits arrived (entry .head) (entry .tail) refl refl entry-fits (ready .output-fits) (g .0) (g .1)
+          ∙ accept-output-goes k b j a cell cells links calendar words bits arrived (ready .sized) (spot .is-accepted) is-seated
           (fit-head (w .n) (outputEnds k) (ready .output-fits) (g .1)) (offAt o) (g .3) refl (goes .not-free)
           ∙ ap (λ (l : List ℕ). next (leftBy work l calendar₃ bits₃ (offAt o)))
           (linked-same false (o .follows) (w .outtail) 0 (o .head) links₃ (sym (g .2)) (λ q. no q))
 
-      leave-goes : from2 k cell cells links calendar words bits ≡ next (leftBy work links₄ calendar₄ bits₄ (offAt o))
+      leave-goes : from2 k cell cells links calendar words bits arrived ≡ next (leftBy work links₄ calendar₄ bits₄ (offAt o))
       leave-goes = go (o .marked) refl
         where
           go : (m : Bool) → o .marked ≡ m
-              → from2 k cell cells links calendar words bits
+              → from2 k cell cells links calendar words bits arrived
               ≡ next (leftBy work links₄ (if m then writeEntry calendar₃ (w .turn) emptyList else calendar₃) (if m then unmarked bits₃ (w .turn) else bits₃) (offAt o))
           go true m = marked-goes m
           go false m = output-goes m
@@ -201,9 +205,9 @@ module _ (w : Way) (p : Spot) (cell cells links calendar words bits : List ℕ) 
         where
           go : (m : Bool) → o .marked ≡ m → (o .vci < connectionsIn (w .v)) × (1 ≤ getD words₃ (waitingPlace (o .vci)) 0)
           go true m =
-              accept-shows k b j a cell cells links calendar words bits (ready .sized) (spot .is-accepted) is-seated (not (w .outhead =? empty)) entry (offAt o) (goes .marked m .3) refl
+              accept-shows k b j a cell cells links calendar words bits arrived (ready .sized) (spot .is-accepted) is-seated (not (w .outhead =? empty)) entry (offAt o) (goes .marked m .3) refl
           go false m =
-              accept-shows k b j a cell cells links calendar words bits (ready .sized) (spot .is-accepted) is-seated false (endsOf 0 (w .outtail)) (offAt o) (goes .unmarked m .3) refl
+              accept-shows k b j a cell cells links calendar words bits arrived (ready .sized) (spot .is-accepted) is-seated false (endsOf 0 (w .outtail)) (offAt o) (goes .unmarked m .3) refl
 
       pub follows-low : o .follows ≡ true → (w .outtail < w .n) × (o .head < w .n)
       follows-low f = go (o .marked) refl
@@ -237,7 +241,7 @@ module _ (w : Way) (p : Spot) (cell cells links calendar words bits : List ℕ) 
       abbrev leave-answer : Answer
       leave-answer = answerOf 0 1 (p .vci) (p .d) (o .space) (o .vci)
 
-      pub leave-done : (w′ : Way) (cells′ links₁ links′ calendar₁ calendar′ words₁ words′ bits₁ bits′ departures departures′ answers answers′ : List ℕ) (i : ℕ)
+      pub leave-done : (w′ : Way) (cells′ links₁ links′ calendar₁ calendar′ words₁ words′ bits₁ bits′ arrived′ departures departures′ answers answers′ : List ℕ) (i : ℕ)
           → w′ ≡ wayWith w (w .t) (w .turn) (w .rotation) (w .free) (o .next) (o .tail)
           → cells′ ≡ writeCell cells (p .x) cell
           → links₁ ≡ links₃
@@ -248,23 +252,24 @@ module _ (w : Way) (p : Spot) (cell cells links calendar words bits : List ℕ) 
           → words′ ≡ oneLess (o .vci) words₁
           → bits₁ ≡ bits₃
           → bits′ ≡ given (if o .marked then unmarked bits₁ (w .turn) else bits₁) (o .space)
+          → arrived′ ≡ arrived₃
           → departures′ ≡ writeCell departures i (take 53 (drop (53 * o .space) cells′))
           → answers′ ≡ writeAnswer answers i leave-answer
           → 53 * i + 53 ≤ length departures
-          → Done k (from2 k cell cells links calendar words bits) w′ cells′ links′ calendar′ words′ bits′ departures departures′ answers answers′ i
-      leave-done w′ cells′ links₁ links′ calendar₁ calendar′ words₁ words′ bits₁ bits′ departures departures′ answers answers′ i way c l₁ l d₁ d f₁ f g₁ g shown told inside =
+          → Done k (from2 k cell cells links calendar words bits arrived) w′ cells′ links′ calendar′ words′ bits′ arrived′ departures departures′ answers answers′ i
+      leave-done w′ cells′ links₁ links′ calendar₁ calendar′ words₁ words′ bits₁ bits′ arrived′ departures departures′ answers answers′ i way c l₁ l d₁ d f₁ f g₁ g h shown told inside =
           record {
             answer = leave-answer;
             number = refl;
             is = leave-goes
                 ∙ ap next
                 (sym
-                (accept-left k b j a (offAt o) cell cells links calendar words bits served cells′ links₄ links′ calendar₄ calendar′ words₁ words′ bits₄ (if o .marked then unmarked bits₁ (w .turn) else bits₁) bits′
+                (accept-left k b j a (offAt o) cell cells links calendar words bits arrived served cells′ links₄ links′ calendar₄ calendar′ words₁ words′ bits₄ (if o .marked then unmarked bits₁ (w .turn) else bits₁) bits′ arrived′
                 (spot .seats .some-free)
                 (ends-with w w′ _ _ _ way, refl) (c ∙ sent-is cells (p .x) cell)
                 (l ∙ ap (λ (x : List ℕ). linked (o .follows) (w .outtail) (o .head) x) l₁)
                 (d ∙ ap (λ (x : List ℕ). if o .marked then writeEntry x (w .turn) emptyList else x) d₁) f₁ f
-                (ap (λ (x : List ℕ). if o .marked then unmarked x (w .turn) else x) g₁) g));
+                (ap (λ (x : List ℕ). if o .marked then unmarked x (w .turn) else x) g₁) g h));
             shown = shown ∙ sym (shown-cell departures i inside cells′ (cells-allowed cells′ c) (o .space) low);
             told = told;
             free = w .free;

@@ -56,8 +56,8 @@ pub off-facts : (N z kind : ℕ) (cells links words : List ℕ) (x tail : ℕ) (
 off-facts N z kind cells links words x tail o is ok =
     rw is (off-shows N z kind cells links words x tail (ap (λ (y : Off). y .ok) (sym is) ∙ ok))
 
-module _ (w : Way) (r : Turn) (cells links calendar words bits departures answers : List ℕ) (i : ℕ)
-    (ready : Ready w cells links calendar words bits) (turned : Turned (slotRecord w) words r) (lent : HandedTo departures answers i) where
+module _ (w : Way) (r : Turn) (cells links calendar words bits arrived departures answers : List ℕ) (i : ℕ)
+    (ready : Ready w cells links calendar words bits arrived) (turned : Turned (slotRecord w) words r) (lent : HandedTo departures answers i) where
   abbrev k : Record
   k = slotRecord w
 
@@ -74,16 +74,16 @@ module _ (w : Way) (r : Turn) (cells links calendar words bits departures answer
   turning = set (set words (sPlace (w .rotation)) (r .s)) (lastPlace (w .rotation)) (r .last)
 
   abbrev work : Work
-  work = quietWork k j cells links calendar (rotated k b words) bits
+  work = quietWork k j cells links calendar (rotated k b words) bits arrived
 
   absent : j ≡ judgedOf (k .n) (k .v) (k .kind) (k .t) words []
   unfolding judgedOf
   absent = refl
 
-  bare-is : from2 k [] cells links calendar words bits ≡ (step4 work andThen step5)
+  bare-is : from2 k [] cells links calendar words bits arrived ≡ (step4 work andThen step5)
   unfolding letsIn
   bare-is =
-      arriving-quiet k (lowestFree bits) [] cells links calendar words bits b refl j absent
+      arriving-quiet k (lowestFree bits) [] cells links calendar words bits arrived b refl j absent
       (let s = ready .sized in omega (arith, s .words-long, s .rotation-low))
       (turned .brought)
       refl
@@ -113,13 +113,13 @@ module _ (w : Way) (r : Turn) (cells links calendar words bits departures answer
       → w′ ≡ w
       → words′ ≡ turning
       → answers′ ≡ writeAnswer answers i (answerOf 0 0 0 0 65535 0)
-      → Done k (from2 k [] cells links calendar words bits) w′ cells links calendar words′ bits departures departures answers answers′ i
+      → Done k (from2 k [] cells links calendar words bits arrived) w′ cells links calendar words′ bits arrived departures departures answers answers′ i
   none-done w′ words′ answers′ fits e same written told =
       rw same (record {
         answer = answerOf 0 0 0 0 65535 0;
         number = refl;
         is = bare-is ∙ none-is fits (e .0) (e .1)
-            ∙ ap next (sym (quiet-served k b j cells links calendar words bits (record { ctl = k; answer = answerOf 0 0 0 0 65535 0 }) words′ refl refl (written ∙ turning-is)));
+            ∙ ap next (sym (quiet-served k b j cells links calendar words bits arrived (record { ctl = k; answer = answerOf 0 0 0 0 65535 0 }) words′ refl refl (written ∙ turning-is)));
         shown = sym (shown-none departures i (lent .departure) cells allowed 65535 refl);
         told = told;
         free = k .free;
@@ -180,7 +180,7 @@ module _ (w : Way) (r : Turn) (cells links calendar words bits departures answer
 
     -- the work after step 5, from the links, the calendar and the bits as step 4 leaves them
     abbrev gone : List ℕ → List ℕ → List ℕ → Work
-    gone links₁ calendar₁ bits₁ = workOf (stateOf (leaver .ctl) cells links₁ calendar₁ (oneLess (o .vci) turning) (given bits₁ (o .space))) (leaver .answer)
+    gone links₁ calendar₁ bits₁ = workOf (stateOf (leaver .ctl) cells links₁ calendar₁ (oneLess (o .vci) turning) (given bits₁ (o .space)) arrived) (leaver .answer)
 
     marked-is : entry .head ≢ empty → OffHere k cells links words (not (k .outhead =? empty)) entry (offAt o)
         → (links₁ : List ℕ) → links₁ ≡ linked (not (k .outhead =? empty)) (k .outtail) (entry .head) links
@@ -188,9 +188,9 @@ module _ (w : Way) (r : Turn) (cells links calendar words bits departures answer
     unfolding quietWork joinedLinks
     marked-is ne is links₁ e =
         marked work entry entry-is fits (ready .output-fits) ne
-        ∙ marked-goes k b j cells links calendar words bits (entry .head) (entry .tail) (offAt o) is refl may-free
+        ∙ marked-goes k b j cells links calendar words bits arrived (entry .head) (entry .tail) (offAt o) is refl may-free
         ∙ ap next
-        (sym (quiet-left k b j (offAt o) cells links calendar words bits leaver _ links₁ (writeEntry calendar (k .turn) emptyList) turning _ _ _
+        (sym (quiet-left k b j (offAt o) cells links calendar words bits arrived leaver _ links₁ (writeEntry calendar (k .turn) emptyList) turning _ _ _
         (refl, refl)
         e
         turning-is
@@ -203,9 +203,9 @@ module _ (w : Way) (r : Turn) (cells links calendar words bits departures answer
     unfolding quietWork
     output-is q ne is links₁ e =
         output work entry entry-is fits (ready .output-fits) q ne
-        ∙ output-goes k b j cells links calendar words bits (offAt o) (unmarked-off is ne) refl may-free
+        ∙ output-goes k b j cells links calendar words bits arrived (offAt o) (unmarked-off is ne) refl may-free
         ∙ ap next
-        (sym (quiet-left k b j (offAt o) cells links calendar words bits leaver _ links₁ calendar turning _ _ _
+        (sym (quiet-left k b j (offAt o) cells links calendar words bits arrived leaver _ links₁ calendar turning _ _ _
         (refl, refl)
         e
         turning-is
@@ -241,7 +241,7 @@ module _ (w : Way) (r : Turn) (cells links calendar words bits departures answer
         → bits′ ≡ given (if o .marked then unmarked bits (w .turn) else bits) (o .space)
         → departures′ ≡ writeCell departures i (take 53 (drop (53 * o .space) cells))
         → answers′ ≡ writeAnswer answers i (answerOf 0 0 0 0 (o .space) (o .vci))
-        → Done k (from2 k [] cells links calendar words bits) w′ cells links′ calendar′ words′ bits′ departures departures′ answers answers′ i
+        → Done k (from2 k [] cells links calendar words bits arrived) w′ cells links′ calendar′ words′ bits′ arrived departures departures′ answers answers′ i
     leave-done w′ links′ calendar′ words′ bits′ departures′ answers′ same l e f g d a =
         rw same (record {
           answer = answerOf 0 0 0 0 (o .space) (o .vci);

@@ -43,12 +43,12 @@ unfolding withEnds recordWith
 ends-with w w′ free outhead outtail e = ap slotRecord e
 
 -- where nothing departs, whatever departures there are stay
-pub silent-done : (k : Record) (target : Out Work) (w′ : Way) (cells′ links′ calendar′ words′ bits′ answers answers′ : List ℕ) (i : ℕ)
-    → Silent k target w′ cells′ links′ calendar′ words′ bits′ answers answers′ i
+pub silent-done : (k : Record) (target : Out Work) (w′ : Way) (cells′ links′ calendar′ words′ bits′ arrived′ answers answers′ : List ℕ) (i : ℕ)
+    → Silent k target w′ cells′ links′ calendar′ words′ bits′ arrived′ answers answers′ i
     → (departures : List ℕ)
     → 53 * i + 53 ≤ length departures
-    → Done k target w′ cells′ links′ calendar′ words′ bits′ departures departures answers answers′ i
-silent-done k target w′ cells′ links′ calendar′ words′ bits′ answers answers′ i s departures inside =
+    → Done k target w′ cells′ links′ calendar′ words′ bits′ arrived′ departures departures answers answers′ i
+silent-done k target w′ cells′ links′ calendar′ words′ bits′ arrived′ answers answers′ i s departures inside =
     record {
       answer = s .answer;
       number = s .number;
@@ -63,20 +63,20 @@ silent-done k target w′ cells′ links′ calendar′ words′ bits′ answers
     }
 
 -- ---- what a function gives back
-module _ (k : Record) (target : Out Work) (cells links calendar words bits departures answers : List ℕ) (i : ℕ) (g : Went) where
+module _ (k : Record) (target : Out Work) (cells links calendar words bits arrived departures answers : List ℕ) (i : ℕ) (g : Went) where
   pub either-odd : g .ok ≡ false
-      → Either k target g cells links calendar words bits departures answers cells links calendar words bits departures answers i
-  either-odd e = record { went = λ q. no (sym e ∙ q); stayed = λ q. (refl, refl, refl, refl, refl, refl, refl) }
+      → Either k target g cells links calendar words bits arrived departures answers cells links calendar words bits arrived departures answers i
+  either-odd e = record { went = λ q. no (sym e ∙ q); stayed = λ q. (refl, refl, refl, refl, refl, refl, refl, refl) }
 
-  pub either-gone : (w′ : Way) (cells′ links′ calendar′ words′ bits′ departures′ answers′ : List ℕ) → (g .ok ≡ true) × (g .way ≡ w′)
-      → Done k target w′ cells′ links′ calendar′ words′ bits′ departures departures′ answers answers′ i
-      → Either k target g cells links calendar words bits departures answers cells′ links′ calendar′ words′ bits′ departures′ answers′ i
-  either-gone w′ cells′ links′ calendar′ words′ bits′ departures′ answers′ e d =
+  pub either-gone : (w′ : Way) (cells′ links′ calendar′ words′ bits′ arrived′ departures′ answers′ : List ℕ) → (g .ok ≡ true) × (g .way ≡ w′)
+      → Done k target w′ cells′ links′ calendar′ words′ bits′ arrived′ departures departures′ answers answers′ i
+      → Either k target g cells links calendar words bits arrived departures answers cells′ links′ calendar′ words′ bits′ arrived′ departures′ answers′ i
+  either-gone w′ cells′ links′ calendar′ words′ bits′ arrived′ departures′ answers′ e d =
       record { went = λ q. rw (e .1) d; stayed = λ q. no (sym q ∙ e .0) }
 
 -- the cell has so many octets
-pub either-size : (k : Record) (size size′ : ℕ) (octets cells links calendar words bits departures answers cells′ links′ calendar′ words′ bits′ departures′ answers′ : List ℕ) (i : ℕ) (g : Went)
+pub either-size : (k : Record) (size size′ : ℕ) (octets cells links calendar words bits arrived departures answers cells′ links′ calendar′ words′ bits′ arrived′ departures′ answers′ : List ℕ) (i : ℕ) (g : Went)
     → size ≡ size′
-    → Either k (from2 k (take size′ octets) cells links calendar words bits) g cells links calendar words bits departures answers cells′ links′ calendar′ words′ bits′ departures′ answers′ i
-    → Either k (from2 k (take size octets) cells links calendar words bits) g cells links calendar words bits departures answers cells′ links′ calendar′ words′ bits′ departures′ answers′ i
-either-size k size size′ octets cells links calendar words bits departures answers cells′ links′ calendar′ words′ bits′ departures′ answers′ i g e h = rw e h
+    → Either k (from2 k (take size′ octets) cells links calendar words bits arrived) g cells links calendar words bits arrived departures answers cells′ links′ calendar′ words′ bits′ arrived′ departures′ answers′ i
+    → Either k (from2 k (take size octets) cells links calendar words bits arrived) g cells links calendar words bits arrived departures answers cells′ links′ calendar′ words′ bits′ arrived′ departures′ answers′ i
+either-size k size size′ octets cells links calendar words bits arrived departures answers cells′ links′ calendar′ words′ bits′ arrived′ departures′ answers′ i g e h = rw e h

@@ -30,12 +30,12 @@ use Rattle.burst_arrive.specs.declared.Spot.{Spot}
 use Rattle.burst_arrive.specs.Arriving.{Spotted}
 use Rattle.burst_likely.specs.declared.Went.{Went}
 
-abbrev pub from2 : Record → List ℕ → List ℕ → List ℕ → List ℕ → List ℕ → List ℕ → Out Work
-from2 k cell cells links calendar words bits =
-    step2 (workOf (stateOf k cells links calendar words bits) (bareAnswer 0)) andThen step3 (lowestFree bits) cell andThen step4 andThen step5
+abbrev pub from2 : Record → List ℕ → List ℕ → List ℕ → List ℕ → List ℕ → List ℕ → List ℕ → Out Work
+from2 k cell cells links calendar words bits arrived =
+    step2 (workOf (stateOf k cells links calendar words bits arrived) (bareAnswer 0)) andThen step3 (lowestFree bits) cell andThen step4 andThen step5
 
-pub record Ready (w : Way) (cells links calendar words bits : List ℕ) : Type 0 where
-  pub sized : Sized (stateOf (slotRecord w) cells links calendar words bits)
+pub record Ready (w : Way) (cells links calendar words bits arrived : List ℕ) : Type 0 where
+  pub sized : Sized (stateOf (slotRecord w) cells links calendar words bits arrived)
   pub spaces-fit : spacesFit (w .n) (w .free) bits ≡ true
   pub output-fits : endsFit (w .n) (outputEnds (slotRecord w)) ≡ true
   pub unused-closed : unused (w .v) (w .rotation) ≡ true → getD words (connectionPlace (w .rotation)) 0 ≡ 0
@@ -46,10 +46,10 @@ pub record HandedTo (departures answers : List ℕ) (i : ℕ) : Type 0 where
   pub answer : answerLong * i + answerLong ≤ length answers
 
 -- what a slot with target served leaves; a primed name is what a lent buffer holds afterwards
-pub record Done (k : Record) (target : Out Work) (w′ : Way) (cells′ links′ calendar′ words′ bits′ departures departures′ answers answers′ : List ℕ) (i : ℕ) : Type 0 where
+pub record Done (k : Record) (target : Out Work) (w′ : Way) (cells′ links′ calendar′ words′ bits′ arrived′ departures departures′ answers answers′ : List ℕ) (i : ℕ) : Type 0 where
   pub answer : Answer
   pub number : answer .number ≡ 0
-  pub is : target ≡ next (workOf (stateOf (slotRecord w′) cells′ links′ calendar′ words′ bits′) answer)
+  pub is : target ≡ next (workOf (stateOf (slotRecord w′) cells′ links′ calendar′ words′ bits′ arrived′) answer)
   pub shown : departures′ ≡ shownInto departures i cells′ (answer .space)
   pub told : answers′ ≡ writeAnswer answers i answer
   pub free : ℕ
@@ -59,12 +59,12 @@ pub record Done (k : Record) (target : Out Work) (w′ : Way) (cells′ links′
   pub output-fits : endsFit (k .n) output ≡ true
 
 -- the same where nothing departs, so that no octet of departures is written
-pub record Silent (k : Record) (target : Out Work) (w′ : Way) (cells′ links′ calendar′ words′ bits′ answers answers′ : List ℕ) (i : ℕ) : Type 0 where
+pub record Silent (k : Record) (target : Out Work) (w′ : Way) (cells′ links′ calendar′ words′ bits′ arrived′ answers answers′ : List ℕ) (i : ℕ) : Type 0 where
   pub answer : Answer
   pub number : answer .number ≡ 0
   pub none : answer .space ≡ empty
   pub allowed : cellsAllowed (length cells′) ≡ true
-  pub is : target ≡ next (workOf (stateOf (slotRecord w′) cells′ links′ calendar′ words′ bits′) answer)
+  pub is : target ≡ next (workOf (stateOf (slotRecord w′) cells′ links′ calendar′ words′ bits′ arrived′) answer)
   pub told : answers′ ≡ writeAnswer answers i answer
   pub free : ℕ
   pub output : Ends
@@ -72,45 +72,45 @@ pub record Silent (k : Record) (target : Out Work) (w′ : Way) (cells′ links�
   pub spaces-fit : spacesFit (k .n) free bits′ ≡ true
   pub output-fits : endsFit (k .n) output ≡ true
 
-pub record Either (k : Record) (target : Out Work) (g : Went) (cells links calendar words bits departures answers cells′ links′ calendar′ words′ bits′ departures′ answers′ : List ℕ) (i : ℕ) : Type 0 where
-  pub went : g .ok ≡ true → Done k target (g .way) cells′ links′ calendar′ words′ bits′ departures departures′ answers answers′ i
+pub record Either (k : Record) (target : Out Work) (g : Went) (cells links calendar words bits arrived departures answers cells′ links′ calendar′ words′ bits′ arrived′ departures′ answers′ : List ℕ) (i : ℕ) : Type 0 where
+  pub went : g .ok ≡ true → Done k target (g .way) cells′ links′ calendar′ words′ bits′ arrived′ departures departures′ answers answers′ i
   pub stayed : g .ok ≡ false
-      → (cells′ ≡ cells) × (links′ ≡ links) × (calendar′ ≡ calendar) × (words′ ≡ words) × (bits′ ≡ bits) × (departures′ ≡ departures) × (answers′ ≡ answers)
+      → (cells′ ≡ cells) × (links′ ≡ links) × (calendar′ ≡ calendar) × (words′ ≡ words) × (bits′ ≡ bits) × (arrived′ ≡ arrived) × (departures′ ≡ departures) × (answers′ ≡ answers)
 
 -- ---- the same of lent memories and buffers, for contracts: w is the policer in slot i, cell what is lent to it
 abbrev pub cellBefore : Lent → ℕ → List ℕ
 cellBefore arrivals i = take octets (drop (cellStart i) (arrivals .entry .now))
 
-abbrev pub ReadyIn : Way → Slice → Slice → Slice → Slice → Slice → Type 0
-ReadyIn w cells links calendar words bits = Ready w (cells .now) (links .now) (calendar .now) (words .now) (bits .now)
+abbrev pub ReadyIn : Way → Slice → Slice → Slice → Slice → Slice → Slice → Type 0
+ReadyIn w cells links calendar words bits arrived = Ready w (cells .now) (links .now) (calendar .now) (words .now) (bits .now) (arrived .now)
 
 abbrev pub SpottedIn : Way → Spot → Slice → Slice → Slice → Slice → ℕ → Type 0
 SpottedIn w p calendar words bits arrivals i =
     Spotted (slotRecord w) (calendar .now) (words .now) (bits .now) (take octets (drop (cellStart i) (arrivals .now))) p
 
 -- steps 2 to 5 of the memories as they came
-abbrev pub fromHere : Way → List ℕ → Lent → Lent → Lent → Lent → Lent → Out Work
-fromHere w cell cells links calendar words bits =
-    from2 (slotRecord w) cell (cells .entry .now) (links .entry .now) (calendar .entry .now) (words .entry .now) (bits .entry .now)
+abbrev pub fromHere : Way → List ℕ → Lent → Lent → Lent → Lent → Lent → Lent → Out Work
+fromHere w cell cells links calendar words bits arrived =
+    from2 (slotRecord w) cell (cells .entry .now) (links .entry .now) (calendar .entry .now) (words .entry .now) (bits .entry .now) (arrived .entry .now)
 
 -- served: s is the way that follows
-abbrev pub ServedBy : Way → List ℕ → Way → Lent → Lent → Lent → Lent → Lent → Lent → Lent → ℕ → Type 0
-ServedBy w cell s cells links calendar words bits departures answers i =
-    Done (slotRecord w) (fromHere w cell cells links calendar words bits) s
-    (cells .exit .now) (links .exit .now) (calendar .exit .now) (words .exit .now) (bits .exit .now)
+abbrev pub ServedBy : Way → List ℕ → Way → Lent → Lent → Lent → Lent → Lent → Lent → Lent → Lent → ℕ → Type 0
+ServedBy w cell s cells links calendar words bits arrived departures answers i =
+    Done (slotRecord w) (fromHere w cell cells links calendar words bits arrived) s
+    (cells .exit .now) (links .exit .now) (calendar .exit .now) (words .exit .now) (bits .exit .now) (arrived .exit .now)
     (departures .entry .now) (departures .exit .now) (answers .entry .now) (answers .exit .now) i
 
 -- served, and nothing departs
-abbrev pub ServedSilent : Way → List ℕ → Way → Lent → Lent → Lent → Lent → Lent → Lent → ℕ → Type 0
-ServedSilent w cell s cells links calendar words bits answers i =
-    Silent (slotRecord w) (fromHere w cell cells links calendar words bits) s
-    (cells .exit .now) (links .exit .now) (calendar .exit .now) (words .exit .now) (bits .exit .now) (answers .entry .now) (answers .exit .now) i
+abbrev pub ServedSilent : Way → List ℕ → Way → Lent → Lent → Lent → Lent → Lent → Lent → Lent → ℕ → Type 0
+ServedSilent w cell s cells links calendar words bits arrived answers i =
+    Silent (slotRecord w) (fromHere w cell cells links calendar words bits arrived) s
+    (cells .exit .now) (links .exit .now) (calendar .exit .now) (words .exit .now) (bits .exit .now) (arrived .exit .now) (answers .entry .now) (answers .exit .now) i
 
-abbrev pub ServedOrLeft : Way → List ℕ → Went → Lent → Lent → Lent → Lent → Lent → Lent → Lent → ℕ → Type 0
-ServedOrLeft w cell g cells links calendar words bits departures answers i =
-    Either (slotRecord w) (fromHere w cell cells links calendar words bits) g
-    (cells .entry .now) (links .entry .now) (calendar .entry .now) (words .entry .now) (bits .entry .now) (departures .entry .now) (answers .entry .now)
-    (cells .exit .now) (links .exit .now) (calendar .exit .now) (words .exit .now) (bits .exit .now) (departures .exit .now) (answers .exit .now) i
+abbrev pub ServedOrLeft : Way → List ℕ → Went → Lent → Lent → Lent → Lent → Lent → Lent → Lent → Lent → ℕ → Type 0
+ServedOrLeft w cell g cells links calendar words bits arrived departures answers i =
+    Either (slotRecord w) (fromHere w cell cells links calendar words bits arrived) g
+    (cells .entry .now) (links .entry .now) (calendar .entry .now) (words .entry .now) (bits .entry .now) (arrived .entry .now) (departures .entry .now) (answers .entry .now)
+    (cells .exit .now) (links .exit .now) (calendar .exit .now) (words .exit .now) (bits .exit .now) (arrived .exit .now) (departures .exit .now) (answers .exit .now) i
 
 -- the words once steps 2 and 3 have written what they found
 abbrev pub wordsFilled : Way → Spot → List ℕ → List ℕ

@@ -115,6 +115,14 @@ fn put_cell(cells: &mut [u8], x: usize, arrivals: &[u8], i: usize)
     mem_cell::copy_cell(&mut cells[a..e], &arrivals[from..to]);
 }
 
+// Its arrival slot beside it.
+fn put_arrived(arrived: &mut [u32], x: usize, t: u32)
+    requires { ⌜ x < length (now arrived) ⌝ }
+    ensures { λ r. ⌜ now (arrived .exit) ≡ set (now (arrived .entry)) x t ⌝ }
+{
+    arrived[x] = t;
+}
+
 // A cell takes space x and joins entry e.
 fn take_up(bits: &mut [u64], x: usize, e: usize)
     requires { ⌜ (x < mostN) × (length (now bits) ≡ bitWords) × (isFree (now bits) x ≡ true) × (e < mostN) ⌝ }
@@ -174,15 +182,16 @@ fn bare_leave(
     calendar: &mut [u16],
     words: &mut [u32],
     bits: &mut [u64],
+    arrived: &mut [u32],
     departures: &mut [u8],
     answers: &mut [u16],
     i: usize,
 ) -> Way
-    requires { ⌜ ReadyIn w cells links calendar words bits ⌝ }
+    requires { ⌜ ReadyIn w cells links calendar words bits arrived ⌝ }
     requires { ⌜ Turned (slotRecord w) (now words) r ⌝ }
     requires { ⌜ (o .none ≡ false) × Leaves (slotRecord w) (now bits) (entryAt (now calendar) (w .turn)) o (OffHere (slotRecord w) (now cells) (now links) (now words)) ⌝ }
     requires { ⌜ HandedTo (now departures) (now answers) i ⌝ }
-    ensures { λ s. ⌜ ServedBy w [] s cells links calendar words bits departures answers i ⌝ }
+    ensures { λ s. ⌜ ServedBy w [] s cells links calendar words bits arrived departures answers i ⌝ }
 {
     put_turn(words, w.rotation, r.s, r.last);
     put_less(words, o.vci);
@@ -214,14 +223,15 @@ fn bare(
     calendar: &mut [u16],
     words: &mut [u32],
     bits: &mut [u64],
+    arrived: &mut [u32],
     departures: &mut [u8],
     answers: &mut [u16],
     i: usize,
 ) -> Went
-    requires { ⌜ ReadyIn w cells links calendar words bits ⌝ }
+    requires { ⌜ ReadyIn w cells links calendar words bits arrived ⌝ }
     requires { ⌜ Turned (slotRecord w) (now words) r ⌝ }
     requires { ⌜ HandedTo (now departures) (now answers) i ⌝ }
-    ensures { λ g. ⌜ ServedOrLeft w [] g cells links calendar words bits departures answers i ⌝ }
+    ensures { λ g. ⌜ ServedOrLeft w [] g cells links calendar words bits arrived departures answers i ⌝ }
 {
     let o = burst_depart::off_quiet(w, cells, links, calendar, words, bits);
     if !o.ok {
@@ -240,6 +250,7 @@ fn bare(
         calendar,
         words,
         bits,
+        arrived,
         departures,
         answers,
         i,
@@ -257,10 +268,11 @@ fn store(
     calendar: &mut [u16],
     words: &mut [u32],
     bits: &mut [u64],
+    arrived: &mut [u32],
     arrivals: &[u8],
     i: usize,
 )
-    requires { ⌜ ReadyIn w cells links calendar words bits ⌝ }
+    requires { ⌜ ReadyIn w cells links calendar words bits arrived ⌝ }
     requires { ⌜ Turned (slotRecord w) (now words) r ⌝ }
     requires { ⌜ SpottedIn w p calendar words bits arrivals i ⌝ }
     requires { ⌜ cellStart i + octets ≤ length (now arrivals) ⌝ }
@@ -269,10 +281,12 @@ fn store(
     ensures calendar { λ u. ⌜ now (calendar .exit) ≡ writeEntry (now (calendar .entry)) (p .e) (seatEnds (seatAt p)) ⌝ }
     ensures words { λ u. ⌜ now (words .exit) ≡ wordsFilled w p (now (words .entry)) ⌝ }
     ensures bits { λ u. ⌜ now (bits .exit) ≡ marked (taken (now (bits .entry)) (p .x)) (p .e) ⌝ }
+    ensures arrived { λ u. ⌜ now (arrived .exit) ≡ set (now (arrived .entry)) (p .x) (w .t) ⌝ }
 {
     put_turn(words, w.rotation, r.s, r.last);
     put_fill(words, p.vci, p.s, w.t);
     put_cell(cells, p.x, arrivals, i);
+    put_arrived(arrived, p.x, w.t);
     put_link(links, p.head != 65535, p.x, p.head);
     put_entry(calendar, p.e, p.x, p.head);
     take_up(bits, p.x, p.e);
@@ -288,19 +302,32 @@ fn accept_none(
     calendar: &mut [u16],
     words: &mut [u32],
     bits: &mut [u64],
+    arrived: &mut [u32],
     arrivals: &[u8],
     answers: &mut [u16],
     i: usize,
 ) -> Way
-    requires { ⌜ ReadyIn w cells links calendar words bits ⌝ }
+    requires { ⌜ ReadyIn w cells links calendar words bits arrived ⌝ }
     requires { ⌜ Turned (slotRecord w) (now words) r ⌝ }
     requires { ⌜ SpottedIn w p calendar words bits arrivals i ⌝ }
     requires { ⌜ (cellStart i + octets ≤ length (now arrivals)) × (6 * i + 6 ≤ length (now answers)) ⌝ }
     requires { ⌜ (endsFit (w .n) (entryThen (slotRecord w) p (now calendar)) ≡ true)
         × (entryThen (slotRecord w) p (now calendar) .head ≡ empty) × (w .outhead ≡ empty) ⌝ }
-    ensures { λ s. ⌜ ServedSilent w (cellBefore arrivals i) s cells links calendar words bits answers i ⌝ }
+    ensures { λ s. ⌜ ServedSilent w (cellBefore arrivals i) s cells links calendar words bits arrived answers i ⌝ }
 {
-    store(w, r, p, cells, links, calendar, words, bits, arrivals, i);
+    store(
+        w,
+        r,
+        p,
+        cells,
+        links,
+        calendar,
+        words,
+        bits,
+        arrived,
+        arrivals,
+        i,
+    );
     burst_out::put_answer(
         answers,
         i,
@@ -327,20 +354,33 @@ fn accept_leave(
     calendar: &mut [u16],
     words: &mut [u32],
     bits: &mut [u64],
+    arrived: &mut [u32],
     arrivals: &[u8],
     departures: &mut [u8],
     answers: &mut [u16],
     i: usize,
 ) -> Way
-    requires { ⌜ ReadyIn w cells links calendar words bits ⌝ }
+    requires { ⌜ ReadyIn w cells links calendar words bits arrived ⌝ }
     requires { ⌜ Turned (slotRecord w) (now words) r ⌝ }
     requires { ⌜ SpottedIn w p calendar words bits arrivals i ⌝ }
     requires { ⌜ (o .none ≡ false)
         × Leaves (slotRecord w) (taken (now bits) (p .x)) (entryThen (slotRecord w) p (now calendar)) o (OffThen (slotRecord w) p (now cells) (now links) (now words)) ⌝ }
     requires { ⌜ (cellStart i + octets ≤ length (now arrivals)) × HandedTo (now departures) (now answers) i ⌝ }
-    ensures { λ s. ⌜ ServedBy w (cellBefore arrivals i) s cells links calendar words bits departures answers i ⌝ }
+    ensures { λ s. ⌜ ServedBy w (cellBefore arrivals i) s cells links calendar words bits arrived departures answers i ⌝ }
 {
-    store(w, r, p, cells, links, calendar, words, bits, arrivals, i);
+    store(
+        w,
+        r,
+        p,
+        cells,
+        links,
+        calendar,
+        words,
+        bits,
+        arrived,
+        arrivals,
+        i,
+    );
     put_less(words, o.vci);
     clear_entry(calendar, o.marked, w.turn);
     put_link(links, o.follows, w.outtail, o.head);
@@ -371,16 +411,17 @@ fn accept(
     calendar: &mut [u16],
     words: &mut [u32],
     bits: &mut [u64],
+    arrived: &mut [u32],
     arrivals: &[u8],
     departures: &mut [u8],
     answers: &mut [u16],
     i: usize,
 ) -> Went
-    requires { ⌜ ReadyIn w cells links calendar words bits ⌝ }
+    requires { ⌜ ReadyIn w cells links calendar words bits arrived ⌝ }
     requires { ⌜ Turned (slotRecord w) (now words) r ⌝ }
     requires { ⌜ SpottedIn w p calendar words bits arrivals i ⌝ }
     requires { ⌜ (cellStart i + octets ≤ length (now arrivals)) × HandedTo (now departures) (now answers) i ⌝ }
-    ensures { λ g. ⌜ ServedOrLeft w (cellBefore arrivals i) g cells links calendar words bits departures answers i ⌝ }
+    ensures { λ g. ⌜ ServedOrLeft w (cellBefore arrivals i) g cells links calendar words bits arrived departures answers i ⌝ }
 {
     let o = burst_depart::off_accept(w, p, cells, links, calendar, words, bits);
     if !o.ok {
@@ -396,6 +437,7 @@ fn accept(
             calendar,
             words,
             bits,
+            arrived,
             arrivals,
             answers,
             i,
@@ -412,6 +454,7 @@ fn accept(
         calendar,
         words,
         bits,
+        arrived,
         arrivals,
         departures,
         answers,
@@ -429,15 +472,16 @@ fn arrive(
     calendar: &mut [u16],
     words: &mut [u32],
     bits: &mut [u64],
+    arrived: &mut [u32],
     arrivals: &[u8],
     departures: &mut [u8],
     answers: &mut [u16],
     i: usize,
 ) -> Went
-    requires { ⌜ ReadyIn w cells links calendar words bits ⌝ }
+    requires { ⌜ ReadyIn w cells links calendar words bits arrived ⌝ }
     requires { ⌜ Turned (slotRecord w) (now words) r ⌝ }
     requires { ⌜ (cellStart i + octets ≤ length (now arrivals)) × HandedTo (now departures) (now answers) i ⌝ }
-    ensures { λ g. ⌜ ServedOrLeft w (cellBefore arrivals i) g cells links calendar words bits departures answers i ⌝ }
+    ensures { λ g. ⌜ ServedOrLeft w (cellBefore arrivals i) g cells links calendar words bits arrived departures answers i ⌝ }
 {
     let p = burst_arrive::accepted_spot(w, calendar, words, bits, arrivals, i);
     if !p.ok {
@@ -452,6 +496,7 @@ fn arrive(
         calendar,
         words,
         bits,
+        arrived,
         arrivals,
         departures,
         answers,
@@ -468,16 +513,17 @@ pub fn slot(
     calendar: &mut [u16],
     words: &mut [u32],
     bits: &mut [u64],
+    arrived: &mut [u32],
     arrivals: &[u8],
     size: u8,
     departures: &mut [u8],
     answers: &mut [u16],
     i: usize,
 ) -> Went
-    requires { ⌜ ReadyIn w cells links calendar words bits ⌝ }
+    requires { ⌜ ReadyIn w cells links calendar words bits arrived ⌝ }
     requires { ⌜ (cellStart i + octets ≤ length (now arrivals)) × HandedTo (now departures) (now answers) i ⌝ }
     ensures fits { λ g. ⌜ (g .ok ≡ true → (size ≡ 0) ⊎ (size ≡ 53)) ⌝ }
-    ensures is { λ g. ⌜ ServedOrLeft w (take size (drop (cellStart i) (now (arrivals .entry)))) g cells links calendar words bits departures answers i ⌝ }
+    ensures is { λ g. ⌜ ServedOrLeft w (take size (drop (cellStart i) (now (arrivals .entry)))) g cells links calendar words bits arrived departures answers i ⌝ }
 {
     let r = burst_rotate::turned(w, words);
     if !r.ok {
@@ -492,6 +538,7 @@ pub fn slot(
             calendar,
             words,
             bits,
+            arrived,
             departures,
             answers,
             i,
@@ -508,6 +555,7 @@ pub fn slot(
         calendar,
         words,
         bits,
+        arrived,
         arrivals,
         departures,
         answers,

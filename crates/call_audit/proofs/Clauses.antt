@@ -50,24 +50,24 @@ module _ (l calendar : List ℕ) where
   head-of e [] c h = c .0
   head-of e (x ∷ xs) c h = absurd (omega (arith, ap length h))
 
-module _ (r : Record) (cells links calendar words bits : List ℕ) (s : AuditHolds (stateOf r cells links calendar words bits)) where
+module _ (r : Record) (cells links calendar words bits arrived : List ℕ) (s : AuditHolds (stateOf r cells links calendar words bits arrived)) where
   pub clauses-turn : getD calendar (2 * r .turn) 0 ≡ empty
   clauses-turn =
       sym (head-at calendar (r .turn))
       ∙ head-of links calendar (entryAt calendar (r .turn)) (getD (s .queues) (r .turn) [])
       (s .queues-are (r .turn) (s .turn-low)) (s .turn-empty)
 
-module _ (r : Record) (cells links calendar words bits b w : List ℕ)
+module _ (r : Record) (cells links calendar words bits arrived b w : List ℕ)
     (ones : (x : ℕ) → getD b x 0 ≡ inside bits x (r .n)) (waits : (k : ℕ) → getD w k 0 ≡ waitsAt words (r .v) k) where
   abbrev pub Kept : Type 0
   Kept =
       Stored links calendar (nameOf (r .kind) (r .v) cells) (r .n) (endsOf (r .outhead) (r .outtail)) b w
 
-  pub to-clauses : Shaped r cells links calendar words bits
+  pub to-clauses : Shaped r cells links calendar words bits arrived
       → spacesFit (r .n) (r .free) bits ≡ true
       → MarksAre (r .n) calendar bits
       → AllFit (r .n) (r .v) words
-      → getD calendar (2 * r .turn) 0 ≡ empty → Kept → AuditHolds (stateOf r cells links calendar words bits)
+      → getD calendar (2 * r .turn) 0 ≡ empty → Kept → AuditHolds (stateOf r cells links calendar words bits arrived)
   to-clauses h fit marks f e s =
       let queued = s .output ++ joined (s .queues) in
       let past : count empty queued ≡ 0 =
@@ -108,7 +108,7 @@ module _ (r : Record) (cells links calendar words bits b w : List ℕ)
         waits = waits-of (r .kind) (r .v) cells words queued small (λ k. s .cells k ∙ waits k);
       }
 
-  module _ (s : AuditHolds (stateOf r cells links calendar words bits)) where
+  module _ (s : AuditHolds (stateOf r cells links calendar words bits arrived)) where
     each : (x : ℕ) → Dec (x < r .n) → count x (s .output ++ joined (s .queues)) ≡ getD b x 0
     each x (yes g) = s .once x g ∙ sym (ones x ∙ inside-yes bits x (r .n) g)
     each x (no g) = s .no-other x (omega arith) ∙ sym (ones x ∙ inside-no bits x (r .n) (omega arith))

@@ -25,15 +25,17 @@ module _ (N z : ℕ) where
       let d = both (1 ≤? N) (N ≤? mostN) (b .0) in
       (leb-true 1 N (d .0), leb-true N mostN (d .1), leb-true leastV z (b .1), leb-true z mostV (a .1))
 
--- The five lengths
+-- The six lengths
 
-module _ (N z : ℕ) (cells links calendar words bits : List ℕ) where
-  lengths-facts : lengthsHold N z cells links calendar words bits ≡ true
+module _ (N z : ℕ) (cells links calendar words bits arrived : List ℕ) where
+  lengths-facts : lengthsHold N z cells links calendar words bits arrived ≡ true
       → (length calendar ≡ perEntry * N) × (length words ≡ wordsIn z) × (length bits ≡ bitWords)
   unfolding lengthsHold wordsLong
   lengths-facts h =
       let first = length cells =? octets * N && length links =? N in
-      let d = both (first && length calendar =? perEntry * N && length words =? wordsIn z) (length bits =? bitWords) h in
+      let two = first && length calendar =? perEntry * N && length words =? wordsIn z in
+      let e = both (two && length bits =? bitWords) (length arrived =? N) h in
+      let d = both two (length bits =? bitWords) (e .0) in
       let a = both (first && length calendar =? perEntry * N) (length words =? wordsIn z) (d .0) in
       let b = both first (length calendar =? perEntry * N) (a .0) in (
         eqb-true (length calendar) (perEntry * N) (b .1),
@@ -120,21 +122,22 @@ module _ (r : Record) where
         f .1,
       )
 
-abbrev lengthsTest : ℕ → ℕ → List ℕ → List ℕ → List ℕ → List ℕ → List ℕ → Bool
-lengthsTest N z cells links calendar words bits =
+abbrev lengthsTest : ℕ → ℕ → List ℕ → List ℕ → List ℕ → List ℕ → List ℕ → List ℕ → Bool
+lengthsTest N z cells links calendar words bits arrived =
     length cells =? octets * N && length links =? N && length calendar =? perEntry * N && length words =? wordsIn z && length bits =? bitWords
+    && length arrived =? N
 
 -- All of it, as the code meets it: p and q are what the two tests answer
 
-module _ (r : Record) (cells links calendar words bits : List ℕ) (p : Bool) (ranges : p ≡ rangesHold (r .n) (r .v)) where
+module _ (r : Record) (cells links calendar words bits arrived : List ℕ) (p : Bool) (ranges : p ≡ rangesHold (r .n) (r .v)) where
   abbrev shape : Bool
-  shape = shapeHolds (stateOf r cells links calendar words bits)
+  shape = shapeHolds (stateOf r cells links calendar words bits arrived)
 
   pub shape-no-ranges : not p ≡ true → false ≡ shape
   unfolding shapeHolds
   shape-no-ranges h = rw (← ranges, not-true p h)
 
-  module _ (q : Bool) (lengths : q ≡ lengthsTest (r .n) (r .v) cells links calendar words bits) (ok : not p ≡ false) where
+  module _ (q : Bool) (lengths : q ≡ lengthsTest (r .n) (r .v) cells links calendar words bits arrived) (ok : not p ≡ false) where
     pub shape-no-lengths : not q ≡ true → false ≡ shape
     unfolding shapeHolds lengthsHold wordsLong
     shape-no-lengths h = rw (← ranges, not-false p ok, ← lengths, not-true q h)
@@ -146,9 +149,9 @@ module _ (r : Record) (cells links calendar words bits : List ℕ) (p : Bool) (r
 -- What a yes means, and that it is given
 
 -- "lengths and ranges hold", but for the connections' words
-pub record Shaped (r : Record) (cells links calendar words bits : List ℕ) : Type 0 where
+pub record Shaped (r : Record) (cells links calendar words bits arrived : List ℕ) : Type 0 where
   pub ranges : rangesHold (r .n) (r .v) ≡ true
-  pub lengths : lengthsHold (r .n) (r .v) cells links calendar words bits ≡ true
+  pub lengths : lengthsHold (r .n) (r .v) cells links calendar words bits arrived ≡ true
   pub turn-low : r .turn < r .n
   pub rotation-low : r .rotation < connectionsIn (r .v)
   pub raw-low : r .raw ≤ 1
@@ -163,18 +166,18 @@ pub record Shaped (r : Record) (cells links calendar words bits : List ℕ) : Ty
   pub words-long : length words ≡ wordsIn (r .v)
   pub bits-long : length bits ≡ bitWords
 
-module _ (r : Record) (cells links calendar words bits : List ℕ) where
-  pub shape-of : (a : Bool) → a ≡ shapeHolds (stateOf r cells links calendar words bits) → a ≡ true
-      → Shaped r cells links calendar words bits
+module _ (r : Record) (cells links calendar words bits arrived : List ℕ) where
+  pub shape-of : (a : Bool) → a ≡ shapeHolds (stateOf r cells links calendar words bits arrived) → a ≡ true
+      → Shaped r cells links calendar words bits arrived
   unfolding shapeHolds
   shape-of found e h =
       let ranges = rangesHold (r .n) (r .v) in
-      let lengths = lengthsHold (r .n) (r .v) cells links calendar words bits in
+      let lengths = lengthsHold (r .n) (r .v) cells links calendar words bits arrived in
       let a = both (ranges && lengths) (recordFits r) (sym e ∙ h) in
       let d = both ranges lengths (a .0) in
       let k = fits-facts r (a .1) in
       let f = ranges-facts (r .n) (r .v) (d .0) in
-      let g = lengths-facts (r .n) (r .v) cells links calendar words bits (d .1) in
+      let g = lengths-facts (r .n) (r .v) cells links calendar words bits arrived (d .1) in
       record {
         ranges = d .0;
         lengths = d .1;
@@ -192,8 +195,8 @@ module _ (r : Record) (cells links calendar words bits : List ℕ) where
         bits-long = g .2;
       }
 
-  pub clauses-shape : AuditHolds (stateOf r cells links calendar words bits)
-      → shapeHolds (stateOf r cells links calendar words bits) ≡ true
+  pub clauses-shape : AuditHolds (stateOf r cells links calendar words bits arrived)
+      → shapeHolds (stateOf r cells links calendar words bits arrived) ≡ true
   unfolding shapeHolds recordFits kindFits
   clauses-shape s =
       rw (

@@ -155,7 +155,7 @@ fn record_fits(r: Record) -> bool
     splits_hold(r.v, r.splitvci, r.splitpath)
 }
 
-// N, V, the five lengths, and the record's numbers that name no space.
+// N, V, the six lengths, and the record's numbers that name no space.
 fn shaped(
     r: Record,
     cells: &[u8],
@@ -163,8 +163,9 @@ fn shaped(
     calendar: &[u16],
     words: &[u32],
     bits: &[u64],
+    arrived: &[u32],
 ) -> bool
-    ensures { λ a. ⌜ a ≡ shapeHolds (before r cells links calendar words bits) ⌝ }
+    ensures { λ a. ⌜ a ≡ shapeHolds (before r cells links calendar words bits arrived) ⌝ }
 {
     if !ranges_hold(r.n, r.v) {
         return false;
@@ -177,13 +178,14 @@ fn shaped(
         calendar.len(),
         words.len(),
         bits.len(),
+        arrived.len(),
     ) {
         return false;
     }
     record_fits(r)
 }
 
-// Do the clauses of the audit hold? Linear in N + V: each list is walked once, and no space twice.
+// Do the clauses of the audit hold? Linear in N + V: each list is walked once, and no space twice. What the arrival slots say is free.
 pub fn audit(
     r: Record,
     cells: &[u8],
@@ -191,10 +193,11 @@ pub fn audit(
     calendar: &[u16],
     words: &[u32],
     bits: &[u64],
+    arrived: &[u32],
 ) -> bool
-    ensures { λ a. ⌜ AuditPromise (before r cells links calendar words bits) a ⌝ }
+    ensures { λ a. ⌜ AuditPromise (before r cells links calendar words bits arrived) a ⌝ }
 {
-    if shaped(r, cells, links, calendar, words, bits) {
+    if shaped(r, cells, links, calendar, words, bits, arrived) {
         if bits_fit(r.n, r.free, calendar, bits) {
             if calendar[2 * (r.turn as usize)] == 65535 {
                 let mut waits = [0u32; 1280];

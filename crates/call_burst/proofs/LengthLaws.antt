@@ -10,7 +10,7 @@ use lib.ListN.{length, set, length-set}
 use Rattle.meaning.specs.Plain.{if_then_else_, _<?_, _≤?_, _=?_, refused, _andThen_}
 use Rattle.meaning.specs.Numbers.{cellStart, connectionsIn, unused, kindFits, excess, unknown, wordsIn, bitWords}
 use Rattle.meaning.specs.Bits.{isFree, spacesFit, taken}
-use Rattle.meaning.specs.State.{Ends, outputList, withRecord, withCells, withLinks, withCalendar, withWords, withBits}
+use Rattle.meaning.specs.State.{Ends, outputList, withRecord, withCells, withLinks, withCalendar, withWords, withBits, withArrived}
 use Rattle.meaning.specs.State.{recordWith, withClock, withFree, withOutputList}
 use Rattle.meaning.specs.Header.{headerAt, clpIn, noUserCell, connection, namesConnection, namesOpen}
 use Rattle.meaning.specs.Bucket.{delay}
@@ -63,13 +63,14 @@ module _ (N z : ℕ) where
     pub calendar-long : length (w .state .calendar) ≡ 2 * N
     pub words-long : length (w .state .words) ≡ wordsIn z
     pub bits-long : length (w .state .bits) ≡ bitWords
+    pub arrived-long : length (w .state .arrived) ≡ N
 
   step1-long : (w : Work) → Long w → AllOut Long (step1 w)
   unfolding step1 withClock withRecord recordWith
   step1-long w h =
       let c = w .state .ctl in
       needs-all Long (c .turn <? c .n && c .rotation <? connectionsIn (c .v)) _
-      (λ _. record { n-is = h .n-is; v-is = h .v-is; cells-long = h .cells-long; links-long = h .links-long; calendar-long = h .calendar-long; words-long = h .words-long; bits-long = h .bits-long })
+      (λ _. record { n-is = h .n-is; v-is = h .v-is; cells-long = h .cells-long; links-long = h .links-long; calendar-long = h .calendar-long; words-long = h .words-long; bits-long = h .bits-long; arrived-long = h .arrived-long })
 
   step2-long : (w : Work) → Long w → AllOut Long (step2 w)
   unfolding step2 withWords
@@ -80,15 +81,15 @@ module _ (N z : ℕ) where
       (λ _. needs-all Long (openWordFits vc) _
       (λ _. if-all Long (vc .opened =? 0) _ _ (λ _. h)
       (λ _. any-all Long (upToDate (s .ctl .n) (s .ctl .t) vc) _
-      (λ now. record { n-is = h .n-is; v-is = h .v-is; cells-long = h .cells-long; links-long = h .links-long; calendar-long = h .calendar-long; words-long = write-length (s .words) (s .ctl .rotation) now ∙ h .words-long; bits-long = h .bits-long }))))
+      (λ now. record { n-is = h .n-is; v-is = h .v-is; cells-long = h .cells-long; links-long = h .links-long; calendar-long = h .calendar-long; words-long = write-length (s .words) (s .ctl .rotation) now ∙ h .words-long; bits-long = h .bits-long; arrived-long = h .arrived-long }))))
 
   judge-long : (x : ℕ) (cell : List ℕ) (v : ℕ) (w : Work) → Long w → length cell ≡ 53 → (vc : Connection) → AllOut Long (judge x cell v w vc)
-  unfolding judge accept place withWords withCells withLinks withCalendar withFree withBits withRecord recordWith
+  unfolding judge accept place withWords withCells withLinks withCalendar withFree withBits withArrived withRecord recordWith
   judge-long x cell v w h c vc =
       let s = w .state in
       let verdict = verdictOn (clpIn cell) vc in
       if-all Long (verdict =? excess) _ _
-      (λ _. record { n-is = h .n-is; v-is = h .v-is; cells-long = h .cells-long; links-long = h .links-long; calendar-long = h .calendar-long; words-long = write-length (s .words) v _ ∙ h .words-long; bits-long = h .bits-long })
+      (λ _. record { n-is = h .n-is; v-is = h .v-is; cells-long = h .cells-long; links-long = h .links-long; calendar-long = h .calendar-long; words-long = write-length (s .words) v _ ∙ h .words-long; bits-long = h .bits-long; arrived-long = h .arrived-long })
       (λ _. needs-all Long (vc .waiting <? s .ctl .n) _
       (λ _. needs-all Long (spacesFit (s .ctl .n) (s .ctl .free) (s .bits) && not (s .ctl .free =? 0)) _
       (λ f. needs-all Long (isFree (s .bits) x) _
@@ -104,6 +105,7 @@ module _ (N z : ℕ) where
         calendar-long = entry-length (s .calendar) e (joinHead (s .links) (entryAt (s .calendar) e) x .ends) ∙ h .calendar-long;
         words-long = write-length (s .words) v _ ∙ h .words-long;
         bits-long = marked-length (taken (s .bits) x) e ∙ taken-length (s .bits) x ∙ h .bits-long;
+        arrived-long = length-set (s .arrived) x (s .ctl .t) ∙ h .arrived-long;
       })))))
 
   step3-long : (x : ℕ) (cell : List ℕ) → ((length cell ≡ 0 → ⊥) → length cell ≡ 53) → (w : Work) → Long w → AllOut Long (step3 x cell w)
@@ -123,7 +125,7 @@ module _ (N z : ℕ) where
       (judge-long x cell at w h (c (eqb-false (length cell) 0 e)))))))))
     where
       same : Long (withArrival w unknown (headerAt (w .state .ctl .kind) cell 0 .vci) 0)
-      same = record { n-is = h .n-is; v-is = h .v-is; cells-long = h .cells-long; links-long = h .links-long; calendar-long = h .calendar-long; words-long = h .words-long; bits-long = h .bits-long }
+      same = record { n-is = h .n-is; v-is = h .v-is; cells-long = h .cells-long; links-long = h .links-long; calendar-long = h .calendar-long; words-long = h .words-long; bits-long = h .bits-long; arrived-long = h .arrived-long }
 
   step4-long : (w : Work) → Long w → AllOut Long (step4 w)
   unfolding step4 withBits withCalendar withLinks withOutputList withRecord recordWith
@@ -140,6 +142,7 @@ module _ (N z : ℕ) where
         calendar-long = entry-length (s .calendar) (s .ctl .turn) _ ∙ h .calendar-long;
         words-long = h .words-long;
         bits-long = unmarked-length (s .bits) (s .ctl .turn) ∙ h .bits-long;
+        arrived-long = h .arrived-long;
       }))
 
   step5-long : (w : Work) → Long w → AllOut Long (step5 w)
@@ -161,6 +164,7 @@ module _ (N z : ℕ) where
         calendar-long = h .calendar-long;
         words-long = write-length (s .words) (connection (s .ctl .v) a) _ ∙ h .words-long;
         bits-long = given-length (s .bits) (taken .space) ∙ h .bits-long;
+        arrived-long = h .arrived-long;
       })))))
 
   pub five-long : (x : ℕ) (cell : List ℕ) → ((length cell ≡ 0 → ⊥) → length cell ≡ 53) → (w : Work) → Long w → AllOut Long (fiveSteps x cell w)

@@ -55,10 +55,10 @@ or-left : (a b : Bool) → a ≡ true → a || b ≡ true
 or-left a b e = rw e
 
 -- refusals 1, 2 and 9 are not given
-shape-none : (r : Record) (cells links calendar words bits cell : List ℕ) → Shaped r cells links calendar words bits → (length cell ≡ 0) ⊎ (length cell ≡ 53)
-    → 0 ≡ shapeOf r cells links calendar words bits cell
+shape-none : (r : Record) (cells links calendar words bits arrived cell : List ℕ) → Shaped r cells links calendar words bits arrived → (length cell ≡ 0) ⊎ (length cell ≡ 53)
+    → 0 ≡ shapeOf r cells links calendar words bits arrived cell
 unfolding shapeOf rangesHold lengthsHold wordsLong
-shape-none r cells links calendar words bits cell z long =
+shape-none r cells links calendar words bits arrived cell z long =
     simp (
       le-leb 1 (r .n) (z .n-low),
       le-leb (r .n) 1024 (z .n-high),
@@ -69,6 +69,7 @@ shape-none r cells links calendar words bits cell z long =
       eq-eqb (length calendar) (2 * r .n) (z .calendar-long),
       eq-eqb (length words) (wordsIn (r .v)) (z .words-long),
       eq-eqb (length bits) bitWords (z .bits-long),
+      eq-eqb (length arrived) (r .n) (z .arrived-long),
       lengths long,
     )
   where
@@ -76,20 +77,20 @@ shape-none r cells links calendar words bits cell z long =
     lengths (inl e) = or-left (length cell =? 0) (length cell =? 53) (eq-eqb (length cell) 0 e)
     lengths (inr e) = or-right (length cell =? 0) (length cell =? 53) (eq-eqb (length cell) 53 e)
 
-module _ (arrivals : List ℕ) (size : ℕ) (w : Way) (cells links calendar words bits : List ℕ) (departures answers : List ℕ) (i : ℕ) where
+module _ (arrivals : List ℕ) (size : ℕ) (w : Way) (cells links calendar words bits arrived : List ℕ) (departures answers : List ℕ) (i : ℕ) where
   abbrev r : Record
   r = lastRecord w
 
   abbrev s : State
-  s = stateOf r cells links calendar words bits
+  s = stateOf r cells links calendar words bits arrived
 
   abbrev cell : List ℕ
   cell = cellLent arrivals i size
 
-  module _ (z : Shaped (slotRecord w) cells links calendar words bits) (t-low : w .t < 4294967296) (turn : w .turn < w .n) (rotation : w .rotation < connectionsIn (w .v)) (raw : w .raw ≡ 0) (room : 53 * i + 53 ≤ length arrivals) (fits : (size ≡ 0) ⊎ (size ≡ 53)) where
-    shaped : Shaped r cells links calendar words bits
+  module _ (z : Shaped (slotRecord w) cells links calendar words bits arrived) (t-low : w .t < 4294967296) (turn : w .turn < w .n) (rotation : w .rotation < connectionsIn (w .v)) (raw : w .raw ≡ 0) (room : 53 * i + 53 ≤ length arrivals) (fits : (size ≡ 0) ⊎ (size ≡ 53)) where
+    shaped : Shaped r cells links calendar words bits arrived
     unfolding lastRecord
-    shaped = record { n-low = z .n-low; n-high = z .n-high; v-low = z .v-low; v-high = z .v-high; cells-long = z .cells-long; links-long = z .links-long; calendar-long = z .calendar-long; words-long = z .words-long; bits-long = z .bits-long }
+    shaped = record { n-low = z .n-low; n-high = z .n-high; v-low = z .v-low; v-high = z .v-high; cells-long = z .cells-long; links-long = z .links-long; calendar-long = z .calendar-long; words-long = z .words-long; bits-long = z .bits-long; arrived-long = z .arrived-long }
 
     long : (size ≡ 0) ⊎ (size ≡ 53) → (length cell ≡ 0) ⊎ (length cell ≡ 53)
     long (inl e) = inl (lent-long arrivals i size room (omega (arith, e)) ∙ e)
@@ -111,25 +112,25 @@ module _ (arrivals : List ℕ) (size : ℕ) (w : Way) (cells links calendar word
         go true e = omega arith
         go false e = omega arith
 
-    slot-is : (x : Work) → from2 (slotRecord w) cell cells links calendar words bits ≡ next x → x ≡ slot s cell
+    slot-is : (x : Work) → from2 (slotRecord w) cell cells links calendar words bits arrived ≡ next x → x ≡ slot s cell
     unfolding lastRecord finish slot uncheckedSlot
     slot-is x e =
-        let five = clock-goes r cell cells links calendar words bits (slotRecord w) (sym (last-clocked w t-low turn rotation)) before-turn before-rotation in
-        let u : uncheckedSlot s cell ≡ x = slot-goes r cell cells links calendar words bits 0 (shape-none r cells links calendar words bits cell shaped (long fits)) refl ∙ ap (finish s) (five ∙ e) in
+        let five = clock-goes r cell cells links calendar words bits arrived (slotRecord w) (sym (last-clocked w t-low turn rotation)) before-turn before-rotation in
+        let u : uncheckedSlot s cell ≡ x = slot-goes r cell cells links calendar words bits arrived 0 (shape-none r cells links calendar words bits arrived cell shaped (long fits)) refl ∙ ap (finish s) (five ∙ e) in
         sym (not-raw (lowestFree bits) s cell raw ∙ u)
 
-    pub likely-slot : (w′ : Way) (cells′ links′ calendar′ words′ bits′ departures′ answers′ : List ℕ)
-        → Done (slotRecord w) (from2 (slotRecord w) cell cells links calendar words bits) w′ cells′ links′ calendar′ words′ bits′ departures departures′ answers answers′ i
-        → stretchOf (stateOf (slotRecord w′) cells′ links′ calendar′ words′ bits′) departures′ answers′ 0 (i + 1)
-        ≡ oneSlot arrivals size (wayStretch w cells links calendar words bits departures answers i)
-    likely-slot w′ cells′ links′ calendar′ words′ bits′ departures′ answers′ d =
+    pub likely-slot : (w′ : Way) (cells′ links′ calendar′ words′ bits′ arrived′ departures′ answers′ : List ℕ)
+        → Done (slotRecord w) (from2 (slotRecord w) cell cells links calendar words bits arrived) w′ cells′ links′ calendar′ words′ bits′ arrived′ departures departures′ answers answers′ i
+        → stretchOf (stateOf (slotRecord w′) cells′ links′ calendar′ words′ bits′ arrived′) departures′ answers′ 0 (i + 1)
+        ≡ oneSlot arrivals size (wayStretch w cells links calendar words bits arrived departures answers i)
+    likely-slot w′ cells′ links′ calendar′ words′ bits′ arrived′ departures′ answers′ d =
         turn-serves arrivals size s departures answers i (size-is size fits) _ (slot-is _ (d .is)) (d .number) departures′ answers′ (d .shown) (d .told)
 
 -- ---- the next slot of a run
-module _ (arrivals sizes : List ℕ) (stop i : ℕ) (w : Way) (cells links calendar words bits departures answers : List ℕ) (w′ : Way) (cells′ links′ calendar′ words′ bits′ departures′ answers′ : List ℕ)
-    (held : Held w cells links calendar words bits) (room : Room w words (stop - i)) (low : i < stop) (most : stop ≤ length sizes) (long : length arrivals ≡ 53 * length sizes)
+module _ (arrivals sizes : List ℕ) (stop i : ℕ) (w : Way) (cells links calendar words bits arrived departures answers : List ℕ) (w′ : Way) (cells′ links′ calendar′ words′ bits′ arrived′ departures′ answers′ : List ℕ)
+    (held : Held w cells links calendar words bits arrived) (room : Room w words (stop - i)) (low : i < stop) (most : stop ≤ length sizes) (long : length arrivals ≡ 53 * length sizes)
     (fits : (getD sizes i 0 ≡ 0) ⊎ (getD sizes i 0 ≡ 53))
-    (d : Done (slotRecord w) (from2 (slotRecord w) (cellLent arrivals i (getD sizes i 0)) cells links calendar words bits) w′ cells′ links′ calendar′ words′ bits′ departures departures′ answers answers′ i) where
+    (d : Done (slotRecord w) (from2 (slotRecord w) (cellLent arrivals i (getD sizes i 0)) cells links calendar words bits arrived) w′ cells′ links′ calendar′ words′ bits′ arrived′ departures departures′ answers answers′ i) where
   same : (A : Type 0) (f : Record → A) → f (slotRecord w′) ≡ f (withEnds (slotRecord w) (d .free) (d .output))
   same A f = ap f (d .ends)
 
@@ -169,10 +170,10 @@ module _ (arrivals sizes : List ℕ) (stop i : ℕ) (w : Way) (cells links calen
   before-step =
       (omega (arith, turn-same, n-same, room .turn-room), omega (arith, rotation-same, v-same, room .rotation-room), omega (arith, n-same, held .shaped .n-high), omega (arith, v-same, held .shaped .v-high))
 
-  pub next-held : length cells′ ≡ length cells → length links′ ≡ length links → length calendar′ ≡ length calendar → length words′ ≡ length words → length bits′ ≡ length bits
-      → Held (steppedWay w′) cells′ links′ calendar′ words′ bits′
+  pub next-held : length cells′ ≡ length cells → length links′ ≡ length links → length calendar′ ≡ length calendar → length words′ ≡ length words → length bits′ ≡ length bits → length arrived′ ≡ length arrived
+      → Held (steppedWay w′) cells′ links′ calendar′ words′ bits′ arrived′
   unfolding slotNumbers
-  next-held a b e f g =
+  next-held a b e f g h =
       let z = held .shaped in
       record {
         shaped = record {
@@ -185,6 +186,7 @@ module _ (arrivals sizes : List ℕ) (stop i : ℕ) (w : Way) (cells links calen
           calendar-long = omega (arith, e, n-same, z .calendar-long);
           words-long = omega (arith, f, v-same, z .words-long);
           bits-long = g ∙ z .bits-long;
+          arrived-long = omega (arith, h, n-same, z .arrived-long);
         };
         t-low = mod-lt (w′ .t + 1) (omega arith);
         turn-most = omega (arith, turn-same, n-same, room .turn-room);
@@ -209,40 +211,41 @@ module _ (arrivals sizes : List ℕ) (stop i : ℕ) (w : Way) (cells links calen
         unused-closed = λ k e. no (sym (used-next k) ∙ e);
       }
 
-  pub next-rest : slots arrivals (drop (i + 1) sizes) (wayStretch (steppedWay w′) cells′ links′ calendar′ words′ bits′ departures′ answers′ (i + 1))
-      ≡ slots arrivals (drop i sizes) (wayStretch w cells links calendar words bits departures answers i)
+  pub next-rest : slots arrivals (drop (i + 1) sizes) (wayStretch (steppedWay w′) cells′ links′ calendar′ words′ bits′ arrived′ departures′ answers′ (i + 1))
+      ≡ slots arrivals (drop i sizes) (wayStretch w cells links calendar words bits arrived departures answers i)
   unfolding slotNumbers
   next-rest =
-      ap (λ (r : Record). slots arrivals (drop (i + 1) sizes) (stretchOf (stateOf r cells′ links′ calendar′ words′ bits′) departures′ answers′ 0 (i + 1))) (stepped-last w′ (omega (arith, t-same, held .t-low)))
-      ∙ turn-on arrivals sizes (wayStretch w cells links calendar words bits departures answers i) (omega arith) (stateOf (slotRecord w′) cells′ links′ calendar′ words′ bits′) departures′ answers′ 0 (i + 1)
-      (likely-slot arrivals (getD sizes i 0) w cells links calendar words bits departures answers i (held .shaped) (held .t-low) (omega (arith, room .turn-room)) (omega (arith, room .rotation-room)) (held .not-raw) (omega (arith, long)) fits w′ cells′ links′ calendar′ words′ bits′ departures′ answers′ d)
+      ap (λ (r : Record). slots arrivals (drop (i + 1) sizes) (stretchOf (stateOf r cells′ links′ calendar′ words′ bits′ arrived′) departures′ answers′ 0 (i + 1))) (stepped-last w′ (omega (arith, t-same, held .t-low)))
+      ∙ turn-on arrivals sizes (wayStretch w cells links calendar words bits arrived departures answers i) (omega arith) (stateOf (slotRecord w′) cells′ links′ calendar′ words′ bits′ arrived′) departures′ answers′ 0 (i + 1)
+      (likely-slot arrivals (getD sizes i 0) w cells links calendar words bits arrived departures answers i (held .shaped) (held .t-low) (omega (arith, room .turn-room)) (omega (arith, room .rotation-room)) (held .not-raw) (omega (arith, long)) fits w′ cells′ links′ calendar′ words′ bits′ arrived′ departures′ answers′ d)
       refl
 
 -- ---- a slot that left the likely ways, with everything as it came
-module _ (arrivals sizes : List ℕ) (i : ℕ) (w : Way) (cells links calendar words bits departures answers cells′ links′ calendar′ words′ bits′ departures′ answers′ : List ℕ)
-    (stay : (cells′ ≡ cells) × (links′ ≡ links) × (calendar′ ≡ calendar) × (words′ ≡ words) × (bits′ ≡ bits) × (departures′ ≡ departures) × (answers′ ≡ answers)) where
-  pub odd-held : Held w cells links calendar words bits → Held w cells′ links′ calendar′ words′ bits′
-  odd-held h = rw (stay .0, stay .1, stay .2, stay .3, stay .4) h
+module _ (arrivals sizes : List ℕ) (i : ℕ) (w : Way) (cells links calendar words bits arrived departures answers cells′ links′ calendar′ words′ bits′ arrived′ departures′ answers′ : List ℕ)
+    (stay : (cells′ ≡ cells) × (links′ ≡ links) × (calendar′ ≡ calendar) × (words′ ≡ words) × (bits′ ≡ bits) × (arrived′ ≡ arrived) × (departures′ ≡ departures) × (answers′ ≡ answers)) where
+  pub odd-held : Held w cells links calendar words bits arrived → Held w cells′ links′ calendar′ words′ bits′ arrived′
+  odd-held h = rw (stay .0, stay .1, stay .2, stay .3, stay .4, stay .5) h
 
-  pub odd-rest : slots arrivals (drop i sizes) (wayStretch w cells′ links′ calendar′ words′ bits′ departures′ answers′ i)
-      ≡ slots arrivals (drop i sizes) (wayStretch w cells links calendar words bits departures answers i)
-  odd-rest = rw (stay .0, stay .1, stay .2, stay .3, stay .4, stay .5, stay .6)
+  pub odd-rest : slots arrivals (drop i sizes) (wayStretch w cells′ links′ calendar′ words′ bits′ arrived′ departures′ answers′ i)
+      ≡ slots arrivals (drop i sizes) (wayStretch w cells links calendar words bits arrived departures answers i)
+  odd-rest = rw (stay .0, stay .1, stay .2, stay .3, stay .4, stay .5, stay .6, stay .7)
 
 -- ---- how far a run has come: where it began (₀), and where it is
-pub record Running (arrivals sizes : List ℕ) (begin stop : ℕ) (cells₀ links₀ calendar₀ words₀ bits₀ departures₀ answers₀ : List ℕ) (w₀ : Way) (cells links calendar words bits departures answers : List ℕ) (w : Way) (i : ℕ) : Type 0 where
+pub record Running (arrivals sizes : List ℕ) (begin stop : ℕ) (cells₀ links₀ calendar₀ words₀ bits₀ arrived₀ departures₀ answers₀ : List ℕ) (w₀ : Way) (cells links calendar words bits arrived departures answers : List ℕ) (w : Way) (i : ℕ) : Type 0 where
   pub low : begin ≤ i
   pub most : i ≤ stop
-  pub held : Held w cells links calendar words bits
+  pub held : Held w cells links calendar words bits arrived
   pub room : Room w words (stop - i)
   pub cells-kept : length cells ≡ length cells₀
   pub links-kept : length links ≡ length links₀
   pub calendar-kept : length calendar ≡ length calendar₀
   pub words-kept : length words ≡ length words₀
   pub bits-kept : length bits ≡ length bits₀
+  pub arrived-kept : length arrived ≡ length arrived₀
   pub departures-kept : length departures ≡ length departures₀
   pub answers-kept : length answers ≡ length answers₀
-  pub rest : slots arrivals (drop i sizes) (wayStretch w cells links calendar words bits departures answers i)
-      ≡ slots arrivals (drop begin sizes) (wayStretch w₀ cells₀ links₀ calendar₀ words₀ bits₀ departures₀ answers₀ begin)
+  pub rest : slots arrivals (drop i sizes) (wayStretch w cells links calendar words bits arrived departures answers i)
+      ≡ slots arrivals (drop begin sizes) (wayStretch w₀ cells₀ links₀ calendar₀ words₀ bits₀ arrived₀ departures₀ answers₀ begin)
 
 -- ---- from one run to the next
 round-low : (x n : ℕ) → x ≤ n → 1 ≤ n → (if x =? n then 0 else x) < n
@@ -252,16 +255,16 @@ round-low x n most low = go (x =? n) refl
     go true e = omega arith
     go false e = let ne = eqb-false x n e in omega (arith, ne)
 
-module _ (w : Way) (cells links calendar words bits : List ℕ) (h : Held w cells links calendar words bits) where
+module _ (w : Way) (cells links calendar words bits arrived : List ℕ) (h : Held w cells links calendar words bits arrived) where
   pub rounded-low : (roundedWay w .turn < w .n) × (roundedWay w .rotation < connectionsIn (w .v))
   rounded-low =
       (round-low (w .turn) (w .n) (h .turn-most) (h .shaped .n-low), round-low (w .rotation) (connectionsIn (w .v)) (h .rotation-most) (omega arith))
 
-  pub rounded-held : Held (roundedWay w) cells links calendar words bits
+  pub rounded-held : Held (roundedWay w) cells links calendar words bits arrived
   rounded-held =
       let z = h .shaped in
       record {
-        shaped = record { n-low = z .n-low; n-high = z .n-high; v-low = z .v-low; v-high = z .v-high; cells-long = z .cells-long; links-long = z .links-long; calendar-long = z .calendar-long; words-long = z .words-long; bits-long = z .bits-long };
+        shaped = record { n-low = z .n-low; n-high = z .n-high; v-low = z .v-low; v-high = z .v-high; cells-long = z .cells-long; links-long = z .links-long; calendar-long = z .calendar-long; words-long = z .words-long; bits-long = z .bits-long; arrived-long = z .arrived-long };
         t-low = h .t-low;
         turn-most = let l = rounded-low .0 in omega (arith, l);
         rotation-most = let l = rounded-low .1 in omega (arith, l);
@@ -271,26 +274,27 @@ module _ (w : Way) (cells links calendar words bits : List ℕ) (h : Held w cell
       }
 
   pub rounded-rest : (arrivals sizes departures answers : List ℕ) (i : ℕ)
-      → slots arrivals (drop i sizes) (wayStretch (roundedWay w) cells links calendar words bits departures answers i)
-      ≡ slots arrivals (drop i sizes) (wayStretch w cells links calendar words bits departures answers i)
+      → slots arrivals (drop i sizes) (wayStretch (roundedWay w) cells links calendar words bits arrived departures answers i)
+      ≡ slots arrivals (drop i sizes) (wayStretch w cells links calendar words bits arrived departures answers i)
   rounded-rest arrivals sizes departures answers i =
-      ap (λ (r : Record). slots arrivals (drop i sizes) (stretchOf (stateOf r cells links calendar words bits) departures answers 0 i))
+      ap (λ (r : Record). slots arrivals (drop i sizes) (stretchOf (stateOf r cells links calendar words bits arrived) departures answers 0 i))
       (rounded-last w (h .shaped .n-low))
 
 -- how far the runs have come: where they began (₀), and where they are
-pub record Going (arrivals sizes : List ℕ) (begin : ℕ) (cells₀ links₀ calendar₀ words₀ bits₀ departures₀ answers₀ : List ℕ) (f₀ : Far) (cells links calendar words bits departures answers : List ℕ) (f : Far) : Type 0 where
+pub record Going (arrivals sizes : List ℕ) (begin : ℕ) (cells₀ links₀ calendar₀ words₀ bits₀ arrived₀ departures₀ answers₀ : List ℕ) (f₀ : Far) (cells links calendar words bits arrived departures answers : List ℕ) (f : Far) : Type 0 where
   pub low : begin ≤ f .i
   pub most : f .i ≤ length sizes
-  pub held : Held (f .way) cells links calendar words bits
+  pub held : Held (f .way) cells links calendar words bits arrived
   pub cells-kept : length cells ≡ length cells₀
   pub links-kept : length links ≡ length links₀
   pub calendar-kept : length calendar ≡ length calendar₀
   pub words-kept : length words ≡ length words₀
   pub bits-kept : length bits ≡ length bits₀
+  pub arrived-kept : length arrived ≡ length arrived₀
   pub departures-kept : length departures ≡ length departures₀
   pub answers-kept : length answers ≡ length answers₀
-  pub rest : slots arrivals (drop (f .i) sizes) (wayStretch (f .way) cells links calendar words bits departures answers (f .i))
-      ≡ slots arrivals (drop (f₀ .i) sizes) (wayStretch (f₀ .way) cells₀ links₀ calendar₀ words₀ bits₀ departures₀ answers₀ (f₀ .i))
+  pub rest : slots arrivals (drop (f .i) sizes) (wayStretch (f .way) cells links calendar words bits arrived departures answers (f .i))
+      ≡ slots arrivals (drop (f₀ .i) sizes) (wayStretch (f₀ .way) cells₀ links₀ calendar₀ words₀ bits₀ arrived₀ departures₀ answers₀ (f₀ .i))
 
 -- a run that came to its end has served slots, and one that did not is the last
 pub runs-less : (b : Bool) (long i i′ stop : ℕ) → i ≤ i′ → i′ ≤ stop → stop ≤ long → i ≤ stop → stop ≢ i → (b ≡ true → i′ ≡ stop)
@@ -299,7 +303,7 @@ runs-less true long i i′ stop a b d l ne e = let q = e refl in omega (arith, q
 runs-less false long i i′ stop a b d l ne e = omega arith
 
 -- ---- from a record to its way and back
-module _ (r : Record) (cells links calendar words bits : List ℕ) (z : Shaped r cells links calendar words bits) (t : Tries r bits) (w : Way) (e : slotRecord w ≡ clocked r) where
+module _ (r : Record) (cells links calendar words bits arrived : List ℕ) (z : Shaped r cells links calendar words bits arrived) (t : Tries r bits) (w : Way) (e : slotRecord w ≡ clocked r) where
   of : (A : Type 0) (f : Record → A) → f (slotRecord w) ≡ f (clocked r)
   of A f = ap f e
 
@@ -314,7 +318,7 @@ module _ (r : Record) (cells links calendar words bits : List ℕ) (z : Shaped r
       let b : (r .rotation + 1) % connectionsIn (r .v) < connectionsIn (r .v) = mod-lt (r .rotation + 1) (omega arith) in
       (omega (arith, n, turn, a), omega (arith, v, rotation, b))
 
-  pub way-held : Held w cells links calendar words bits
+  pub way-held : Held w cells links calendar words bits arrived
   unfolding clocked recordWith slotNumbers
   way-held =
       let n = of ℕ (λ x. x .n) in
@@ -332,6 +336,7 @@ module _ (r : Record) (cells links calendar words bits : List ℕ) (z : Shaped r
           calendar-long = omega (arith, n, z .calendar-long);
           words-long = omega (arith, v, z .words-long);
           bits-long = z .bits-long;
+          arrived-long = omega (arith, n, z .arrived-long);
         };
         t-low = omega (arith, now, m);
         turn-most = let l = way-low .0 in omega (arith, l);
@@ -356,7 +361,7 @@ fit-most N e small = go (e .head <? N) (e .tail <? N) (e .head =? 65535) (e .tai
     go false b true false p q r s h = no h
     go false b false d p q r s h = no h
 
-module _ (w : Way) (cells links calendar words bits : List ℕ) (h : Held w cells links calendar words bits) where
+module _ (w : Way) (cells links calendar words bits arrived : List ℕ) (h : Held w cells links calendar words bits arrived) where
   pub held-fits : Fits w
   held-fits =
       let z = h .shaped in
@@ -373,14 +378,14 @@ module _ (w : Way) (cells links calendar words bits : List ℕ) (h : Held w cell
         outtail-low = o .1;
       }
 
-  pub last-shaped : Shaped (lastRecord w) cells links calendar words bits
+  pub last-shaped : Shaped (lastRecord w) cells links calendar words bits arrived
   unfolding lastRecord
   last-shaped =
       let z = h .shaped in
-      record { n-low = z .n-low; n-high = z .n-high; v-low = z .v-low; v-high = z .v-high; cells-long = z .cells-long; links-long = z .links-long; calendar-long = z .calendar-long; words-long = z .words-long; bits-long = z .bits-long }
+      record { n-low = z .n-low; n-high = z .n-high; v-low = z .v-low; v-high = z .v-high; cells-long = z .cells-long; links-long = z .links-long; calendar-long = z .calendar-long; words-long = z .words-long; bits-long = z .bits-long; arrived-long = z .arrived-long }
 
 -- ---- a policer of which refusals 1 and 2 are not given
-pub fit-shaped : (s : State) → Fit s → Shaped (s .ctl) (s .cells) (s .links) (s .calendar) (s .words) (s .bits)
+pub fit-shaped : (s : State) → Fit s → Shaped (s .ctl) (s .cells) (s .links) (s .calendar) (s .words) (s .bits) (s .arrived)
 unfolding rangesHold lengthsHold wordsLong
 fit-shaped s f =
     let N = s .ctl .n in
@@ -388,7 +393,8 @@ fit-shaped s f =
     let v2 = both-true (1 ≤? N && N ≤? 1024 && 2 ≤? z) (z ≤? 1024) (f .ranges) in
     let v1 = both-true (1 ≤? N && N ≤? 1024) (2 ≤? z) (v2 .0) in
     let n2 = both-true (1 ≤? N) (N ≤? 1024) (v1 .0) in
-    let b = both-true (length (s .cells) =? 53 * N && length (s .links) =? N && length (s .calendar) =? 2 * N && length (s .words) =? wordsIn z) (length (s .bits) =? bitWords) (f .lengths) in
+    let a = both-true (length (s .cells) =? 53 * N && length (s .links) =? N && length (s .calendar) =? 2 * N && length (s .words) =? wordsIn z && length (s .bits) =? bitWords) (length (s .arrived) =? N) (f .lengths) in
+    let b = both-true (length (s .cells) =? 53 * N && length (s .links) =? N && length (s .calendar) =? 2 * N && length (s .words) =? wordsIn z) (length (s .bits) =? bitWords) (a .0) in
     let w = both-true (length (s .cells) =? 53 * N && length (s .links) =? N && length (s .calendar) =? 2 * N) (length (s .words) =? wordsIn z) (b .0) in
     let c = both-true (length (s .cells) =? 53 * N && length (s .links) =? N) (length (s .calendar) =? 2 * N) (w .0) in
     let l = both-true (length (s .cells) =? 53 * N) (length (s .links) =? N) (c .0) in
@@ -402,4 +408,5 @@ fit-shaped s f =
       calendar-long = eqb-true _ _ (c .1);
       words-long = eqb-true _ _ (w .1);
       bits-long = eqb-true _ _ (b .1);
+      arrived-long = eqb-true _ _ (a .1);
     }

@@ -38,35 +38,37 @@ turn-kept arrivals size b s departures answers number done e =
     (ap (λ (x : Stretch). x .state .ctl .n) e ∙ k .0, ap (λ (x : Stretch). x .state .ctl .v) e ∙ k .1)
 
 -- how far the loop has come
-abbrev pub reached : BurstEnd → List ℕ → List ℕ → List ℕ → List ℕ → List ℕ → List ℕ → List ℕ → Stretch
-reached r cells links calendar words bits departures answers =
-    stretchOf (stateOf (r .ctl) cells links calendar words bits) departures answers 0 (r .done)
+abbrev pub reached : BurstEnd → List ℕ → List ℕ → List ℕ → List ℕ → List ℕ → List ℕ → List ℕ → List ℕ → Stretch
+reached r cells links calendar words bits arrived departures answers =
+    stretchOf (stateOf (r .ctl) cells links calendar words bits arrived) departures answers 0 (r .done)
 
 -- where the loop began (₀), and where it is
-pub record Turning (arrivals sizes cells₀ links₀ calendar₀ words₀ bits₀ departures₀ answers₀ : List ℕ) (end₀ : BurstEnd) (cells links calendar words bits departures answers : List ℕ) (end : BurstEnd) : Type 0 where
+pub record Turning (arrivals sizes cells₀ links₀ calendar₀ words₀ bits₀ arrived₀ departures₀ answers₀ : List ℕ) (end₀ : BurstEnd) (cells links calendar words bits arrived departures answers : List ℕ) (end : BurstEnd) : Type 0 where
   pub going : end .number ≡ 0
   pub low : end .done ≤ length sizes
-  pub shaped : Shaped (end .ctl) cells links calendar words bits
+  pub shaped : Shaped (end .ctl) cells links calendar words bits arrived
   pub cells-kept : length cells ≡ length cells₀
   pub links-kept : length links ≡ length links₀
   pub calendar-kept : length calendar ≡ length calendar₀
   pub words-kept : length words ≡ length words₀
   pub bits-kept : length bits ≡ length bits₀
+  pub arrived-kept : length arrived ≡ length arrived₀
   pub departures-kept : length departures ≡ length departures₀
   pub answers-kept : length answers ≡ length answers₀
-  pub rest : slots arrivals (drop (end .done) sizes) (reached end cells links calendar words bits departures answers)
-      ≡ slots arrivals sizes (reached end₀ cells₀ links₀ calendar₀ words₀ bits₀ departures₀ answers₀)
+  pub rest : slots arrivals (drop (end .done) sizes) (reached end cells links calendar words bits arrived departures answers)
+      ≡ slots arrivals sizes (reached end₀ cells₀ links₀ calendar₀ words₀ bits₀ arrived₀ departures₀ answers₀)
 
 -- memories of the same lengths, N and V
-pub still-shaped : (r r′ : Record) (cells links calendar words bits cells′ links′ calendar′ words′ bits′ : List ℕ) → Shaped r cells links calendar words bits
+pub still-shaped : (r r′ : Record) (cells links calendar words bits arrived cells′ links′ calendar′ words′ bits′ arrived′ : List ℕ) → Shaped r cells links calendar words bits arrived
     → (r′ .n ≡ r .n) × (r′ .v ≡ r .v)
     → length cells′ ≡ length cells
     → length links′ ≡ length links
     → length calendar′ ≡ length calendar
     → length words′ ≡ length words
     → length bits′ ≡ length bits
-    → Shaped r′ cells′ links′ calendar′ words′ bits′
-still-shaped r r′ cells links calendar words bits cells′ links′ calendar′ words′ bits′ z k a b c d e =
+    → length arrived′ ≡ length arrived
+    → Shaped r′ cells′ links′ calendar′ words′ bits′ arrived′
+still-shaped r r′ cells links calendar words bits arrived cells′ links′ calendar′ words′ bits′ arrived′ z k a b c d e f =
     record {
       n-low = omega (arith, k .0, z .n-low);
       n-high = omega (arith, k .0, z .n-high);
@@ -77,6 +79,7 @@ still-shaped r r′ cells links calendar words bits cells′ links′ calendar�
       calendar-long = omega (arith, k .0, z .calendar-long, c);
       words-long = omega (arith, k .1, z .words-long, d);
       bits-long = e ∙ z .bits-long;
+      arrived-long = omega (arith, k .0, z .arrived-long, f);
     }
 
 -- no sizes are left

@@ -38,18 +38,18 @@ module _ (long each k : ℕ) where
           ∙ sym (ne-eqb long (each * k) (λ e. ne (ap (λ (x : ℕ). x / each) e ∙ mul-div-cancel-left k pos)))
 
 -- lengths that fit
-pub lent-all : (N z cells links calendar words bits : ℕ) (arrivals sizes departures answers : List ℕ)
-    → lengthsFit N z cells links calendar words bits (length arrivals) (length sizes) (length departures) (length answers) ≡ true
+pub lent-all : (N z cells links calendar words bits arrived : ℕ) (arrivals sizes departures answers : List ℕ)
+    → lengthsFit N z cells links calendar words bits arrived (length arrivals) (length sizes) (length departures) (length answers) ≡ true
     → BurstLent arrivals sizes departures answers
 unfolding lengthsFit
-lent-all N z cells links calendar words bits arrivals sizes departures answers e =
+lent-all N z cells links calendar words bits arrived arrivals sizes departures answers e =
     let a = length arrivals =? octets * length sizes in
     let d = length departures =? octets * length sizes in
-    let five = cells =? octets * N && links =? N && calendar =? perEntry * N && words =? wordsIn z && bits =? bitWords in
-    let p = both-true (five && a && d) (length answers =? answerLong * length sizes) e in
-    let q = both-true (five && a) d (p .0) in
+    let six = cells =? octets * N && links =? N && calendar =? perEntry * N && words =? wordsIn z && bits =? bitWords && arrived =? N in
+    let p = both-true (six && a && d) (length answers =? answerLong * length sizes) e in
+    let q = both-true (six && a) d (p .0) in
     record {
-      arrivals-long = eqb-true (length arrivals) (53 * length sizes) (both-true five a (q .0) .1);
+      arrivals-long = eqb-true (length arrivals) (53 * length sizes) (both-true six a (q .0) .1);
       departures-long = eqb-true (length departures) (53 * length sizes) (q .1);
       answers-long = eqb-true (length answers) (6 * length sizes) (p .1);
     }
@@ -60,7 +60,7 @@ worked a b = firstOf (refuseOf 1 a) (refuseOf 2 b)
 
 abbrev pub fitOf : State → List ℕ → List ℕ → List ℕ → List ℕ → Bool
 fitOf s arrivals sizes departures answers =
-    lengthsFit (s .ctl .n) (s .ctl .v) (length (s .cells)) (length (s .links)) (length (s .calendar)) (length (s .words)) (length (s .bits)) (length arrivals) (length sizes) (length departures) (length answers)
+    lengthsFit (s .ctl .n) (s .ctl .v) (length (s .cells)) (length (s .links)) (length (s .calendar)) (length (s .words)) (length (s .bits)) (length (s .arrived)) (length arrivals) (length sizes) (length departures) (length answers)
 
 abbrev workedOf : State → List ℕ → List ℕ → List ℕ → List ℕ → ℕ
 workedOf s arrivals sizes departures answers =

@@ -24,11 +24,12 @@ ranges-n N z r =
     let d = both-true (1 ≤? N) (N ≤? mostN) b in
     (leb-true 1 N (d .0), leb-true N 1024 (d .1))
 
-cells-long : (N z : ℕ) (cells links calendar words bits : List ℕ) → lengthsHold N z cells links calendar words bits ≡ true
+cells-long : (N z : ℕ) (cells links calendar words bits arrived : List ℕ) → lengthsHold N z cells links calendar words bits arrived ≡ true
     → length cells ≡ 53 * N
 unfolding lengthsHold
-cells-long N z cells links calendar words bits l =
-    let w = both-true (length cells =? octets * N && length links =? N && length calendar =? perEntry * N && wordsLong z words) (length bits =? bitWords) l .0 in
+cells-long N z cells links calendar words bits arrived l =
+    let f = both-true (length cells =? octets * N && length links =? N && length calendar =? perEntry * N && wordsLong z words && length bits =? bitWords) (length arrived =? N) l .0 in
+    let w = both-true (length cells =? octets * N && length links =? N && length calendar =? perEntry * N && wordsLong z words) (length bits =? bitWords) f .0 in
     let a = both-true (length cells =? octets * N && length links =? N && length calendar =? perEntry * N) (wordsLong z words) w .0 in
     let b = both-true (length cells =? octets * N && length links =? N) (length calendar =? perEntry * N) a .0 in
     eqb-true (length cells) (53 * N) (both-true (length cells =? octets * N) (length links =? N) b .0)
@@ -38,7 +39,7 @@ pub slot-shows : (s : State) (w : Work) (cells : List ℕ) → Answered s w → 
     → Shows cells (w .answer .space)
 slot-shows s w cells h done same =
     let n = ranges-n (s .ctl .n) (s .ctl .v) (h .ranges done) in
-    let long : length cells ≡ 53 * s .ctl .n = same ∙ cells-long (s .ctl .n) (s .ctl .v) (s .cells) (s .links) (s .calendar) (s .words) (s .bits) (h .lengths done) in
+    let long : length cells ≡ 53 * s .ctl .n = same ∙ cells-long (s .ctl .n) (s .ctl .v) (s .cells) (s .links) (s .calendar) (s .words) (s .bits) (s .arrived) (h .lengths done) in
     record {
       allowed = allowed-long (s .ctl .n) (length cells) (n .0) (n .1) long;
       low = λ ne. omega (arith, long, h .low ne);

@@ -26,18 +26,19 @@ use Rattle.call_burst.proofs.LengthLaws.{Long, five-long}
 -- a policer of which refusals 1 and 2 are not given
 pub record Fit (s : State) : Type 0 where
   pub ranges : rangesHold (s .ctl .n) (s .ctl .v) ≡ true
-  pub lengths : lengthsHold (s .ctl .n) (s .ctl .v) (s .cells) (s .links) (s .calendar) (s .words) (s .bits) ≡ true
+  pub lengths : lengthsHold (s .ctl .n) (s .ctl .v) (s .cells) (s .links) (s .calendar) (s .words) (s .bits) (s .arrived) ≡ true
 
 -- served, and fit again; or refused with 3
 abbrev pub ServedOr3 : Work → Type 0
 ServedOr3 w = ((w .answer .number ≡ 0) × Fit (w .state)) ⊎ (w .answer .number ≡ 3)
 
-lengths-plain : (s : State) → lengthsHold (s .ctl .n) (s .ctl .v) (s .cells) (s .links) (s .calendar) (s .words) (s .bits) ≡ true
+lengths-plain : (s : State) → lengthsHold (s .ctl .n) (s .ctl .v) (s .cells) (s .links) (s .calendar) (s .words) (s .bits) (s .arrived) ≡ true
     → Long (s .ctl .n) (s .ctl .v) (workOf s (bareAnswer 0))
 unfolding lengthsHold wordsLong
 lengths-plain s e =
     let N = s .ctl .n in
-    let b = both-true (length (s .cells) =? 53 * N && length (s .links) =? N && length (s .calendar) =? 2 * N && length (s .words) =? wordsIn (s .ctl .v)) (length (s .bits) =? bitWords) e in
+    let a = both-true (length (s .cells) =? 53 * N && length (s .links) =? N && length (s .calendar) =? 2 * N && length (s .words) =? wordsIn (s .ctl .v) && length (s .bits) =? bitWords) (length (s .arrived) =? N) e in
+    let b = both-true (length (s .cells) =? 53 * N && length (s .links) =? N && length (s .calendar) =? 2 * N && length (s .words) =? wordsIn (s .ctl .v)) (length (s .bits) =? bitWords) (a .0) in
     let w = both-true (length (s .cells) =? 53 * N && length (s .links) =? N && length (s .calendar) =? 2 * N) (length (s .words) =? wordsIn (s .ctl .v)) (b .0) in
     let c = both-true (length (s .cells) =? 53 * N && length (s .links) =? N) (length (s .calendar) =? 2 * N) (w .0) in
     let l = both-true (length (s .cells) =? 53 * N) (length (s .links) =? N) (c .0) in
@@ -49,10 +50,11 @@ lengths-plain s e =
       calendar-long = eqb-true _ _ (c .1);
       words-long = eqb-true _ _ (w .1);
       bits-long = eqb-true _ _ (b .1);
+      arrived-long = eqb-true _ _ (a .1);
     }
 
 lengths-again : (N z : ℕ) (w : Work) → Long N z w
-    → lengthsHold (w .state .ctl .n) (w .state .ctl .v) (w .state .cells) (w .state .links) (w .state .calendar) (w .state .words) (w .state .bits) ≡ true
+    → lengthsHold (w .state .ctl .n) (w .state .ctl .v) (w .state .cells) (w .state .links) (w .state .calendar) (w .state .words) (w .state .bits) (w .state .arrived) ≡ true
 unfolding lengthsHold wordsLong
 lengths-again N z w h =
     rw (
@@ -63,6 +65,7 @@ lengths-again N z w h =
       eq-eqb _ _ (h .calendar-long),
       eq-eqb _ _ (h .words-long),
       eq-eqb _ _ (h .bits-long),
+      eq-eqb _ _ (h .arrived-long),
     )
 
 either : (a b : Bool) → a || b ≡ true → (a ≡ true) ⊎ (b ≡ true)
@@ -155,7 +158,7 @@ unfolding slotDone served stopped
 slot-done b w (inl p) = rw (eq-eqb (w .answer .number) 0 (p .0)) (inl (record { number = refl; fit = p .1; done = refl }))
 slot-done b w (inr e) = rw e (inr (inr refl))
 
-one-slot : (arrivals : List ℕ) (size : ℕ) (b : Stretch) → Fit (b .state) → 53 * b .done + 53 ≤ length arrivals
+pub one-slot : (arrivals : List ℕ) (size : ℕ) (b : Stretch) → Fit (b .state) → 53 * b .done + 53 ≤ length arrivals
     → Serves b (oneSlot arrivals size b) ⊎ Stops (oneSlot arrivals size b .number)
 unfolding oneSlot stopped
 one-slot arrivals size b f room = go (sizeFits size) refl
@@ -185,22 +188,22 @@ slots-stop arrivals (size ∷ sizes) b z f e =
 
 -- what the lengths of a burst's buffers say of a policer and of arrivals
 pub fit-burst : (s : State) (a d n : ℕ) (sizes : ℕ) → rangesHold (s .ctl .n) (s .ctl .v) ≡ true
-    → lengthsFit (s .ctl .n) (s .ctl .v) (length (s .cells)) (length (s .links)) (length (s .calendar)) (length (s .words)) (length (s .bits)) a sizes d n ≡ true
+    → lengthsFit (s .ctl .n) (s .ctl .v) (length (s .cells)) (length (s .links)) (length (s .calendar)) (length (s .words)) (length (s .bits)) (length (s .arrived)) a sizes d n ≡ true
     → Fit s × (a ≡ 53 * sizes)
 unfolding lengthsFit lengthsHold wordsLong
 fit-burst s a d n sizes r e =
     let N = s .ctl .n in
-    let five = length (s .cells) =? 53 * N && length (s .links) =? N && length (s .calendar) =? 2 * N && length (s .words) =? wordsIn (s .ctl .v) && length (s .bits) =? bitWords in
-    let x = both-true (five && a =? 53 * sizes && d =? 53 * sizes) (n =? 6 * sizes) e in
-    let y = both-true (five && a =? 53 * sizes) (d =? 53 * sizes) (x .0) in
-    let m = both-true five (a =? 53 * sizes) (y .0) in
+    let six = length (s .cells) =? 53 * N && length (s .links) =? N && length (s .calendar) =? 2 * N && length (s .words) =? wordsIn (s .ctl .v) && length (s .bits) =? bitWords && length (s .arrived) =? N in
+    let x = both-true (six && a =? 53 * sizes && d =? 53 * sizes) (n =? 6 * sizes) e in
+    let y = both-true (six && a =? 53 * sizes) (d =? 53 * sizes) (x .0) in
+    let m = both-true six (a =? 53 * sizes) (y .0) in
     (record { ranges = r; lengths = m .0 }, eqb-true a (53 * sizes) (m .1))
 
 -- A burst that is not refused with 1 or 2 ends with 0, 9 or 3.
 pub later-stops : (s : State) (arrivals sizes departures answers : List ℕ)
     → (let r = burst s arrivals sizes departures answers in ((r .number ≡ 1) ⊎ (r .number ≡ 2)) ⊎ ((r .number ≡ 0) ⊎ Stops (r .number)))
 unfolding burst stopped
-later-stops s arrivals sizes departures answers = go (rangesHold (s .ctl .n) (s .ctl .v)) (lengthsFit (s .ctl .n) (s .ctl .v) (length (s .cells)) (length (s .links)) (length (s .calendar)) (length (s .words)) (length (s .bits)) (length arrivals) (length sizes) (length departures) (length answers)) refl refl
+later-stops s arrivals sizes departures answers = go (rangesHold (s .ctl .n) (s .ctl .v)) (lengthsFit (s .ctl .n) (s .ctl .v) (length (s .cells)) (length (s .links)) (length (s .calendar)) (length (s .words)) (length (s .bits)) (length (s .arrived)) (length arrivals) (length sizes) (length departures) (length answers)) refl refl
   where
     begun : Stretch
     begun = stretchOf s departures answers 0 0
@@ -209,7 +212,7 @@ later-stops s arrivals sizes departures answers = go (rangesHold (s .ctl .n) (s 
     ends a b = if not a then stopped begun 1 else if not b then stopped begun 2 else slots arrivals sizes begun
 
     go : (a b : Bool) → rangesHold (s .ctl .n) (s .ctl .v) ≡ a
-        → lengthsFit (s .ctl .n) (s .ctl .v) (length (s .cells)) (length (s .links)) (length (s .calendar)) (length (s .words)) (length (s .bits)) (length arrivals) (length sizes) (length departures) (length answers) ≡ b
+        → lengthsFit (s .ctl .n) (s .ctl .v) (length (s .cells)) (length (s .links)) (length (s .calendar)) (length (s .words)) (length (s .bits)) (length (s .arrived)) (length arrivals) (length sizes) (length departures) (length answers) ≡ b
         → ((ends a b .number ≡ 1) ⊎ (ends a b .number ≡ 2)) ⊎ ((ends a b .number ≡ 0) ⊎ Stops (ends a b .number))
     go false b ea eb = inl (inl refl)
     go true false ea eb = inl (inr refl)

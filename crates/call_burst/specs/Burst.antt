@@ -59,20 +59,21 @@ slots arrivals (size ∷ sizes) b =
     let after = oneSlot arrivals size b in
     if after .number =? 0 then slots arrivals sizes after else after
 
--- buffers of these lengths, for N, V and so many sizes: the five memories, arrivals, departures and answers
-unfoldable pub lengthsFit : ℕ → ℕ → ℕ → ℕ → ℕ → ℕ → ℕ → ℕ → ℕ → ℕ → ℕ → Bool
-lengthsFit N z cells links calendar words bits arrivals sizes departures answers =
-    cells =? octets * N && links =? N && calendar =? perEntry * N && words =? wordsIn z && bits =? bitWords
+-- buffers of these lengths, for N, V and so many sizes: the six memories, arrivals, departures and answers
+unfoldable pub lengthsFit : ℕ → ℕ → ℕ → ℕ → ℕ → ℕ → ℕ → ℕ → ℕ → ℕ → ℕ → ℕ → Bool
+lengthsFit N z cells links calendar words bits arrived arrivals sizes departures answers =
+    cells =? octets * N && links =? N && calendar =? perEntry * N && words =? wordsIn z && bits =? bitWords && arrived =? N
     && arrivals =? octets * sizes && departures =? octets * sizes && answers =? answerLong * sizes
 
 -- "Refusals, in this order: 1; 2 if one of the four memories, or arrivals, departures or answers for so many sizes, has
--- another length; each leaves everything as it came, `done` 0. Then slots"; "No sizes: 0, `done` 0"; document 02 (vii) lends a fifth memory
+-- another length; each leaves everything as it came, `done` 0. Then slots"; "No sizes: 0, `done` 0"; document 02 (vii) lends a fifth memory, (x)
+-- a sixth
 unfoldable pub burst : State → List ℕ → List ℕ → List ℕ → List ℕ → Stretch
 burst s arrivals sizes departures answers =
     let N = s .ctl .n in
     let z = s .ctl .v in
     let begun = stretchOf s departures answers 0 0 in
     if not (rangesHold N z) then stopped begun 1
-    else if not (lengthsFit N z (length (s .cells)) (length (s .links)) (length (s .calendar)) (length (s .words)) (length (s .bits)) (length arrivals) (length sizes) (length departures) (length answers))
+    else if not (lengthsFit N z (length (s .cells)) (length (s .links)) (length (s .calendar)) (length (s .words)) (length (s .bits)) (length (s .arrived)) (length arrivals) (length sizes) (length departures) (length answers))
     then stopped begun 2
     else slots arrivals sizes begun

@@ -21,7 +21,7 @@ use Rattle.burst_way.specs.declared.Way.{Way}
 use Rattle.burst_way.specs.Way.{slotRecord, lastRecord}
 use Rattle.call_burst.specs.Burst.{Stretch, stretchOf, slots}
 
-pub record Shaped (r : Record) (cells links calendar words bits : List ℕ) : Type 0 where
+pub record Shaped (r : Record) (cells links calendar words bits arrived : List ℕ) : Type 0 where
   pub n-low : 1 ≤ r .n
   pub n-high : r .n ≤ mostN
   pub v-low : leastV ≤ r .v
@@ -31,6 +31,7 @@ pub record Shaped (r : Record) (cells links calendar words bits : List ℕ) : Ty
   pub calendar-long : length calendar ≡ perEntry * r .n
   pub words-long : length words ≡ wordsIn (r .v)
   pub bits-long : length bits ≡ bitWords
+  pub arrived-long : length arrived ≡ r .n
 
 pub record Tries (r : Record) (bits : List ℕ) : Type 0 where
   pub not-raw : r .raw ≡ 0
@@ -39,8 +40,8 @@ pub record Tries (r : Record) (bits : List ℕ) : Type 0 where
   pub spaces-fit : spacesFit (r .n) (r .free) bits ≡ true
   pub output-fits : endsFit (r .n) (outputEnds r) ≡ true
 
-pub record Held (w : Way) (cells links calendar words bits : List ℕ) : Type 0 where
-  pub shaped : Shaped (slotRecord w) cells links calendar words bits
+pub record Held (w : Way) (cells links calendar words bits arrived : List ℕ) : Type 0 where
+  pub shaped : Shaped (slotRecord w) cells links calendar words bits arrived
   pub t-low : w .t < slotNumbers
   pub turn-most : w .turn ≤ w .n
   pub rotation-most : w .rotation ≤ connectionsIn (w .v)
@@ -55,17 +56,17 @@ pub record Room (w : Way) (words : List ℕ) (k : ℕ) : Type 0 where
   pub unused-closed : 0 < k → unused (w .v) (w .rotation) ≡ true → getD words (connectionPlace (w .rotation)) 0 ≡ 0
 
 -- how far a burst has come, before slot i
-abbrev pub wayStretch : Way → List ℕ → List ℕ → List ℕ → List ℕ → List ℕ → List ℕ → List ℕ → ℕ → Stretch
-wayStretch w cells links calendar words bits departures answers i =
-    stretchOf (stateOf (lastRecord w) cells links calendar words bits) departures answers 0 i
+abbrev pub wayStretch : Way → List ℕ → List ℕ → List ℕ → List ℕ → List ℕ → List ℕ → List ℕ → List ℕ → ℕ → Stretch
+wayStretch w cells links calendar words bits arrived departures answers i =
+    stretchOf (stateOf (lastRecord w) cells links calendar words bits arrived) departures answers 0 i
 
 -- ---- the same of lent memories and buffers, for contracts
-abbrev pub HeldIn : Way → Slice → Slice → Slice → Slice → Slice → Type 0
-HeldIn w cells links calendar words bits = Held w (cells .now) (links .now) (calendar .now) (words .now) (bits .now)
+abbrev pub HeldIn : Way → Slice → Slice → Slice → Slice → Slice → Slice → Type 0
+HeldIn w cells links calendar words bits arrived = Held w (cells .now) (links .now) (calendar .now) (words .now) (bits .now) (arrived .now)
 
-abbrev pub HeldAfter : Way → Lent → Lent → Lent → Lent → Lent → Type 0
-HeldAfter w cells links calendar words bits =
-    Held w (cells .exit .now) (links .exit .now) (calendar .exit .now) (words .exit .now) (bits .exit .now)
+abbrev pub HeldAfter : Way → Lent → Lent → Lent → Lent → Lent → Lent → Type 0
+HeldAfter w cells links calendar words bits arrived =
+    Held w (cells .exit .now) (links .exit .now) (calendar .exit .now) (words .exit .now) (bits .exit .now) (arrived .exit .now)
 
 -- how far a burst has come before slot i, s being its policer: as a function is handed it, and as it leaves it
 abbrev pub stretchBefore : State → Lent → Lent → ℕ → Stretch

@@ -116,14 +116,15 @@ fn as_called(
     calendar: &mut [u16],
     words: &mut [u32],
     bits: &mut [u64],
+    arrived: &mut [u32],
     cell: &[u8],
 ) -> Served
-    ensures { λ s. ⌜ slotPromise (before ctl cells links calendar words bits) (now (cell .entry)) (servedAfter s cells links calendar words bits) ⌝ }
+    ensures { λ s. ⌜ slotPromise (before ctl cells links calendar words bits arrived) (now (cell .entry)) (servedAfter s cells links calendar words bits arrived) ⌝ }
 {
     if call_slot::is_checked(ctl.raw, cell.len()) {
-        return call_slot::checked(ctl, cells, links, calendar, words, bits, cell);
+        return call_slot::checked(ctl, cells, links, calendar, words, bits, arrived, cell);
     }
-    slot_steps::slot(ctl, cells, links, calendar, words, bits, cell)
+    slot_steps::slot(ctl, cells, links, calendar, words, bits, arrived, cell)
 }
 
 // The same, lent a copy of the record, since what it calls is not laid in place: the burst's own stays in registers.
@@ -134,12 +135,13 @@ fn serve_checked(
     calendar: &mut [u16],
     words: &mut [u32],
     bits: &mut [u64],
+    arrived: &mut [u32],
     cell: &[u8],
 ) -> Served
-    ensures { λ s. ⌜ slotPromise (before ctl cells links calendar words bits) (now (cell .entry)) (servedAfter s cells links calendar words bits) ⌝ }
+    ensures { λ s. ⌜ slotPromise (before ctl cells links calendar words bits arrived) (now (cell .entry)) (servedAfter s cells links calendar words bits arrived) ⌝ }
 {
     let k = copied(ctl);
-    let s = as_called(k, cells, links, calendar, words, bits, cell);
+    let s = as_called(k, cells, links, calendar, words, bits, arrived, cell);
     copied_back(ctl, s)
 }
 
@@ -151,6 +153,7 @@ fn turn(
     calendar: &mut [u16],
     words: &mut [u32],
     bits: &mut [u64],
+    arrived: &mut [u32],
     arrivals: &[u8],
     size: u8,
     departures: &mut [u8],
@@ -158,8 +161,8 @@ fn turn(
     i: usize,
 ) -> BurstEnd
     requires { ⌜ SlotLent (now arrivals) (now departures) (now answers) i ⌝ }
-    ensures { λ r. ⌜ stretchAfter (after (r .ctl) cells links calendar words bits) departures answers (r .number) (r .done)
-        ≡ oneSlot (now (arrivals .entry)) size (stretchBefore (before ctl cells links calendar words bits) departures answers i) ⌝ }
+    ensures { λ r. ⌜ stretchAfter (after (r .ctl) cells links calendar words bits arrived) departures answers (r .number) (r .done)
+        ≡ oneSlot (now (arrivals .entry)) size (stretchBefore (before ctl cells links calendar words bits arrived) departures answers i) ⌝ }
 {
     if !size_fits(size) {
         return ended(ctl, 9, i);
@@ -167,7 +170,16 @@ fn turn(
     let a = 53 * i;
     let e = a + (size as usize);
     let done = i + 1;
-    let served = serve_checked(ctl, cells, links, calendar, words, bits, &arrivals[a..e]);
+    let served = serve_checked(
+        ctl,
+        cells,
+        links,
+        calendar,
+        words,
+        bits,
+        arrived,
+        &arrivals[a..e],
+    );
     let answer = served.answer;
     let after = served.ctl;
     if answer.number != 0 {
@@ -259,6 +271,7 @@ fn stretch(
     calendar: &mut [u16],
     words: &mut [u32],
     bits: &mut [u64],
+    arrived: &mut [u32],
     arrivals: &[u8],
     sizes: &[u8],
     departures: &mut [u8],
@@ -267,12 +280,12 @@ fn stretch(
     stop: usize,
 ) -> Far
     requires { ⌜ BurstLent (now arrivals) (now sizes) (now departures) (now answers) ⌝ }
-    requires { ⌜ HeldIn from cells links calendar words bits ⌝ }
+    requires { ⌜ HeldIn from cells links calendar words bits arrived ⌝ }
     requires { ⌜ (begin ≤ stop) × (stop ≤ length (now sizes)) × Room from (now words) (stop - begin) ⌝ }
-    ensures held { λ f. ⌜ HeldAfter (f .way) cells links calendar words bits ⌝ }
+    ensures held { λ f. ⌜ HeldAfter (f .way) cells links calendar words bits arrived ⌝ }
     ensures far { λ f. ⌜ (begin ≤ f .i) × (f .i ≤ stop) × (f .ok ≡ true → f .i ≡ stop) ⌝ }
-    ensures rest { λ f. ⌜ slotsFrom arrivals sizes (f .i) (stretchAfter (after (lastRecord (f .way)) cells links calendar words bits) departures answers 0 (f .i))
-        ≡ slotsFrom arrivals sizes begin (stretchBefore (before (lastRecord from) cells links calendar words bits) departures answers begin) ⌝ }
+    ensures rest { λ f. ⌜ slotsFrom arrivals sizes (f .i) (stretchAfter (after (lastRecord (f .way)) cells links calendar words bits arrived) departures answers 0 (f .i))
+        ≡ slotsFrom arrivals sizes begin (stretchBefore (before (lastRecord from) cells links calendar words bits arrived) departures answers begin) ⌝ }
 {
     let mut w = from;
     let mut i = begin;
@@ -285,6 +298,7 @@ fn stretch(
             calendar,
             words,
             bits,
+            arrived,
             arrivals,
             size,
             departures,
@@ -316,6 +330,7 @@ fn advance(
     calendar: &mut [u16],
     words: &mut [u32],
     bits: &mut [u64],
+    arrived: &mut [u32],
     arrivals: &[u8],
     sizes: &[u8],
     departures: &mut [u8],
@@ -323,12 +338,12 @@ fn advance(
     begin: usize,
 ) -> Far
     requires { ⌜ BurstLent (now arrivals) (now sizes) (now departures) (now answers) ⌝ }
-    requires { ⌜ HeldIn from cells links calendar words bits ⌝ }
+    requires { ⌜ HeldIn from cells links calendar words bits arrived ⌝ }
     requires { ⌜ (begin ≤ length (now sizes)) × (from .turn < from .n) × (from .rotation < connectionsIn (from .v)) ⌝ }
-    ensures held { λ f. ⌜ HeldAfter (f .way) cells links calendar words bits ⌝ }
+    ensures held { λ f. ⌜ HeldAfter (f .way) cells links calendar words bits arrived ⌝ }
     ensures far { λ f. ⌜ (begin ≤ f .i) × (f .i ≤ length (now (sizes .entry))) ⌝ }
-    ensures rest { λ f. ⌜ slotsFrom arrivals sizes (f .i) (stretchAfter (after (lastRecord (f .way)) cells links calendar words bits) departures answers 0 (f .i))
-        ≡ slotsFrom arrivals sizes begin (stretchBefore (before (lastRecord from) cells links calendar words bits) departures answers begin) ⌝ }
+    ensures rest { λ f. ⌜ slotsFrom arrivals sizes (f .i) (stretchAfter (after (lastRecord (f .way)) cells links calendar words bits arrived) departures answers 0 (f .i))
+        ≡ slotsFrom arrivals sizes begin (stretchBefore (before (lastRecord from) cells links calendar words bits arrived) departures answers begin) ⌝ }
 {
     let mut f = Far {
         ok: true,
@@ -353,6 +368,7 @@ fn advance(
             calendar,
             words,
             bits,
+            arrived,
             arrivals,
             sizes,
             departures,
@@ -372,6 +388,7 @@ fn try_likely(
     calendar: &mut [u16],
     words: &mut [u32],
     bits: &mut [u64],
+    arrived: &mut [u32],
     arrivals: &[u8],
     sizes: &[u8],
     departures: &mut [u8],
@@ -379,12 +396,12 @@ fn try_likely(
     begin: usize,
 ) -> BurstEnd
     requires { ⌜ BurstLent (now arrivals) (now sizes) (now departures) (now answers) ⌝ }
-    requires { ⌜ Shaped ctl (now cells) (now links) (now calendar) (now words) (now bits) ⌝ }
+    requires { ⌜ Shaped ctl (now cells) (now links) (now calendar) (now words) (now bits) (now arrived) ⌝ }
     requires { ⌜ begin ≤ length (now sizes) ⌝ }
     ensures far { λ r. ⌜ (begin ≤ r .done) × (r .done ≤ length (now (sizes .entry))) × (r .number ≡ 0) ⌝ }
-    ensures shaped { λ r. ⌜ Shaped (r .ctl) (now (cells .exit)) (now (links .exit)) (now (calendar .exit)) (now (words .exit)) (now (bits .exit)) ⌝ }
-    ensures rest { λ r. ⌜ slotsFrom arrivals sizes (r .done) (stretchAfter (after (r .ctl) cells links calendar words bits) departures answers 0 (r .done))
-        ≡ slotsFrom arrivals sizes begin (stretchBefore (before ctl cells links calendar words bits) departures answers begin) ⌝ }
+    ensures shaped { λ r. ⌜ Shaped (r .ctl) (now (cells .exit)) (now (links .exit)) (now (calendar .exit)) (now (words .exit)) (now (bits .exit)) (now (arrived .exit)) ⌝ }
+    ensures rest { λ r. ⌜ slotsFrom arrivals sizes (r .done) (stretchAfter (after (r .ctl) cells links calendar words bits arrived) departures answers 0 (r .done))
+        ≡ slotsFrom arrivals sizes begin (stretchBefore (before ctl cells links calendar words bits arrived) departures answers begin) ⌝ }
 {
     if !may_try(ctl, bits) {
         return ended(ctl, 0, begin);
@@ -397,6 +414,7 @@ fn try_likely(
         calendar,
         words,
         bits,
+        arrived,
         arrivals,
         sizes,
         departures,
@@ -415,15 +433,16 @@ fn run(
     calendar: &mut [u16],
     words: &mut [u32],
     bits: &mut [u64],
+    arrived: &mut [u32],
     arrivals: &[u8],
     sizes: &[u8],
     departures: &mut [u8],
     answers: &mut [u16],
 ) -> BurstEnd
     requires { ⌜ BurstLent (now arrivals) (now sizes) (now departures) (now answers) ⌝ }
-    requires { ⌜ Shaped ctl (now cells) (now links) (now calendar) (now words) (now bits) ⌝ }
-    ensures { λ r. ⌜ stretchAfter (after (r .ctl) cells links calendar words bits) departures answers (r .number) (r .done)
-        ≡ slots (now (arrivals .entry)) (now (sizes .entry)) (stretchBefore (before ctl cells links calendar words bits) departures answers 0) ⌝ }
+    requires { ⌜ Shaped ctl (now cells) (now links) (now calendar) (now words) (now bits) (now arrived) ⌝ }
+    ensures { λ r. ⌜ stretchAfter (after (r .ctl) cells links calendar words bits arrived) departures answers (r .number) (r .done)
+        ≡ slots (now (arrivals .entry)) (now (sizes .entry)) (stretchBefore (before ctl cells links calendar words bits arrived) departures answers 0) ⌝ }
 {
     let mut end = BurstEnd {
         ctl: ctl,
@@ -440,6 +459,7 @@ fn run(
             calendar,
             words,
             bits,
+            arrived,
             arrivals,
             sizes,
             departures,
@@ -458,6 +478,7 @@ fn run(
             calendar,
             words,
             bits,
+            arrived,
             arrivals,
             size,
             departures,
@@ -482,22 +503,23 @@ fn is_times(long: usize, each: usize, k: usize) -> bool
     long / each == k
 }
 
-// Whether all eight buffers have the lengths for N, V and so many sizes.
-fn lengths_fit(
+// Whether all nine buffers have the lengths for N, V and so many sizes.
+pub fn lengths_fit(
     ctl: Record,
     cells: usize,
     links: usize,
     calendar: usize,
     words: usize,
     bits: usize,
+    arrived: usize,
     arrivals: usize,
     sizes: usize,
     departures: usize,
     answers: usize,
 ) -> bool
-    ensures { λ r. ⌜ r ≡ lengthsFit (ctl .n) (ctl .v) cells links calendar words bits arrivals sizes departures answers ⌝ }
+    ensures { λ r. ⌜ r ≡ lengthsFit (ctl .n) (ctl .v) cells links calendar words bits arrived arrivals sizes departures answers ⌝ }
 {
-    if !lengths_hold(ctl.n, ctl.v, cells, links, calendar, words, bits) {
+    if !lengths_hold(ctl.n, ctl.v, cells, links, calendar, words, bits, arrived) {
         return false;
     }
     if !is_times(arrivals, 53, sizes) {
@@ -517,12 +539,13 @@ pub fn burst(
     calendar: &mut [u16],
     words: &mut [u32],
     bits: &mut [u64],
+    arrived: &mut [u32],
     arrivals: &[u8],
     sizes: &[u8],
     departures: &mut [u8],
     answers: &mut [u16],
 ) -> BurstEnd
-    ensures { λ r. ⌜ burstPromise (before ctl cells links calendar words bits) arrivals sizes departures answers r (after (r .ctl) cells links calendar words bits) ⌝ }
+    ensures { λ r. ⌜ burstPromise (before ctl cells links calendar words bits arrived) arrivals sizes departures answers r (after (r .ctl) cells links calendar words bits arrived) ⌝ }
 {
     let fit = lengths_fit(
         ctl,
@@ -531,6 +554,7 @@ pub fn burst(
         calendar.len(),
         words.len(),
         bits.len(),
+        arrived.len(),
         arrivals.len(),
         sizes.len(),
         departures.len(),
@@ -549,6 +573,7 @@ pub fn burst(
         calendar,
         words,
         bits,
+        arrived,
         arrivals,
         sizes,
         departures,

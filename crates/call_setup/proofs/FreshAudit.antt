@@ -30,7 +30,7 @@ module _ (N z : ℕ) (r : InRange N z) where
   abbrev queued : List ℕ
   queued = [] ++ joined (replicate N [])
 
-  lengths-hold : lengthsHold N z (replicate (53 * N) 0) links (replicate (2 * N) 65535) (replicate (wordsIn z) 0) (allFree N) ≡ true
+  lengths-hold : lengthsHold N z (replicate (53 * N) 0) links (replicate (2 * N) 65535) (replicate (wordsIn z) 0) (allFree N) (replicate N 0) ≡ true
   unfolding lengthsHold wordsLong
   lengths-hold =
       simp (
@@ -110,12 +110,12 @@ fresh-audit N z o h split =
     }
 
 -- what setup's promise allows with number 0 meets the audit's clauses
-pub setup-audit : (N z : ℕ) (asked : Asked) (lent : State) (r : Fresh) (cells′ links′ calendar′ words′ bits′ : List ℕ)
-    → setupPromise N z asked lent (setUpOf (r .number) (stateOf (r .ctl) cells′ links′ calendar′ words′ bits′))
+pub setup-audit : (N z : ℕ) (asked : Asked) (lent : State) (r : Fresh) (cells′ links′ calendar′ words′ bits′ arrived′ : List ℕ)
+    → setupPromise N z asked lent (setUpOf (r .number) (stateOf (r .ctl) cells′ links′ calendar′ words′ bits′ arrived′))
     → r .number ≡ 0
-    → AuditHolds (stateOf (r .ctl) cells′ links′ calendar′ words′ bits′)
+    → AuditHolds (stateOf (r .ctl) cells′ links′ calendar′ words′ bits′ arrived′)
 unfolding setup
-setup-audit N z asked lent r cells′ links′ calendar′ words′ bits′ p e =
+setup-audit N z asked lent r cells′ links′ calendar′ words′ bits′ arrived′ p e =
     subst AuditHolds (sym (ap (λ (s : SetUp). s .state) p)) (go inRange splits known long refl refl (sym (ap (λ (s : SetUp). s .number) p) ∙ e))
   where
     inRange : Bool
@@ -128,7 +128,7 @@ setup-audit N z asked lent r cells′ links′ calendar′ words′ bits′ p e 
     known = kindFits (asked .kind)
 
     long : Bool
-    long = lengthsHold N z (lent .cells) (lent .links) (lent .calendar) (lent .words) (lent .bits)
+    long = lengthsHold N z (lent .cells) (lent .links) (lent .calendar) (lent .words) (lent .bits) (lent .arrived)
 
     after : Bool → Bool → Bool → Bool → SetUp
     after a s b d =

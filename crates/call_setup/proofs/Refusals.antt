@@ -13,7 +13,7 @@ use Rattle.meaning.specs.Bits.{allFree}
 use Rattle.meaning.specs.State.{stateOf, withRecord, wordsLong, lengthsHold}
 use Rattle.meaning.specs.Calls.{SetUp, setUpOf, zeros, Options, askedOf, chosen, freshRecord, freshState, setup}
 use Rattle.leaf_refusal.proofs.Ranges.{four-hold, InRange, ranges-facts}
-use Rattle.call_setup.specs.Order.{inOrder}
+use Rattle.call_setup.specs.Order.{inOrder, lengthsAre}
 
 -- what is answered with a refusal, and what where none is given
 module _ {A : Type 0} (refusal : ℕ → A) (done : A) where
@@ -51,7 +51,7 @@ kind-low : (kind : ℕ) → kindFits kind ≡ true → kind ≤ nni
 unfolding kindFits
 kind-low kind h = leb-true kind nni h
 
-module _ (N z kind splitvci splitpath : ℕ) (cells links calendar words bits : List ℕ) where
+module _ (N z kind splitvci splitpath : ℕ) (cells links calendar words bits arrived : List ℕ) where
   -- what refusals 1, 1 again, 13 and 2 test
   abbrev inRange : Bool
   inRange = rangesHold N z
@@ -63,22 +63,22 @@ module _ (N z kind splitvci splitpath : ℕ) (cells links calendar words bits : 
   known = kindFits kind
 
   abbrev long : Bool
-  long = length cells =? 53 * N && length links =? N && length calendar =? 2 * N && length words =? wordsIn z && length bits =? bitWords
+  long = lengthsAre N z (length cells) (length links) (length calendar) (length words) (length bits) (length arrived)
 
   abbrev pub setupRefusal : ℕ
   setupRefusal = inOrder inRange split known long
 
   abbrev refusedWith : ℕ → SetUp
-  refusedWith k = setUpOf k (stateOf zeros cells links calendar words bits)
+  refusedWith k = setUpOf k (stateOf zeros cells links calendar words bits arrived)
 
   abbrev fresh : Bool → SetUp
   fresh raw = setUpOf 0 (freshState N z (chosen (askedOf raw kind splitvci splitpath)))
 
-  pub setup-refused : (raw : Bool) → (setupRefusal ≡ 0 → ⊥) → refusedWith setupRefusal ≡ setup N z (askedOf raw kind splitvci splitpath) (stateOf zeros cells links calendar words bits)
+  pub setup-refused : (raw : Bool) → (setupRefusal ≡ 0 → ⊥) → refusedWith setupRefusal ≡ setup N z (askedOf raw kind splitvci splitpath) (stateOf zeros cells links calendar words bits arrived)
   unfolding setup withRecord lengthsHold wordsLong
   setup-refused raw h = four-given refusedWith (fresh raw) inRange split known long h
 
-  pub setup-done : (raw : Bool) → setupRefusal ≡ 0 → fresh raw ≡ setup N z (askedOf raw kind splitvci splitpath) (stateOf zeros cells links calendar words bits)
+  pub setup-done : (raw : Bool) → setupRefusal ≡ 0 → fresh raw ≡ setup N z (askedOf raw kind splitvci splitpath) (stateOf zeros cells links calendar words bits arrived)
   unfolding setup withRecord lengthsHold wordsLong
   setup-done raw h = four-none refusedWith (fresh raw) inRange split known long h
 
@@ -91,12 +91,14 @@ module _ (N z kind splitvci splitpath : ℕ) (cells links calendar words bits : 
     pub calendar-long : length calendar ≡ 2 * N
     pub words-long : length words ≡ wordsIn z
     pub bits-long : length bits ≡ bitWords
+    pub arrived-long : length arrived ≡ N
 
   pub setup-lent : setupRefusal ≡ 0 → Lent
   setup-lent h =
       let t = four-passed inRange split known long h in
       let first = length cells =? 53 * N && length links =? N && length calendar =? 2 * N && length words =? wordsIn z in
-      let both = two-hold first (length bits =? bitWords) (t .3) in
+      let all = two-hold (first && length bits =? bitWords) (length arrived =? N) (t .3) in
+      let both = two-hold first (length bits =? bitWords) (all .0) in
       let l =
       four-hold
       (length cells =? 53 * N)
@@ -112,17 +114,19 @@ module _ (N z kind splitvci splitpath : ℕ) (cells links calendar words bits : 
         calendar-long = eqb-true _ _ (l .2);
         words-long = eqb-true _ _ (l .3);
         bits-long = eqb-true _ _ (both .1);
+        arrived-long = eqb-true _ _ (all .1);
       }
 
-  -- the five memories as the fills leave them, and the record, are the fresh state
-  pub fresh-is : Lent → (o : Options) (r : Record) (cells′ links′ calendar′ words′ bits′ : List ℕ)
+  -- the six memories as the fills leave them, and the record, are the fresh state
+  pub fresh-is : Lent → (o : Options) (r : Record) (cells′ links′ calendar′ words′ bits′ arrived′ : List ℕ)
       → r ≡ freshRecord N z o
       → cells′ ≡ replicate (length cells) 0
       → links′ ≡ replicate (length links) 0
       → calendar′ ≡ replicate (length calendar) 65535
       → words′ ≡ replicate (length words) 0
       → bits′ ≡ allFree N
-      → stateOf r cells′ links′ calendar′ words′ bits′ ≡ freshState N z o
+      → arrived′ ≡ replicate (length arrived) 0
+      → stateOf r cells′ links′ calendar′ words′ bits′ arrived′ ≡ freshState N z o
   unfolding freshState
-  fresh-is l o r cells′ links′ calendar′ words′ bits′ a b d e f g =
-      simp (a, b, d, e, f, g, l .cells-long, l .links-long, l .calendar-long, l .words-long)
+  fresh-is l o r cells′ links′ calendar′ words′ bits′ arrived′ a b d e f g h =
+      simp (a, b, d, e, f, g, h, l .cells-long, l .links-long, l .calendar-long, l .words-long, l .arrived-long)

@@ -1,15 +1,14 @@
-// Setting up a policer: cells, links and words cleared, all N spaces free by their bits, the calendar and the Output List emptied.
+// Setting up a policer: cells, links, words and arrival slots cleared, all N spaces free by their bits, the calendar and the Output
+// List emptied.
 ghost use mathlib.Core.Path.{_≡_};
-ghost use mathlib.Core.Bool.{_&&_};
-ghost use Prim.Native.Nat.{_*_, _<_};
+ghost use Prim.Native.Nat.{_<_};
 ghost use lib.ListN.{length, replicate};
-ghost use Rattle.meaning.specs.Plain.{_=?_};
-ghost use Rattle.meaning.specs.Numbers.{rangesHold, kindFits, octets, perEntry, wordsIn, bitWords, splitsHold};
+ghost use Rattle.meaning.specs.Numbers.{rangesHold, kindFits, bitWords, splitsHold};
 ghost use Rattle.meaning.specs.Bits.{fullWord, allFree};
 ghost use Rattle.meaning.specs.Calls.{zeros, askedOf};
 ghost use Rattle.meaning.specs.Promises.{setupPromise};
 ghost use Rattle.meaning.specs.Lent.{before, setUpAfter};
-ghost use Rattle.call_setup.specs.Order.{inOrder};
+ghost use Rattle.call_setup.specs.Order.{inOrder, lengthsAre};
 use leaf_refusal::first;
 use leaf_refusal::kind_fits;
 use leaf_refusal::lengths_hold;
@@ -31,7 +30,7 @@ fn clear_cells(cells: &mut [u8])
     }
 }
 
-// All words of all connections 0.
+// All words of all connections 0; or all arrival slots.
 fn clear_words(words: &mut [u32])
     ensures { λ r. ⌜ now (words .exit) ≡ replicate (length (now (words .entry))) 0 ⌝ }
 {
@@ -104,13 +103,15 @@ fn setup_refusal(
     calendar: usize,
     words: usize,
     bits: usize,
+    arrived: usize,
 ) -> u16
-    ensures { λ r. ⌜ r ≡ inOrder (rangesHold n v) (splitsHold v splitvci splitpath) (kindFits kind) (cells =? octets * n && links =? n && calendar =? perEntry * n && words =? wordsIn v && bits =? bitWords) ⌝ }
+    ensures { λ r. ⌜ r ≡ inOrder (rangesHold n v) (splitsHold v splitvci splitpath) (kindFits kind) (lengthsAre n v cells links calendar words bits arrived) ⌝ }
 {
     let ranges = refuse(1, !ranges_hold(n, v));
     let splits = refuse(1, !splits_hold(v, splitvci, splitpath));
     let line = refuse(13, !kind_fits(kind));
-    let lengths = refuse(2, !lengths_hold(n, v, cells, links, calendar, words, bits));
+    let long = lengths_hold(n, v, cells, links, calendar, words, bits, arrived);
+    let lengths = refuse(2, !long);
     let one = first(ranges, splits);
     let early = first(one, line);
     first(early, lengths)
@@ -130,8 +131,9 @@ pub fn setup(
     calendar: &mut [u16],
     words: &mut [u32],
     bits: &mut [u64],
+    arrived: &mut [u32],
 ) -> Fresh
-    ensures { λ r. ⌜ setupPromise n v (askedOf raw kind splitvci splitpath) (before zeros cells links calendar words bits) (setUpAfter r cells links calendar words bits) ⌝ }
+    ensures { λ r. ⌜ setupPromise n v (askedOf raw kind splitvci splitpath) (before zeros cells links calendar words bits arrived) (setUpAfter r cells links calendar words bits arrived) ⌝ }
 {
     let number = setup_refusal(
         n,
@@ -144,6 +146,7 @@ pub fn setup(
         calendar.len(),
         words.len(),
         bits.len(),
+        arrived.len(),
     );
     if number != 0 {
         let none = no_record();
@@ -157,6 +160,7 @@ pub fn setup(
     empty_calendar(calendar);
     clear_words(words);
     free_all(n, bits);
+    clear_words(arrived);
     let fresh = fresh_record(n, v, raw, kind, splitvci, splitpath);
     Fresh {
         number: 0,

@@ -50,7 +50,7 @@ module _ (s : State) (mode : ℕ) (b : Bool) (w : Work) (h : Answered (withMode 
   unfolding withMode withRecord recordInMode
   as-it-came ne =
       record {
-        as-came = λ _. ap (λ (x : State). stateOf (s .ctl) (x .cells) (x .links) (x .calendar) (x .words) (x .bits)) (h .as-came ne);
+        as-came = λ _. ap (λ (x : State). stateOf (s .ctl) (x .cells) (x .links) (x .calendar) (x .words) (x .bits) (x .arrived)) (h .as-came ne);
         ranges = λ e. absurd (ne e);
         lengths = λ e. absurd (ne e);
         n-is = refl;

@@ -28,34 +28,34 @@ use Rattle.slot_steps.proofs.EndLaws.{AllOut, both-true, Ended, begun, five-end
 use Rattle.call_slot.specs.Back.{isChecked, servedOf, toldServed, backServed, back, unfitOf}
 
 -- record and answer, and the whole work
-back-work : (a b : Bool) (r : Record) (s : Served) (cells links calendar words bits : List ℕ)
+back-work : (a b : Bool) (r : Record) (s : Served) (cells links calendar words bits arrived : List ℕ)
     → (s .answer .number =? 0) ≡ a
     → let t = if a then toldServed b s else servedOf r (s .answer) in
-    workOf (stateOf (t .ctl) cells links calendar words bits) (t .answer)
-    ≡ (if a then told b (workOf (stateOf (s .ctl) cells links calendar words bits) (s .answer))
-    else workOf (stateOf r cells links calendar words bits) (s .answer))
-back-work true true r s cells links calendar words bits e = refl
-back-work true false r s cells links calendar words bits e = refl
-back-work false b r s cells links calendar words bits e = refl
+    workOf (stateOf (t .ctl) cells links calendar words bits arrived) (t .answer)
+    ≡ (if a then told b (workOf (stateOf (s .ctl) cells links calendar words bits arrived) (s .answer))
+    else workOf (stateOf r cells links calendar words bits arrived) (s .answer))
+back-work true true r s cells links calendar words bits arrived e = refl
+back-work true false r s cells links calendar words bits arrived e = refl
+back-work false b r s cells links calendar words bits arrived e = refl
 
-pub back-is : (r : Record) (b : Bool) (s : Served) (S : State) (cells links calendar words bits : List ℕ) → S .ctl ≡ r
-    → workOf (stateOf (backServed r b s .ctl) cells links calendar words bits) (backServed r b s .answer)
-    ≡ back S b (workOf (stateOf (s .ctl) cells links calendar words bits) (s .answer))
+pub back-is : (r : Record) (b : Bool) (s : Served) (S : State) (cells links calendar words bits arrived : List ℕ) → S .ctl ≡ r
+    → workOf (stateOf (backServed r b s .ctl) cells links calendar words bits arrived) (backServed r b s .answer)
+    ≡ back S b (workOf (stateOf (s .ctl) cells links calendar words bits arrived) (s .answer))
 unfolding backServed back withRecord
-back-is r b s S cells links calendar words bits e = rw e (back-work (s .answer .number =? 0) b r s cells links calendar words bits refl)
+back-is r b s S cells links calendar words bits arrived e = rw e (back-work (s .answer .number =? 0) b r s cells links calendar words bits arrived refl)
 
 -- the slot without the check, in another mode, and back
-pub backed : (r k : Record) (mode : ℕ) (b : Bool) (x s : Served) (cells links calendar words bits cell C L K W B : List ℕ)
+pub backed : (r k : Record) (mode : ℕ) (b : Bool) (x s : Served) (cells links calendar words bits arrived cell C L K W B A : List ℕ)
     → k ≡ recordInMode r mode → x ≡ backServed r b s
-    → workOf (stateOf (s .ctl) C L K W B) (s .answer) ≡ uncheckedSlot (stateOf k cells links calendar words bits) cell
-    → workOf (stateOf (x .ctl) C L K W B) (x .answer)
-    ≡ back (stateOf r cells links calendar words bits) b
-    (uncheckedSlot (stateOf (recordInMode r mode) cells links calendar words bits) cell)
-backed r k mode b x s cells links calendar words bits cell C L K W B e f g =
-    ap (λ (y : Served). workOf (stateOf (y .ctl) C L K W B) (y .answer)) f
-    ∙ back-is r b s (stateOf r cells links calendar words bits) C L K W B refl
-    ∙ ap (back (stateOf r cells links calendar words bits) b)
-    (g ∙ ap (λ (q : Record). uncheckedSlot (stateOf q cells links calendar words bits) cell) e)
+    → workOf (stateOf (s .ctl) C L K W B A) (s .answer) ≡ uncheckedSlot (stateOf k cells links calendar words bits arrived) cell
+    → workOf (stateOf (x .ctl) C L K W B A) (x .answer)
+    ≡ back (stateOf r cells links calendar words bits arrived) b
+    (uncheckedSlot (stateOf (recordInMode r mode) cells links calendar words bits arrived) cell)
+backed r k mode b x s cells links calendar words bits arrived cell C L K W B A e f g =
+    ap (λ (y : Served). workOf (stateOf (y .ctl) C L K W B A) (y .answer)) f
+    ∙ back-is r b s (stateOf r cells links calendar words bits arrived) C L K W B A refl
+    ∙ ap (back (stateOf r cells links calendar words bits arrived) b)
+    (g ∙ ap (λ (q : Record). uncheckedSlot (stateOf q cells links calendar words bits arrived) cell) e)
 
 -- ── by the slot without the check ──
 module _ (s : State) (cell : List ℕ) where
@@ -92,8 +92,8 @@ module _ (s : State) (cell : List ℕ) where
 -- ── raw and mode out of range ──
 pub unfit-is : (s : State) (cell : List ℕ) (x : Served) → isLent cell ≡ true
     → arrivingFits (s .ctl .raw) (s .ctl .mode) cell ≡ false
-    → x ≡ unfitOf (s .ctl) (s .cells) (s .links) (s .calendar) (s .words) (s .bits)
-    → workOf (stateOf (x .ctl) (s .cells) (s .links) (s .calendar) (s .words) (s .bits)) (x .answer) ≡ slot s cell
+    → x ≡ unfitOf (s .ctl) (s .cells) (s .links) (s .calendar) (s .words) (s .bits) (s .arrived)
+    → workOf (stateOf (x .ctl) (s .cells) (s .links) (s .calendar) (s .words) (s .bits) (s .arrived)) (x .answer) ≡ slot s cell
 unfolding slot slotAt unfitOf finish
 unfit-is s cell x lent fits e =
     rw (e, lent, fits)
@@ -154,14 +154,14 @@ unfolding arrivingOf
 answer-dropped c cell e = rw e
 
 -- a raw policer's slot, by what the check answers
-pub raw-is : (r : Record) (cells links calendar words bits cell : List ℕ) (w : Work) (a : Arriving) → r .raw ≡ 1 → r .mode ≤ 1
+pub raw-is : (r : Record) (cells links calendar words bits arrived cell : List ℕ) (w : Work) (a : Arriving) → r .raw ≡ 1 → r .mode ≤ 1
     → length cell ≡ 53 → checked (r .mode) cell ≡ a
-    → w ≡ back (stateOf r cells links calendar words bits) (a .dropped)
-    (uncheckedSlot (stateOf (recordInMode r (a .mode)) cells links calendar words bits) (a .cell))
-    → w ≡ slot (stateOf r cells links calendar words bits) cell
+    → w ≡ back (stateOf r cells links calendar words bits arrived) (a .dropped)
+    (uncheckedSlot (stateOf (recordInMode r (a .mode)) cells links calendar words bits arrived) (a .cell))
+    → w ≡ slot (stateOf r cells links calendar words bits arrived) cell
 unfolding withMode withRecord
-raw-is r cells links calendar words bits cell w a e m l f g =
-    let s = stateOf r cells links calendar words bits in
+raw-is r cells links calendar words bits arrived cell w a e m l f g =
+    let s = stateOf r cells links calendar words bits arrived in
     g
     ∙ ap (λ (x : Arriving). back s (x .dropped) (uncheckedSlot (withMode s (x .mode)) (x .cell)))
     (sym (arriving-raw (r .raw) (r .mode) cell e l ∙ f))

@@ -45,19 +45,19 @@ back s drop w =
 abbrev pub backFrom : State → ℕ → Bool → List ℕ → Work
 backFrom s mode drop cell =
     back s drop
-    (uncheckedSlot (stateOf (recordInMode (s .ctl) mode) (s .cells) (s .links) (s .calendar) (s .words) (s .bits)) cell)
+    (uncheckedSlot (stateOf (recordInMode (s .ctl) mode) (s .cells) (s .links) (s .calendar) (s .words) (s .bits) (s .arrived)) cell)
 
 -- a raw or a mode out of its range: 1 and 2 come before 3
-unfoldable pub unfitOf : Record → List ℕ → List ℕ → List ℕ → List ℕ → List ℕ → Served
-unfitOf r cells links calendar words bits =
+unfoldable pub unfitOf : Record → List ℕ → List ℕ → List ℕ → List ℕ → List ℕ → List ℕ → Served
+unfitOf r cells links calendar words bits arrived =
     servedOf r
     (bareAnswer
     (if not (rangesHold (r .n) (r .v)) then 1
-    else if not (lengthsHold (r .n) (r .v) cells links calendar words bits) then 2
+    else if not (lengthsHold (r .n) (r .v) cells links calendar words bits arrived) then 2
     else 3))
 
 abbrev pub unfitIn : State → Served
-unfitIn s = unfitOf (s .ctl) (s .cells) (s .links) (s .calendar) (s .words) (s .bits)
+unfitIn s = unfitOf (s .ctl) (s .cells) (s .links) (s .calendar) (s .words) (s .bits) (s .arrived)
 
 abbrev pub mendedBy : Checked → List ℕ → List ℕ
 mendedBy c cell = octetsOf (c .head) (c .fifth) ++ drop 5 cell

@@ -68,16 +68,17 @@ fn mended_slot(
     calendar: &mut [u16],
     words: &mut [u32],
     bits: &mut [u64],
+    arrived: &mut [u32],
     cell: &[u8],
 ) -> Served
     requires { ⌜ length (now cell) ≡ 53 ⌝ }
-    ensures { λ s. ⌜ servedAfter s cells links calendar words bits ≡ backFrom (before r cells links calendar words bits) (c .mode) false (mendedBy c (now (cell .entry))) ⌝ }
+    ensures { λ s. ⌜ servedAfter s cells links calendar words bits arrived ≡ backFrom (before r cells links calendar words bits arrived) (c .mode) false (mendedBy c (now (cell .entry))) ⌝ }
 {
     let mut held = [0u8; 53];
     mem_cell::copy_cell(&mut held, cell);
     put_header(&mut held, c.head, c.fifth);
     let k = record_in_mode(r, c.mode);
-    let s = slot_steps::slot(k, cells, links, calendar, words, bits, &held);
+    let s = slot_steps::slot(k, cells, links, calendar, words, bits, arrived, &held);
     back_to(r, false, s)
 }
 
@@ -90,12 +91,13 @@ fn dropped_slot(
     calendar: &mut [u16],
     words: &mut [u32],
     bits: &mut [u64],
+    arrived: &mut [u32],
     cell: &[u8],
 ) -> Served
-    ensures { λ s. ⌜ servedAfter s cells links calendar words bits ≡ backFrom (before r cells links calendar words bits) mode true [] ⌝ }
+    ensures { λ s. ⌜ servedAfter s cells links calendar words bits arrived ≡ backFrom (before r cells links calendar words bits arrived) mode true [] ⌝ }
 {
     let k = record_in_mode(r, mode);
-    let s = slot_steps::slot(k, cells, links, calendar, words, bits, &cell[0..0]);
+    let s = slot_steps::slot(k, cells, links, calendar, words, bits, arrived, &cell[0..0]);
     back_to(r, true, s)
 }
 
@@ -107,12 +109,13 @@ fn clean_slot(
     calendar: &mut [u16],
     words: &mut [u32],
     bits: &mut [u64],
+    arrived: &mut [u32],
     cell: &[u8],
 ) -> Served
-    ensures { λ s. ⌜ servedAfter s cells links calendar words bits ≡ backFrom (before r cells links calendar words bits) 0 false (now (cell .entry)) ⌝ }
+    ensures { λ s. ⌜ servedAfter s cells links calendar words bits arrived ≡ backFrom (before r cells links calendar words bits arrived) 0 false (now (cell .entry)) ⌝ }
 {
     let k = record_in_mode(r, 0);
-    let s = slot_steps::slot(k, cells, links, calendar, words, bits, cell);
+    let s = slot_steps::slot(k, cells, links, calendar, words, bits, arrived, cell);
     back_to(r, false, s)
 }
 
@@ -124,19 +127,30 @@ fn raw_slot(
     calendar: &mut [u16],
     words: &mut [u32],
     bits: &mut [u64],
+    arrived: &mut [u32],
     cell: &[u8],
 ) -> Served
     requires { ⌜ (r .raw ≡ 1) × (r .mode ≤ 1) × (length (now cell) ≡ 53) ⌝ }
-    ensures { λ s. ⌜ slotPromise (before r cells links calendar words bits) (now (cell .entry)) (servedAfter s cells links calendar words bits) ⌝ }
+    ensures { λ s. ⌜ slotPromise (before r cells links calendar words bits arrived) (now (cell .entry)) (servedAfter s cells links calendar words bits arrived) ⌝ }
 {
     let c = base_hec::check_cell(r.mode, cell);
     if c.mode == 0 {
-        return clean_slot(r, cells, links, calendar, words, bits, cell);
+        return clean_slot(r, cells, links, calendar, words, bits, arrived, cell);
     }
     if c.through {
-        return mended_slot(r, c, cells, links, calendar, words, bits, cell);
+        return mended_slot(r, c, cells, links, calendar, words, bits, arrived, cell);
     }
-    dropped_slot(r, c.mode, cells, links, calendar, words, bits, cell)
+    dropped_slot(
+        r,
+        c.mode,
+        cells,
+        links,
+        calendar,
+        words,
+        bits,
+        arrived,
+        cell,
+    )
 }
 
 // A raw or a mode that is neither 0 nor 1: 3, after 1 and 2.
@@ -147,12 +161,13 @@ fn unfit_slot(
     calendar: &[u16],
     words: &[u32],
     bits: &[u64],
+    arrived: &[u32],
     cell: &[u8],
 ) -> Served
     requires { ⌜ length (now cell) ≡ 53 ⌝ }
-    ensures { λ s. ⌜ s ≡ unfitIn (before r cells links calendar words bits) ⌝ }
+    ensures { λ s. ⌜ s ≡ unfitIn (before r cells links calendar words bits arrived) ⌝ }
 {
-    let number = slot_steps::shape(r, cells, links, calendar, words, bits, cell);
+    let number = slot_steps::shape(r, cells, links, calendar, words, bits, arrived, cell);
     if number != 0 {
         return slot_depart::refuse(r, number);
     }
@@ -177,18 +192,19 @@ pub fn checked(
     calendar: &mut [u16],
     words: &mut [u32],
     bits: &mut [u64],
+    arrived: &mut [u32],
     cell: &[u8],
 ) -> Served
     requires { ⌜ isChecked (r .raw) (length (now cell)) ≡ true ⌝ }
-    ensures { λ s. ⌜ slotPromise (before r cells links calendar words bits) (now (cell .entry)) (servedAfter s cells links calendar words bits) ⌝ }
+    ensures { λ s. ⌜ slotPromise (before r cells links calendar words bits arrived) (now (cell .entry)) (servedAfter s cells links calendar words bits arrived) ⌝ }
 {
     if r.raw > 1 {
-        return unfit_slot(r, cells, links, calendar, words, bits, cell);
+        return unfit_slot(r, cells, links, calendar, words, bits, arrived, cell);
     }
     if r.mode > 1 {
-        return unfit_slot(r, cells, links, calendar, words, bits, cell);
+        return unfit_slot(r, cells, links, calendar, words, bits, arrived, cell);
     }
-    raw_slot(r, cells, links, calendar, words, bits, cell)
+    raw_slot(r, cells, links, calendar, words, bits, arrived, cell)
 }
 
 // "One slot, in this order", of a cell of 0 or 53 octets. raw is read only where a cell is lent, mode only where raw is 1.
@@ -199,12 +215,13 @@ pub fn slot(
     calendar: &mut [u16],
     words: &mut [u32],
     bits: &mut [u64],
+    arrived: &mut [u32],
     cell: &[u8],
 ) -> Served
-    ensures { λ s. ⌜ slotPromise (before r cells links calendar words bits) (now (cell .entry)) (servedAfter s cells links calendar words bits) ⌝ }
+    ensures { λ s. ⌜ slotPromise (before r cells links calendar words bits arrived) (now (cell .entry)) (servedAfter s cells links calendar words bits arrived) ⌝ }
 {
     if is_checked(r.raw, cell.len()) {
-        return checked(r, cells, links, calendar, words, bits, cell);
+        return checked(r, cells, links, calendar, words, bits, arrived, cell);
     }
-    slot_steps::slot(r, cells, links, calendar, words, bits, cell)
+    slot_steps::slot(r, cells, links, calendar, words, bits, arrived, cell)
 }

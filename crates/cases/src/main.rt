@@ -18,6 +18,7 @@ fn one_case(k: u8) -> bool {
     let mut calendar = [0u16; 2048];
     let mut words = [0u32; 15360];
     let mut bits = [0u64; 32];
+    let mut arrived = [0u32; 1024];
     let mut out = [0u8; 65536];
     list_write::list(
         1,
@@ -27,6 +28,7 @@ fn one_case(k: u8) -> bool {
         &mut calendar,
         &mut words,
         &mut bits,
+        &mut arrived,
         &mut out,
     );
     true

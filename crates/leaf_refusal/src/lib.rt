@@ -55,7 +55,7 @@ pub fn words_in(v: u16) -> usize
 }
 
 // Refusal 2: "53 × N octets of cells; N links; 2 × N calendar numbers; 7 × V words", of which document 02 made 12 × (V + 256); and its
-// words of bits, 16 of spaces and 16 of entries.
+// words of bits, 16 of spaces and 16 of entries, and its N arrival slots.
 pub fn lengths_hold(
     n: u16,
     v: u16,
@@ -64,8 +64,9 @@ pub fn lengths_hold(
     calendar: usize,
     words: usize,
     bits: usize,
+    arrived: usize,
 ) -> bool
-    ensures { λ r. ⌜ r ≡ (cells =? octets * n && links =? n && calendar =? perEntry * n && words =? wordsIn v && bits =? bitWords) ⌝ }
+    ensures { λ r. ⌜ r ≡ (cells =? octets * n && links =? n && calendar =? perEntry * n && words =? wordsIn v && bits =? bitWords && arrived =? n) ⌝ }
 {
     if cells != 53 * (n as usize) {
         return false;
@@ -79,7 +80,10 @@ pub fn lengths_hold(
     if words != words_in(v) {
         return false;
     }
-    bits == 32
+    if bits != 32 {
+        return false;
+    }
+    arrived == n as usize
 }
 
 // The number of a refusal, or 0 where it isn't given.

@@ -6,11 +6,11 @@ use mathlib.Core.Logic.{_≢_}
 use mathlib.Core.List.{List}
 use native.Mathlib.Omega.{arith}
 use borrow.Author.Tests.{eqb-false}
-use lib.ListN.{length}
+use lib.ListN.{length, set}
 use Rattle.meaning.specs.declared.Answer.{Answer}
 use Rattle.meaning.specs.Plain.{if_then_else_, _<?_, _=?_, next, needs}
 use Rattle.meaning.specs.Numbers.{connectionsIn, unused, kindFits, excess, letsIn}
-use Rattle.meaning.specs.State.{State, withRecord, withCells, withLinks, withCalendar, withWords, withBits, recordWith, withClock, withFree, writeCell}
+use Rattle.meaning.specs.State.{State, withRecord, withCells, withLinks, withCalendar, withWords, withBits, withArrived, recordWith, withClock, withFree, writeCell}
 use Rattle.meaning.specs.Bits.{isFree, spacesFit, taken, marked}
 use Rattle.meaning.specs.Bucket.{isExcess, delay, fill, elapsed}
 use Rattle.meaning.specs.Header.{headerAt, clpIn, noUserCell, namesConnection, connection}
@@ -91,7 +91,7 @@ module _ (all base : ℕ) where
   unknown-quiet w verdict vci f e = not-accepted w (w .state .words) verdict vci f (f .words) e
 
   place-quiet : (cell : List ℕ) (D x : ℕ) (w : Work) → Quiet all base w → Holds (Quiet all base) (place cell D x w)
-  unfolding place withCells withLinks withCalendar withBits withFree withRecord recordWith
+  unfolding place withCells withLinks withCalendar withBits withArrived withFree withRecord recordWith
   place-quiet cell D x w q =
       let s = w .state in
       let e = (s .ctl .turn + D) % s .ctl .n in
@@ -99,8 +99,9 @@ module _ (all base : ℕ) where
       let grown = joinHead (s .links) entry x in
       let s3 = withLinks (withCells (withFree s (s .ctl .free - 1) (marked (taken (s .bits) x) e)) (writeCell (s .cells) x cell)) (grown .links) in
       let s4 : State = withCalendar s3 (writeEntry (s .calendar) e (grown .ends)) in
-      let q′ : Quiet all base (withState w s4) = record { v-is = q .v-is; words = q .words; unsent = q .unsent; number = q .number } in
-      holds-needs (Quiet all base) (endsFit (s .ctl .n) entry) (next (withState w s4)) (λ _. q′)
+      let s5 : State = withArrived s4 (set (s .arrived) x (s .ctl .t)) in
+      let q′ : Quiet all base (withState w s5) = record { v-is = q .v-is; words = q .words; unsent = q .unsent; number = q .number } in
+      holds-needs (Quiet all base) (endsFit (s .ctl .n) entry) (next (withState w s5)) (λ _. q′)
 
   accept-quiet : (x : ℕ) (cell : List ℕ) (verdict vci : ℕ) (w : Work) (vc : Connection) → Fresh all base w → vci < all
       → Kept (connectionAt (w .state .words) vci) vc → vc .opened ≢ 0 → letsIn verdict ≡ true → Holds (Quiet all base) (accept x cell verdict vci w vc)

@@ -180,7 +180,7 @@ setup-balanced N z a lent =
     choose-set-up P (not (rangesHold N z)) _ _ (zeros-balanced lent)
     (choose-set-up P (not (splitsHold z (a .splitvci) (a .splitpath))) _ _ (zeros-balanced lent)
     (choose-set-up P (not (kindFits (a .kind))) _ _ (zeros-balanced lent)
-    (choose-set-up P (not (lengthsHold N z (lent .cells) (lent .links) (lent .calendar) (lent .words) (lent .bits))) _ _ (zeros-balanced lent)
+    (choose-set-up P (not (lengthsHold N z (lent .cells) (lent .links) (lent .calendar) (lent .words) (lent .bits) (lent .arrived))) _ _ (zeros-balanced lent)
     (fresh-balanced N z (chosen a)))))
 
 -- ---- every listing

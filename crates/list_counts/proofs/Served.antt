@@ -112,12 +112,13 @@ module _ (all base : ℕ) where
 
 -- ---- the slot
 
-lengths-words : (N z : ℕ) (cells links calendar words bits : List ℕ) → lengthsHold N z cells links calendar words bits ≡ true → length words ≡ wordsIn z
+lengths-words : (N z : ℕ) (cells links calendar words bits arrived : List ℕ) → lengthsHold N z cells links calendar words bits arrived ≡ true → length words ≡ wordsIn z
 unfolding lengthsHold wordsLong
-lengths-words N z cells links calendar words bits l =
+lengths-words N z cells links calendar words bits arrived l =
     let first = length cells =? octets * N && length links =? N && length calendar =? perEntry * N in
     eqb-true (length words) (wordsIn z)
-    (both first (length words =? wordsIn z) (both (first && length words =? wordsIn z) (length bits =? bitWords) l .0) .1)
+    (both first (length words =? wordsIn z) (both (first && length words =? wordsIn z) (length bits =? bitWords)
+    (both (first && length words =? wordsIn z && length bits =? bitWords) (length arrived =? N) l .0) .0) .1)
 
 one-more : (test : Answer → Bool) (a : Answer) (h : List Answer) → manyOf test (a ∷ h) ≡ manyOf test h + one (test a)
 unfolding manyOf
@@ -179,7 +180,7 @@ module _ (s : State) (cell : List ℕ) (h : List Answer) (p : 0 < s .ctl .v) (b 
   entered-even =
       record {
         v-is = refl;
-        words = record { long = lengths-words (s .ctl .n) (s .ctl .v) (s .cells) (s .links) (s .calendar) (s .words) (s .bits) l; sum = refl; closed = λ c k. b .closed c (subst (λ (n : ℕ). c < n) (sym (records-all (s .ctl .v) p)) k) };
+        words = record { long = lengths-words (s .ctl .n) (s .ctl .v) (s .cells) (s .links) (s .calendar) (s .words) (s .bits) (s .arrived) l; sum = refl; closed = λ c k. b .closed c (subst (λ (n : ℕ). c < n) (sym (records-all (s .ctl .v) p)) k) };
         bare = refl;
       }
 

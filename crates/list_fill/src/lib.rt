@@ -24,13 +24,14 @@ fn pause(
     calendar: &mut [u16],
     words: &mut [u32],
     bits: &mut [u64],
+    arrived: &mut [u32],
     out: &mut [u8],
     used: usize,
     count: usize,
 ) -> Filled
     requires { ⌜ (count ≤ run .left) × (run .done ≡ false) ⌝ }
     requires { ⌜ used + count * 64 + 96 ≤ length (now out) ⌝ }
-    ensures { λ r. ⌜ ((more : Bool) → RanLent more (now (trace .entry)) count run cells links calendar words bits out used r) ⌝ }
+    ensures { λ r. ⌜ ((more : Bool) → RanLent more (now (trace .entry)) count run cells links calendar words bits arrived out used r) ⌝ }
     ensures { λ r. ⌜ r .used ≤ used + count * 64 ⌝ }
 {
     let none = 0usize;
@@ -47,6 +48,7 @@ fn pause(
             calendar,
             words,
             bits,
+            arrived,
             &trace[..none],
             out,
             end,
@@ -77,12 +79,13 @@ fn advance(
     calendar: &mut [u16],
     words: &mut [u32],
     bits: &mut [u64],
+    arrived: &mut [u32],
     out: &mut [u8],
     used: usize,
 ) -> Filled
     requires { ⌜ (used + room ≤ length (now out)) × (run .done ≡ false) ⌝ }
     requires { ⌜ length (now trace) ≤ limit ⌝ }
-    ensures { λ r. ⌜ AdvancedLent more (now (trace .entry)) run cells links calendar words bits out used r ⌝ }
+    ensures { λ r. ⌜ AdvancedLent more (now (trace .entry)) run cells links calendar words bits arrived out used r ⌝ }
 {
     if 0 < run.left {
         let count = least(run.left as usize, (out.len() - used - 96) / 64);
@@ -94,6 +97,7 @@ fn advance(
             calendar,
             words,
             bits,
+            arrived,
             out,
             used,
             count,
@@ -108,6 +112,7 @@ fn advance(
         calendar,
         words,
         bits,
+        arrived,
         out,
         used,
     )
@@ -123,10 +128,11 @@ fn fill_trace(
     calendar: &mut [u16],
     words: &mut [u32],
     bits: &mut [u64],
+    arrived: &mut [u32],
     out: &mut [u8],
 ) -> Filled
     requires { ⌜ length (now trace) ≤ limit ⌝ }
-    ensures { λ r. ⌜ FillLent more (now (trace .entry)) run cells links calendar words bits out r ⌝ }
+    ensures { λ r. ⌜ FillLent more (now (trace .entry)) run cells links calendar words bits arrived out r ⌝ }
 {
     let mut now = run;
     let mut used = 0usize;
@@ -143,6 +149,7 @@ fn fill_trace(
             calendar,
             words,
             bits,
+            arrived,
             out,
             used,
         );
@@ -161,9 +168,10 @@ pub fn fill(
     calendar: &mut [u16],
     words: &mut [u32],
     bits: &mut [u64],
+    arrived: &mut [u32],
     out: &mut [u8],
 ) -> Filled
-    ensures { λ r. ⌜ FilledLent input run cells links calendar words bits out r ⌝ }
+    ensures { λ r. ⌜ FilledLent input run cells links calendar words bits arrived out r ⌝ }
 {
     let end = least(input.len(), 65536);
     let more = 65536 < input.len();
@@ -176,6 +184,7 @@ pub fn fill(
         calendar,
         words,
         bits,
+        arrived,
         out,
     )
 }

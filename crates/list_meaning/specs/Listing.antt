@@ -92,7 +92,7 @@ linesOf s h (stopped place) = stopLine place ++ endOf (recount h)
 linesOf s h (call c rest) =
     lineOf s c ++ (if endsRun s c then endOf (recount []) else linesOf (stateAfter s c) (answersAfter s h c) rest)
 
--- memory as document 01 sizes it for the setup that comes first, with the 32 words of bits of document 02
+-- memory as document 01 sizes it for the setup that comes first, with the 32 words of bits and the N arrival slots of document 02
 unfoldable pub lentFor : Calls → State
 lentFor (call (setUp N z o) rest) =
     stateOf zeros
@@ -101,11 +101,12 @@ lentFor (call (setUp N z o) rest) =
     (replicate (perEntry * N) 0)
     (replicate (wordsIn z) 0)
     (replicate bitWords 0)
-lentFor (call (openConnection name m F C x) rest) = stateOf zeros [] [] [] [] []
-lentFor (call (closeConnection name) rest) = stateOf zeros [] [] [] [] []
-lentFor (call (serve cell) rest) = stateOf zeros [] [] [] [] []
-lentFor finished = stateOf zeros [] [] [] [] []
-lentFor (stopped place) = stateOf zeros [] [] [] [] []
+    (replicate N 0)
+lentFor (call (openConnection name m F C x) rest) = stateOf zeros [] [] [] [] [] []
+lentFor (call (closeConnection name) rest) = stateOf zeros [] [] [] [] [] []
+lentFor (call (serve cell) rest) = stateOf zeros [] [] [] [] [] []
+lentFor finished = stateOf zeros [] [] [] [] [] []
+lentFor (stopped place) = stateOf zeros [] [] [] [] [] []
 
 unfoldable pub listingOf : List ℕ → List ℕ
 listingOf input = linesOf (lentFor (callsOf input)) [] (callsOf input)

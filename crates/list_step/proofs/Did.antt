@@ -30,20 +30,20 @@ abbrev worldBy : (at left : ℕ) → Tally → Work → World
 worldBy at left t w =
     record { state = w .state; at = at; left = left; done = false; tally = counted t (w .answer) }
 
-pub serve-did : (run : Run) (at left : ℕ) (cells links calendar words bits cell out : List ℕ) (used : ℕ)
-    (r : Served) (cells′ links′ calendar′ words′ bits′ : List ℕ) (tally : Tally) (out′ : List ℕ) (used′ : ℕ)
-    → slotPromise (stateOf (run .ctl) cells links calendar words bits) cell (workOf (stateOf (r .ctl) cells′ links′ calendar′ words′ bits′) (r .answer))
+pub serve-did : (run : Run) (at left : ℕ) (cells links calendar words bits arrived cell out : List ℕ) (used : ℕ)
+    (r : Served) (cells′ links′ calendar′ words′ bits′ arrived′ : List ℕ) (tally : Tally) (out′ : List ℕ) (used′ : ℕ)
+    → slotPromise (stateOf (run .ctl) cells links calendar words bits arrived) cell (workOf (stateOf (r .ctl) cells′ links′ calendar′ words′ bits′ arrived′) (r .answer))
     → tally ≡ counted (run .tally) (r .answer)
     → Put out used (slotLine (r .ctl .t) (r .answer)) out′ used′
     → used′ ≤ used + 64
-    → Did (called (worldOf run cells links calendar words bits) (serve cell) at left) 64 out used
-    (worldOf (onward (r .ctl) at left false tally) cells′ links′ calendar′ words′ bits′) out′ used′
+    → Did (called (worldOf run cells links calendar words bits arrived) (serve cell) at left) 64 out used
+    (worldOf (onward (r .ctl) at left false tally) cells′ links′ calendar′ words′ bits′ arrived′) out′ used′
 unfolding called lineOf stateAfter endsRun tallyAfter
-serve-did run at left cells links calendar words bits cell out used r cells′ links′ calendar′ words′ bits′ tally out′ used′ e q p f =
+serve-did run at left cells links calendar words bits arrived cell out used r cells′ links′ calendar′ words′ bits′ arrived′ tally out′ used′ e q p f =
     let text : Work → List ℕ = λ w. slotLine (w .state .ctl .t) (w .answer) in
     record {
       world =
-          ap (λ (x : Tally). worldOf (onward (r .ctl) at left false x) cells′ links′ calendar′ words′ bits′) q
+          ap (λ (x : Tally). worldOf (onward (r .ctl) at left false x) cells′ links′ calendar′ words′ bits′ arrived′) q
           ∙ ap (worldBy at left (run .tally)) e;
       put = put-is (append-nil _ ∙ sym (ap text e)) p;
       few = f;
@@ -51,23 +51,23 @@ serve-did run at left cells links calendar words bits cell out used r cells′ l
 
 -- ---- open and close
 
-module _ (run run′ : Run) (next : ℕ) (cells links calendar words words′ bits out out′ : List ℕ) (used used′ number : ℕ)
+module _ (run run′ : Run) (next : ℕ) (cells links calendar words words′ bits arrived out out′ : List ℕ) (used used′ number : ℕ)
     (going : run .done ≡ false) (moved : run′ ≡ onward (run .ctl) next 0 (run .done) (run .tally)) (few : used′ ≤ used + 64) where
   reworded : {k : Called} → calledOf number words′ ≡ k
-      → worldOf run′ cells links calendar words′ bits
-      ≡ record { state = withWords (stateOf (run .ctl) cells links calendar words bits) (k .words); at = next; left = 0; done = false; tally = run .tally }
+      → worldOf run′ cells links calendar words′ bits arrived
+      ≡ record { state = withWords (stateOf (run .ctl) cells links calendar words bits arrived) (k .words); at = next; left = 0; done = false; tally = run .tally }
   unfolding withWords
   reworded e =
-      ap (λ (x : Run). worldOf x cells links calendar words′ bits) moved
-      ∙ ap (λ (b : Bool). worldOf (onward (run .ctl) next 0 b (run .tally)) cells links calendar words′ bits) going
-      ∙ ap (λ (k : Called). worldOf (onward (run .ctl) next 0 false (run .tally)) cells links calendar (k .words) bits) e
+      ap (λ (x : Run). worldOf x cells links calendar words′ bits arrived) moved
+      ∙ ap (λ (b : Bool). worldOf (onward (run .ctl) next 0 b (run .tally)) cells links calendar words′ bits arrived) going
+      ∙ ap (λ (k : Called). worldOf (onward (run .ctl) next 0 false (run .tally)) cells links calendar (k .words) bits arrived) e
 
   -- c is the connection's number, as its line shows it
   pub open-did : (name : Name) (c m F C : ℕ) (x : Second) → c ≡ numberIn (run .ctl .v) name
       → openPromise (run .ctl) words secondOperator name m F C x number words′
       → Put out used (openLine c number) out′ used′
-      → Did (called (worldOf run cells links calendar words bits) (openConnection name m F C x) next 0) room out used
-      (worldOf run′ cells links calendar words′ bits) out′ used′
+      → Did (called (worldOf run cells links calendar words bits arrived) (openConnection name m F C x) next 0) room out used
+      (worldOf run′ cells links calendar words′ bits arrived) out′ used′
   unfolding called lineOf stateAfter endsRun tallyAfter
   open-did name c m F C x is e p =
       record {
@@ -79,8 +79,8 @@ module _ (run run′ : Run) (next : ℕ) (cells links calendar words words′ bi
   pub close-did : (name : Name) (c : ℕ) → c ≡ numberIn (run .ctl .v) name
       → closePromise (run .ctl) words secondOperator name number words′
       → Put out used (closeLine c number) out′ used′
-      → Did (called (worldOf run cells links calendar words bits) (closeConnection name) next 0) room out used
-      (worldOf run′ cells links calendar words′ bits) out′ used′
+      → Did (called (worldOf run cells links calendar words bits arrived) (closeConnection name) next 0) room out used
+      (worldOf run′ cells links calendar words′ bits arrived) out′ used′
   unfolding called lineOf stateAfter endsRun tallyAfter
   close-did name c is e p =
       record {
@@ -92,12 +92,12 @@ module _ (run run′ : Run) (next : ℕ) (cells links calendar words words′ bi
 -- ---- setup
 
 -- set up with what o chooses
-module _ (run : Run) (N z : ℕ) (o : Options) (raw : Bool) (kind next : ℕ) (cells links calendar words bits out : List ℕ) (used : ℕ)
-    (r : Fresh) (cells′ links′ calendar′ words′ bits′ : List ℕ) (is-raw : raw ≡ o .raw) (is-kind : kind ≡ kindNumber (o .kind))
-    (given : setupPromise N z (askedOf raw kind (o .splitvci) (o .splitpath)) (stateOf zeros cells links calendar words bits) (setUpOf (r .number) (stateOf (r .ctl) cells′ links′ calendar′ words′ bits′))) where
-  e : setupPromise N z (askedFor o) (stateOf (run .ctl) cells links calendar words bits) (setUpOf (r .number) (stateOf (r .ctl) cells′ links′ calendar′ words′ bits′))
+module _ (run : Run) (N z : ℕ) (o : Options) (raw : Bool) (kind next : ℕ) (cells links calendar words bits arrived out : List ℕ) (used : ℕ)
+    (r : Fresh) (cells′ links′ calendar′ words′ bits′ arrived′ : List ℕ) (is-raw : raw ≡ o .raw) (is-kind : kind ≡ kindNumber (o .kind))
+    (given : setupPromise N z (askedOf raw kind (o .splitvci) (o .splitpath)) (stateOf zeros cells links calendar words bits arrived) (setUpOf (r .number) (stateOf (r .ctl) cells′ links′ calendar′ words′ bits′ arrived′))) where
+  e : setupPromise N z (askedFor o) (stateOf (run .ctl) cells links calendar words bits arrived) (setUpOf (r .number) (stateOf (r .ctl) cells′ links′ calendar′ words′ bits′ arrived′))
   unfolding withRecord
-  e = rw (← is-raw, ← is-kind) (given ∙ sym (record-apart N z (askedOf raw kind (o .splitvci) (o .splitpath)) (stateOf zeros cells links calendar words bits) (run .ctl)))
+  e = rw (← is-raw, ← is-kind) (given ∙ sym (record-apart N z (askedOf raw kind (o .splitvci) (o .splitpath)) (stateOf zeros cells links calendar words bits arrived) (run .ctl)))
 
   setupText : SetUp → List ℕ
   setupText x = setupLine N z (x .number) ++ (if not (x .number =? 0) then endOf noTally else [])
@@ -107,14 +107,14 @@ module _ (run : Run) (N z : ℕ) (o : Options) (raw : Bool) (kind next : ℕ) (c
 
   pub setup-did : (out′ : List ℕ) (used′ : ℕ) → r .number ≡ 0
       → Put out used (setupLine N z (r .number)) out′ used′ → used′ ≤ used + 64
-      → Did (called (worldOf run cells links calendar words bits) (setUp N z o) next 0) room out used
-      (worldOf (onward (r .ctl) next 0 false noTally) cells′ links′ calendar′ words′ bits′) out′ used′
+      → Did (called (worldOf run cells links calendar words bits arrived) (setUp N z o) next 0) room out used
+      (worldOf (onward (r .ctl) next 0 false noTally) cells′ links′ calendar′ words′ bits′ arrived′) out′ used′
   unfolding called lineOf stateAfter endsRun tallyAfter setupText setupWorld
   setup-did out′ used′ q p f =
       let t : not (r .number =? 0) ≡ false = simp (eq-eqb (r .number) 0 q) in
       record {
         world =
-            ap (λ (b : Bool). worldOf (onward (r .ctl) next 0 b noTally) cells′ links′ calendar′ words′ bits′) (sym t)
+            ap (λ (b : Bool). worldOf (onward (r .ctl) next 0 b noTally) cells′ links′ calendar′ words′ bits′ arrived′) (sym t)
             ∙ ap setupWorld e;
         put = put-is (sym (ap setupText e) ∙ ap (λ (b : Bool). setupLine N z (r .number) ++ (if b then endOf noTally else [])) t ∙ append-nil _) p;
         few = omega arith;
@@ -123,14 +123,14 @@ module _ (run : Run) (N z : ℕ) (o : Options) (raw : Bool) (kind next : ℕ) (c
   pub setup-ends : (out″ : List ℕ) (line : ℕ) (out′ : List ℕ) (used′ : ℕ) → (r .number ≡ 0 → ⊥)
       → Put out used (setupLine N z (r .number)) out″ line → line ≤ used + 64
       → Put out″ line (endOf noTally) out′ used′ → used′ ≤ line + 80
-      → Did (called (worldOf run cells links calendar words bits) (setUp N z o) next 0) room out used
-      (worldOf (onward (r .ctl) next 0 true noTally) cells′ links′ calendar′ words′ bits′) out′ used′
+      → Did (called (worldOf run cells links calendar words bits arrived) (setUp N z o) next 0) room out used
+      (worldOf (onward (r .ctl) next 0 true noTally) cells′ links′ calendar′ words′ bits′ arrived′) out′ used′
   unfolding called lineOf stateAfter endsRun tallyAfter setupText setupWorld
   setup-ends out″ line out′ used′ q p f p2 f2 =
       let t : not (r .number =? 0) ≡ true = simp (ne-eqb (r .number) 0 q) in
       record {
         world =
-            ap (λ (b : Bool). worldOf (onward (r .ctl) next 0 b noTally) cells′ links′ calendar′ words′ bits′) (sym t)
+            ap (λ (b : Bool). worldOf (onward (r .ctl) next 0 b noTally) cells′ links′ calendar′ words′ bits′ arrived′) (sym t)
             ∙ ap setupWorld e;
         put = put-is (sym (ap setupText e) ∙ ap (λ (b : Bool). setupLine N z (r .number) ++ (if b then endOf noTally else [])) t) (put-then p p2);
         few = omega arith;

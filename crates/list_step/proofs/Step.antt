@@ -74,10 +74,10 @@ did-cell trace w start next used used′ out out′ w′ d =
       few = omega (arith, d .few);
     }
 
-pub did-pause : (trace : List ℕ) (run run′ : Run) (next slots used : ℕ) (cells links calendar words bits out : List ℕ)
+pub did-pause : (trace : List ℕ) (run run′ : Run) (next slots used : ℕ) (cells links calendar words bits arrived out : List ℕ)
     → run′ ≡ onward (run .ctl) next slots (run .done) (run .tally)
-    → Did (recordStep trace (worldOf run cells links calendar words bits) (SL slots) next) room out used
-    (worldOf run′ cells links calendar words bits) out used
+    → Did (recordStep trace (worldOf run cells links calendar words bits arrived) (SL slots) next) room out used
+    (worldOf run′ cells links calendar words bits arrived) out used
 unfolding recordStep paused
-did-pause trace run run′ next slots used cells links calendar words bits out e =
-    record { world = ap (λ (x : Run). worldOf x cells links calendar words bits) e; put = put-none out used; few = omega arith }
+did-pause trace run run′ next slots used cells links calendar words bits arrived out e =
+    record { world = ap (λ (x : Run). worldOf x cells links calendar words bits arrived) e; put = put-none out used; few = omega arith }

@@ -58,14 +58,15 @@ pub fn serve(
     calendar: &mut [u16],
     words: &mut [u32],
     bits: &mut [u64],
+    arrived: &mut [u32],
     cell: &[u8],
     out: &mut [u8],
     used: usize,
 ) -> Filled
     requires { ⌜ used + 64 ≤ length (now out) ⌝ }
-    ensures { λ r. ⌜ DidLent (called (worldBefore run cells links calendar words bits) (Trace·serve (now (cell .entry))) at left) 64 cells links calendar words bits out used r ⌝ }
+    ensures { λ r. ⌜ DidLent (called (worldBefore run cells links calendar words bits arrived) (Trace·serve (now (cell .entry))) at left) 64 cells links calendar words bits arrived out used r ⌝ }
 {
-    let served = call_slot::slot(run.ctl, cells, links, calendar, words, bits, cell);
+    let served = call_slot::slot(run.ctl, cells, links, calendar, words, bits, arrived, cell);
     let ctl = served.ctl;
     let answer = served.answer;
     let end = list_lines::slot_line(out, used, ctl.t, answer);
@@ -126,15 +127,30 @@ fn set_up(
     calendar: &mut [u16],
     words: &mut [u32],
     bits: &mut [u64],
+    arrived: &mut [u32],
     out: &mut [u8],
     used: usize,
 ) -> Filled
     requires { ⌜ used + room ≤ length (now out) ⌝ }
-    ensures { λ r. ⌜ ((run : AnyRun) → DidLent (called (worldBefore run cells links calendar words bits) (setUp n v (headOptions head)) next 0) room cells links calendar words bits out used r) ⌝ }
+    ensures { λ r. ⌜ ((run : AnyRun) → DidLent (called (worldBefore run cells links calendar words bits arrived) (setUp n v (headOptions head)) next 0)
+        room cells links calendar words bits arrived out used r) ⌝ }
 {
     let raw = is_raw(head);
     let kind = line_kind(head);
-    let fresh = call_setup::setup(n, v, raw, kind, 1, 1, cells, links, calendar, words, bits);
+    let fresh = call_setup::setup(
+        n,
+        v,
+        raw,
+        kind,
+        1,
+        1,
+        cells,
+        links,
+        calendar,
+        words,
+        bits,
+        arrived,
+    );
     let ctl = fresh.ctl;
     let line = list_lines::setup_line(out, used, n, v, fresh.number);
     let tally = Tally {
@@ -337,12 +353,14 @@ fn happen(
     calendar: &mut [u16],
     words: &mut [u32],
     bits: &mut [u64],
+    arrived: &mut [u32],
     out: &mut [u8],
     used: usize,
 ) -> Filled
     requires { ⌜ (used + room ≤ length (now out)) × (run .done ≡ false) ⌝ }
     requires { ⌜ CellWithin (now trace) (recordOf event) ⌝ }
-    ensures { λ r. ⌜ DidLent (recordStep (now (trace .entry)) (worldBefore run cells links calendar words bits) (recordOf event) next) room cells links calendar words bits out used r ⌝ }
+    ensures { λ r. ⌜ DidLent (recordStep (now (trace .entry)) (worldBefore run cells links calendar words bits arrived) (recordOf event) next)
+        room cells links calendar words bits arrived out used r ⌝ }
 {
     match event {
         Event::Setup { n, v, head } => {
@@ -356,6 +374,7 @@ fn happen(
                 calendar,
                 words,
                 bits,
+                arrived,
                 out,
                 used,
             )
@@ -387,6 +406,7 @@ fn happen(
                 calendar,
                 words,
                 bits,
+                arrived,
                 &trace[start..end],
                 out,
                 used,
@@ -424,12 +444,13 @@ pub fn one(
     calendar: &mut [u16],
     words: &mut [u32],
     bits: &mut [u64],
+    arrived: &mut [u32],
     out: &mut [u8],
     used: usize,
 ) -> Filled
     requires { ⌜ (used + room ≤ length (now out)) × (run .done ≡ false) ⌝ }
     requires { ⌜ length (now trace) ≤ limit ⌝ }
-    ensures { λ r. ⌜ DidLent (readStep more (now (trace .entry)) (worldBefore run cells links calendar words bits)) room cells links calendar words bits out used r ⌝ }
+    ensures { λ r. ⌜ DidLent (readStep more (now (trace .entry)) (worldBefore run cells links calendar words bits arrived)) room cells links calendar words bits arrived out used r ⌝ }
 {
     let found = trace_record::event_at(trace, run.at as usize);
     let Found::Read { event, next } = found else {
@@ -451,6 +472,7 @@ pub fn one(
         calendar,
         words,
         bits,
+        arrived,
         out,
         used,
     )

@@ -30,12 +30,12 @@ use Rattle.list_whole.proofs.Weight.{weight, Onward, weight-falls, step
 
 -- ---- memory of the right sizes
 
-lent-holds : (N z : ℕ) (cells links calendar words bits : List ℕ)
-    → LentFor (record { n = N; v = z }) (worldOf startRun cells links calendar words bits)
-    → lengthsHold N z cells links calendar words bits ≡ true
+lent-holds : (N z : ℕ) (cells links calendar words bits arrived : List ℕ)
+    → LentFor (record { n = N; v = z }) (worldOf startRun cells links calendar words bits arrived)
+    → lengthsHold N z cells links calendar words bits arrived ≡ true
 unfolding lengthsHold wordsLong
-lent-holds N z cells links calendar words bits s =
-    simp (eq-eqb _ _ (s .cells-long), eq-eqb _ _ (s .links-long), eq-eqb _ _ (s .calendar-long), eq-eqb _ _ (s .words-long), eq-eqb _ _ (s .bits-long))
+lent-holds N z cells links calendar words bits arrived s =
+    simp (eq-eqb _ _ (s .cells-long), eq-eqb _ _ (s .links-long), eq-eqb _ _ (s .calendar-long), eq-eqb _ _ (s .words-long), eq-eqb _ _ (s .bits-long), eq-eqb _ _ (s .arrived-long))
 
 -- setup as a trace's head has it
 setupAs : (N z : ℕ) → Options → State → SetUp
@@ -53,7 +53,7 @@ kind-again NNI = refl
 
 -- setup on any memory of the right sizes
 setup-fresh : (N z : ℕ) (o : Options) (lent : State) → rangesHold N z ≡ true → splitsHold z (o .splitvci) (o .splitpath) ≡ true
-    → lengthsHold N z (lent .cells) (lent .links) (lent .calendar) (lent .words) (lent .bits) ≡ true
+    → lengthsHold N z (lent .cells) (lent .links) (lent .calendar) (lent .words) (lent .bits) (lent .arrived) ≡ true
     → setupAs N z o lent ≡ setUpOf 0 (freshState N z o)
 unfolding setup setupAs
 setup-fresh N z o lent r t l = simp (r, t, l, kind-fits (o .kind), kind-again (o .kind))
@@ -76,11 +76,11 @@ refused-lines : (N z : ℕ) (rest : Calls) (a b : State) → setupLines N z rest
 unfolding setupLines
 refused-lines N z rest a b = refl
 
-module _ (cells links calendar words bits : List ℕ) where
+module _ (cells links calendar words bits arrived : List ℕ) where
   setup-lines : (N z : ℕ) (o : Options) (split : rangesHold N z ≡ true → splitsHold z (o .splitvci) (o .splitpath) ≡ true) (rest : Calls) (b : Bool)
       → rangesHold N z ≡ b
-      → LentFor (if b then record { n = N; v = z } else record { n = 0; v = 0 }) (worldOf startRun cells links calendar words bits)
-      → linesOf (stateOf zeros cells links calendar words bits) [] (call (setUp N z o) rest) ≡ linesOf (lentFor (call (setUp N z o) rest)) [] (call (setUp N z o) rest)
+      → LentFor (if b then record { n = N; v = z } else record { n = 0; v = 0 }) (worldOf startRun cells links calendar words bits arrived)
+      → linesOf (stateOf zeros cells links calendar words bits arrived) [] (call (setUp N z o) rest) ≡ linesOf (lentFor (call (setUp N z o) rest)) [] (call (setUp N z o) rest)
   unfolding lentFor
   setup-lines N z o split rest true r s =
       let c : List ℕ = replicate (octets * N) 0 in
@@ -88,33 +88,36 @@ module _ (cells links calendar words bits : List ℕ) where
       let k : List ℕ = replicate (perEntry * N) 0 in
       let w : List ℕ = replicate (wordsIn z) 0 in
       let g : List ℕ = replicate bitWords 0 in
-      let h : LentFor (record { n = N; v = z }) (worldOf startRun c l k w g) =
+      let a : List ℕ = replicate N 0 in
+      let h : LentFor (record { n = N; v = z }) (worldOf startRun c l k w g a) =
       record {
         cells-long = length-replicate {A = ℕ} (octets * N) 0;
         links-long = length-replicate {A = ℕ} N 0;
         calendar-long = length-replicate {A = ℕ} (perEntry * N) 0;
         words-long = length-replicate {A = ℕ} (wordsIn z) 0;
         bits-long = length-replicate {A = ℕ} bitWords 0;
+        arrived-long = length-replicate {A = ℕ} N 0;
       } in
-      lines-setup (stateOf zeros cells links calendar words bits) N z o rest
-      ∙ ap (setupLines N z rest) (setup-fresh N z o (stateOf zeros cells links calendar words bits) r (split r) (lent-holds N z cells links calendar words bits s)
-      ∙ sym (setup-fresh N z o (stateOf zeros c l k w g) r (split r) (lent-holds N z c l k w g h)))
-      ∙ sym (lines-setup (stateOf zeros c l k w g) N z o rest)
+      lines-setup (stateOf zeros cells links calendar words bits arrived) N z o rest
+      ∙ ap (setupLines N z rest) (setup-fresh N z o (stateOf zeros cells links calendar words bits arrived) r (split r) (lent-holds N z cells links calendar words bits arrived s)
+      ∙ sym (setup-fresh N z o (stateOf zeros c l k w g a) r (split r) (lent-holds N z c l k w g a h)))
+      ∙ sym (lines-setup (stateOf zeros c l k w g a) N z o rest)
   setup-lines N z o split rest false r s =
       let c : List ℕ = replicate (octets * N) 0 in
       let l : List ℕ = replicate N 0 in
       let k : List ℕ = replicate (perEntry * N) 0 in
       let w : List ℕ = replicate (wordsIn z) 0 in
       let g : List ℕ = replicate bitWords 0 in
-      lines-setup (stateOf zeros cells links calendar words bits) N z o rest
-      ∙ ap (setupLines N z rest) (setup-ranges N z o (stateOf zeros cells links calendar words bits) r)
+      let a : List ℕ = replicate N 0 in
+      lines-setup (stateOf zeros cells links calendar words bits arrived) N z o rest
+      ∙ ap (setupLines N z rest) (setup-ranges N z o (stateOf zeros cells links calendar words bits arrived) r)
       ∙ refused-lines N z rest _ _
-      ∙ sym (ap (setupLines N z rest) (setup-ranges N z o (stateOf zeros c l k w g) r))
-      ∙ sym (lines-setup (stateOf zeros c l k w g) N z o rest)
+      ∙ sym (ap (setupLines N z rest) (setup-ranges N z o (stateOf zeros c l k w g a) r))
+      ∙ sym (lines-setup (stateOf zeros c l k w g a) N z o rest)
 
   stands-lines : (more : Bool) (trace : List ℕ) (go : ℕ → Calls) (s : Stands) → Fits trace 0 s
-      → LentFor (sizesAt s) (worldOf startRun cells links calendar words bits)
-      → linesOf (stateOf zeros cells links calendar words bits) [] (callsAt more trace go 0 s) ≡ linesOf (lentFor (callsAt more trace go 0 s)) [] (callsAt more trace go 0 s)
+      → LentFor (sizesAt s) (worldOf startRun cells links calendar words bits arrived)
+      → linesOf (stateOf zeros cells links calendar words bits arrived) [] (callsAt more trace go 0 s) ≡ linesOf (lentFor (callsAt more trace go 0 s)) [] (callsAt more trace go 0 s)
   unfolding callsAt recordCalls sizesAt linesOf
   stands-lines more trace go (event (GM N z head) next) f s = setup-lines N z (headOptions head) (alone-holds N z) (go next) (rangesHold N z) refl s
   stands-lines more trace go (event (VO vci m F C) next) f s = absurd (omega (arith, f .2))
@@ -127,18 +130,18 @@ module _ (cells links calendar words bits : List ℕ) where
   stands-lines more trace go finish f s = absurd (omega (arith, f .0))
   stands-lines more trace go (refusal number place) f s = stop-lines place
     where
-      stop-lines : (p : ℕ) → linesOf (stateOf zeros cells links calendar words bits) [] (stopped p) ≡ linesOf (lentFor (stopped p)) [] (stopped p)
+      stop-lines : (p : ℕ) → linesOf (stateOf zeros cells links calendar words bits arrived) [] (stopped p) ≡ linesOf (lentFor (stopped p)) [] (stopped p)
       stop-lines p = refl
 
   -- on memory of the right sizes the listing is that of the input, whatever the memory holds
-  pub lines-are : (input : List ℕ) → LentFor (sizesOf input) (worldOf startRun cells links calendar words bits)
-      → linesOf (stateOf zeros cells links calendar words bits) [] (callsOf input) ≡ listingOf input
+  pub lines-are : (input : List ℕ) → LentFor (sizesOf input) (worldOf startRun cells links calendar words bits arrived)
+      → linesOf (stateOf zeros cells links calendar words bits arrived) [] (callsOf input) ≡ listingOf input
   unfolding listingOf callsOf callsFrom sizesOf
   lines-are input s =
       stands-lines (goesOn input) (take limit input) _ (standsAt (take limit input) 0) (stands-fits (take limit input) 0) s
 
-  pub start-rest : (input : List ℕ) → LentFor (sizesOf input) (worldOf startRun cells links calendar words bits)
-      → Rest (goesOn input) (take limit input) (worldOf startRun cells links calendar words bits) (listingOf input)
+  pub start-rest : (input : List ℕ) → LentFor (sizesOf input) (worldOf startRun cells links calendar words bits arrived)
+      → Rest (goesOn input) (take limit input) (worldOf startRun cells links calendar words bits arrived) (listingOf input)
   unfolding startRun callsOf pauses
   start-rest input s =
       record {
@@ -175,21 +178,21 @@ fills-left input t r (fillMore {t = u} {out″ = out″} {w′ = w′} used fs g
     }
 
 -- what fills put is a beginning of the listing
-pub fills-begin : (input cells links calendar words bits : List ℕ) {k : ℕ} {out out′ u : List ℕ} {w : World}
-    → LentFor (sizesOf input) (worldOf startRun cells links calendar words bits)
-    → Fills input (worldOf startRun cells links calendar words bits) out k u w out′ → Begun input (listingOf input) u w
-fills-begin input cells links calendar words bits s f =
-    fills-left input (listingOf input) (start-rest cells links calendar words bits input s) f
+pub fills-begin : (input cells links calendar words bits arrived : List ℕ) {k : ℕ} {out out′ u : List ℕ} {w : World}
+    → LentFor (sizesOf input) (worldOf startRun cells links calendar words bits arrived)
+    → Fills input (worldOf startRun cells links calendar words bits arrived) out k u w out′ → Begun input (listingOf input) u w
+fills-begin input cells links calendar words bits arrived s f =
+    fills-left input (listingOf input) (start-rest cells links calendar words bits arrived input s) f
 
 pub begun-done : (input : List ℕ) {t u : List ℕ} {w : World} → (b : Begun input t u w) → w .done ≡ true → b .later ≡ []
 begun-done input {w = w} b d = done-left (goesOn input) (take limit input) w (b .later) d (b .rest)
 
 -- THE LISTING: whatever the buffer, fills from the start to the end put together are `listingOf` the input
-pub fills-list : (input cells links calendar words bits : List ℕ) {k : ℕ} {out out′ u : List ℕ} {w : World}
-    → LentFor (sizesOf input) (worldOf startRun cells links calendar words bits)
-    → Fills input (worldOf startRun cells links calendar words bits) out k u w out′ → w .done ≡ true → u ≡ listingOf input
-fills-list input cells links calendar words bits {u = u} s f d =
-    let b = fills-begin input cells links calendar words bits s f in
+pub fills-list : (input cells links calendar words bits arrived : List ℕ) {k : ℕ} {out out′ u : List ℕ} {w : World}
+    → LentFor (sizesOf input) (worldOf startRun cells links calendar words bits arrived)
+    → Fills input (worldOf startRun cells links calendar words bits arrived) out k u w out′ → w .done ≡ true → u ≡ listingOf input
+fills-list input cells links calendar words bits arrived {u = u} s f d =
+    let b = fills-begin input cells links calendar words bits arrived s f in
     sym (b .cut ∙ ap (λ (x : List ℕ). u ++ x) (begun-done input b d) ∙ append-nil u)
 
 -- ---- one fill

@@ -91,10 +91,11 @@ unfoldable pub sizesOf : List ℕ → Sizes
 sizesOf input = sizesAt (standsAt (take limit input) 0)
 
 -- "Lent memory: 53 × N octets of cells; N links of 16 bits; 2 × N calendar numbers of 16 bits; 7 × V words", of which
--- document 02 made 12 × (V + 256), and its 32 words of bits
+-- document 02 made 12 × (V + 256), and its 32 words of bits and N arrival slots
 pub record LentFor (n : Sizes) (w : World) : Type 0 where
   pub cells-long : length (w .state .cells) ≡ octets * n .n
   pub links-long : length (w .state .links) ≡ n .n
   pub calendar-long : length (w .state .calendar) ≡ perEntry * n .n
   pub words-long : length (w .state .words) ≡ wordsIn (n .v)
   pub bits-long : length (w .state .bits) ≡ bitWords
+  pub arrived-long : length (w .state .arrived) ≡ n .n

@@ -32,11 +32,11 @@ pub record World : Type 0 where
 abbrev pub onward : Record → (at left : ℕ) → Bool → Tally → Run
 onward r at left done tally = record { ctl = r; at = at; left = left; done = done; tally = tally }
 
--- a run's numbers and the five memories
-abbrev pub worldOf : Run → List ℕ → List ℕ → List ℕ → List ℕ → List ℕ → World
-worldOf r cells links calendar words bits =
+-- a run's numbers and the six memories
+abbrev pub worldOf : Run → List ℕ → List ℕ → List ℕ → List ℕ → List ℕ → List ℕ → World
+worldOf r cells links calendar words bits arrived =
     record {
-      state = stateOf (r .ctl) cells links calendar words bits;
+      state = stateOf (r .ctl) cells links calendar words bits arrived;
       at = r .at;
       left = r .left;
       done = r .done;

@@ -44,7 +44,8 @@ frontOf z w =
           (take (z .n) (w .state .links))
           (take (perEntry * z .n) (w .state .calendar))
           (take (wordsIn (z .v)) (w .state .words))
-          (w .state .bits);
+          (w .state .bits)
+          (take (z .n) (w .state .arrived));
       at = w .at;
       left = w .left;
       done = w .done;
@@ -59,6 +60,7 @@ behindOf z w =
     (drop (perEntry * z .n) (w .state .calendar))
     (drop (wordsIn (z .v)) (w .state .words))
     []
+    (drop (z .n) (w .state .arrived))
 
 -- long enough for every N and V; the words of free spaces as they are for each
 pub record Ample (w : World) : Type 0 where
@@ -67,6 +69,7 @@ pub record Ample (w : World) : Type 0 where
   pub calendar-long : perEntry * mostN ≤ length (w .state .calendar)
   pub words-long : wordsIn mostV ≤ length (w .state .words)
   pub bits-long : length (w .state .bits) ≡ bitWords
+  pub arrived-long : mostN ≤ length (w .state .arrived)
 
 -- the same, out of memories of which only the front is used
 pub record Listed (input : List ℕ) (w : World) (out : List ℕ) (left : Left) (out′ : List ℕ) (answer : Bool) : Type 0 where
@@ -74,12 +77,12 @@ pub record Listed (input : List ℕ) (w : World) (out : List ℕ) (left : Left) 
   pub kept : behindOf (sizesOf input) (left startRun) ≡ behindOf (sizesOf input) w
 
 -- both of what is lent from where a run begins, for contracts
-abbrev pub HandedLent : (input cells links calendar words bits out : Lent) → Bool → Type 0
-HandedLent input cells links calendar words bits out answer =
-    Handed (input .entry .now) (worldBefore startRun cells links calendar words bits) (out .entry .now)
-    (λ (run : Run). worldAfter run cells links calendar words bits) (out .exit .now) answer
+abbrev pub HandedLent : (input cells links calendar words bits arrived out : Lent) → Bool → Type 0
+HandedLent input cells links calendar words bits arrived out answer =
+    Handed (input .entry .now) (worldBefore startRun cells links calendar words bits arrived) (out .entry .now)
+    (λ (run : Run). worldAfter run cells links calendar words bits arrived) (out .exit .now) answer
 
-abbrev pub ListedLent : (input cells links calendar words bits out : Lent) → Bool → Type 0
-ListedLent input cells links calendar words bits out answer =
-    Listed (input .entry .now) (worldBefore startRun cells links calendar words bits) (out .entry .now)
-    (λ (run : Run). worldAfter run cells links calendar words bits) (out .exit .now) answer
+abbrev pub ListedLent : (input cells links calendar words bits arrived out : Lent) → Bool → Type 0
+ListedLent input cells links calendar words bits arrived out answer =
+    Listed (input .entry .now) (worldBefore startRun cells links calendar words bits arrived) (out .entry .now)
+    (λ (run : Run). worldAfter run cells links calendar words bits arrived) (out .exit .now) answer

@@ -17,15 +17,26 @@ fn hand_over(
     calendar: &mut [u16],
     words: &mut [u32],
     bits: &mut [u64],
+    arrived: &mut [u32],
     out: &mut [u8],
 ) -> bool
-    requires { ⌜ LentFor (sizesOf (now input)) (worldHere startRun cells links calendar words bits) ⌝ }
+    requires { ⌜ LentFor (sizesOf (now input)) (worldHere startRun cells links calendar words bits arrived) ⌝ }
     requires { ⌜ room ≤ length (now out) ⌝ }
-    ensures { λ r. ⌜ HandedLent input cells links calendar words bits out r ⌝ }
+    ensures { λ r. ⌜ HandedLent input cells links calendar words bits arrived out r ⌝ }
 {
     let mut run = list_fill::start();
     while !run.done {
-        let filled = list_fill::fill(input, run, cells, links, calendar, words, bits, out);
+        let filled = list_fill::fill(
+            input,
+            run,
+            cells,
+            links,
+            calendar,
+            words,
+            bits,
+            arrived,
+            out,
+        );
         let used = filled.used;
         if !io::write_all(fd, &out[..used]) {
             return false;
@@ -44,11 +55,12 @@ fn lend(
     calendar: &mut [u16],
     words: &mut [u32],
     bits: &mut [u64],
+    arrived: &mut [u32],
     out: &mut [u8],
 ) -> bool
-    requires { ⌜ Ample (worldHere startRun cells links calendar words bits) ⌝ }
+    requires { ⌜ Ample (worldHere startRun cells links calendar words bits arrived) ⌝ }
     requires { ⌜ room ≤ length (now out) ⌝ }
-    ensures { λ r. ⌜ ListedLent input cells links calendar words bits out r ⌝ }
+    ensures { λ r. ⌜ ListedLent input cells links calendar words bits arrived out r ⌝ }
 {
     let sizes = list_fill::sizes_of(input);
     let n = sizes.n as usize;
@@ -64,6 +76,7 @@ fn lend(
         &mut calendar[..ends],
         &mut words[..many],
         bits,
+        &mut arrived[..n],
         out,
     )
 }
@@ -78,9 +91,10 @@ pub fn list(
     calendar: &mut [u16; 2048],
     words: &mut [u32; 15360],
     bits: &mut [u64; 32],
+    arrived: &mut [u32; 1024],
     out: &mut [u8; 65536],
 ) -> bool
-    ensures { λ r. ⌜ ListedLent input cells links calendar words bits out r ⌝ }
+    ensures { λ r. ⌜ ListedLent input cells links calendar words bits arrived out r ⌝ }
 {
-    lend(fd, input, cells, links, calendar, words, bits, out)
+    lend(fd, input, cells, links, calendar, words, bits, arrived, out)
 }

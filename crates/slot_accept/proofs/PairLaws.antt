@@ -28,23 +28,23 @@ pub both-read : (e : Ends) (head tail : ℕ) → head ≡ e .head → tail ≡ e
 both-read e head tail p q h t = λ i. record { head = (sym p ∙ h) i; tail = (sym q ∙ t) i }
 
 -- refused, and nothing is written
-module _ (r k : Record) (b : Fall) (j : Judged) (a : Seat) (cell cells links calendar words bits : List ℕ) (s : Served)
+module _ (r k : Record) (b : Fall) (j : Judged) (a : Seat) (cell cells links calendar words bits arrived : List ℕ) (s : Served)
     (refuses : (s .ctl ≡ r) × (s .answer ≡ bareAnswer 3)) where
-  pub output-unfit : Sized (stateOf k cells links calendar words bits) → Accepted k j cell words
+  pub output-unfit : Sized (stateOf k cells links calendar words bits arrived) → Accepted k j cell words
       → a ≡ seatNow k (j .d) calendar bits
       → a .ok ≡ true
       → endsFit (k .n) (endsOf (k .outhead) (k .outtail)) ≡ false
-      → servedWork s cells links calendar words bits
-      ≡ finish (stateOf r cells links calendar words bits) (seating k j (lowestFree bits) cell cells links calendar (rotated k b words) bits andThen step4 andThen step5)
+      → servedWork s cells links calendar words bits arrived
+      ≡ finish (stateOf r cells links calendar words bits arrived) (seating k j (lowestFree bits) cell cells links calendar (rotated k b words) bits arrived andThen step4 andThen step5)
   output-unfit z acc is ok unfit =
-      as-came r cells links calendar words bits _ s refuses
-      (now-unfit k j cell cells links calendar (rotated k b words) bits (z .turn-low) (acc .near) a is ok unfit)
+      as-came r cells links calendar words bits arrived _ s refuses
+      (now-unfit k j cell cells links calendar (rotated k b words) bits arrived (z .turn-low) (acc .near) a is ok unfit)
 
   pub entry-unfit : (x y : ℕ) → x ≡ entryAt (writeEntry calendar (a .e) (seatEnds a)) (k .turn) .head
       → y ≡ entryAt (writeEntry calendar (a .e) (seatEnds a)) (k .turn) .tail
       → endsFit (k .n) (endsOf x y) ≡ false
-      → servedWork s cells links calendar words bits
-      ≡ finish (stateOf r cells links calendar words bits) (step4 (acceptWork k j a cell cells links calendar (rotated k b words) bits) andThen step5)
+      → servedWork s cells links calendar words bits arrived
+      ≡ finish (stateOf r cells links calendar words bits arrived) (step4 (acceptWork k j a cell cells links calendar (rotated k b words) bits arrived) andThen step5)
   entry-unfit x y first last unfit =
-      as-came r cells links calendar words bits _ s refuses
-      (seated-unfit k b j a cell cells links calendar words bits x y first last unfit)
+      as-came r cells links calendar words bits arrived _ s refuses
+      (seated-unfit k b j a cell cells links calendar words bits arrived x y first last unfit)

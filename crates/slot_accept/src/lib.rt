@@ -37,17 +37,30 @@ fn accept_end(
     calendar: &mut [u16],
     words: &mut [u32],
     bits: &mut [u64],
+    arrived: &mut [u32],
     cell: &[u8],
 ) -> Served
-    requires { ⌜ Sized (here k cells links calendar words bits) ⌝ }
+    requires { ⌜ Sized (here k cells links calendar words bits arrived) ⌝ }
     requires { ⌜ Accepted k j (now cell) (now words) ⌝ }
     requires { ⌜ Seated k a (now bits) ⌝ }
     requires { ⌜ (joins ≡ true → k .outtail < k .n) ⌝ }
     requires { ⌜ (o .vci < connectionsIn (k .v)) × (1 ≤ getD (filled (j .vci) (j .s) (j .second) (k .t) (j .waiting) (rotated k b (now words))) (waitingPlace (o .vci)) 0) ⌝ }
     requires { ⌜ (o .space < mostN) × (isFree (taken (now bits) (a .x)) (o .space) ≡ false) ⌝ }
-    ensures { λ s. ⌜ servedAfter s cells links calendar words bits ≡ acceptLeft (before k cells links calendar words bits) b j a (now (cell .entry)) o joins head clears ⌝ }
+    ensures { λ s. ⌜ servedAfter s cells links calendar words bits arrived ≡ acceptLeft (before k cells links calendar words bits arrived) b j a (now (cell .entry)) o joins head clears ⌝ }
 {
-    slot_store::store(k, b, j, a, cells, links, calendar, words, bits, cell);
+    slot_store::store(
+        k,
+        b,
+        j,
+        a,
+        cells,
+        links,
+        calendar,
+        words,
+        bits,
+        arrived,
+        cell,
+    );
     slot_arrive::put_less(words, o.vci);
     slot_depart::clear_entry(calendar, clears, k.turn);
     mem_lists::put_link(links, joins, k.outtail, head);
@@ -125,13 +138,14 @@ fn accept_marked(
     calendar: &mut [u16],
     words: &mut [u32],
     bits: &mut [u64],
+    arrived: &mut [u32],
     cell: &[u8],
 ) -> Served
-    requires { ⌜ Sized (here k cells links calendar words bits) ⌝ }
+    requires { ⌜ Sized (here k cells links calendar words bits arrived) ⌝ }
     requires { ⌜ Accepted k j (now cell) (now words) ⌝ }
     requires { ⌜ Seated k a (now bits) ⌝ }
     requires { ⌜ (head < k .n) × (endsFit (k .n) (endsOf (k .outhead) (k .outtail)) ≡ true) ⌝ }
-    ensures { λ s. ⌜ Gives r (leavingMarked (acceptOf (before k cells links calendar words bits) b j a (now (cell .entry))) (endsOf head tail)) s cells links calendar words bits ⌝ }
+    ensures { λ s. ⌜ Gives r (leavingMarked (acceptOf (before k cells links calendar words bits arrived) b j a (now (cell .entry))) (endsOf head tail)) s cells links calendar words bits arrived ⌝ }
 {
     let o = off_stored(k, j, a, k.outhead != 65535, head, tail, cells, links, words);
     if !o.ok {
@@ -154,6 +168,7 @@ fn accept_marked(
         calendar,
         words,
         bits,
+        arrived,
         cell,
     )
 }
@@ -170,13 +185,14 @@ fn accept_output(
     calendar: &mut [u16],
     words: &mut [u32],
     bits: &mut [u64],
+    arrived: &mut [u32],
     cell: &[u8],
 ) -> Served
-    requires { ⌜ Sized (here k cells links calendar words bits) ⌝ }
+    requires { ⌜ Sized (here k cells links calendar words bits arrived) ⌝ }
     requires { ⌜ Accepted k j (now cell) (now words) ⌝ }
     requires { ⌜ Seated k a (now bits) ⌝ }
     requires { ⌜ k .outhead < k .n ⌝ }
-    ensures { λ s. ⌜ Gives r (leavingOutput (acceptOf (before k cells links calendar words bits) b j a (now (cell .entry)))) s cells links calendar words bits ⌝ }
+    ensures { λ s. ⌜ Gives r (leavingOutput (acceptOf (before k cells links calendar words bits arrived) b j a (now (cell .entry)))) s cells links calendar words bits arrived ⌝ }
 {
     let o = off_stored(k, j, a, false, 0, k.outtail, cells, links, words);
     if !o.ok {
@@ -199,6 +215,7 @@ fn accept_output(
         calendar,
         words,
         bits,
+        arrived,
         cell,
     )
 }
@@ -214,14 +231,27 @@ fn accept_none(
     calendar: &mut [u16],
     words: &mut [u32],
     bits: &mut [u64],
+    arrived: &mut [u32],
     cell: &[u8],
 ) -> Served
-    requires { ⌜ Sized (here k cells links calendar words bits) ⌝ }
+    requires { ⌜ Sized (here k cells links calendar words bits arrived) ⌝ }
     requires { ⌜ Accepted k j (now cell) (now words) ⌝ }
     requires { ⌜ Seated k a (now bits) ⌝ }
-    ensures { λ s. ⌜ servedAfter s cells links calendar words bits ≡ acceptOf (before k cells links calendar words bits) b j a (now (cell .entry)) ⌝ }
+    ensures { λ s. ⌜ servedAfter s cells links calendar words bits arrived ≡ acceptOf (before k cells links calendar words bits arrived) b j a (now (cell .entry)) ⌝ }
 {
-    slot_store::store(k, b, j, a, cells, links, calendar, words, bits, cell);
+    slot_store::store(
+        k,
+        b,
+        j,
+        a,
+        cells,
+        links,
+        calendar,
+        words,
+        bits,
+        arrived,
+        cell,
+    );
     let ctl = slot_store::seated(k);
     Served {
         ctl: ctl,
@@ -270,18 +300,44 @@ fn accept_unmarked(
     calendar: &mut [u16],
     words: &mut [u32],
     bits: &mut [u64],
+    arrived: &mut [u32],
     cell: &[u8],
 ) -> Served
-    requires { ⌜ Sized (here k cells links calendar words bits) ⌝ }
+    requires { ⌜ Sized (here k cells links calendar words bits arrived) ⌝ }
     requires { ⌜ Accepted k j (now cell) (now words) ⌝ }
     requires { ⌜ Seated k a (now bits) ⌝ }
     requires { ⌜ (endsFit (k .n) (endsOf (k .outhead) (k .outtail)) ≡ true) × (entryAt (writeEntry (now calendar) (a .e) (seatEnds a)) (k .turn) ≡ emptyList) ⌝ }
-    ensures { λ s. ⌜ Gives r (lastSteps (acceptOf (before k cells links calendar words bits) b j a (now (cell .entry)))) s cells links calendar words bits ⌝ }
+    ensures { λ s. ⌜ Gives r (lastSteps (acceptOf (before k cells links calendar words bits arrived) b j a (now (cell .entry)))) s cells links calendar words bits arrived ⌝ }
 {
     if k.outhead != 65535 {
-        return accept_output(r, k, b, j, a, cells, links, calendar, words, bits, cell);
+        return accept_output(
+            r,
+            k,
+            b,
+            j,
+            a,
+            cells,
+            links,
+            calendar,
+            words,
+            bits,
+            arrived,
+            cell,
+        );
     }
-    accept_none(k, b, j, a, cells, links, calendar, words, bits, cell)
+    accept_none(
+        k,
+        b,
+        j,
+        a,
+        cells,
+        links,
+        calendar,
+        words,
+        bits,
+        arrived,
+        cell,
+    )
 }
 
 // An accepted cell that has its seat: entry T, from x to y, is read as the cell leaves it. Here and in accept a head and a
@@ -298,13 +354,14 @@ fn accept_seated(
     calendar: &mut [u16],
     words: &mut [u32],
     bits: &mut [u64],
+    arrived: &mut [u32],
     cell: &[u8],
 ) -> Served
-    requires { ⌜ Sized (here k cells links calendar words bits) ⌝ }
+    requires { ⌜ Sized (here k cells links calendar words bits arrived) ⌝ }
     requires { ⌜ Accepted k j (now cell) (now words) ⌝ }
     requires { ⌜ Seated k a (now bits) ⌝ }
     requires { ⌜ endsFit (k .n) (endsOf (k .outhead) (k .outtail)) ≡ true ⌝ }
-    ensures { λ s. ⌜ Gives r (lastSteps (acceptOf (before k cells links calendar words bits) b j a (now (cell .entry)))) s cells links calendar words bits ⌝ }
+    ensures { λ s. ⌜ Gives r (lastSteps (acceptOf (before k cells links calendar words bits arrived) b j a (now (cell .entry)))) s cells links calendar words bits arrived ⌝ }
 {
     let x = head_joined(k.turn, a, calendar);
     let y = tail_joined(k.turn, a, calendar);
@@ -312,7 +369,20 @@ fn accept_seated(
         if y != 65535 {
             return slot_depart::refuse(r, 3);
         }
-        return accept_unmarked(r, k, b, j, a, cells, links, calendar, words, bits, cell);
+        return accept_unmarked(
+            r,
+            k,
+            b,
+            j,
+            a,
+            cells,
+            links,
+            calendar,
+            words,
+            bits,
+            arrived,
+            cell,
+        );
     }
     if x >= k.n {
         return slot_depart::refuse(r, 3);
@@ -333,6 +403,7 @@ fn accept_seated(
         calendar,
         words,
         bits,
+        arrived,
         cell,
     )
 }
@@ -369,11 +440,12 @@ pub fn accept(
     calendar: &mut [u16],
     words: &mut [u32],
     bits: &mut [u64],
+    arrived: &mut [u32],
     cell: &[u8],
 ) -> Served
-    requires { ⌜ Sized (here k cells links calendar words bits) ⌝ }
+    requires { ⌜ Sized (here k cells links calendar words bits arrived) ⌝ }
     requires { ⌜ Accepted k j (now cell) (now words) ⌝ }
-    ensures { λ s. ⌜ Gives r (seatingOf (before k cells links calendar words bits) b j (now (cell .entry)) andThen step4 andThen step5) s cells links calendar words bits ⌝ }
+    ensures { λ s. ⌜ Gives r (seatingOf (before k cells links calendar words bits arrived) b j (now (cell .entry)) andThen step4 andThen step5) s cells links calendar words bits arrived ⌝ }
 {
     let a = seat_now(k, j.d, calendar, bits);
     if !a.ok {
@@ -391,5 +463,18 @@ pub fn accept(
             return slot_depart::refuse(r, 3);
         }
     }
-    accept_seated(r, k, b, j, a, cells, links, calendar, words, bits, cell)
+    accept_seated(
+        r,
+        k,
+        b,
+        j,
+        a,
+        cells,
+        links,
+        calendar,
+        words,
+        bits,
+        arrived,
+        cell,
+    )
 }

@@ -37,9 +37,9 @@ use Rattle.slot_plan.proofs.Cases.{leaving-go, leaving-off, leaving-unf
 use Rattle.slot_plan.proofs.Cases as cases
 use Rattle.slot_plan.proofs.Off.{off-shows, off-space}
 
-module _ (k : Record) (b : Fall) (j : Judged) (a : Seat) (cell cells links calendar words bits : List ℕ) where
+module _ (k : Record) (b : Fall) (j : Judged) (a : Seat) (cell cells links calendar words bits arrived : List ℕ) where
   abbrev pub accept-work : Work
-  accept-work = acceptWork k j a cell cells links calendar (rotated k b words) bits
+  accept-work = acceptWork k j a cell cells links calendar (rotated k b words) bits arrived
 
   -- the cells, the links, the words and the bits once the cell is accepted
   abbrev cells₃ : List ℕ
@@ -54,7 +54,7 @@ module _ (k : Record) (b : Fall) (j : Judged) (a : Seat) (cell cells links calen
   abbrev bits₃ : List ℕ
   bits₃ = marked (taken bits (a .x)) (a .e)
 
-  module _ (z : Sized (stateOf k cells links calendar words bits)) (acc : Accepted k j cell words) (seat : Seated k a bits) where
+  module _ (z : Sized (stateOf k cells links calendar words bits arrived)) (acc : Accepted k j cell words) (seat : Seated k a bits) where
     -- tagged or not, the cell names what it named
     still-names : numbered (k .kind) (k .v) (headerAt (k .kind) (sentAs (j .verdict) cell) 0) ≡ j .vci
     unfolding numbered

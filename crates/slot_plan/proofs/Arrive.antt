@@ -54,14 +54,14 @@ fill-is words vci t clp verdict =
     ∙ write-fill words vci _ t _ _
 
 -- what step 3 comes to, from what was found
-unfoldable pub arriving : Record → Judged → ℕ → List ℕ → List ℕ → List ℕ → List ℕ → List ℕ → List ℕ → Out Work
-arriving k j x cell cells links calendar words bits =
+unfoldable pub arriving : Record → Judged → ℕ → List ℕ → List ℕ → List ℕ → List ℕ → List ℕ → List ℕ → List ℕ → Out Work
+arriving k j x cell cells links calendar words bits arrived =
     if j .ok
-    then (if letsIn (j .verdict) then seating k j x cell cells links calendar words bits
-    else next (quietWork k j cells links calendar words bits))
+    then (if letsIn (j .verdict) then seating k j x cell cells links calendar words bits arrived
+    else next (quietWork k j cells links calendar words bits arrived))
     else refused
 
-module _ (k : Record) (x : ℕ) (cell cells links calendar words bits : List ℕ) where
+module _ (k : Record) (x : ℕ) (cell cells links calendar words bits arrived : List ℕ) where
   abbrev h : Header
   h = headerAt (k .kind) cell 0
 
@@ -75,16 +75,16 @@ module _ (k : Record) (x : ℕ) (cell cells links calendar words bits : List ℕ
   vc = connectionAt words at
 
   abbrev w : Work
-  w = rotatedWork k cells links calendar words bits
+  w = rotatedWork k cells links calendar words bits arrived
 
   -- the connection is open and its words but waiting are in range
   judge-is : (e a : Bool) → (verdictOn clp (connectionNow (k .t) vc) =? excess) ≡ e → connectionNow (k .t) vc .waiting <? k .n ≡ a
       → judge x cell at w (connectionNow (k .t) vc)
-      ≡ arriving k (judgedBuckets (k .n) at clp (connectionNow (k .t) vc)) x cell cells links calendar words bits
+      ≡ arriving k (judgedBuckets (k .n) at clp (connectionNow (k .t) vc)) x cell cells links calendar words bits arrived
   unfolding judge accept judgedBuckets arriving rotatedWork quietWork fallen seating seekingWork withWords letsIn
   judge-is true a ex ea =
       rw ex
-      (ap (λ (l : List ℕ). next (workOf (stateOf k cells links calendar l bits) (answerOf 0 excess at 0 65535 0))) (update-is words at (k .t)))
+      (ap (λ (l : List ℕ). next (workOf (stateOf k cells links calendar l bits arrived) (answerOf 0 excess at 0 65535 0))) (update-is words at (k .t)))
   judge-is false true ex ea =
       rw (
         ex,
@@ -102,7 +102,7 @@ module _ (k : Record) (x : ℕ) (cell cells links calendar words bits : List ℕ
   Read = ((length cell =? 0) ≡ false) × (kindFits (k .kind) ≡ true) × (noUserCell h ≡ false)
 
   Goal : Type 0
-  Goal = step3 x cell w ≡ arriving k found x cell cells links calendar words bits
+  Goal = step3 x cell w ≡ arriving k found x cell cells links calendar words bits arrived
 
   fits : (f : Bool) → Read → namesConnection (k .v) h ≡ true → vc .opened ≡ 1 → bucketsFit (k .n) vc ≡ f → Goal
   unfolding Goal step3 judgedOf judgedConnection rotatedWork openWordFits upToDate connectionNow arriving
@@ -127,6 +127,6 @@ module _ (k : Record) (x : ℕ) (cell cells links calendar words bits : List ℕ
   at-cell false false true true el ef eu en = at-connection (el, ef, eu) en (open-cases (vc .opened))
   at-cell false false true false el ef eu en = rw (el, ef, eu, en)
 
-  pub arrive-is : step3 x cell w ≡ arriving k found x cell cells links calendar words bits
+  pub arrive-is : step3 x cell w ≡ arriving k found x cell cells links calendar words bits arrived
   unfolding Goal
   arrive-is = at-cell (length cell =? 0) (noUserCell h) (kindFits (k .kind)) (namesConnection (k .v) h) refl refl refl refl

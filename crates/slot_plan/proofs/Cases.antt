@@ -148,9 +148,9 @@ module _ (calendar : List ℕ) (a : Seat) (T : ℕ) where
   far-tail ne = ap (λ (x : Ends). x .tail) (sym (far-entry ne))
 
 -- ---- where no cell is accepted, what departs is what the words before steps 2 and 3 show
-module _ (k : Record) (b : Fall) (j : Judged) (cells links calendar words bits : List ℕ) where
+module _ (k : Record) (b : Fall) (j : Judged) (cells links calendar words bits arrived : List ℕ) where
   abbrev w : Work
-  w = quietWork k j cells links calendar (rotated k b words) bits
+  w = quietWork k j cells links calendar (rotated k b words) bits arrived
 
   pub quiet-kept : Kept words (fallen (j .verdict =? excess) (j .vci) (j .s) (j .second) (k .t) (rotated k b words))
   unfolding fallen rotated

@@ -54,7 +54,7 @@ depart-is w x left =
     made : List ℕ → Work
     made words =
         workOf
-        (stateOf (recordWith (s .ctl) (s .ctl .t) (s .ctl .turn) (s .ctl .rotation) (s .ctl .free + 1) left) (s .cells) (s .links) (s .calendar) words (given (s .bits) x))
+        (stateOf (recordWith (s .ctl) (s .ctl .t) (s .ctl .turn) (s .ctl .rotation) (s .ctl .free + 1) left) (s .cells) (s .links) (s .calendar) words (given (s .bits) x) (s .arrived))
         (answerOf (w .answer .number) (w .answer .verdict) (w .answer .vci) (w .answer .d) x at)
 
     same : made (writeConnection (s .words) at (withWaiting vc (vc .waiting - 1))) ≡ leftBy w (s .links) (s .calendar) (s .bits) (offAs true x at left)
@@ -135,7 +135,7 @@ module _ (w : Work) where
   abbrev after4 : Grown → Work
   after4 g =
       workOf
-      (stateOf (recordWith (s .ctl) (s .ctl .t) (s .ctl .turn) (s .ctl .rotation) (s .ctl .free) (g .ends)) (s .cells) (g .links) (writeEntry (s .calendar) (s .ctl .turn) emptyList) (s .words) (unmarked (s .bits) (s .ctl .turn)))
+      (stateOf (recordWith (s .ctl) (s .ctl .t) (s .ctl .turn) (s .ctl .rotation) (s .ctl .free) (g .ends)) (s .cells) (g .links) (writeEntry (s .calendar) (s .ctl .turn) emptyList) (s .words) (unmarked (s .bits) (s .ctl .turn)) (s .arrived))
       (w .answer)
 
   -- a mark says nothing of what may be freed

@@ -21,9 +21,9 @@ use Rattle.slot_plan.proofs.Cases.{leaving-go, leaving-off, leaving-unf
 use Rattle.slot_plan.specs.Plan.{servedWork}
 
 -- ---- no cell accepted
-module _ (k : Record) (b : Fall) (j : Judged) (cells links calendar words bits : List ℕ) where
+module _ (k : Record) (b : Fall) (j : Judged) (cells links calendar words bits arrived : List ℕ) where
   abbrev pub quiet-work : Work
-  quiet-work = quietWork k j cells links calendar (rotated k b words) bits
+  quiet-work = quietWork k j cells links calendar (rotated k b words) bits arrived
 
   pub quiet-entry : entryAt (quiet-work .state .calendar) (quiet-work .state .ctl .turn) ≡ endsOf (getD calendar (2 * k .turn) 0) (getD calendar (2 * k .turn + 1) 0)
   unfolding quietWork entryAt
@@ -32,14 +32,14 @@ module _ (k : Record) (b : Fall) (j : Judged) (cells links calendar words bits :
   -- nothing departs
   pub quiet-served : (s : Served) (words′ : List ℕ) → s .ctl ≡ k → s .answer ≡ answerOf 0 (j .verdict) (j .vci) 0 65535 0
       → words′ ≡ fallen (j .verdict =? excess) (j .vci) (j .s) (j .second) (k .t) (rotated k b words)
-      → servedWork s cells links calendar words′ bits ≡ quiet-work
+      → servedWork s cells links calendar words′ bits arrived ≡ quiet-work
   unfolding quietWork
   quiet-served s words′ p q e = rw (p, q, e)
 
   -- entry T is marked, from head to tail
   module _ (head tail : ℕ) (o : Off) (is : o ≡ offOf (k .n) (k .v) (k .kind) cells (joinedLinks k (endsOf head tail) links) words (joinedHead k (endsOf head tail)) tail) where
     off-is : offMarked quiet-work (endsOf head tail) ≡ o
-    off-is = quiet-marked-off k b j cells links calendar words bits (endsOf head tail) ∙ sym is
+    off-is = quiet-marked-off k b j cells links calendar words bits arrived (endsOf head tail) ∙ sym is
 
     abbrev now : Off → Out Work
     now x = leaving quiet-work (linked (not (k .outhead =? empty)) (k .outtail) head links) (writeEntry calendar (k .turn) emptyList) (unmarked bits (k .turn)) x
@@ -65,7 +65,7 @@ module _ (k : Record) (b : Fall) (j : Judged) (cells links calendar words bits :
   module _ (o : Off) (is : o ≡ offOf (k .n) (k .v) (k .kind) cells links words (k .outhead) (k .outtail)) where
     output-is : leavingOutput quiet-work ≡ leaving quiet-work links calendar bits o
     unfolding leavingOutput quietWork
-    output-is = ap (leaving quiet-work links calendar bits) (quiet-output-off k b j cells links calendar words bits ∙ sym is)
+    output-is = ap (leaving quiet-work links calendar bits) (quiet-output-off k b j cells links calendar words bits arrived ∙ sym is)
 
     pub output-none : o .ok ≡ false → leavingOutput quiet-work ≡ refused
     output-none e = output-is ∙ leaving-off quiet-work _ _ _ o e

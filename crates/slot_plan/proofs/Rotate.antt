@@ -42,12 +42,12 @@ unfolding fallen connectionNow fallenTo fall
 update-is words vci t = write-fall words vci _ t _
 
 -- step 2 of a work whose record is k
-pub rotate-is : (k : Record) (cells links calendar words bits : List ℕ) (b : Fall)
+pub rotate-is : (k : Record) (cells links calendar words bits arrived : List ℕ) (b : Fall)
     → b ≡ broughtOf (k .n) (k .v) (k .t) words (k .rotation)
-    → step2 (workOf (stateOf k cells links calendar words bits) (bareAnswer 0))
-    ≡ (if b .ok then next (rotatedWork k cells links calendar (rotated k b words) bits) else refused)
+    → step2 (workOf (stateOf k cells links calendar words bits arrived) (bareAnswer 0))
+    ≡ (if b .ok then next (rotatedWork k cells links calendar (rotated k b words) bits arrived) else refused)
 unfolding step2 broughtOf connectionNow rotatedWork rotated fallen openWordFits upToDate withWords
-rotate-is k cells links calendar words bits b e = rw e (first (unused (k .v) vci) refl)
+rotate-is k cells links calendar words bits arrived b e = rw e (first (unused (k .v) vci) refl)
   where
     vci : ℕ
     vci = k .rotation
@@ -57,15 +57,15 @@ rotate-is k cells links calendar words bits b e = rw e (first (unused (k .v) vci
 
     Goal : Type 0
     Goal =
-        step2 (workOf (stateOf k cells links calendar words bits) (bareAnswer 0))
+        step2 (workOf (stateOf k cells links calendar words bits arrived) (bareAnswer 0))
         ≡ (if broughtOf (k .n) (k .v) (k .t) words vci .ok
-        then next (rotatedWork k cells links calendar (rotated k (broughtOf (k .n) (k .v) (k .t) words vci) words) bits)
+        then next (rotatedWork k cells links calendar (rotated k (broughtOf (k .n) (k .v) (k .t) words vci) words) bits arrived)
         else refused)
 
     fits : unused (k .v) vci ≡ false → vc .opened ≡ 1 → (f : Bool) → bucketsFit (k .n) vc ≡ f → Goal
     fits h o true f =
         rw (h, le-leb (vc .opened) 1 (omega arith), ne-eqb (vc .opened) 0 (λ q. omega arith), eq-eqb (vc .opened) 1 o, f)
-        (ap (λ (l : List ℕ). next (workOf (stateOf k cells links calendar l bits) (bareAnswer 0))) (update-is words vci (k .t)))
+        (ap (λ (l : List ℕ). next (workOf (stateOf k cells links calendar l bits arrived) (bareAnswer 0))) (update-is words vci (k .t)))
     fits h o false f =
         rw (h, le-leb (vc .opened) 1 (omega arith), ne-eqb (vc .opened) 0 (λ q. omega arith), eq-eqb (vc .opened) 1 o, f)
 

@@ -13,7 +13,7 @@ use Rattle.meaning.specs.declared.Record.{Record}
 use Rattle.meaning.specs.Plain.{if_then_else_, _<?_, _=?_, Out, refused, next}
 use Rattle.meaning.specs.Numbers.{empty}
 use Rattle.meaning.specs.Bits.{isFree, spacesFit}
-use Rattle.meaning.specs.State.{Ends, recordWith, withRecord, withCells, withLinks, withCalendar, withBits, withFree}
+use Rattle.meaning.specs.State.{Ends, recordWith, withRecord, withCells, withLinks, withCalendar, withBits, withArrived, withFree}
 use Rattle.meaning.specs.Lists.{endsFit, entryAt, Grown, joinHead}
 use Rattle.meaning.specs.Work.{Work}
 use Rattle.meaning.specs.Arrival.{sentAs, place}
@@ -49,7 +49,7 @@ join-head-is links entry x = go (entry .head =? empty)
     go true = refl
     go false = refl
 
-module _ (k : Record) (j : Judged) (x : ℕ) (cell cells links calendar words bits : List ℕ) where
+module _ (k : Record) (j : Judged) (x : ℕ) (cell cells links calendar words bits arrived : List ℕ) where
   abbrev N : ℕ
   N = k .n
 
@@ -61,22 +61,22 @@ module _ (k : Record) (j : Judged) (x : ℕ) (cell cells links calendar words bi
     entry = entryAt calendar e
 
     -- the cell takes space x
-    place-is : place (sentAs (j .verdict) cell) (j .d) x (seekingWork k j cells links calendar words bits)
-        ≡ (if endsFit N entry then next (acceptWork k j (seatAs true x e entry) cell cells links calendar words bits) else refused)
-    unfolding place seekingWork acceptWork seatEnds withEnds withFree withBits withCells withLinks withCalendar withRecord recordWith e entry
+    place-is : place (sentAs (j .verdict) cell) (j .d) x (seekingWork k j cells links calendar words bits arrived)
+        ≡ (if endsFit N entry then next (acceptWork k j (seatAs true x e entry) cell cells links calendar words bits arrived) else refused)
+    unfolding place seekingWork acceptWork seatEnds withEnds withFree withBits withArrived withCells withLinks withCalendar withRecord recordWith e entry
     place-is =
         rw (entry-is N (k .turn) (j .d) turn near, join-head-is links (entryAt calendar (entryOf N (k .turn) (j .d))) x)
 
     abbrev seated : Seat → Out Work
-    seated a = if a .ok then next (acceptWork k j a cell cells links calendar words bits) else refused
+    seated a = if a .ok then next (acceptWork k j a cell cells links calendar words bits arrived) else refused
 
     inside : (t : Bool)
-        → (if t then next (acceptWork k j (seatAs true x e entry) cell cells links calendar words bits) else refused)
+        → (if t then next (acceptWork k j (seatAs true x e entry) cell cells links calendar words bits arrived) else refused)
         ≡ seated (if t then seatAs true x e entry else noSeat)
     inside true = refl
     inside false = refl
 
     pub seat-is : spacesFit N (k .free) bits ≡ true → k .free ≢ 0 → isFree bits x ≡ true
-        → seating k j x cell cells links calendar words bits ≡ seated (seatOf N calendar (k .turn) (j .d) x)
+        → seating k j x cell cells links calendar words bits arrived ≡ seated (seatOf N calendar (k .turn) (j .d) x)
     unfolding seating seatOf seatAt e entry
     seat-is fits some free = rw (fits, ne-eqb (k .free) 0 some, free) (place-is ∙ inside (endsFit N entry))

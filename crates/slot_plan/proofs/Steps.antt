@@ -30,19 +30,19 @@ use Rattle.slot_plan.proofs.Arrive.{arriving, arrive-is}
 use Rattle.slot_plan.proofs.Seat.{seat-is}
 
 -- ---- the accepted cell and its seat
-module _ (k : Record) (j : Judged) (cell cells links calendar words bits : List ℕ) (turn : k .turn < k .n) (near : j .d < k .n) (a : Seat) where
+module _ (k : Record) (j : Judged) (cell cells links calendar words bits arrived : List ℕ) (turn : k .turn < k .n) (near : j .d < k .n) (a : Seat) where
   abbrev seats : ℕ → Out Work
-  seats x = seating k j x cell cells links calendar words bits
+  seats x = seating k j x cell cells links calendar words bits arrived
 
   abbrev seated : Seat → Out Work
-  seated s = if s .ok then next (acceptWork k j s cell cells links calendar words bits) else refused
+  seated s = if s .ok then next (acceptWork k j s cell cells links calendar words bits arrived) else refused
 
   -- it takes space x, which is free
   module _ (x : ℕ) (fits : spacesFit (k .n) (k .free) bits ≡ true) (some : k .free ≢ 0) (free : isFree bits x ≡ true)
       (is : a ≡ seatOf (k .n) calendar (k .turn) (j .d) x) where
-    pub seating-goes : a .ok ≡ true → (seats x andThen step4 andThen step5) ≡ (step4 (acceptWork k j a cell cells links calendar words bits) andThen step5)
+    pub seating-goes : a .ok ≡ true → (seats x andThen step4 andThen step5) ≡ (step4 (acceptWork k j a cell cells links calendar words bits arrived) andThen step5)
     seating-goes e =
-        let found : seats x ≡ seated a = rw is (seat-is k j x cell cells links calendar words bits turn near fits some free) in
+        let found : seats x ≡ seated a = rw is (seat-is k j x cell cells links calendar words bits arrived turn near fits some free) in
         rw (found, e)
 
     pub seating-shows : x < k .n → a .ok ≡ true → Seated k a bits
@@ -59,7 +59,7 @@ module _ (k : Record) (j : Judged) (cell cells links calendar words bits : List 
         go true true ef ez = rw (ef, ez)
         go true false ef ez =
             let some = eqb-false (k .free) 0 ez in
-            seat-is k j (lowestFree bits) cell cells links calendar words bits turn near ef some (lowest-free (k .n) (k .free) bits ef some)
+            seat-is k j (lowestFree bits) cell cells links calendar words bits arrived turn near ef some (lowest-free (k .n) (k .free) bits ef some)
             ∙ rw (ef, ez)
         go false z ef ez = rw ef
 
@@ -67,7 +67,7 @@ module _ (k : Record) (j : Judged) (cell cells links calendar words bits : List 
     now-none e = rw (now-is, e)
 
     pub now-goes : a .ok ≡ true
-        → (seats (lowestFree bits) andThen step4 andThen step5) ≡ (step4 (acceptWork k j a cell cells links calendar words bits) andThen step5)
+        → (seats (lowestFree bits) andThen step4 andThen step5) ≡ (step4 (acceptWork k j a cell cells links calendar words bits arrived) andThen step5)
     now-goes e = rw (now-is, e)
 
     pub now-shows : a .ok ≡ true → Seated k a bits
@@ -87,26 +87,26 @@ module _ (k : Record) (j : Judged) (cell cells links calendar words bits : List 
     pub now-unfit : a .ok ≡ true → endsFit (k .n) (endsOf (k .outhead) (k .outtail)) ≡ false
         → (seats (lowestFree bits) andThen step4 andThen step5) ≡ refused
     unfolding acceptWork withEnds recordWith
-    now-unfit e f = now-goes e ∙ unfit-output (acceptWork k j a cell cells links calendar words bits) _ refl f
+    now-unfit e f = now-goes e ∙ unfit-output (acceptWork k j a cell cells links calendar words bits arrived) _ refl f
 
 -- ---- steps 2 and 3
-module _ (k : Record) (x : ℕ) (cell cells links calendar words bits : List ℕ) (b : Fall) (is : b ≡ broughtOf (k .n) (k .v) (k .t) words (k .rotation)) where
+module _ (k : Record) (x : ℕ) (cell cells links calendar words bits arrived : List ℕ) (b : Fall) (is : b ≡ broughtOf (k .n) (k .v) (k .t) words (k .rotation)) where
   abbrev from2 : Out Work
-  from2 = step2 (workOf (stateOf k cells links calendar words bits) (bareAnswer 0)) andThen step3 x cell andThen step4 andThen step5
+  from2 = step2 (workOf (stateOf k cells links calendar words bits arrived) (bareAnswer 0)) andThen step3 x cell andThen step4 andThen step5
 
   pub rotating-none : b .ok ≡ false → from2 ≡ refused
-  rotating-none e = rw (rotate-is k cells links calendar words bits b is, e)
+  rotating-none e = rw (rotate-is k cells links calendar words bits arrived b is, e)
 
   module _ (j : Judged) (found : j ≡ judgedOf (k .n) (k .v) (k .kind) (k .t) words cell) (inside : connectionPlace (k .rotation) + wordsPerConnection ≤ length words) (ok : b .ok ≡ true) where
-    rotates : step2 (workOf (stateOf k cells links calendar words bits) (bareAnswer 0)) ≡ next (rotatedWork k cells links calendar (rotated k b words) bits)
-    rotates = rw (rotate-is k cells links calendar words bits b is, ok)
+    rotates : step2 (workOf (stateOf k cells links calendar words bits arrived) (bareAnswer 0)) ≡ next (rotatedWork k cells links calendar (rotated k b words) bits arrived)
+    rotates = rw (rotate-is k cells links calendar words bits arrived b is, ok)
 
-    judges : step3 x cell (rotatedWork k cells links calendar (rotated k b words) bits) ≡ arriving k j x cell cells links calendar (rotated k b words) bits
+    judges : step3 x cell (rotatedWork k cells links calendar (rotated k b words) bits arrived) ≡ arriving k j x cell cells links calendar (rotated k b words) bits arrived
     judges =
-        arrive-is k x cell cells links calendar (rotated k b words) bits
-        ∙ ap (λ (y : Judged). arriving k y x cell cells links calendar (rotated k b words) bits) (judged-same k words cell b is inside ∙ sym found)
+        arrive-is k x cell cells links calendar (rotated k b words) bits arrived
+        ∙ ap (λ (y : Judged). arriving k y x cell cells links calendar (rotated k b words) bits arrived) (judged-same k words cell b is inside ∙ sym found)
 
-    arrives : from2 ≡ (arriving k j x cell cells links calendar (rotated k b words) bits andThen step4 andThen step5)
+    arrives : from2 ≡ (arriving k j x cell cells links calendar (rotated k b words) bits arrived andThen step4 andThen step5)
     arrives =
         ap (λ (o : Out Work). o andThen step3 x cell andThen step4 andThen step5) rotates
         ∙ ap (λ (o : Out Work). o andThen step4 andThen step5) judges
@@ -116,11 +116,11 @@ module _ (k : Record) (x : ℕ) (cell cells links calendar words bits : List ℕ
     arriving-none e = arrives ∙ rw e
 
     pub arriving-accepted : j .ok ≡ true → letsIn (j .verdict) ≡ true
-        → from2 ≡ (seating k j x cell cells links calendar (rotated k b words) bits andThen step4 andThen step5)
+        → from2 ≡ (seating k j x cell cells links calendar (rotated k b words) bits arrived andThen step4 andThen step5)
     unfolding arriving
     arriving-accepted e v = arrives ∙ rw (e, v)
 
     pub arriving-quiet : j .ok ≡ true → letsIn (j .verdict) ≡ false
-        → from2 ≡ (step4 (quietWork k j cells links calendar (rotated k b words) bits) andThen step5)
+        → from2 ≡ (step4 (quietWork k j cells links calendar (rotated k b words) bits arrived) andThen step5)
     unfolding arriving
     arriving-quiet e v = arrives ∙ rw (e, v)

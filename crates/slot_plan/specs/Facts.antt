@@ -1,6 +1,7 @@
 -- What is known where the slot's cases write: each is shown by the tests that came before, and asked of the caller.
 --
 --   Sized s          == refusals 1 and 2 are not given, and the clock has moved
+--   SizedWith k ..   == the same where the arrival slots are not lent: they are some list
 --   Accepted k j ..  == of an accepted cell: its connection, its D and its waiting
 --   Seated k a bits  == of an accepted cell: its space, which is free, and its entry; the words of free spaces and their number fit
 --   OffStored k ..   == what departs once the cell is stored and counted, from memory as it came
@@ -13,10 +14,11 @@ use Rattle.meaning.specs.declared.Record.{Record}
 use Rattle.meaning.specs.Plain.{_=?_}
 use Rattle.meaning.specs.Numbers.{mostN, leastV, mostV, octets, perEntry, connectionsIn, wordsIn, bitWords, empty, letsIn}
 use Rattle.meaning.specs.Bits.{isFree, spacesFit}
-use Rattle.meaning.specs.State.{State, Ends}
+use Rattle.meaning.specs.State.{State, stateOf, Ends}
 use Rattle.meaning.specs.Header.{headerAt}
 use Rattle.meaning.specs.Words.{connectionAt}
 use Rattle.meaning.specs.Lists.{endsFit}
+use Rattle.meaning.specs.Lent.{Slice}
 use Rattle.leaf_header.specs.Name.{numbered}
 use Rattle.slot_arrive.specs.declared.Judged.{Judged}
 use Rattle.mem_lists.specs.declared.Seat.{Seat}
@@ -35,8 +37,13 @@ pub record Sized (s : State) : Type 0 where
   pub calendar-long : length (s .calendar) ≡ perEntry * s .ctl .n
   pub words-long : length (s .words) ≡ wordsIn (s .ctl .v)
   pub bits-long : length (s .bits) ≡ bitWords
+  pub arrived-long : length (s .arrived) ≡ s .ctl .n
   pub turn-low : s .ctl .turn < s .ctl .n
   pub rotation-low : s .ctl .rotation < connectionsIn (s .ctl .v)
+
+abbrev pub SizedWith : Record → Slice → Slice → Slice → Slice → Slice → Type 0
+SizedWith k cells links calendar words bits =
+    (arrived : List ℕ) × Sized (stateOf k (cells .now) (links .now) (calendar .now) (words .now) (bits .now) arrived)
 
 pub record Accepted (k : Record) (j : Judged) (cell words : List ℕ) : Type 0 where
   pub let-in : letsIn (j .verdict) ≡ true

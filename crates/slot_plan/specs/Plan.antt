@@ -15,6 +15,7 @@
 use Prim.Native.Nat.{ℕ, _+_, _-_, _%_}
 use mathlib.Core.Bool.{Bool, not, _&&_}
 use mathlib.Core.List.{List}
+use lib.ListN.{set}
 use Rattle.meaning.specs.declared.Record.{Record}
 use Rattle.meaning.specs.declared.Served.{Served}
 use Rattle.meaning.specs.Plain.{if_then_else_, _=?_, Out, refused, next, needs}
@@ -45,25 +46,25 @@ clocked r =
 unfoldable pub rotated : Record → Fall → List ℕ → List ℕ
 rotated k b words = fallen (b .on) (k .rotation) (b .s) (b .second) (k .t) words
 
-unfoldable pub quietWork : Record → Judged → List ℕ → List ℕ → List ℕ → List ℕ → List ℕ → Work
-quietWork k j cells links calendar words bits =
-    workOf (stateOf k cells links calendar (fallen (j .verdict =? excess) (j .vci) (j .s) (j .second) (k .t) words) bits)
+unfoldable pub quietWork : Record → Judged → List ℕ → List ℕ → List ℕ → List ℕ → List ℕ → List ℕ → Work
+quietWork k j cells links calendar words bits arrived =
+    workOf (stateOf k cells links calendar (fallen (j .verdict =? excess) (j .vci) (j .s) (j .second) (k .t) words) bits arrived)
     (answerOf 0 (j .verdict) (j .vci) 0 empty 0)
 
 -- the work after step 2
-unfoldable pub rotatedWork : Record → List ℕ → List ℕ → List ℕ → List ℕ → List ℕ → Work
-rotatedWork k cells links calendar words bits = workOf (stateOf k cells links calendar words bits) (bareAnswer 0)
+unfoldable pub rotatedWork : Record → List ℕ → List ℕ → List ℕ → List ℕ → List ℕ → List ℕ → Work
+rotatedWork k cells links calendar words bits arrived = workOf (stateOf k cells links calendar words bits arrived) (bareAnswer 0)
 
 -- the work in step 3 when a cell is accepted and has no space yet, and the taking of space x
-unfoldable pub seekingWork : Record → Judged → List ℕ → List ℕ → List ℕ → List ℕ → List ℕ → Work
-seekingWork k j cells links calendar words bits =
-    workOf (stateOf k cells links calendar (filled (j .vci) (j .s) (j .second) (k .t) (j .waiting) words) bits)
+unfoldable pub seekingWork : Record → Judged → List ℕ → List ℕ → List ℕ → List ℕ → List ℕ → List ℕ → Work
+seekingWork k j cells links calendar words bits arrived =
+    workOf (stateOf k cells links calendar (filled (j .vci) (j .s) (j .second) (k .t) (j .waiting) words) bits arrived)
     (answerOf 0 (j .verdict) (j .vci) (j .d) empty 0)
 
-unfoldable pub seating : Record → Judged → ℕ → List ℕ → List ℕ → List ℕ → List ℕ → List ℕ → List ℕ → Out Work
-seating k j x cell cells links calendar words bits =
+unfoldable pub seating : Record → Judged → ℕ → List ℕ → List ℕ → List ℕ → List ℕ → List ℕ → List ℕ → List ℕ → Out Work
+seating k j x cell cells links calendar words bits arrived =
     needs (spacesFit (k .n) (k .free) bits && not (k .free =? 0))
-    (needs (isFree bits x) (place (sentAs (j .verdict) cell) (j .d) x (seekingWork k j cells links calendar words bits)))
+    (needs (isFree bits x) (place (sentAs (j .verdict) cell) (j .d) x (seekingWork k j cells links calendar words bits arrived)))
 
 unfoldable pub seatNow : Record → ℕ → List ℕ → List ℕ → Seat
 seatNow k D calendar bits =
@@ -73,15 +74,16 @@ seatNow k D calendar bits =
 unfoldable pub seatEnds : Seat → Ends
 seatEnds a = endsOf (a .x) (if a .head =? empty then a .x else a .tail)
 
-unfoldable pub acceptWork : Record → Judged → Seat → List ℕ → List ℕ → List ℕ → List ℕ → List ℕ → List ℕ → Work
-acceptWork k j a cell cells links calendar words bits =
+unfoldable pub acceptWork : Record → Judged → Seat → List ℕ → List ℕ → List ℕ → List ℕ → List ℕ → List ℕ → List ℕ → Work
+acceptWork k j a cell cells links calendar words bits arrived =
     workOf
     (stateOf (withEnds k (k .free - 1) (outputEnds k))
     (writeCell cells (a .x) (sentAs (j .verdict) cell))
     (linked (not (a .head =? empty)) (a .x) (a .head) links)
     (writeEntry calendar (a .e) (seatEnds a))
     (filled (j .vci) (j .s) (j .second) (k .t) (j .waiting) words)
-    (marked (taken bits (a .x)) (a .e)))
+    (marked (taken bits (a .x)) (a .e))
+    (set arrived (a .x) (k .t)))
     (answerOf 0 (j .verdict) (j .vci) (j .d) empty 0)
 
 unfoldable pub leftBy : Work → List ℕ → List ℕ → List ℕ → Off → Work
@@ -95,7 +97,8 @@ leftBy w links calendar bits o =
     links
     calendar
     (oneLess (o .vci) (s .words))
-    (given bits (o .space)))
+    (given bits (o .space))
+    (s .arrived))
     (answerOf (a .number) (a .verdict) (a .vci) (a .d) (o .space) (o .vci))
 
 -- refusal 3: "a bit at or above N, a number other than the ones .. or a freed space already free"
@@ -143,5 +146,5 @@ leavingUnmarked w =
     if endsFit (r .n) (outputEnds r) then (if r .outhead =? empty then next w else leavingOutput w) else refused
 
 -- what a case of the code gives back, with the memories as it leaves them
-abbrev pub servedWork : Served → List ℕ → List ℕ → List ℕ → List ℕ → List ℕ → Work
-servedWork s cells links calendar words bits = workOf (stateOf (s .ctl) cells links calendar words bits) (s .answer)
+abbrev pub servedWork : Served → List ℕ → List ℕ → List ℕ → List ℕ → List ℕ → List ℕ → Work
+servedWork s cells links calendar words bits arrived = workOf (stateOf (s .ctl) cells links calendar words bits arrived) (s .answer)

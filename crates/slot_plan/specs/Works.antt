@@ -26,13 +26,13 @@ use Rattle.mem_lists.specs.Spaces.{linked}
 use Rattle.slot_plan.specs.Plan.{rotated, quietWork, seating, acceptWork, seatEnds, leftBy}
 
 abbrev pub quietOf : State → Fall → Judged → Work
-quietOf s b j = quietWork (s .ctl) j (s .cells) (s .links) (s .calendar) (rotated (s .ctl) b (s .words)) (s .bits)
+quietOf s b j = quietWork (s .ctl) j (s .cells) (s .links) (s .calendar) (rotated (s .ctl) b (s .words)) (s .bits) (s .arrived)
 
 abbrev pub seatingOf : State → Fall → Judged → List ℕ → Out Work
-seatingOf s b j cell = seating (s .ctl) j (lowestFree (s .bits)) cell (s .cells) (s .links) (s .calendar) (rotated (s .ctl) b (s .words)) (s .bits)
+seatingOf s b j cell = seating (s .ctl) j (lowestFree (s .bits)) cell (s .cells) (s .links) (s .calendar) (rotated (s .ctl) b (s .words)) (s .bits) (s .arrived)
 
 abbrev pub acceptOf : State → Fall → Judged → Seat → List ℕ → Work
-acceptOf s b j a cell = acceptWork (s .ctl) j a cell (s .cells) (s .links) (s .calendar) (rotated (s .ctl) b (s .words)) (s .bits)
+acceptOf s b j a cell = acceptWork (s .ctl) j a cell (s .cells) (s .links) (s .calendar) (rotated (s .ctl) b (s .words)) (s .bits) (s .arrived)
 
 abbrev pub lastSteps : Work → Out Work
 lastSteps w = step4 w andThen step5

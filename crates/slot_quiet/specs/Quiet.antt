@@ -4,6 +4,7 @@
 --                              and bits are written
 --   GivesWith r k b j f ..  == the slot gives what the steps f say of the work after step 3, or all as it came; r is the
 --                              record that came
+--   AllWith r k b j f ..    == the same, only the arrival slots not being lent
 --   KeepsWith k b j ..      == nothing departs: only the words are written
 use Prim.Native.Nat.{ℕ}
 use mathlib.Core.Path.{_≡_}
@@ -23,18 +24,24 @@ use Rattle.mem_lists.specs.declared.Off.{Off}
 use Rattle.slot_plan.specs.Plan.{servedWork}
 use Rattle.slot_plan.specs.Works.{quietOf, quietLeft}
 
-abbrev pub EndsWith : List ℕ → List ℕ → List ℕ → Record → Fall → Judged → Off → Bool → ℕ → Bool → Served → Lent → Lent → Lent → Type 0
-EndsWith cells calendar calendar′ k b j o joins head clears s links words bits =
-    servedWork s cells (links .exit .now) calendar′ (words .exit .now) (bits .exit .now)
-    ≡ quietLeft (stateOf k cells (links .entry .now) calendar (words .entry .now) (bits .entry .now)) b j o joins head calendar′
+abbrev pub EndsWith : List ℕ → List ℕ → List ℕ → List ℕ → Record → Fall → Judged → Off → Bool → ℕ → Bool → Served → Lent → Lent → Lent → Type 0
+EndsWith cells calendar calendar′ arrived k b j o joins head clears s links words bits =
+    servedWork s cells (links .exit .now) calendar′ (words .exit .now) (bits .exit .now) arrived
+    ≡ quietLeft (stateOf k cells (links .entry .now) calendar (words .entry .now) (bits .entry .now) arrived) b j o joins head calendar′
     (if clears then unmarked (bits .entry .now) (k .turn) else bits .entry .now)
 
-abbrev pub GivesWith : List ℕ → Record → Record → Fall → Judged → (Work → Out Work) → Served → Lent → Lent → Lent → Lent → Type 0
-GivesWith calendar r k b j steps s cells links words bits =
-    servedWork s (cells .entry .now) (links .exit .now) calendar (words .exit .now) (bits .exit .now)
-    ≡ finish (stateOf r (cells .entry .now) (links .entry .now) calendar (words .entry .now) (bits .entry .now))
-    (steps (quietOf (stateOf k (cells .entry .now) (links .entry .now) calendar (words .entry .now) (bits .entry .now)) b j))
+abbrev pub GivesWith : List ℕ → List ℕ → Record → Record → Fall → Judged → (Work → Out Work) → Served → Lent → Lent → Lent → Lent → Type 0
+GivesWith calendar arrived r k b j steps s cells links words bits =
+    servedWork s (cells .entry .now) (links .exit .now) calendar (words .exit .now) (bits .exit .now) arrived
+    ≡ finish (stateOf r (cells .entry .now) (links .entry .now) calendar (words .entry .now) (bits .entry .now) arrived)
+    (steps (quietOf (stateOf k (cells .entry .now) (links .entry .now) calendar (words .entry .now) (bits .entry .now) arrived) b j))
 
-abbrev pub KeepsWith : List ℕ → List ℕ → List ℕ → List ℕ → Record → Fall → Judged → Served → Lent → Type 0
-KeepsWith cells links calendar bits k b j s words =
-    servedWork s cells links calendar (words .exit .now) bits ≡ quietOf (stateOf k cells links calendar (words .entry .now) bits) b j
+abbrev pub AllWith : List ℕ → Record → Record → Fall → Judged → (Work → Out Work) → Served → Lent → Lent → Lent → Lent → Lent → Type 0
+AllWith arrived r k b j steps s cells links calendar words bits =
+    servedWork s (cells .entry .now) (links .exit .now) (calendar .exit .now) (words .exit .now) (bits .exit .now) arrived
+    ≡ finish (stateOf r (cells .entry .now) (links .entry .now) (calendar .entry .now) (words .entry .now) (bits .entry .now) arrived)
+    (steps (quietOf (stateOf k (cells .entry .now) (links .entry .now) (calendar .entry .now) (words .entry .now) (bits .entry .now) arrived) b j))
+
+abbrev pub KeepsWith : List ℕ → List ℕ → List ℕ → List ℕ → List ℕ → Record → Fall → Judged → Served → Lent → Type 0
+KeepsWith cells links calendar bits arrived k b j s words =
+    servedWork s cells links calendar (words .exit .now) bits arrived ≡ quietOf (stateOf k cells links calendar (words .entry .now) bits arrived) b j

@@ -9,13 +9,12 @@ ghost use Rattle.meaning.specs.Numbers.{excess, waitingPlace, mostN, mostV, oct
 ghost use Rattle.meaning.specs.Bits.{isFree};
 ghost use Rattle.meaning.specs.State.{HasConnection};
 ghost use Rattle.meaning.specs.Lists.{endsFit};
-ghost use Rattle.meaning.specs.Lent.{here, before, Gives};
 ghost use Rattle.slot_arrive.specs.Arrival.{fallen};
 ghost use Rattle.mem_lists.specs.Spaces.{endsOf, offOf};
 ghost use Rattle.slot_plan.specs.Plan.{rotated, mayFree, joinedLinks, joinedHead, leavingMarked, leavingOutput, leavingUnmarked};
-ghost use Rattle.slot_plan.specs.Works.{quietOf, lastSteps};
-ghost use Rattle.slot_plan.specs.Facts.{Sized};
-ghost use Rattle.slot_quiet.specs.Quiet.{EndsWith, GivesWith, KeepsWith};
+ghost use Rattle.slot_plan.specs.Works.{lastSteps};
+ghost use Rattle.slot_plan.specs.Facts.{SizedWith};
+ghost use Rattle.slot_quiet.specs.Quiet.{EndsWith, GivesWith, AllWith, KeepsWith};
 use meaning::Answer;
 use meaning::Record;
 use meaning::Served;
@@ -61,7 +60,7 @@ fn quiet_end(
     requires { ⌜ (j .verdict =? excess ≡ true → j .vci < connectionsIn (k .v)) ⌝ }
     requires { ⌜ (joins ≡ true → k .outtail < k .n) ⌝ }
     requires { ⌜ (k .free ≤ mostN) × (length (now bits) ≡ bitWords) × (o .space < mostN) × (isFree (now bits) (o .space) ≡ false) × (clears ≡ true → k .turn < mostN) ⌝ }
-    ensures { λ s. ⌜ ((cells calendar calendar′ : List ℕ) → EndsWith cells calendar calendar′ k b j o joins head clears s links words bits) ⌝ }
+    ensures { λ s. ⌜ ((cells calendar calendar′ arrived : List ℕ) → EndsWith cells calendar calendar′ arrived k b j o joins head clears s links words bits) ⌝ }
 {
     words_fall(k, b, j, words);
     slot_arrive::put_less(words, o.vci);
@@ -121,10 +120,10 @@ fn quiet_marked(
     words: &mut [u32],
     bits: &mut [u64],
 ) -> Served
-    requires { ⌜ Sized (here k cells links calendar words bits) ⌝ }
+    requires { ⌜ SizedWith k cells links calendar words bits ⌝ }
     requires { ⌜ (j .verdict =? excess ≡ true → j .vci < connectionsIn (k .v)) ⌝ }
     requires { ⌜ (head < k .n) × (endsFit (k .n) (endsOf (k .outhead) (k .outtail)) ≡ true) ⌝ }
-    ensures { λ s. ⌜ Gives r (leavingMarked (quietOf (before k cells links calendar words bits) b j) (endsOf head tail)) s cells links calendar words bits ⌝ }
+    ensures { λ s. ⌜ ((arrived : List ℕ) → AllWith arrived r k b j (λ w. leavingMarked w (endsOf head tail)) s cells links calendar words bits) ⌝ }
 {
     let o = off_marked(k, head, tail, cells, links, words);
     if !o.ok {
@@ -163,7 +162,7 @@ fn quiet_output(
     requires { ⌜ length (now bits) ≡ bitWords ⌝ }
     requires { ⌜ k .outhead < k .n ⌝ }
     requires { ⌜ (j .verdict =? excess ≡ true → j .vci < connectionsIn (k .v)) ⌝ }
-    ensures { λ s. ⌜ ((calendar : List ℕ) → GivesWith calendar r k b j leavingOutput s cells links words bits) ⌝ }
+    ensures { λ s. ⌜ ((calendar arrived : List ℕ) → GivesWith calendar arrived r k b j leavingOutput s cells links words bits) ⌝ }
 {
     let o = mem_lists::off_head(k.n, k.v, k.kind, cells, links, words, k.outhead, k.outtail);
     if !o.ok {
@@ -179,7 +178,7 @@ fn quiet_output(
 fn quiet_none(k: Record, b: Fall, j: Judged, words: &mut [u32]) -> Served
     requires { ⌜ (length (now words) ≡ wordsIn (k .v)) × (k .rotation < connectionsIn (k .v)) ⌝ }
     requires { ⌜ (j .verdict =? excess ≡ true → j .vci < connectionsIn (k .v)) ⌝ }
-    ensures { λ s. ⌜ ((cells links calendar bits : List ℕ) → KeepsWith cells links calendar bits k b j s words) ⌝ }
+    ensures { λ s. ⌜ ((cells links calendar bits arrived : List ℕ) → KeepsWith cells links calendar bits arrived k b j s words) ⌝ }
 {
     words_fall(k, b, j, words);
     Served {
@@ -210,7 +209,7 @@ fn quiet_unmarked(
     requires { ⌜ (k .n ≤ mostN) × (k .v ≤ mostV) × (length (now cells) ≡ octets * k .n) × (length (now links) ≡ k .n) × (length (now words) ≡ wordsIn (k .v)) × (k .rotation < connectionsIn (k .v)) ⌝ }
     requires { ⌜ length (now bits) ≡ bitWords ⌝ }
     requires { ⌜ (j .verdict =? excess ≡ true → j .vci < connectionsIn (k .v)) ⌝ }
-    ensures { λ s. ⌜ ((calendar : List ℕ) → GivesWith calendar r k b j leavingUnmarked s cells links words bits) ⌝ }
+    ensures { λ s. ⌜ ((calendar arrived : List ℕ) → GivesWith calendar arrived r k b j leavingUnmarked s cells links words bits) ⌝ }
 {
     if k.outhead == 65535 {
         if k.outtail != 65535 {
@@ -239,9 +238,9 @@ pub fn quiet(
     words: &mut [u32],
     bits: &mut [u64],
 ) -> Served
-    requires { ⌜ Sized (here k cells links calendar words bits) ⌝ }
+    requires { ⌜ SizedWith k cells links calendar words bits ⌝ }
     requires { ⌜ (j .verdict =? excess ≡ true → j .vci < connectionsIn (k .v)) ⌝ }
-    ensures { λ s. ⌜ Gives r (lastSteps (quietOf (before k cells links calendar words bits) b j)) s cells links calendar words bits ⌝ }
+    ensures { λ s. ⌜ ((arrived : List ℕ) → AllWith arrived r k b j lastSteps s cells links calendar words bits) ⌝ }
 {
     let at = 2 * (k.turn as usize);
     let head = calendar[at];

@@ -12,7 +12,7 @@ use lib.ListN.{length, getD, set}
 use Rattle.meaning.specs.declared.Record.{Record}
 use Rattle.meaning.specs.Plain.{if_then_else_, _<?_, _≤?_, _=?_, Out, refused, next, _andThen_}
 use Rattle.meaning.specs.Numbers.{rangesHold, octets, cellStart, connectionsIn, unused, kindFits, empty, unknown, excess}
-use Rattle.meaning.specs.State.{State, Ends, outputList, sizesHold, withRecord, withCells, withLinks, withCalendar, withBits, withWords}
+use Rattle.meaning.specs.State.{State, Ends, outputList, sizesHold, withRecord, withCells, withLinks, withCalendar, withBits, withArrived, withWords}
 use Rattle.meaning.specs.State.{recordWith, withClock, withBits, withFree, withOutputList}
 use Rattle.meaning.specs.Bits.{isFree, spacesFit, lowestFree}
 use Rattle.meaning.specs.Header.{headerAt, clpIn, noUserCell, connection, namesConnection, namesOpen}
@@ -138,7 +138,7 @@ module _ (r : Record) where
       record { n-is = h .n-is; v-is = h .v-is; raw-is = h .raw-is; kind-is = h .kind-is; began = h .began; turn-low = h .turn-low; rotation-low = h .rotation-low }
 
   judge-going : (x : ℕ) (cell : List ℕ) (v : ℕ) (w : Work) → Going w → (vc : Connection) → AllOut Going (judge x cell v w vc)
-  unfolding judge accept place withWords withCells withLinks withCalendar withFree withBits withRecord recordWith
+  unfolding judge accept place withWords withCells withLinks withCalendar withFree withBits withArrived withRecord recordWith
   judge-going x cell v w h vc =
       let s = w .state in
       if-all Going (verdictOn (clpIn cell) vc =? excess) _ _

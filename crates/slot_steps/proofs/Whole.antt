@@ -22,14 +22,14 @@ use Rattle.slot_plan.proofs.Found.{no, and}
 use Rattle.slot_steps.specs.Slot.{shapeOf}
 
 -- ---- the refusals 1, 2 and 9, and the clock
-module _ (r : Record) (cell cells links calendar words bits : List ℕ) where
+module _ (r : Record) (cell cells links calendar words bits arrived : List ℕ) where
   abbrev s : State
-  s = stateOf r cells links calendar words bits
+  s = stateOf r cells links calendar words bits arrived
 
   abbrev shape : ℕ
-  shape = shapeOf r cells links calendar words bits cell
+  shape = shapeOf r cells links calendar words bits arrived cell
 
-  by-shape : (a b d : Bool) → rangesHold (r .n) (r .v) ≡ a → lengthsHold (r .n) (r .v) cells links calendar words bits ≡ b → length cell =? 0 || length cell =? 53 ≡ d
+  by-shape : (a b d : Bool) → rangesHold (r .n) (r .v) ≡ a → lengthsHold (r .n) (r .v) cells links calendar words bits arrived ≡ b → length cell =? 0 || length cell =? 53 ≡ d
       → uncheckedSlot s cell ≡ (if shape =? 0 then finish s (fiveSteps (lowestFree bits) cell (workOf s (bareAnswer 0))) else workOf s (bareAnswer shape))
   unfolding uncheckedSlot uncheckedSlotAt shapeOf
   by-shape false b d ea eb ed = rw ea
@@ -38,10 +38,10 @@ module _ (r : Record) (cell cells links calendar words bits : List ℕ) where
   by-shape true true true ea eb ed = rw (ea, eb, ed)
 
   slot-is : uncheckedSlot s cell ≡ (if shape =? 0 then finish s (fiveSteps (lowestFree bits) cell (workOf s (bareAnswer 0))) else workOf s (bareAnswer shape))
-  slot-is = by-shape (rangesHold (r .n) (r .v)) (lengthsHold (r .n) (r .v) cells links calendar words bits) (length cell =? 0 || length cell =? 53) refl refl refl
+  slot-is = by-shape (rangesHold (r .n) (r .v)) (lengthsHold (r .n) (r .v) cells links calendar words bits arrived) (length cell =? 0 || length cell =? 53) refl refl refl
 
   pub slot-refused : (number : ℕ) (x : Served) → number ≡ shape → number ≢ 0 → (x .ctl ≡ r) × (x .answer ≡ bareAnswer number)
-      → workOf (stateOf (x .ctl) cells links calendar words bits) (x .answer) ≡ uncheckedSlot s cell
+      → workOf (stateOf (x .ctl) cells links calendar words bits arrived) (x .answer) ≡ uncheckedSlot s cell
   slot-refused number x e ne p = rw (p .0, p .1) (sym (slot-is ∙ rw (← e, ne-eqb number 0 ne)))
 
   -- the five steps, once the clock has moved
@@ -60,7 +60,7 @@ module _ (r : Record) (cell cells links calendar words bits : List ℕ) where
   clock-rotation h g = rw (lt-ltb (r .turn) (r .n) h, le-ltb (r .rotation) (connectionsIn (r .v)) g)
 
   pub clock-goes : (k : Record) → k ≡ clocked r → r .turn < r .n → r .rotation < connectionsIn (r .v)
-      → five ≡ (step2 (workOf (stateOf k cells links calendar words bits) (bareAnswer 0)) andThen step3 (lowestFree bits) cell andThen step4 andThen step5)
+      → five ≡ (step2 (workOf (stateOf k cells links calendar words bits arrived) (bareAnswer 0)) andThen step3 (lowestFree bits) cell andThen step4 andThen step5)
   unfolding fiveSteps step1 clocked withClock withRecord
   clock-goes k e h g = rw (lt-ltb (r .turn) (r .n) h, lt-ltb (r .rotation) (connectionsIn (r .v)) g, e)
 
@@ -75,19 +75,21 @@ module _ (r : Record) (cell cells links calendar words bits : List ℕ) where
     pub calendar-long : length calendar ≡ 2 * r .n
     pub words-long : length words ≡ wordsIn (r .v)
     pub bits-long : length bits ≡ bitWords
+    pub arrived-long : length arrived ≡ r .n
     pub cell-long : (length cell ≡ 0 → ⊥) → length cell ≡ 53
 
   either : (a b : Bool) → a || b ≡ true → a ≡ false → b ≡ true
   either true b e f = no (sym f ∙ e)
   either false b e f = e
 
-  shaped-by : rangesHold (r .n) (r .v) ≡ true → lengthsHold (r .n) (r .v) cells links calendar words bits ≡ true → length cell =? 0 || length cell =? 53 ≡ true → Shaped
+  shaped-by : rangesHold (r .n) (r .v) ≡ true → lengthsHold (r .n) (r .v) cells links calendar words bits arrived ≡ true → length cell =? 0 || length cell =? 53 ≡ true → Shaped
   unfolding rangesHold lengthsHold wordsLong
   shaped-by a b d =
       let v2 = and (1 ≤? r .n && r .n ≤? 1024 && 2 ≤? r .v) (r .v ≤? 1024) a in
       let v1 = and (1 ≤? r .n && r .n ≤? 1024) (2 ≤? r .v) (v2 .0) in
       let n2 = and (1 ≤? r .n) (r .n ≤? 1024) (v1 .0) in
-      let f = and (length cells =? 53 * r .n && length links =? r .n && length calendar =? 2 * r .n && length words =? wordsIn (r .v)) (length bits =? bitWords) b in
+      let g = and (length cells =? 53 * r .n && length links =? r .n && length calendar =? 2 * r .n && length words =? wordsIn (r .v) && length bits =? bitWords) (length arrived =? r .n) b in
+      let f = and (length cells =? 53 * r .n && length links =? r .n && length calendar =? 2 * r .n && length words =? wordsIn (r .v)) (length bits =? bitWords) (g .0) in
       let w = and (length cells =? 53 * r .n && length links =? r .n && length calendar =? 2 * r .n) (length words =? wordsIn (r .v)) (f .0) in
       let c = and (length cells =? 53 * r .n && length links =? r .n) (length calendar =? 2 * r .n) (w .0) in
       let l = and (length cells =? 53 * r .n) (length links =? r .n) (c .0) in
@@ -101,10 +103,11 @@ module _ (r : Record) (cell cells links calendar words bits : List ℕ) where
         calendar-long = eqb-true _ _ (c .1);
         words-long = eqb-true _ _ (w .1);
         bits-long = eqb-true _ _ (f .1);
+        arrived-long = eqb-true _ _ (g .1);
         cell-long = λ ne. eqb-true _ _ (either (length cell =? 0) (length cell =? 53) d (ne-eqb (length cell) 0 ne));
       }
 
-  shape-shows : (a b d : Bool) → rangesHold (r .n) (r .v) ≡ a → lengthsHold (r .n) (r .v) cells links calendar words bits ≡ b → length cell =? 0 || length cell =? 53 ≡ d
+  shape-shows : (a b d : Bool) → rangesHold (r .n) (r .v) ≡ a → lengthsHold (r .n) (r .v) cells links calendar words bits arrived ≡ b → length cell =? 0 || length cell =? 53 ≡ d
       → shape ≡ 0 → Shaped
   unfolding shapeOf
   shape-shows false b d ea eb ed = rw ea (λ h. absurd (omega arith))
@@ -114,13 +117,13 @@ module _ (r : Record) (cell cells links calendar words bits : List ℕ) where
 
   pub shaped : (number : ℕ) → number ≡ shape → number ≡ 0 → Shaped
   shaped number e z =
-      shape-shows (rangesHold (r .n) (r .v)) (lengthsHold (r .n) (r .v) cells links calendar words bits) (length cell =? 0 || length cell =? 53) refl refl refl (sym e ∙ z)
+      shape-shows (rangesHold (r .n) (r .v)) (lengthsHold (r .n) (r .v) cells links calendar words bits arrived) (length cell =? 0 || length cell =? 53) refl refl refl (sym e ∙ z)
 
-  pub sized : (k : Record) → k ≡ clocked r → Shaped → Sized (stateOf k cells links calendar words bits)
+  pub sized : (k : Record) → k ≡ clocked r → Shaped → Sized (stateOf k cells links calendar words bits arrived)
   unfolding clocked recordWith
-  sized k e h = subst (λ (x : Record). Sized (stateOf x cells links calendar words bits)) (sym e) at
+  sized k e h = subst (λ (x : Record). Sized (stateOf x cells links calendar words bits arrived)) (sym e) at
     where
-      at : Sized (stateOf (clocked r) cells links calendar words bits)
+      at : Sized (stateOf (clocked r) cells links calendar words bits arrived)
       at =
           record {
             n-low = h .n-low;
@@ -132,6 +135,7 @@ module _ (r : Record) (cell cells links calendar words bits : List ℕ) where
             calendar-long = h .calendar-long;
             words-long = h .words-long;
             bits-long = h .bits-long;
+            arrived-long = h .arrived-long;
             turn-low = mod-lt (r .turn + 1) (omega (arith, h .n-low));
             rotation-low = mod-lt (r .rotation + 1) (omega (arith, h .v-low));
           }

@@ -13,15 +13,15 @@ use Rattle.meaning.specs.Work.{Work, workOf, bareAnswer}
 use Rattle.meaning.specs.Slot.{step2, step3, step4, step5, uncheckedSlot}
 
 -- "slot 1, 2, 9": the first that is given, or 0
-unfoldable pub shapeOf : Record → List ℕ → List ℕ → List ℕ → List ℕ → List ℕ → List ℕ → ℕ
-shapeOf r cells links calendar words bits cell =
+unfoldable pub shapeOf : Record → List ℕ → List ℕ → List ℕ → List ℕ → List ℕ → List ℕ → List ℕ → ℕ
+shapeOf r cells links calendar words bits arrived cell =
     if not (rangesHold (r .n) (r .v)) then 1
-    else if not (lengthsHold (r .n) (r .v) cells links calendar words bits) then 2
+    else if not (lengthsHold (r .n) (r .v) cells links calendar words bits arrived) then 2
     else if not (length cell =? 0 || length cell =? octets) then 9
     else 0
 
 abbrev pub shapeIn : State → List ℕ → ℕ
-shapeIn s cell = shapeOf (s .ctl) (s .cells) (s .links) (s .calendar) (s .words) (s .bits) cell
+shapeIn s cell = shapeOf (s .ctl) (s .cells) (s .links) (s .calendar) (s .words) (s .bits) (s .arrived) cell
 
 -- steps 2 to 5, the clock having moved: a cell that is let in takes the lowest free space
 abbrev pub laterSteps : State → List ℕ → Out Work

@@ -41,11 +41,12 @@ fn steps(
     calendar: &mut [u16],
     words: &mut [u32],
     bits: &mut [u64],
+    arrived: &mut [u32],
     cell: &[u8],
 ) -> Served
-    requires { ⌜ Sized (here k cells links calendar words bits) ⌝ }
+    requires { ⌜ Sized (here k cells links calendar words bits arrived) ⌝ }
     requires { ⌜ ((length (now cell) ≡ 0 → ⊥) → length (now cell) ≡ 53) ⌝ }
-    ensures { λ s. ⌜ Gives r (laterSteps (before k cells links calendar words bits) (now (cell .entry))) s cells links calendar words bits ⌝ }
+    ensures { λ s. ⌜ Gives r (laterSteps (before k cells links calendar words bits arrived) (now (cell .entry))) s cells links calendar words bits arrived ⌝ }
 {
     let b = slot_arrive::bring(k.n, k.v, words, k.rotation, k.t);
     if !b.ok {
@@ -57,7 +58,19 @@ fn steps(
         return slot_depart::refuse(r, 3);
     }
     if meaning::lets_in(j.verdict) {
-        return slot_accept::accept(r, k, b, j, cells, links, calendar, words, bits, cell);
+        return slot_accept::accept(
+            r,
+            k,
+            b,
+            j,
+            cells,
+            links,
+            calendar,
+            words,
+            bits,
+            arrived,
+            cell,
+        );
     }
     slot_quiet::quiet(r, k, b, j, cells, links, calendar, words, bits)
 }
@@ -70,9 +83,10 @@ pub fn shape(
     calendar: &[u16],
     words: &[u32],
     bits: &[u64],
+    arrived: &[u32],
     cell: &[u8],
 ) -> u16
-    ensures { λ x. ⌜ x ≡ shapeIn (before r cells links calendar words bits) (now (cell .entry)) ⌝ }
+    ensures { λ x. ⌜ x ≡ shapeIn (before r cells links calendar words bits arrived) (now (cell .entry)) ⌝ }
 {
     if !leaf_refusal::ranges_hold(r.n, r.v) {
         return 1;
@@ -85,6 +99,7 @@ pub fn shape(
         calendar.len(),
         words.len(),
         bits.len(),
+        arrived.len(),
     ) {
         return 2;
     }
@@ -105,11 +120,12 @@ pub fn slot(
     calendar: &mut [u16],
     words: &mut [u32],
     bits: &mut [u64],
+    arrived: &mut [u32],
     cell: &[u8],
 ) -> Served
-    ensures { λ s. ⌜ uncheckedPromise (before r cells links calendar words bits) (now (cell .entry)) (servedAfter s cells links calendar words bits) ⌝ }
+    ensures { λ s. ⌜ uncheckedPromise (before r cells links calendar words bits arrived) (now (cell .entry)) (servedAfter s cells links calendar words bits arrived) ⌝ }
 {
-    let number = shape(r, cells, links, calendar, words, bits, cell);
+    let number = shape(r, cells, links, calendar, words, bits, arrived, cell);
     if number != 0 {
         return slot_depart::refuse(r, number);
     }
@@ -120,5 +136,5 @@ pub fn slot(
         return slot_depart::refuse(r, 3);
     }
     let k = clock(r);
-    steps(r, k, cells, links, calendar, words, bits, cell)
+    steps(r, k, cells, links, calendar, words, bits, arrived, cell)
 }

@@ -1,8 +1,8 @@
 // Step 3 of an accepted cell: all that it writes, and the record once its space is taken.
 ghost use mathlib.Core.Path.{_≡_};
 ghost use mathlib.Core.Bool.{true, not};
-ghost use Prim.Native.Nat.{_+_, _-_, _≤_};
-ghost use lib.ListN.{length};
+ghost use Prim.Native.Nat.{_+_, _-_, _≤_, _<_};
+ghost use lib.ListN.{length, set};
 ghost use Rattle.meaning.specs.Plain.{_=?_};
 ghost use Rattle.meaning.specs.Numbers.{empty, cellStart, octets};
 ghost use Rattle.meaning.specs.Bits.{taken, marked};
@@ -41,6 +41,14 @@ fn put_sent(verdict: u16, cells: &mut [u8], x: u16, cell: &[u8])
     mem_cell::put_cell(cells, x, cell);
 }
 
+// "Arrival slots are kept beside the cells": the cell in space x, tagged or not, arrived in slot t.
+fn put_arrived(arrived: &mut [u32], x: u16, t: u32)
+    requires { ⌜ x < length (now arrived) ⌝ }
+    ensures { λ r. ⌜ now (arrived .exit) ≡ set (now (arrived .entry)) x t ⌝ }
+{
+    arrived[x as usize] = t;
+}
+
 // The tail of an entry that a cell has joined at the head.
 pub fn tail_of(a: Seat) -> u16
     ensures { λ r. ⌜ r ≡ seatEnds a .tail ⌝ }
@@ -67,9 +75,10 @@ pub fn store(
     calendar: &mut [u16],
     words: &mut [u32],
     bits: &mut [u64],
+    arrived: &mut [u32],
     cell: &[u8],
 )
-    requires { ⌜ Sized (here k cells links calendar words bits) ⌝ }
+    requires { ⌜ Sized (here k cells links calendar words bits arrived) ⌝ }
     requires { ⌜ Accepted k j (now cell) (now words) ⌝ }
     requires { ⌜ Seated k a (now bits) ⌝ }
     ensures cells { λ r. ⌜ now (cells .exit) ≡ writeCell (now (cells .entry)) (a .x) (sentAs (j .verdict) (now (cell .entry))) ⌝ }
@@ -77,10 +86,12 @@ pub fn store(
     ensures calendar { λ r. ⌜ now (calendar .exit) ≡ writeEntry (now (calendar .entry)) (a .e) (seatEnds a) ⌝ }
     ensures words { λ r. ⌜ now (words .exit) ≡ filled (j .vci) (j .s) (j .second) (k .t) (j .waiting) (rotated k b (now (words .entry))) ⌝ }
     ensures bits { λ r. ⌜ now (bits .exit) ≡ marked (taken (now (bits .entry)) (a .x)) (a .e) ⌝ }
+    ensures arrived { λ r. ⌜ now (arrived .exit) ≡ set (now (arrived .entry)) (a .x) (k .t) ⌝ }
 {
     words_fill(k, b, j, words);
     mem_bits::occupy(bits, a.x, a.e);
     put_sent(j.verdict, cells, a.x, cell);
+    put_arrived(arrived, a.x, k.t);
     mem_lists::put_link(links, a.head != 65535, a.x, a.head);
     let tail = tail_of(a);
     mem_lists::put_entry(calendar, a.e, a.x, tail);

@@ -16,6 +16,7 @@ fn main() {
     let mut calendar = [0u16; 2048];
     let mut words = [0u32; 15360];
     let mut bits = [0u64; 32];
+    let mut arrived = [0u32; 1024];
     let mut out = [0u8; 65536];
     list_write::list(
         1,
@@ -25,6 +26,7 @@ fn main() {
         &mut calendar,
         &mut words,
         &mut bits,
+        &mut arrived,
         &mut out,
     );
 }

@@ -16,7 +16,7 @@ returns c =
     let from = c .before .before .before .before .before .before .before .before in
     let a = from .args in
     let k = slotRecord (a .w) in
-    let sized = from .pre .0 in
+    let sized = from .pre .0 .1 in
     let seats = from .pre .1 .1 .0 in
     λ ok.
     subst
@@ -29,7 +29,7 @@ returns-2 c =
     let from = c .before .before .before .before .before .before .before .before in
     let a = from .args in
     let k = slotRecord (a .w) in
-    let sized = from .pre .0 in
+    let sized = from .pre .0 .1 in
     let seats = from .pre .1 .1 .0 in
     λ ok.
     subst

@@ -12,31 +12,31 @@ use Rattle.burst_likely.proofs.bare_leave.Tie as tie
 put-less-requires : tie.Need-put-less-requires
 put-less-requires c κs =
     let at-put-turn = c .before .before .before in
-    let start = c .before .before .before .before .before .before .before .before .before .before .before .before in
+    let start = c .before .before .before .before .before .before .before .before .before .before .before .before .before in
     let a = start .args in
     let pre = start .pre in
     let gone = pre .1 .1 .0 in
     let goes = gone .1 .some (gone .0) in
     let sized = pre .0 .sized in (
-      omega (arith, off-low (a .w) (a .r) (a .cells .now) (a .links .now) (a .calendar .now) (a .words .now) (a .bits .now) (a .departures .now) (a .answers .now) (a .i) (pre .0) (pre .1 .0) (pre .1 .1 .1) (a .o) (gone .1 .entry-fits) goes .0, sized .words-long, at-put-turn .put-turn .kept),
-      read-same _ _ _ (at-put-turn .put-turn .ensures) (less-waits (a .w) (a .r) (a .cells .now) (a .links .now) (a .calendar .now) (a .words .now) (a .bits .now) (a .departures .now) (a .answers .now) (a .i) (pre .0) (pre .1 .0) (pre .1 .1 .1) (a .o) (gone .1 .entry-fits) goes),
+      omega (arith, off-low (a .w) (a .r) (a .cells .now) (a .links .now) (a .calendar .now) (a .words .now) (a .bits .now) (a .arrived .now) (a .departures .now) (a .answers .now) (a .i) (pre .0) (pre .1 .0) (pre .1 .1 .1) (a .o) (gone .1 .entry-fits) goes .0, sized .words-long, at-put-turn .put-turn .kept),
+      read-same _ _ _ (at-put-turn .put-turn .ensures) (less-waits (a .w) (a .r) (a .cells .now) (a .links .now) (a .calendar .now) (a .words .now) (a .bits .now) (a .arrived .now) (a .departures .now) (a .answers .now) (a .i) (pre .0) (pre .1 .0) (pre .1 .1 .1) (a .o) (gone .1 .entry-fits) goes),
     )
 
 put-link-requires : tie.Need-put-link-requires
 put-link-requires c κs =
-    let start = c .before .before .before .before .before .before .before .before .before .before .before .before .before .before .before .before .before .before .before .before in
+    let start = c .before .before .before .before .before .before .before .before .before .before .before .before .before .before .before .before .before .before .before .before .before in
     let a = start .args in
     let pre = start .pre in
     let gone = pre .1 .1 .0 in
     let goes = gone .1 .some (gone .0) in
     let sized = pre .0 .sized in
     λ e.
-    let h = follow-low (a .w) (a .r) (a .cells .now) (a .links .now) (a .calendar .now) (a .words .now) (a .bits .now) (a .departures .now) (a .answers .now) (a .i) (pre .0) (pre .1 .0) (pre .1 .1 .1) (a .o) (gone .1 .entry-fits) goes e in
+    let h = follow-low (a .w) (a .r) (a .cells .now) (a .links .now) (a .calendar .now) (a .words .now) (a .bits .now) (a .arrived .now) (a .departures .now) (a .answers .now) (a .i) (pre .0) (pre .1 .0) (pre .1 .1 .1) (a .o) (gone .1 .entry-fits) goes e in
     (omega (arith, h .0, sized .links-long), omega (arith, h .1, sized .n-high))
 
 give-back-requires : tie.Need-give-back-requires
 give-back-requires c κs =
-    let start = c .before .before .before .before .before .before .before .before .before .before .before .before .before .before .before .before .before .before .before .before .before .before .before .before in
+    let start = c .before .before .before .before .before .before .before .before .before .before .before .before .before .before .before .before .before .before .before .before .before .before .before .before .before in
     let pre = start .pre in
     let gone = pre .1 .1 .0 in
     let goes = gone .1 .some (gone .0) in
@@ -45,7 +45,7 @@ give-back-requires c κs =
 
 copy-departure-requires : tie.Need-copy-departure-requires
 copy-departure-requires c κs =
-    let start = c .before .before .before .before .before .before .before .before .before .before .before .before .before .before .before .before .before .before .before .before .before .before .before .before .before .before .before .before in
+    let start = c .before .before .before .before .before .before .before .before .before .before .before .before .before .before .before .before .before .before .before .before .before .before .before .before .before .before .before .before .before in
     let pre = start .pre in
     let gone = pre .1 .1 .0 in
     let goes = gone .1 .some (gone .0) in
@@ -54,7 +54,7 @@ copy-departure-requires c κs =
 
 put-answer-requires : tie.Need-put-answer-requires
 put-answer-requires c κs =
-    let start = c .before .before .before .before .before .before .before .before .before .before .before .before .before .before .before .before .before .before .before .before .before .before .before .before .before .before .before .before .before .before .before .before .before .before in
+    let start = c .before .before .before .before .before .before .before .before .before .before .before .before .before .before .before .before .before .before .before .before .before .before .before .before .before .before .before .before .before .before .before .before .before .before .before in
     start .pre .1 .1 .1 .answer
 
 same-length : tie.Need-same-length
@@ -75,7 +75,7 @@ same-length-3 c =
 
 add-with-ends : tie.Need-add-with-ends
 add-with-ends c =
-    let start = c .before .before .before .before .before .before .before .before .before .before .before .before .before .before .before .before .before .before .before .before .before .before .before .before .before .before .before .before .before .before .before .before .before .before .before .before .before .before in
+    let start = c .before .before .before .before .before .before .before .before .before .before .before .before .before .before .before .before .before .before .before .before .before .before .before .before .before .before .before .before .before .before .before .before .before .before .before .before .before .before .before in
     let a = start .args in
     let pre = start .pre in
     let most = free-most (a .w .n) (a .w .free) (a .bits .now) (pre .0 .spaces-fit) in
@@ -91,34 +91,34 @@ returns c =
     let at-clear-entry = c .before .before .before .before .before .before .before .before .before .before .before .before .before .before .before .before .before .before .before .before .before .before in
     let at-put-less = c .before .before .before .before .before .before .before .before .before .before .before .before .before .before .before .before .before .before .before .before .before .before .before .before .before .before in
     let at-put-turn = c .before .before .before .before .before .before .before .before .before .before .before .before .before .before .before .before .before .before .before .before .before .before .before .before .before .before .before .before .before .before in
-    let start = c .before .before .before .before .before .before .before .before .before .before .before .before .before .before .before .before .before .before .before .before .before .before .before .before .before .before .before .before .before .before .before .before .before .before .before .before .before .before .before in
+    let start = c .before .before .before .before .before .before .before .before .before .before .before .before .before .before .before .before .before .before .before .before .before .before .before .before .before .before .before .before .before .before .before .before .before .before .before .before .before .before .before .before in
     let a = start .args in
     let pre = start .pre in
     let gone = pre .1 .1 .0 in
     let goes = gone .1 .some (gone .0) in
-    leave-done (a .w) (a .r) (a .cells .now) (a .links .now) (a .calendar .now) (a .words .now) (a .bits .now) (a .departures .now) (a .answers .now) (a .i) (pre .0) (pre .1 .0) (pre .1 .1 .1) (a .o) (gone .1 .entry-fits) goes _ _ _ _ _ _ _ (c .with-ends .ensures)
+    leave-done (a .w) (a .r) (a .cells .now) (a .links .now) (a .calendar .now) (a .words .now) (a .bits .now) (a .arrived .now) (a .departures .now) (a .answers .now) (a .i) (pre .0) (pre .1 .0) (pre .1 .1 .1) (a .o) (gone .1 .entry-fits) goes _ _ _ _ _ _ _ (c .with-ends .ensures)
     (at-put-link .put-link .ensures) (at-clear-entry .clear-entry .ensures)
     (at-put-less .put-less .ensures ∙ ap (oneLess (a .o .vci)) (at-put-turn .put-turn .ensures)) (at-give .give-back .ensures)
     (at-copy-departure .copy-departure .ensures) (at-put-answer .put-answer .ensures)
 
-cast-t27 : tie.Need-cast-t27
-cast-t27 c =
-    let start = c .before .before .before .before .before .before .before .before .before .before .before .before .before .before .before .before .before .before .before .before .before .before .before .before .before .before .before .before .before .before .before .before .before in
+cast-t28 : tie.Need-cast-t28
+cast-t28 c =
+    let start = c .before .before .before .before .before .before .before .before .before .before .before .before .before .before .before .before .before .before .before .before .before .before .before .before .before .before .before .before .before .before .before .before .before .before in
     let pre = start .pre in
     let gone = pre .1 .1 .0 in
     let goes = gone .1 .some (gone .0) in
     let sized = pre .0 .sized in
     omega (arith, goes .space-low, sized .n-high)
 
-cast-t28 : tie.Need-cast-t28
-cast-t28 c =
-    let start = c .before .before .before .before .before .before .before .before .before .before .before .before .before .before .before .before .before .before .before .before .before .before .before .before .before .before .before .before .before .before .before .before .before .before in
+cast-t29 : tie.Need-cast-t29
+cast-t29 c =
+    let start = c .before .before .before .before .before .before .before .before .before .before .before .before .before .before .before .before .before .before .before .before .before .before .before .before .before .before .before .before .before .before .before .before .before .before .before in
     let a = start .args in
     let pre = start .pre in
     let gone = pre .1 .1 .0 in
     let goes = gone .1 .some (gone .0) in
     let sized = pre .0 .sized in
-    omega (arith, off-low (a .w) (a .r) (a .cells .now) (a .links .now) (a .calendar .now) (a .words .now) (a .bits .now) (a .departures .now) (a .answers .now) (a .i) (pre .0) (pre .1 .0) (pre .1 .1 .1) (a .o) (gone .1 .entry-fits) goes .0, sized .v-high)
+    omega (arith, off-low (a .w) (a .r) (a .cells .now) (a .links .now) (a .calendar .now) (a .words .now) (a .bits .now) (a .arrived .now) (a .departures .now) (a .answers .now) (a .i) (pre .0) (pre .1 .0) (pre .1 .1 .1) (a .o) (gone .1 .entry-fits) goes .0, sized .v-high)
 
 pub bare-leave-spec : {M : Type 1} → statement M
 bare-leave-spec =
@@ -130,8 +130,8 @@ bare-leave-spec =
     put-link-requires
     give-back-requires
     copy-departure-requires
-    cast-t27
     cast-t28
+    cast-t29
     put-answer-requires
     add-with-ends
     (λ c κs. search needs)

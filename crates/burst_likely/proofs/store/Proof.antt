@@ -1,4 +1,4 @@
--- `burst_likely::store` meets its contract: six writes, a slice at a time, from what was found of the cell.
+-- `burst_likely::store` meets its contract: seven writes, a slice at a time, from what was found of the cell.
 use native.Mathlib.Omega.{arith}
 use borrow.Author.Tests.{eqb-false, not-true}
 use Rattle.burst_way.specs.Way.{slotRecord}
@@ -10,7 +10,7 @@ use Rattle.burst_likely.proofs.store.Tie as tie
 put-fill-requires : tie.Need-put-fill-requires
 put-fill-requires c κs =
     let at-put-turn = c .before .before .before in
-    let start = c .before .before .before .before .before .before .before .before .before .before .before in
+    let start = c .before .before .before .before .before .before .before .before .before .before .before .before in
     let a = start .args in
     let pre = start .pre in
     let sized = pre .0 .sized in
@@ -20,7 +20,7 @@ put-fill-requires c κs =
 
 put-link-requires : tie.Need-put-link-requires
 put-link-requires c κs =
-    let start = c .before .before .before .before .before .before .before .before .before .before .before .before .before .before .before .before .before .before .before .before in
+    let start = c .before .before .before .before .before .before .before .before .before .before .before .before .before .before .before .before .before .before .before .before .before .before .before .before .before in
     let a = start .args in
     let pre = start .pre in
     let sized = pre .0 .sized in
@@ -29,7 +29,7 @@ put-link-requires c κs =
 
 put-entry-requires : tie.Need-put-entry-requires
 put-entry-requires c κs =
-    let start = c .before .before .before .before .before .before .before .before .before .before .before .before .before .before .before .before .before .before .before .before .before .before .before .before in
+    let start = c .before .before .before .before .before .before .before .before .before .before .before .before .before .before .before .before .before .before .before .before .before .before .before .before .before .before .before .before .before in
     let a = start .args in
     let pre = start .pre in
     let sized = pre .0 .sized in
@@ -38,7 +38,7 @@ put-entry-requires c κs =
 
 take-up-requires : tie.Need-take-up-requires
 take-up-requires c κs =
-    let start = c .before .before .before .before .before .before .before .before .before .before .before .before .before .before .before .before .before .before .before .before .before .before .before .before .before .before .before .before in
+    let start = c .before .before .before .before .before .before .before .before .before .before .before .before .before .before .before .before .before .before .before .before .before .before .before .before .before .before .before .before .before .before .before .before .before in
     let a = start .args in
     let pre = start .pre in
     let sized = pre .0 .sized in
@@ -54,10 +54,11 @@ returns c =
     let at-take-up = c .before .before in
     let at-put-entry = c .before .before .before .before .before .before in
     let at-put-link = c .before .before .before .before .before .before .before .before .before .before in
-    let at-put-cell = c .before .before .before .before .before .before .before .before .before .before .before .before .before .before .before in
-    let at-put-fill = c .before .before .before .before .before .before .before .before .before .before .before .before .before .before .before .before .before .before .before in
-    let at-put-turn = c .before .before .before .before .before .before .before .before .before .before .before .before .before .before .before .before .before .before .before .before .before .before .before in
-    let start = c .before .before .before .before .before .before .before .before .before .before .before .before .before .before .before .before .before .before .before .before .before .before .before .before .before .before .before .before .before .before .before in
+    let at-put-arrived = c .before .before .before .before .before .before .before .before .before .before .before .before .before .before .before in
+    let at-put-cell = c .before .before .before .before .before .before .before .before .before .before .before .before .before .before .before .before .before .before .before in
+    let at-put-fill = c .before .before .before .before .before .before .before .before .before .before .before .before .before .before .before .before .before .before .before .before .before .before .before in
+    let at-put-turn = c .before .before .before .before .before .before .before .before .before .before .before .before .before .before .before .before .before .before .before .before .before .before .before .before .before .before .before in
+    let start = c .before .before .before .before .before .before .before .before .before .before .before .before .before .before .before .before .before .before .before .before .before .before .before .before .before .before .before .before .before .before .before .before .before .before .before .before in
     let a = start .args in
     let pre = start .pre in
     let sized = pre .0 .sized in
@@ -69,7 +70,7 @@ returns c =
           entry-writes (slotRecord (a .w)) (a .calendar .now) (a .words .now) (a .bits .now) _ (sized .n-high) (a .r) (pre .1 .0) (a .p) spotted _ (at-put-entry .put-entry .ensures),
           (
             fill-writes (slotRecord (a .w)) (a .calendar .now) (a .words .now) (a .bits .now) _ (sized .n-high) (a .r) (pre .1 .0) (a .p) spotted _ _ (at-put-turn .put-turn .ensures) (at-put-fill .put-fill .ensures),
-            at-take-up .take-up .ensures,
+            (at-take-up .take-up .ensures, at-put-arrived .put-arrived .ensures),
           ),
         ),
       ),
@@ -82,9 +83,11 @@ store-spec =
     (λ c κs. search needs)
     put-fill-requires
     (λ c κs. search needs)
+    (λ c κs. search needs)
     put-link-requires
     put-entry-requires
     take-up-requires
+    (λ c. search needs)
     (λ c. search needs)
     (λ c. search needs)
     (λ c. search needs)

@@ -13,9 +13,9 @@ use Rattle.call_audit.proofs.audit.Tie as tie
 
 -- once ranges and lengths hold
 shape : (c : tie.Then1)
-    → let a = c .before .before .before .before .before .before .before .args in
-    Shaped (a .r) (a .cells .now) (a .links .now) (a .calendar .now) (a .words .now) (a .bits .now)
-shape c = shape-of _ _ _ _ _ _ _ (c .before .shaped .ensures) (c .if1 .taken)
+    → let a = c .before .before .before .before .before .before .before .before .args in
+    Shaped (a .r) (a .cells .now) (a .links .now) (a .calendar .now) (a .words .now) (a .bits .now) (a .arrived .now)
+shape c = shape-of _ _ _ _ _ _ _ _ (c .before .shaped .ensures) (c .if1 .taken)
 
 bits-fit-requires : tie.Need-bits-fit-requires
 bits-fit-requires c κs = (shape c .n-most, shape c .calendar-long, shape c .bits-long)
@@ -54,8 +54,8 @@ returns c =
     let ones = f .fill-spaces .ensures in
     let v = w .fill-waits .ensures .0 (i .if4 .taken) in
     record {
-      yes-holds = λ y. to-clauses _ _ _ _ _ _ _ _ ones (v .1) h (fit .0) (fit .1) (v .0) (n .if3 .taken) (d .stored .ensures .0 y);
-      holds-yes = λ z. d .stored .ensures .1 .0 (clauses-kept _ _ _ _ _ _ _ _ ones (v .1) z);
+      yes-holds = λ y. to-clauses _ _ _ _ _ _ _ _ _ ones (v .1) h (fit .0) (fit .1) (v .0) (n .if3 .taken) (d .stored .ensures .0 y);
+      holds-yes = λ z. d .stored .ensures .1 .0 (clauses-kept _ _ _ _ _ _ _ _ _ ones (v .1) z);
     }
 
 returns-2 : tie.Need-returns-2
@@ -69,7 +69,7 @@ returns-3 : tie.Need-returns-3
 returns-3 c =
     record {
       yes-holds = λ y. false-true y;
-      holds-yes = λ z. absurd (c .if3 .left (clauses-turn _ _ _ _ _ _ z));
+      holds-yes = λ z. absurd (c .if3 .left (clauses-turn _ _ _ _ _ _ _ z));
     }
 
 returns-4 : tie.Need-returns-4
@@ -83,7 +83,7 @@ returns-5 : tie.Need-returns-5
 returns-5 c =
     record {
       yes-holds = λ y. false-true y;
-      holds-yes = λ z. sym (c .if1 .left) ∙ c .before .shaped .ensures ∙ clauses-shape _ _ _ _ _ _ z;
+      holds-yes = λ z. sym (c .if1 .left) ∙ c .before .shaped .ensures ∙ clauses-shape _ _ _ _ _ _ _ z;
     }
 
 pub audit-spec : {M : Type 1} → statement M

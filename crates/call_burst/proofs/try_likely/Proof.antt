@@ -14,85 +14,90 @@ use lib.ListN.{drop}
 
 returns : tie.Need-returns
 returns c =
-    let start = c .before .before .before .before .before .before .before .before .before .before .before .before .before in
+    let start = c .before .before .before .before .before .before .before .before .before .before .before .before .before .before in
     rw (c .ended .ensures) ((omega arith, start .pre .1 .1, refl), (start .pre .1 .0, refl))
 
 way-of-requires : tie.Need-way-of-requires
 way-of-requires c κs =
-    let start = c .before .before .before .before .before .before .before .before .before .before .before .before .before in
+    let start = c .before .before .before .before .before .before .before .before .before .before .before .before .before .before in
     let z = start .pre .1 .0 in
     let t = c .before .before .may-try .ensures (not-false _ (c .before .if1 .left)) in
     (refl, z .n-high, z .v-high, t .turn-low, t .rotation-low)
 
 advance-requires : tie.Need-advance-requires
 advance-requires c κs =
-    let start = c .before .before .before .before .before .before .before .before .before .before .before .before .before .before .before .before .before .before .before .before .before in
+    let start = c .before .before .before .before .before .before .before .before .before .before .before .before .before .before .before .before .before .before .before .before .before .before .before in
     let a = start .args in
     let z = start .pre .1 .0 in
-    let t = c .before .before .before .before .before .before .before .before .before .before .may-try .ensures (not-false _ (c .before .before .before .before .before .before .before .before .before .if1 .left)) in
-    let e = c .before .before .before .before .before .before .before .way-of .ensures .0 in
-    let low = way-low (a .ctl) (now (a .cells)) (now (a .links)) (now (a .calendar)) (now (a .words)) (now (a .bits)) z t _ e in (
+    let t = c .before .before .before .before .before .before .before .before .before .before .before .may-try .ensures (not-false _ (c .before .before .before .before .before .before .before .before .before .before .if1 .left)) in
+    let e = c .before .before .before .before .before .before .before .before .way-of .ensures .0 in
+    let low = way-low (a .ctl) (now (a .cells)) (now (a .links)) (now (a .calendar)) (now (a .words)) (now (a .bits)) (now (a .arrived)) z t _ e in (
       start .pre .0,
       (
-        way-held (a .ctl) (now (a .cells)) (now (a .links)) (now (a .calendar)) (now (a .words)) (now (a .bits)) z t _ e,
+        way-held (a .ctl) (now (a .cells)) (now (a .links)) (now (a .calendar)) (now (a .words)) (now (a .bits)) (now (a .arrived)) z t _ e,
         (start .pre .1 .1, low .0, low .1),
       ),
     )
 
 record-of-requires : tie.Need-record-of-requires
-record-of-requires c κs = held-fits _ _ _ _ _ _ (c .before .before .before .before .before .before .before .before .before .before .before .before .before .before .advance .ensures .0)
+record-of-requires c κs = held-fits _ _ _ _ _ _ _ (c .before .before .before .before .before .before .before .before .before .before .before .before .before .before .before .before .advance .ensures .0)
 
 returns-2 : tie.Need-returns-2
 returns-2 c =
-    let at-advance = c .before .before .before .before .before .before .before .before .before .before .before .before .before .before .before .before in
-    let at-way-of = c .before .before .before .before .before .before .before .before .before .before .before .before .before .before .before .before .before .before .before .before .before .before .before .before in
-    let start = c .before .before .before .before .before .before .before .before .before .before .before .before .before .before .before .before .before .before .before .before .before .before .before .before .before .before .before .before .before .before .before .before .before .before .before .before .before .before in
+    let at-advance = c .before .before .before .before .before .before .before .before .before .before .before .before .before .before .before .before .before .before in
+    let at-way-of = c .before .before .before .before .before .before .before .before .before .before .before .before .before .before .before .before .before .before .before .before .before .before .before .before .before .before .before in
+    let start = c .before .before .before .before .before .before .before .before .before .before .before .before .before .before .before .before .before .before .before .before .before .before .before .before .before .before .before .before .before .before .before .before .before .before .before .before .before .before .before .before .before .before in
     let a = start .args in
     let far = at-advance .advance .ensures .1 .0 in
     let r = c .before .record-of .ensures in
     rw (c .ended2 .ensures, r) (
       (far .0, far .1, refl),
       (
-        last-shaped _ _ _ _ _ _ (at-advance .advance .ensures .0),
+        last-shaped _ _ _ _ _ _ _ (at-advance .advance .ensures .0),
         at-advance .advance .ensures .1 .1
-            ∙ ap (λ (q : Record). slots (now (a .arrivals)) (drop (a .begin) (now (a .sizes))) (stretchOf (stateOf q (now (a .cells)) (now (a .links)) (now (a .calendar)) (now (a .words)) (now (a .bits))) (now (a .departures)) (now (a .answers)) 0 (a .begin)))
+            ∙ ap (λ (q : Record). slots (now (a .arrivals)) (drop (a .begin) (now (a .sizes))) (stretchOf (stateOf q (now (a .cells)) (now (a .links)) (now (a .calendar)) (now (a .words)) (now (a .bits)) (now (a .arrived))) (now (a .departures)) (now (a .answers)) 0 (a .begin)))
             (at-way-of .way-of .ensures .1),
       ),
     )
 
 same-length-2 : tie.Need-same-length-2
 same-length-2 c =
-    let at-advance = c .before .before .before .before .before .before .before .before .before .before .before .before .before .before .before .before in
+    let at-advance = c .before .before .before .before .before .before .before .before .before .before .before .before .before .before .before .before .before .before in
     omega (arith, at-advance .advance .kept)
 
 same-length-3 : tie.Need-same-length-3
 same-length-3 c =
-    let at-advance = c .before .before .before .before .before .before .before .before .before .before .before .before .before .before .before .before in
+    let at-advance = c .before .before .before .before .before .before .before .before .before .before .before .before .before .before .before .before .before .before in
     omega (arith, at-advance .advance .kept)
 
 same-length-4 : tie.Need-same-length-4
 same-length-4 c =
-    let at-advance = c .before .before .before .before .before .before .before .before .before .before .before .before .before .before .before .before in
+    let at-advance = c .before .before .before .before .before .before .before .before .before .before .before .before .before .before .before .before .before .before in
     omega (arith, at-advance .advance .kept)
 
 same-length-5 : tie.Need-same-length-5
 same-length-5 c =
-    let at-advance = c .before .before .before .before .before .before .before .before .before .before .before .before .before .before .before .before in
+    let at-advance = c .before .before .before .before .before .before .before .before .before .before .before .before .before .before .before .before .before .before in
     omega (arith, at-advance .advance .kept)
 
 same-length-6 : tie.Need-same-length-6
 same-length-6 c =
-    let at-advance = c .before .before .before .before .before .before .before .before .before .before .before .before .before .before .before .before in
+    let at-advance = c .before .before .before .before .before .before .before .before .before .before .before .before .before .before .before .before .before .before in
     omega (arith, at-advance .advance .kept)
 
 same-length-7 : tie.Need-same-length-7
 same-length-7 c =
-    let at-advance = c .before .before .before .before .before .before .before .before .before .before .before .before .before .before .before .before in
+    let at-advance = c .before .before .before .before .before .before .before .before .before .before .before .before .before .before .before .before .before .before in
     omega (arith, at-advance .advance .kept)
 
 same-length-8 : tie.Need-same-length-8
 same-length-8 c =
-    let at-advance = c .before .before .before .before .before .before .before .before .before .before .before .before .before .before .before .before in
+    let at-advance = c .before .before .before .before .before .before .before .before .before .before .before .before .before .before .before .before .before .before in
+    omega (arith, at-advance .advance .kept)
+
+same-length-9 : tie.Need-same-length-9
+same-length-9 c =
+    let at-advance = c .before .before .before .before .before .before .before .before .before .before .before .before .before .before .before .before .before .before in
     omega (arith, at-advance .advance .kept)
 
 pub try-likely-spec : {M : Type 1} → statement M
@@ -115,4 +120,5 @@ try-likely-spec =
     same-length-6
     same-length-7
     same-length-8
+    same-length-9
     returns-2)

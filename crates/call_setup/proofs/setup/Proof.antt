@@ -12,48 +12,50 @@ use Rattle.call_setup.proofs.setup.Tie as tie
 
 -- once no refusal is given
 none-given : (c : tie.Else1)
-    → let a = c .before .before .before .before .before .before .before .args in
-    setupRefusal (a .n) (a .v) (a .kind) (a .splitvci) (a .splitpath) (a .cells .now) (a .links .now) (a .calendar .now) (a .words .now) (a .bits .now) ≡ 0
+    → let a = c .before .before .before .before .before .before .before .before .args in
+    setupRefusal (a .n) (a .v) (a .kind) (a .splitvci) (a .splitpath) (a .cells .now) (a .links .now) (a .calendar .now) (a .words .now) (a .bits .now) (a .arrived .now) ≡ 0
 none-given c = sym (c .before .setup-refusal .ensures) ∙ c .if1 .left
 
 lent : (c : tie.Else1)
-    → let a = c .before .before .before .before .before .before .before .args in
-    Lent (a .n) (a .v) (a .kind) (a .splitvci) (a .splitpath) (a .cells .now) (a .links .now) (a .calendar .now) (a .words .now) (a .bits .now)
+    → let a = c .before .before .before .before .before .before .before .before .args in
+    Lent (a .n) (a .v) (a .kind) (a .splitvci) (a .splitpath) (a .cells .now) (a .links .now) (a .calendar .now) (a .words .now) (a .bits .now) (a .arrived .now)
 lent c =
-    let a = c .before .before .before .before .before .before .before .args in
-    setup-lent (a .n) (a .v) (a .kind) (a .splitvci) (a .splitpath) (a .cells .now) (a .links .now) (a .calendar .now) (a .words .now) (a .bits .now) (none-given c)
+    let a = c .before .before .before .before .before .before .before .before .args in
+    setup-lent (a .n) (a .v) (a .kind) (a .splitvci) (a .splitpath) (a .cells .now) (a .links .now) (a .calendar .now) (a .words .now) (a .bits .now) (a .arrived .now) (none-given c)
 
 returns : tie.Need-returns
 returns c =
-    let a = c .before .before .before .before .before .before .before .before .args in
+    let a = c .before .before .before .before .before .before .before .before .before .args in
     let e = c .before .before .setup-refusal .ensures in
     ap
-    (λ (r : Record). setUpOf (c .before .before .setup-refusal .result) (stateOf r (a .cells .now) (a .links .now) (a .calendar .now) (a .words .now) (a .bits .now)))
+    (λ (r : Record). setUpOf (c .before .before .setup-refusal .result) (stateOf r (a .cells .now) (a .links .now) (a .calendar .now) (a .words .now) (a .bits .now) (a .arrived .now)))
     (c .no-record .ensures)
-    ∙ (ap (λ (k : ℕ). setUpOf k (stateOf zeros (a .cells .now) (a .links .now) (a .calendar .now) (a .words .now) (a .bits .now))) e
-    ∙ setup-refused (a .n) (a .v) (a .kind) (a .splitvci) (a .splitpath) (a .cells .now) (a .links .now) (a .calendar .now) (a .words .now) (a .bits .now) (a .raw) (λ z. c .before .if1 .taken (e ∙ z)))
+    ∙ (ap (λ (k : ℕ). setUpOf k (stateOf zeros (a .cells .now) (a .links .now) (a .calendar .now) (a .words .now) (a .bits .now) (a .arrived .now))) e
+    ∙ setup-refused (a .n) (a .v) (a .kind) (a .splitvci) (a .splitpath) (a .cells .now) (a .links .now) (a .calendar .now) (a .words .now) (a .bits .now) (a .arrived .now) (a .raw) (λ z. c .before .if1 .taken (e ∙ z)))
 
 free-all-requires : tie.Need-free-all-requires
 free-all-requires c κs = lent (c .before .before .before .before .before .before .before .before .before .before .before .before .before .before .before .before .before) .bits-long
 
 fresh-record-requires : tie.Need-fresh-record-requires
 fresh-record-requires c κs =
-    let l = lent (c .before .before .before .before .before .before .before .before .before .before .before .before .before .before .before .before .before .before .before .before) in
+    let l = lent (c .before .before .before .before .before .before .before .before .before .before .before .before .before .before .before .before .before .before .before .before .before .before .before .before) in
     omega (arith, l .ranges .N-least, l .ranges .V-most, l .kind-low)
 
 returns-2 : tie.Need-returns-2
 returns-2 c =
-    let freed = c .before .before .before in
+    let stamped = c .before .before .before in
+    let freed = stamped .before .before .before .before in
     let cleared = freed .before .before .before .before in
     let emptied = cleared .before .before .before .before in
     let linked = emptied .before .before .before .before in
     let first = linked .before .before .before .before in
     let none = first .before .before in
-    let a = none .before .before .before .before .before .before .before .args in
+    let a = none .before .before .before .before .before .before .before .before .args in
     ap (λ (s : State). setUpOf 0 s)
-    (fresh-is (a .n) (a .v) (a .kind) (a .splitvci) (a .splitpath) (a .cells .now) (a .links .now) (a .calendar .now) (a .words .now) (a .bits .now)
+    (fresh-is (a .n) (a .v) (a .kind) (a .splitvci) (a .splitpath) (a .cells .now) (a .links .now) (a .calendar .now) (a .words .now) (a .bits .now) (a .arrived .now)
     (lent none)
     (chosen (askedOf (a .raw) (a .kind) (a .splitvci) (a .splitpath)))
+    _
     _
     _
     _
@@ -65,8 +67,9 @@ returns-2 c =
     (linked .clear-links .ensures)
     (emptied .empty-calendar .ensures)
     (cleared .clear-words .ensures)
-    (freed .free-all .ensures))
-    ∙ setup-done (a .n) (a .v) (a .kind) (a .splitvci) (a .splitpath) (a .cells .now) (a .links .now) (a .calendar .now) (a .words .now) (a .bits .now) (a .raw) (none-given none)
+    (freed .free-all .ensures)
+    (stamped .clear-words2 .ensures))
+    ∙ setup-done (a .n) (a .v) (a .kind) (a .splitvci) (a .splitpath) (a .cells .now) (a .links .now) (a .calendar .now) (a .words .now) (a .bits .now) (a .arrived .now) (a .raw) (none-given none)
 
 pub setup-spec : {M : Type 1} → statement M
 setup-spec =
@@ -80,7 +83,9 @@ setup-spec =
     (λ c κs. search needs)
     (λ c κs. search needs)
     free-all-requires
+    (λ c κs. search needs)
     fresh-record-requires
+    (λ c. search needs)
     (λ c. search needs)
     (λ c. search needs)
     (λ c. search needs)

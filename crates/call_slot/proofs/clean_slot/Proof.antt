@@ -8,9 +8,9 @@ use Rattle.call_slot.proofs.clean_slot.Tie as tie
 
 returns : tie.Need-returns
 returns c =
-    let s = c .before .before .before .before .before .before .before .before .before .before .before .slot in
-    let a = c .before .before .before .before .before .before .before .before .before .before .before .before .before .before .before .before .before .before .before .before .before .before .before .before .args in
-    backed (a .r) _ 0 false _ (s .result) (now (a .cells)) (now (a .links)) (now (a .calendar)) (now (a .words)) (now (a .bits)) (now (a .cell)) _ _ _ _ _ (c .before .before .before .before .before .before .before .before .before .before .before .before .before .before .before .before .before .record-in-mode .ensures) (c .back-to .ensures) (s .ensures)
+    let s = c .before .before .before .before .before .before .before .before .before .before .before .before .before .slot in
+    let a = c .before .before .before .before .before .before .before .before .before .before .before .before .before .before .before .before .before .before .before .before .before .before .before .before .before .before .before .before .args in
+    backed (a .r) _ 0 false _ (s .result) (now (a .cells)) (now (a .links)) (now (a .calendar)) (now (a .words)) (now (a .bits)) (now (a .arrived)) (now (a .cell)) _ _ _ _ _ _ (c .before .before .before .before .before .before .before .before .before .before .before .before .before .before .before .before .before .before .before .before .record-in-mode .ensures) (c .back-to .ensures) (s .ensures)
 
 pub clean-slot-spec : {M : Type 1} → statement M
 clean-slot-spec =
@@ -19,6 +19,7 @@ clean-slot-spec =
     (λ c κs. search needs)
     (λ c κs. search needs)
     (λ c κs. search needs)
+    (λ c. search needs)
     (λ c. search needs)
     (λ c. search needs)
     (λ c. search needs)

@@ -15,13 +15,13 @@ use Rattle.call_slot.proofs.mended_slot.Tie as tie
 
 returns : tie.Need-returns
 returns c =
-    let s = c .before .before .before .before .before .before .before .before .before .before .before .slot in
-    let a = c .before .before .before .before .before .before .before .before .before .before .before .before .before .before .before .before .before .before .before .before .before .before .before .before .before .before .before .before .before .before .before .args in
-    backed (a .r) _ (a .c .mode) false _ (s .result) (now (a .cells)) (now (a .links)) (now (a .calendar)) (now (a .words)) (now (a .bits)) (octetsOf (a .c .head) (a .c .fifth) ++ drop 5 (now (a .cell))) _ _ _ _ _
-    (c .before .before .before .before .before .before .before .before .before .before .before .before .before .before .before .before .before .before .record-in-mode .ensures) (c .back-to .ensures)
+    let s = c .before .before .before .before .before .before .before .before .before .before .before .before .before .slot in
+    let a = c .before .before .before .before .before .before .before .before .before .before .before .before .before .before .before .before .before .before .before .before .before .before .before .before .before .before .before .before .before .before .before .before .before .before .before .args in
+    backed (a .r) _ (a .c .mode) false _ (s .result) (now (a .cells)) (now (a .links)) (now (a .calendar)) (now (a .words)) (now (a .bits)) (now (a .arrived)) (octetsOf (a .c .head) (a .c .fifth) ++ drop 5 (now (a .cell))) _ _ _ _ _ _
+    (c .before .before .before .before .before .before .before .before .before .before .before .before .before .before .before .before .before .before .before .before .before .record-in-mode .ensures) (c .back-to .ensures)
     (s .ensures
-    ∙ ap (λ (l : List ℕ). uncheckedSlot (stateOf (c .before .before .before .before .before .before .before .before .before .before .before .before .before .before .before .before .before .before .record-in-mode .result) (now (a .cells)) (now (a .links)) (now (a .calendar)) (now (a .words)) (now (a .bits))) l)
-    (c .before .before .before .before .before .before .before .before .before .before .before .before .before .before .before .before .before .before .before .before .put-header .ensures ∙ ap (λ (l : List ℕ). octetsOf (a .c .head) (a .c .fifth) ++ drop 5 l) (c .before .before .before .before .before .before .before .before .before .before .before .before .before .before .before .before .before .before .before .before .before .before .before .copy-cell .ensures)))
+    ∙ ap (λ (l : List ℕ). uncheckedSlot (stateOf (c .before .before .before .before .before .before .before .before .before .before .before .before .before .before .before .before .before .before .before .before .before .record-in-mode .result) (now (a .cells)) (now (a .links)) (now (a .calendar)) (now (a .words)) (now (a .bits)) (now (a .arrived))) l)
+    (c .before .before .before .before .before .before .before .before .before .before .before .before .before .before .before .before .before .before .before .before .before .before .before .put-header .ensures ∙ ap (λ (l : List ℕ). octetsOf (a .c .head) (a .c .fifth) ++ drop 5 l) (c .before .before .before .before .before .before .before .before .before .before .before .before .before .before .before .before .before .before .before .before .before .before .before .before .before .before .copy-cell .ensures)))
 
 pub mended-slot-spec : {M : Type 1} → statement M
 mended-slot-spec =
@@ -35,6 +35,7 @@ mended-slot-spec =
     (λ c. search needs)
     (λ c κs. search needs)
     (λ c κs. search needs)
+    (λ c. search needs)
     (λ c. search needs)
     (λ c. search needs)
     (λ c. search needs)

@@ -8,14 +8,14 @@ use Rattle.call_slot.proofs.slot.Statement.{statement}
 use Rattle.call_slot.proofs.slot.Tie as tie
 
 checked-requires : tie.Need-checked-requires
-checked-requires c κs = sym (c .before .before .before .before .before .before .is-checked .ensures) ∙ c .before .before .before .before .before .if1 .taken
+checked-requires c κs = sym (c .before .before .before .before .before .before .before .is-checked .ensures) ∙ c .before .before .before .before .before .before .if1 .taken
 
 returns-2 : tie.Need-returns-2
 returns-2 c =
-    let a = c .before .before .before .before .before .before .before .before .before .before .before .before .before .before .before .before .before .before .before .before .before .before .before .before .args in
-    c .before .before .before .before .before .before .before .before .before .before .slot .ensures
-    ∙ sym (unchecked-is (stateOf (a .r) (now (a .cells)) (now (a .links)) (now (a .calendar)) (now (a .words)) (now (a .bits))) (now (a .cell))
-    (sym (c .before .before .before .before .before .before .before .before .before .before .before .before .before .before .before .before .before .is-checked .ensures) ∙ c .before .before .before .before .before .before .before .before .before .before .before .before .before .before .before .before .if1 .left))
+    let a = c .before .before .before .before .before .before .before .before .before .before .before .before .before .before .before .before .before .before .before .before .before .before .before .before .before .before .before .before .args in
+    c .before .before .before .before .before .before .before .before .before .before .before .before .slot .ensures
+    ∙ sym (unchecked-is (stateOf (a .r) (now (a .cells)) (now (a .links)) (now (a .calendar)) (now (a .words)) (now (a .bits)) (now (a .arrived))) (now (a .cell))
+    (sym (c .before .before .before .before .before .before .before .before .before .before .before .before .before .before .before .before .before .before .before .before .is-checked .ensures) ∙ c .before .before .before .before .before .before .before .before .before .before .before .before .before .before .before .before .before .before .before .if1 .left))
 
 pub slot-spec : {M : Type 1} → statement M
 slot-spec =
@@ -29,7 +29,9 @@ slot-spec =
     (λ c. search needs)
     (λ c. search needs)
     (λ c. search needs)
+    (λ c. search needs)
     (λ c κs. search needs)
+    (λ c. search needs)
     (λ c. search needs)
     (λ c. search needs)
     (λ c. search needs)

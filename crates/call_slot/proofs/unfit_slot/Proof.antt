@@ -34,9 +34,9 @@ none false q h = absurd (omega (arith, h))
 none true false h = absurd (omega (arith, h))
 none true true h = refl
 
-module _ (r : Record) (cells links calendar words bits cell : List ℕ) (l : length cell ≡ 53) where
-  shape-is : shapeOf r cells links calendar words bits cell
-      ≡ shapeBy (rangesHold (r .n) (r .v)) (lengthsHold (r .n) (r .v) cells links calendar words bits)
+module _ (r : Record) (cells links calendar words bits arrived cell : List ℕ) (l : length cell ≡ 53) where
+  shape-is : shapeOf r cells links calendar words bits arrived cell
+      ≡ shapeBy (rangesHold (r .n) (r .v)) (lengthsHold (r .n) (r .v) cells links calendar words bits arrived)
   unfolding shapeOf
   shape-is = rw l
 
@@ -44,18 +44,18 @@ module _ (r : Record) (cells links calendar words bits cell : List ℕ) (l : len
   p = rangesHold (r .n) (r .v)
 
   abbrev q : Bool
-  q = lengthsHold (r .n) (r .v) cells links calendar words bits
+  q = lengthsHold (r .n) (r .v) cells links calendar words bits arrived
 
-  early : (number : ℕ) (x : Served) → number ≡ shapeOf r cells links calendar words bits cell → (number ≡ 0 → ⊥)
-      → (x .ctl ≡ r) × (x .answer ≡ bareAnswer number) → x ≡ unfitOf r cells links calendar words bits
+  early : (number : ℕ) (x : Served) → number ≡ shapeOf r cells links calendar words bits arrived cell → (number ≡ 0 → ⊥)
+      → (x .ctl ≡ r) × (x .answer ≡ bareAnswer number) → x ≡ unfitOf r cells links calendar words bits arrived
   unfolding unfitOf
   early number x e ne h =
       let f = e ∙ shape-is in
       (λ i. record { ctl = h .0 i; answer = h .1 i })
       ∙ ap (λ (n : ℕ). servedOf r (bareAnswer n)) (f ∙ given p q (λ z. ne (f ∙ z)))
 
-  late : (number : ℕ) (x : Served) → number ≡ shapeOf r cells links calendar words bits cell → number ≡ 0
-      → (x .ctl ≡ r) × (x .answer ≡ bareAnswer 3) → x ≡ unfitOf r cells links calendar words bits
+  late : (number : ℕ) (x : Served) → number ≡ shapeOf r cells links calendar words bits arrived cell → number ≡ 0
+      → (x .ctl ≡ r) × (x .answer ≡ bareAnswer 3) → x ≡ unfitOf r cells links calendar words bits arrived
   unfolding unfitOf
   late number x e z h =
       (λ i. record { ctl = h .0 i; answer = h .1 i })
@@ -63,14 +63,14 @@ module _ (r : Record) (cells links calendar words bits cell : List ℕ) (l : len
 
 returns : tie.Need-returns
 returns c =
-    let a = c .before .before .before .before .before .before .before .before .before in
-    early (a .args .r) (a .args .cells .now) (a .args .links .now) (a .args .calendar .now) (a .args .words .now) (a .args .bits .now)
+    let a = c .before .before .before .before .before .before .before .before .before .before in
+    early (a .args .r) (a .args .cells .now) (a .args .links .now) (a .args .calendar .now) (a .args .words .now) (a .args .bits .now) (a .args .arrived .now)
     (a .args .cell .now) (a .pre) _ _ (c .before .before .shape .ensures) (c .before .if1 .taken) (c .refuse .ensures)
 
 returns-2 : tie.Need-returns-2
 returns-2 c =
-    let a = c .before .before .before .before .before .before .before .before .before in
-    late (a .args .r) (a .args .cells .now) (a .args .links .now) (a .args .calendar .now) (a .args .words .now) (a .args .bits .now)
+    let a = c .before .before .before .before .before .before .before .before .before .before in
+    late (a .args .r) (a .args .cells .now) (a .args .links .now) (a .args .calendar .now) (a .args .words .now) (a .args .bits .now) (a .args .arrived .now)
     (a .args .cell .now) (a .pre) _ _ (c .before .before .shape .ensures) (c .before .if1 .left) (c .refuse2 .ensures)
 
 pub unfit-slot-spec : {M : Type 1} → statement M

@@ -1,4 +1,4 @@
--- `leaf_refusal::lengths_hold` meets its contract: its five tests are the contract's own.
+-- `leaf_refusal::lengths_hold` meets its contract: its six tests are the contract's own.
 use borrow.Author.Tests.{eq-eqb, ne-eqb}
 use mathlib.Core.Path.{sym, _∙_}
 use borrow.Author.Needs.{needs}
@@ -28,12 +28,22 @@ returns-4 c = simp (
 
 returns-5 : tie.Need-returns-5
 returns-5 c = simp (
-  eq-eqb _ _ (c .before .before .before .before .if1 .left),
-  eq-eqb _ _ (c .before .before .before .if2 .left),
-  eq-eqb _ _ (c .before .before .if3 .left),
-  eq-eqb _ _ (c .if4 .left ∙ c .before .words-in .ensures),
+  eq-eqb _ _ (c .before .before .before .before .before .if1 .left),
+  eq-eqb _ _ (c .before .before .before .before .if2 .left),
+  eq-eqb _ _ (c .before .before .before .if3 .left),
+  eq-eqb _ _ (c .before .if4 .left ∙ c .before .before .words-in .ensures),
+  ne-eqb _ _ (c .if5 .taken),
+)
+
+returns-6 : tie.Need-returns-6
+returns-6 c = simp (
+  eq-eqb _ _ (c .before .before .before .before .before .if1 .left),
+  eq-eqb _ _ (c .before .before .before .before .if2 .left),
+  eq-eqb _ _ (c .before .before .before .if3 .left),
+  eq-eqb _ _ (c .before .if4 .left ∙ c .before .before .words-in .ensures),
+  eq-eqb _ _ (c .if5 .left),
 )
 
 pub lengths-hold-spec : {M : Type 1} → statement M
 lengths-hold-spec =
-    tie.close (tie.spec (λ c. search needs) returns returns-2 (λ c. search needs) returns-3 (λ c. search needs) returns-4 returns-5)
+    tie.close (tie.spec (λ c. search needs) returns returns-2 (λ c. search needs) returns-3 (λ c. search needs) returns-4 returns-5 returns-6)

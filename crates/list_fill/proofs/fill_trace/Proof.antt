@@ -21,21 +21,22 @@ record Filling (more : Bool) (trace : List ℕ) (w₀ : World) (out₀ : List �
   pub within : used ≤ length out₀
 
 abbrev Inv-loop : tie.InvT-loop
-Inv-loop trace more cells₀ links₀ calendar₀ words₀ bits₀ out₀ now₀ used₀ cells links calendar words bits out now used =
-    Filling more trace (worldOf now₀ cells₀ links₀ calendar₀ words₀ bits₀) out₀ (worldOf now cells links calendar words bits) out used
+Inv-loop trace more cells₀ links₀ calendar₀ words₀ bits₀ arrived₀ out₀ now₀ used₀ cells links calendar words bits arrived out now used =
+    Filling more trace (worldOf now₀ cells₀ links₀ calendar₀ words₀ bits₀ arrived₀) out₀ (worldOf now cells links calendar words bits arrived) out used
     × (length cells ≡ length cells₀)
     × (length links ≡ length links₀)
     × (length calendar ≡ length calendar₀)
     × (length words ≡ length words₀)
     × (length bits ≡ length bits₀)
+    × (length arrived ≡ length arrived₀)
     × (length out ≡ length out₀)
 
 abbrev μ-loop : tie.MeasureT-loop
-μ-loop trace more cells₀ links₀ calendar₀ words₀ bits₀ out₀ now₀ used₀ cells links calendar words bits out now used =
-    weight (length trace) (worldOf now cells links calendar words bits)
+μ-loop trace more cells₀ links₀ calendar₀ words₀ bits₀ arrived₀ out₀ now₀ used₀ cells links calendar words bits arrived out now used =
+    weight (length trace) (worldOf now cells links calendar words bits arrived)
 
 loop-holds : tie.Need-loop-holds Inv-loop μ-loop
-loop-holds c = (record { steps = 0; ran = ran-none _ _ _ _ _; within = search needs }, refl, refl, refl, refl, refl, refl)
+loop-holds c = (record { steps = 0; ran = ran-none _ _ _ _ _; within = search needs }, refl, refl, refl, refl, refl, refl, refl)
 
 sub-loop : tie.Need-sub-loop Inv-loop μ-loop
 sub-loop c = search needs
@@ -47,25 +48,26 @@ returns c =
 
 advance-requires : tie.Need-advance-requires Inv-loop μ-loop
 advance-requires c κs =
-    let h = c .before .before .before .before .before .before .before .before .loop in
-    ((omega (arith, c .before .before .before .before .before .before .before .loop-test .taken, h .inv .0 .within, h .inv .6), c .before .before .before .before .before .before .if1 .left), c .before .before .before .before .before .before .before .before .before .before .before .before .before .before .before .before .pre)
+    let h = c .before .before .before .before .before .before .before .before .before .loop in
+    ((omega (arith, c .before .before .before .before .before .before .before .before .loop-test .taken, h .inv .0 .within, h .inv .7), c .before .before .before .before .before .before .before .if1 .left), c .before .before .before .before .before .before .before .before .before .before .before .before .before .before .before .before .before .before .pre)
 
 loop-less : tie.Need-loop-less Inv-loop μ-loop
 loop-less c =
-    let a = c .before .before .before .before .before .before .before .before .before .before .before .before .before .advance in
-    let h = c .before .before .before .before .before .before .before .before .before .before .before .before .before .before .before .before .before .before .before .before .before .before .loop in
-    weight-falls _ (worldOf (h .now) (h .cells) (h .links) (h .calendar) (h .words) (h .bits)) _ (c .before .before .before .before .before .before .before .before .before .before .before .before .before .before .before .before .before .before .before .before .if1 .left) (omega arith) (advanced-onward _ _ _ _ _ _ _ _ (a .ensures))
+    let a = c .before .before .before .before .before .before .before .before .before .before .before .before .before .before .before .advance in
+    let h = c .before .before .before .before .before .before .before .before .before .before .before .before .before .before .before .before .before .before .before .before .before .before .before .before .before .loop in
+    weight-falls _ (worldOf (h .now) (h .cells) (h .links) (h .calendar) (h .words) (h .bits) (h .arrived)) _ (c .before .before .before .before .before .before .before .before .before .before .before .before .before .before .before .before .before .before .before .before .before .before .before .if1 .left) (omega arith) (advanced-onward _ _ _ _ _ _ _ _ (a .ensures))
 
 loop-again : tie.Need-loop-again Inv-loop μ-loop
 loop-again c =
-    let a = c .before .before .before .before .before .before .before .before .before .before .before .before .before .advance in
-    let h = c .before .before .before .before .before .before .before .before .before .before .before .before .before .before .before .before .before .before .before .before .before .before .loop in
+    let a = c .before .before .before .before .before .before .before .before .before .before .before .before .before .before .before .advance in
+    let h = c .before .before .before .before .before .before .before .before .before .before .before .before .before .before .before .before .before .before .before .before .before .before .before .before .before .loop in
     let i = h .inv .0 in (
       record {
         steps = i .steps + a .ensures .steps;
-        ran = ran-then _ _ _ _ _ _ _ _ (h .out) _ _ (h .used) _ (h .inv .6) (i .ran) (a .ensures .ran);
-        within = omega (arith, a .ensures .within, h .inv .6);
+        ran = ran-then _ _ _ _ _ _ _ _ (h .out) _ _ (h .used) _ (h .inv .7) (i .ran) (a .ensures .ran);
+        within = omega (arith, a .ensures .within, h .inv .7);
       },
+      search needs,
       search needs,
       search needs,
       search needs,
@@ -80,7 +82,7 @@ returns-2 c =
     record {
       steps = h .inv .0 .steps;
       ran = h .inv .0 .ran;
-      full = inr (omega (arith, c .loop-test .left, h .inv .0 .within, h .inv .6));
+      full = inr (omega (arith, c .loop-test .left, h .inv .0 .within, h .inv .7));
       within = h .inv .0 .within;
     }
 
@@ -98,10 +100,12 @@ fill-trace-spec =
     (λ c. search needs)
     (λ c. search needs)
     (λ c. search needs)
+    (λ c. search needs)
     returns
     advance-requires
     loop-less
     loop-again
+    (λ c. search needs)
     (λ c. search needs)
     (λ c. search needs)
     (λ c. search needs)

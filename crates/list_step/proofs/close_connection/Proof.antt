@@ -8,11 +8,11 @@ use Rattle.list_step.proofs.close_connection.Tie as tie
 
 returns : tie.Need-returns
 unfolding numberIn
-returns c cells links calendar bits =
+returns c cells links calendar bits arrived =
     let l = c .before .before .before in
     let o = l .before .before .before .before in
     let s = o .before .before .before .before in
-    close-did (s .args .run) _ _ cells links calendar _ _ bits _ _ _ _ _ (s .pre .1) (c .moved .ensures) (l .close-line .ensures .1) _ _ refl (o .close .ensures) (l .close-line .ensures .0)
+    close-did (s .args .run) _ _ cells links calendar _ _ bits arrived _ _ _ _ _ (s .pre .1) (c .moved .ensures) (l .close-line .ensures .1) _ _ refl (o .close .ensures) (l .close-line .ensures .0)
 
 pub close-connection-spec : {M : Type 1} → statement M
 close-connection-spec =

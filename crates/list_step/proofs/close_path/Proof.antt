@@ -7,12 +7,12 @@ use Rattle.list_step.proofs.close_path.Tie as tie
 
 returns : tie.Need-returns
 unfolding numberIn
-returns c cells links calendar bits =
+returns c cells links calendar bits arrived =
     let l = c .before .before .before in
     let o = l .before .before .before .before in
     let n = o .before .before in
     let s = n .before .before .before in
-    close-did (s .args .run) _ _ cells links calendar _ _ bits _ _ _ _ _ (s .pre .1) (c .moved .ensures) (l .close-line .ensures .1) _ _ (n .path-number .ensures) (o .close-path .ensures) (l .close-line .ensures .0)
+    close-did (s .args .run) _ _ cells links calendar _ _ bits arrived _ _ _ _ _ (s .pre .1) (c .moved .ensures) (l .close-line .ensures .1) _ _ (n .path-number .ensures) (o .close-path .ensures) (l .close-line .ensures .0)
 
 pub close-path-spec : {M : Type 1} → statement M
 close-path-spec =

@@ -9,10 +9,10 @@ use Rattle.list_step.proofs.end_run.Tie as tie
 
 returns : tie.Need-returns
 unfolding ended
-returns c cells links calendar words bits =
+returns c cells links calendar words bits arrived =
     let e = c .before .before .before .end-tally in
     record {
-      world = ap (λ (x : Run). worldOf x cells links calendar words bits) (c .over .ensures);
+      world = ap (λ (x : Run). worldOf x cells links calendar words bits arrived) (c .over .ensures);
       put = e .ensures .0;
       few = omega (arith, e .ensures .1);
     }

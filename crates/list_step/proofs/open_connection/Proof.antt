@@ -8,11 +8,11 @@ use Rattle.list_step.proofs.open_connection.Tie as tie
 
 returns : tie.Need-returns
 unfolding numberIn
-returns c cells links calendar bits =
+returns c cells links calendar bits arrived =
     let l = c .before .before .before in
     let o = l .before .before .before .before in
     let s = o .before .before .before .before in
-    open-did (s .args .run) _ _ cells links calendar _ _ bits _ _ _ _ _ (s .pre .1) (c .moved .ensures) (l .open-line .ensures .1) _ _ _ _ _ _ refl (o .open-sustained .ensures) (l .open-line .ensures .0)
+    open-did (s .args .run) _ _ cells links calendar _ _ bits arrived _ _ _ _ _ (s .pre .1) (c .moved .ensures) (l .open-line .ensures .1) _ _ _ _ _ _ refl (o .open-sustained .ensures) (l .open-line .ensures .0)
 
 pub open-connection-spec : {M : Type 1} → statement M
 open-connection-spec =

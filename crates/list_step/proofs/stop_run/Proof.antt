@@ -10,11 +10,11 @@ use Rattle.list_step.proofs.stop_run.Tie as tie
 
 returns : tie.Need-returns
 unfolding ended
-returns c cells links calendar words bits =
+returns c cells links calendar words bits arrived =
     let e = c .before .before .before in
     let l = e .before .before .before .before in
     record {
-      world = ap (λ (x : Run). worldOf x cells links calendar words bits) (c .over .ensures);
+      world = ap (λ (x : Run). worldOf x cells links calendar words bits arrived) (c .over .ensures);
       put = put-then (l .stop-line .ensures .0) (e .end-tally .ensures .0);
       few = omega (arith, l .stop-line .ensures .1, e .end-tally .ensures .1);
     }

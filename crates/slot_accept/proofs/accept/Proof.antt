@@ -14,7 +14,7 @@ use Rattle.slot_accept.proofs.accept.Tie as tie
 
 seat-now-requires : tie.Need-seat-now-requires
 seat-now-requires c κs =
-    let pre = c .before .before .before .before .before .before .before .before .pre in
+    let pre = c .before .before .before .before .before .before .before .before .before .pre in
     let z = pre .0 in
     ((z .n-high, z .turn-low, pre .1 .near), (omega (arith, z .calendar-long), omega (arith, z .bits-long)))
 
@@ -22,12 +22,12 @@ returns : tie.Need-returns
 returns c =
     let test = c .before in
     let seat = test .before .before in
-    let start = seat .before .before .before .before .before .before .before .before .before in
+    let start = seat .before .before .before .before .before .before .before .before .before .before in
     let a = start .args in
     let pre = start .pre in
-    as-came (a .r) (now (a .cells)) (now (a .links)) (now (a .calendar)) (now (a .words)) (now (a .bits)) _ _ (c .refuse .ensures)
+    as-came (a .r) (now (a .cells)) (now (a .links)) (now (a .calendar)) (now (a .words)) (now (a .bits)) (now (a .arrived)) _ _ (c .refuse .ensures)
     (now-none (a .k) (a .j) (now (a .cell)) (now (a .cells)) (now (a .links)) (now (a .calendar))
-    (rotated (a .k) (a .b) (now (a .words))) (now (a .bits)) (pre .0 .turn-low) (pre .1 .near) (seat .seat-now .result)
+    (rotated (a .k) (a .b) (now (a .words))) (now (a .bits)) (now (a .arrived)) (pre .0 .turn-low) (pre .1 .near) (seat .seat-now .result)
     (seat .seat-now .ensures) (not-true _ (test .if1 .taken)))
 
 returns-2 : tie.Need-returns-2
@@ -36,11 +36,11 @@ returns-2 c =
     let output = tail .before .before in
     let test = output .before .before in
     let seat = test .before .before in
-    let start = seat .before .before .before .before .before .before .before .before .before in
+    let start = seat .before .before .before .before .before .before .before .before .before .before in
     let a = start .args in
     let pre = start .pre in
     output-unfit (a .r) (a .k) (a .b) (a .j) (seat .seat-now .result) (now (a .cell)) (now (a .cells)) (now (a .links))
-    (now (a .calendar)) (now (a .words)) (now (a .bits)) _ (c .refuse2 .ensures) (pre .0) (pre .1) (seat .seat-now .ensures)
+    (now (a .calendar)) (now (a .words)) (now (a .bits)) (now (a .arrived)) _ (c .refuse2 .ensures) (pre .0) (pre .1) (seat .seat-now .ensures)
     (not-false _ (test .if1 .left))
     (tail-left _ _ _ (pre .0 .n-high) (output .if2 .taken) (tail .if3 .taken))
 
@@ -50,11 +50,11 @@ returns-3 c =
     let output = head .before .before in
     let test = output .before .before in
     let seat = test .before .before in
-    let start = seat .before .before .before .before .before .before .before .before .before in
+    let start = seat .before .before .before .before .before .before .before .before .before .before in
     let a = start .args in
     let pre = start .pre in
     output-unfit (a .r) (a .k) (a .b) (a .j) (seat .seat-now .result) (now (a .cell)) (now (a .cells)) (now (a .links))
-    (now (a .calendar)) (now (a .words)) (now (a .bits)) _ (c .refuse3 .ensures) (pre .0) (pre .1) (seat .seat-now .ensures)
+    (now (a .calendar)) (now (a .words)) (now (a .bits)) (now (a .arrived)) _ (c .refuse3 .ensures) (pre .0) (pre .1) (seat .seat-now .ensures)
     (not-false _ (test .if1 .left))
     (head-high _ _ _ (output .if2 .left) (head .if4 .taken))
 
@@ -65,20 +65,20 @@ returns-4 c =
     let output = head .before .before in
     let test = output .before .before in
     let seat = test .before .before in
-    let start = seat .before .before .before .before .before .before .before .before .before in
+    let start = seat .before .before .before .before .before .before .before .before .before .before in
     let a = start .args in
     let pre = start .pre in
     output-unfit (a .r) (a .k) (a .b) (a .j) (seat .seat-now .result) (now (a .cell)) (now (a .cells)) (now (a .links))
-    (now (a .calendar)) (now (a .words)) (now (a .bits)) _ (c .refuse4 .ensures) (pre .0) (pre .1) (seat .seat-now .ensures)
+    (now (a .calendar)) (now (a .words)) (now (a .bits)) (now (a .arrived)) _ (c .refuse4 .ensures) (pre .0) (pre .1) (seat .seat-now .ensures)
     (not-false _ (test .if1 .left))
     (tail-high _ _ _ (pre .0 .n-high) (head .if4 .left) (tail .if5 .taken))
 
 accept-seated-requires : tie.Need-accept-seated-requires
 accept-seated-requires c κs =
-    let fit = c .before .before .before .before .before in
+    let fit = c .before .before .before .before .before .before in
     let test = fit .before .before in
     let seat = test .before .before in
-    let start = seat .before .before .before .before .before .before .before .before .before in
+    let start = seat .before .before .before .before .before .before .before .before .before .before in
     let a = start .args in
     let pre = start .pre in (
       pre .0,
@@ -86,7 +86,7 @@ accept-seated-requires c κs =
         pre .1,
         (
           now-shows (a .k) (a .j) (now (a .cell)) (now (a .cells)) (now (a .links)) (now (a .calendar))
-              (rotated (a .k) (a .b) (now (a .words))) (now (a .bits)) (pre .0 .turn-low) (pre .1 .near) (seat .seat-now .result)
+              (rotated (a .k) (a .b) (now (a .words))) (now (a .bits)) (now (a .arrived)) (pre .0 .turn-low) (pre .1 .near) (seat .seat-now .result)
               (seat .seat-now .ensures) (not-false _ (test .if1 .left)),
           ⊎-elim
               (λ w. both-empty _ _ _ (pre .0 .n-high) (w .0 .taken) (w .2 .left))
@@ -98,15 +98,15 @@ accept-seated-requires c κs =
 
 returns-5 : tie.Need-returns-5
 returns-5 c =
-    let case = c .before .before .before .before .before .before .before .before .before .before in
-    let test = case .before .before .before .before .before .before .before .before in
+    let case = c .before .before .before .before .before .before .before .before .before .before .before .before in
+    let test = case .before .before .before .before .before .before .before .before .before in
     let seat = test .before .before in
-    let start = seat .before .before .before .before .before .before .before .before .before in
+    let start = seat .before .before .before .before .before .before .before .before .before .before in
     let a = start .args in
     let pre = start .pre in
-    goes-on (a .r) (now (a .cells)) (now (a .links)) (now (a .calendar)) (now (a .words)) (now (a .bits)) _ _ _
+    goes-on (a .r) (now (a .cells)) (now (a .links)) (now (a .calendar)) (now (a .words)) (now (a .bits)) (now (a .arrived)) _ _ _
     (now-goes (a .k) (a .j) (now (a .cell)) (now (a .cells)) (now (a .links)) (now (a .calendar))
-    (rotated (a .k) (a .b) (now (a .words))) (now (a .bits)) (pre .0 .turn-low) (pre .1 .near) (seat .seat-now .result)
+    (rotated (a .k) (a .b) (now (a .words))) (now (a .bits)) (now (a .arrived)) (pre .0 .turn-low) (pre .1 .near) (seat .seat-now .result)
     (seat .seat-now .ensures) (not-false _ (test .if1 .left)))
     (case .accept-seated .ensures)
 
@@ -132,6 +132,7 @@ accept-spec =
     (λ c. search needs)
     returns-4
     accept-seated-requires
+    (λ c. search needs)
     (λ c. search needs)
     (λ c. search needs)
     (λ c. search needs)

@@ -16,12 +16,12 @@ use Rattle.slot_accept.proofs.accept_end.Statement.{statement}
 use Rattle.slot_accept.proofs.accept_end.Tie as tie
 
 store-requires : tie.Need-store-requires
-store-requires c κs = let pre = c .before .before .before .before .before .before .before .before .before .before .before .pre in (pre .0, (pre .1 .0, pre .1 .1 .0))
+store-requires c κs = let pre = c .before .before .before .before .before .before .before .before .before .before .before .before .before .pre in (pre .0, (pre .1 .0, pre .1 .1 .0))
 
 put-less-requires : tie.Need-put-less-requires
 put-less-requires c κs =
-    let at-store = c .before .before .before .before .before .before .before .before .before .before .before in
-    let pre = c .before .before .before .before .before .before .before .before .before .before .before .before .before .before .before .before .before .before .before .before .before .before .before .pre in
+    let at-store = c .before .before .before .before .before .before .before .before .before .before .before .before .before in
+    let pre = c .before .before .before .before .before .before .before .before .before .before .before .before .before .before .before .before .before .before .before .before .before .before .before .before .before .before .before .pre in
     let departs = pre .1 .1 .1 .1 .0 in (
       omega (arith, pre .0 .words-long, departs .0),
       read-same _ _ _ (at-store .store .ensures .1 .1 .1 .0) (departs .1),
@@ -29,55 +29,58 @@ put-less-requires c κs =
 
 put-link-requires : tie.Need-put-link-requires
 put-link-requires c κs =
-    let at-store = c .before .before .before .before .before .before .before .before .before .before .before .before .before .before .before .before .before .before .before in
-    let pre = c .before .before .before .before .before .before .before .before .before .before .before .before .before .before .before .before .before .before .before .before .before .before .before .before .before .before .before .before .before .before .before .pre in
+    let at-store = c .before .before .before .before .before .before .before .before .before .before .before .before .before .before .before .before .before .before .before .before .before in
+    let pre = c .before .before .before .before .before .before .before .before .before .before .before .before .before .before .before .before .before .before .before .before .before .before .before .before .before .before .before .before .before .before .before .before .before .before .before .pre in
     λ e. let h = pre .1 .1 .1 .0 e in omega (arith, h, pre .0 .links-long, at-store .store .kept)
 
 release-requires : tie.Need-release-requires
 release-requires c κs =
-    let at-store = c .before .before .before .before .before .before .before .before .before .before .before .before .before .before .before .before .before .before .before .before .before .before .before in
-    let start = c .before .before .before .before .before .before .before .before .before .before .before .before .before .before .before .before .before .before .before .before .before .before .before .before .before .before .before .before .before .before .before .before .before .before .before in
+    let at-store = c .before .before .before .before .before .before .before .before .before .before .before .before .before .before .before .before .before .before .before .before .before .before .before .before .before in
+    let start = c .before .before .before .before .before .before .before .before .before .before .before .before .before .before .before .before .before .before .before .before .before .before .before .before .before .before .before .before .before .before .before .before .before .before .before .before .before .before .before in
     let pre = start .pre in
     let space = pre .1 .1 .1 .1 .1 in (
       space .0,
       omega (arith, pre .0 .bits-long, at-store .store .kept),
-      subst (λ (l : List ℕ). isFree l (start .args .o .space) ≡ false) (sym (at-store .store .ensures .1 .1 .1 .1))
+      subst (λ (l : List ℕ). isFree l (start .args .o .space) ≡ false) (sym (at-store .store .ensures .1 .1 .1 .1 .0))
           (marked-free (taken (now (start .args .bits)) (start .args .a .x)) (start .args .a .e) (start .args .o .space) ∙ space .1),
       λ e. omega (arith, pre .0 .turn-low, pre .0 .n-high),
     )
 
 same-length : tie.Need-same-length
-same-length c = omega (arith, c .before .before .before .before .before .before .before .before .before .before .before .before .before .before .before .before .before .before .before .before .before .before .before .before .before .before .before .store .kept)
+same-length c = omega (arith, c .before .before .before .before .before .before .before .before .before .before .before .before .before .before .before .before .before .before .before .before .before .before .before .before .before .before .before .before .before .store .kept)
 
 same-length-2 : tie.Need-same-length-2
-same-length-2 c = omega (arith, c .before .before .before .before .before .before .before .before .before .before .before .before .before .before .before .before .before .before .before .before .before .before .before .before .before .before .before .store .kept, c .before .before .before .before .before .before .before .put-link .kept)
+same-length-2 c = omega (arith, c .before .before .before .before .before .before .before .before .before .before .before .before .before .before .before .before .before .before .before .before .before .before .before .before .before .before .before .before .before .store .kept, c .before .before .before .before .before .before .before .put-link .kept)
 
 same-length-3 : tie.Need-same-length-3
-same-length-3 c = omega (arith, c .before .before .before .before .before .before .before .before .before .before .before .before .before .before .before .before .before .before .before .before .before .before .before .before .before .before .before .store .kept, c .before .before .before .before .before .before .before .before .before .before .before .clear-entry .kept)
+same-length-3 c = omega (arith, c .before .before .before .before .before .before .before .before .before .before .before .before .before .before .before .before .before .before .before .before .before .before .before .before .before .before .before .before .before .store .kept, c .before .before .before .before .before .before .before .before .before .before .before .clear-entry .kept)
 
 same-length-4 : tie.Need-same-length-4
-same-length-4 c = omega (arith, c .before .before .before .before .before .before .before .before .before .before .before .before .before .before .before .before .before .before .before .before .before .before .before .before .before .before .before .store .kept, c .before .before .before .before .before .before .before .before .before .before .before .before .before .before .before .put-less .kept)
+same-length-4 c = omega (arith, c .before .before .before .before .before .before .before .before .before .before .before .before .before .before .before .before .before .before .before .before .before .before .before .before .before .before .before .before .before .store .kept, c .before .before .before .before .before .before .before .before .before .before .before .before .before .before .before .put-less .kept)
 
 same-length-5 : tie.Need-same-length-5
-same-length-5 c = omega (arith, c .before .before .before .before .before .before .before .before .before .before .before .before .before .before .before .before .before .before .before .before .before .before .before .before .before .before .before .store .kept, c .before .before .before .release .kept)
+same-length-5 c = omega (arith, c .before .before .before .before .before .before .before .before .before .before .before .before .before .before .before .before .before .before .before .before .before .before .before .before .before .before .before .before .before .store .kept, c .before .before .before .release .kept)
+
+same-length-6 : tie.Need-same-length-6
+same-length-6 c = omega (arith, c .before .before .before .before .before .before .before .before .before .before .before .before .before .before .before .before .before .before .before .before .before .before .before .before .before .before .before .before .before .store .kept)
 
 returns : tie.Need-returns
 returns c =
     let at-put-link = c .before .before .before .before .before .before .before in
     let at-clear-entry = c .before .before .before .before .before .before .before .before .before .before .before in
     let at-put-less = c .before .before .before .before .before .before .before .before .before .before .before .before .before .before .before in
-    let at-store = c .before .before .before .before .before .before .before .before .before .before .before .before .before .before .before .before .before .before .before .before .before .before .before .before .before .before .before in
-    let start = c .before .before .before .before .before .before .before .before .before .before .before .before .before .before .before .before .before .before .before .before .before .before .before .before .before .before .before .before .before .before .before .before .before .before .before .before .before .before .before in
+    let at-store = c .before .before .before .before .before .before .before .before .before .before .before .before .before .before .before .before .before .before .before .before .before .before .before .before .before .before .before .before .before in
+    let start = c .before .before .before .before .before .before .before .before .before .before .before .before .before .before .before .before .before .before .before .before .before .before .before .before .before .before .before .before .before .before .before .before .before .before .before .before .before .before .before .before .before .before .before in
     let a = start .args in
     accept-left (a .k) (a .b) (a .j) (a .a) (a .o) (now (a .cell)) (now (a .cells)) (now (a .links)) (now (a .calendar))
-    (now (a .words)) (now (a .bits)) (c .left .result) _ _ _ _ _ _ _ _ _ _ (start .pre .1 .1 .0 .some-free) (c .left .ensures)
+    (now (a .words)) (now (a .bits)) (now (a .arrived)) (c .left .result) _ _ _ _ _ _ _ _ _ _ _ (start .pre .1 .1 .0 .some-free) (c .left .ensures)
     (at-store .store .ensures .0)
     (at-put-link .put-link .ensures ∙ ap (linked (a .joins) (a .k .outtail) (a .head)) (at-store .store .ensures .1 .0))
     (at-clear-entry .clear-entry .ensures ∙ ap (λ (l : List ℕ). if a .clears then writeEntry l (a .k .turn) emptyList else l)
     (at-store .store .ensures .1 .1 .0))
     (at-store .store .ensures .1 .1 .1 .0) (at-put-less .put-less .ensures)
-    (ap (λ (l : List ℕ). if a .clears then unmarked l (a .k .turn) else l) (at-store .store .ensures .1 .1 .1 .1))
-    (c .before .before .before .release .ensures)
+    (ap (λ (l : List ℕ). if a .clears then unmarked l (a .k .turn) else l) (at-store .store .ensures .1 .1 .1 .1 .0))
+    (c .before .before .before .release .ensures) (at-store .store .ensures .1 .1 .1 .1 .1)
 
 pub accept-end-spec : {M : Type 1} → statement M
 accept-end-spec =
@@ -94,4 +97,5 @@ accept-end-spec =
     same-length-3
     same-length-4
     same-length-5
+    same-length-6
     returns)

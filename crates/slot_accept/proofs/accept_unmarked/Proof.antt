@@ -12,40 +12,40 @@ use Rattle.slot_accept.proofs.accept_unmarked.Tie as tie
 
 accept-output-requires : tie.Need-accept-output-requires
 accept-output-requires c κs =
-    let out = c .before .before .before .before .before in
-    let start = out .before .before .before .before .before .before .before .before in
+    let out = c .before .before .before .before .before .before in
+    let start = out .before .before .before .before .before .before .before .before .before in
     let pre = start .pre in
     (pre .0, (pre .1 .0, (pre .1 .1 .0, fit-head _ _ (pre .1 .1 .1 .0) (out .if1 .taken))))
 
 returns : tie.Need-returns
 returns c =
-    let case = c .before .before .before .before .before .before .before .before .before .before in
-    let out = case .before .before .before .before .before .before in
-    let start = out .before .before .before .before .before .before .before .before in
+    let case = c .before .before .before .before .before .before .before .before .before .before .before .before in
+    let out = case .before .before .before .before .before .before .before in
+    let start = out .before .before .before .before .before .before .before .before .before in
     let a = start .args in
     let last = start .pre .1 .1 .1 in
-    goes-on (a .r) (now (a .cells)) (now (a .links)) (now (a .calendar)) (now (a .words)) (now (a .bits)) _ _ _
+    goes-on (a .r) (now (a .cells)) (now (a .links)) (now (a .calendar)) (now (a .words)) (now (a .bits)) (now (a .arrived)) _ _ _
     (seated-output (a .k) (a .b) (a .j) (a .a) (now (a .cell)) (now (a .cells)) (now (a .links)) (now (a .calendar))
-    (now (a .words)) (now (a .bits)) empty empty (ap (λ (e : Ends). e .head) (sym (last .1))) (ap (λ (e : Ends). e .tail) (sym (last .1)))
+    (now (a .words)) (now (a .bits)) (now (a .arrived)) empty empty (ap (λ (e : Ends). e .head) (sym (last .1))) (ap (λ (e : Ends). e .tail) (sym (last .1)))
     (fit-empty (a .k .n)) (last .0) refl (out .if1 .taken))
     (case .accept-output .ensures)
 
 accept-none-requires : tie.Need-accept-none-requires
 accept-none-requires c κs =
-    let start = c .before .before .before .before .before .before .before .before .before .before .before .before .before in
+    let start = c .before .before .before .before .before .before .before .before .before .before .before .before .before .before .before in
     let pre = start .pre in
     (pre .0, (pre .1 .0, pre .1 .1 .0))
 
 returns-2 : tie.Need-returns-2
 returns-2 c =
-    let case = c .before .before .before .before .before .before .before .before .before .before in
-    let out = case .before .before .before .before .before .before in
-    let start = out .before .before .before .before .before .before .before .before in
+    let case = c .before .before .before .before .before .before .before .before .before .before .before .before in
+    let out = case .before .before .before .before .before .before .before in
+    let start = out .before .before .before .before .before .before .before .before .before in
     let a = start .args in
     let last = start .pre .1 .1 .1 in
-    went (a .r) (now (a .cells)) (now (a .links)) (now (a .calendar)) (now (a .words)) (now (a .bits)) _ _ _
+    went (a .r) (now (a .cells)) (now (a .links)) (now (a .calendar)) (now (a .words)) (now (a .bits)) (now (a .arrived)) _ _ _
     (seated-none (a .k) (a .b) (a .j) (a .a) (now (a .cell)) (now (a .cells)) (now (a .links)) (now (a .calendar))
-    (now (a .words)) (now (a .bits)) empty empty (ap (λ (e : Ends). e .head) (sym (last .1))) (ap (λ (e : Ends). e .tail) (sym (last .1)))
+    (now (a .words)) (now (a .bits)) (now (a .arrived)) empty empty (ap (λ (e : Ends). e .head) (sym (last .1))) (ap (λ (e : Ends). e .tail) (sym (last .1)))
     (fit-empty (a .k .n)) (last .0) refl (out .if1 .left))
     (case .accept-none .ensures)
 
@@ -59,8 +59,10 @@ accept-unmarked-spec =
     (λ c. search needs)
     (λ c. search needs)
     (λ c. search needs)
+    (λ c. search needs)
     returns
     accept-none-requires
+    (λ c. search needs)
     (λ c. search needs)
     (λ c. search needs)
     (λ c. search needs)

@@ -19,16 +19,17 @@ returns c =
     let at-if2 = c .before in
     let at-if1 = at-if2 .before in
     let start = at-if1 .before .before .before .before .before .before .before .before .before in
+    λ arrived.
     let a = start .args in
-    as-came (a .r) (now (a .cells)) (now (a .links)) (now (a .calendar)) (now (a .words)) (now (a .bits)) _ _ (c .refuse .ensures)
-    (unfit-entry (quiet-work (a .k) (a .b) (a .j) (now (a .cells)) (now (a .links)) (now (a .calendar)) (now (a .words)) (now (a .bits))) _
-    (quiet-entry (a .k) (a .b) (a .j) (now (a .cells)) (now (a .links)) (now (a .calendar)) (now (a .words)) (now (a .bits)))
-    (tail-left _ _ _ (start .pre .0 .n-high) (at-if1 .if1 .taken) (at-if2 .if2 .taken)))
+    as-came (a .r) (now (a .cells)) (now (a .links)) (now (a .calendar)) (now (a .words)) (now (a .bits)) arrived _ _ (c .refuse .ensures)
+    (unfit-entry (quiet-work (a .k) (a .b) (a .j) (now (a .cells)) (now (a .links)) (now (a .calendar)) (now (a .words)) (now (a .bits)) arrived) _
+    (quiet-entry (a .k) (a .b) (a .j) (now (a .cells)) (now (a .links)) (now (a .calendar)) (now (a .words)) (now (a .bits)) arrived)
+    (tail-left _ _ _ (start .pre .0 .1 .n-high) (at-if1 .if1 .taken) (at-if2 .if2 .taken)))
 
 quiet-unmarked-requires : tie.Need-quiet-unmarked-requires
 quiet-unmarked-requires c κs =
     let pre = c .before .before .before .before .before .before .before .before .before .before .before .before .before .pre in
-    let z = pre .0 in
+    let z = pre .0 .1 in
     ((z .n-high, z .v-high, z .cells-long, z .links-long, z .words-long, z .rotation-low), (z .bits-long, pre .1))
 
 returns-2 : tie.Need-returns-2
@@ -38,10 +39,11 @@ returns-2 c =
     let at-if2 = at-quiet-unmarked .before .before .before .before in
     let at-if1 = at-if2 .before in
     let start = at-if1 .before .before .before .before .before .before .before .before .before in
+    λ arrived.
     let a = start .args in
-    at-quiet-unmarked .quiet-unmarked .ensures (now (a .calendar))
-    ∙ ap (finish (stateOf (a .r) (now (a .cells)) (now (a .links)) (now (a .calendar)) (now (a .words)) (now (a .bits))))
-    (sym (unmarked (quiet-work (a .k) (a .b) (a .j) (now (a .cells)) (now (a .links)) (now (a .calendar)) (now (a .words)) (now (a .bits)))
+    at-quiet-unmarked .quiet-unmarked .ensures (now (a .calendar)) arrived
+    ∙ ap (finish (stateOf (a .r) (now (a .cells)) (now (a .links)) (now (a .calendar)) (now (a .words)) (now (a .bits)) arrived))
+    (sym (unmarked (quiet-work (a .k) (a .b) (a .j) (now (a .cells)) (now (a .links)) (now (a .calendar)) (now (a .words)) (now (a .bits)) arrived)
     (λ i. record { head = at-if1 .if1 .taken i; tail = at-if2 .if2 .left i })))
 
 returns-3 : tie.Need-returns-3
@@ -50,10 +52,11 @@ returns-3 c =
     let at-if3 = c .before in
     let at-if1 = at-if3 .before .before in
     let start = at-if1 .before .before .before .before .before .before .before .before .before in
+    λ arrived.
     let a = start .args in
-    as-came (a .r) (now (a .cells)) (now (a .links)) (now (a .calendar)) (now (a .words)) (now (a .bits)) _ _ (c .refuse2 .ensures)
-    (unfit-entry (quiet-work (a .k) (a .b) (a .j) (now (a .cells)) (now (a .links)) (now (a .calendar)) (now (a .words)) (now (a .bits))) _
-    (quiet-entry (a .k) (a .b) (a .j) (now (a .cells)) (now (a .links)) (now (a .calendar)) (now (a .words)) (now (a .bits)))
+    as-came (a .r) (now (a .cells)) (now (a .links)) (now (a .calendar)) (now (a .words)) (now (a .bits)) arrived _ _ (c .refuse2 .ensures)
+    (unfit-entry (quiet-work (a .k) (a .b) (a .j) (now (a .cells)) (now (a .links)) (now (a .calendar)) (now (a .words)) (now (a .bits)) arrived) _
+    (quiet-entry (a .k) (a .b) (a .j) (now (a .cells)) (now (a .links)) (now (a .calendar)) (now (a .words)) (now (a .bits)) arrived)
     (head-high _ _ _ (at-if1 .if1 .left) (at-if3 .if3 .taken)))
 
 returns-4 : tie.Need-returns-4
@@ -62,11 +65,12 @@ returns-4 c =
     let at-if4 = c .before in
     let at-if3 = at-if4 .before .before in
     let start = at-if3 .before .before .before .before .before .before .before .before .before .before .before in
+    λ arrived.
     let a = start .args in
-    as-came (a .r) (now (a .cells)) (now (a .links)) (now (a .calendar)) (now (a .words)) (now (a .bits)) _ _ (c .refuse3 .ensures)
-    (unfit-entry (quiet-work (a .k) (a .b) (a .j) (now (a .cells)) (now (a .links)) (now (a .calendar)) (now (a .words)) (now (a .bits))) _
-    (quiet-entry (a .k) (a .b) (a .j) (now (a .cells)) (now (a .links)) (now (a .calendar)) (now (a .words)) (now (a .bits)))
-    (tail-high _ _ _ (start .pre .0 .n-high) (at-if3 .if3 .left) (at-if4 .if4 .taken)))
+    as-came (a .r) (now (a .cells)) (now (a .links)) (now (a .calendar)) (now (a .words)) (now (a .bits)) arrived _ _ (c .refuse3 .ensures)
+    (unfit-entry (quiet-work (a .k) (a .b) (a .j) (now (a .cells)) (now (a .links)) (now (a .calendar)) (now (a .words)) (now (a .bits)) arrived) _
+    (quiet-entry (a .k) (a .b) (a .j) (now (a .cells)) (now (a .links)) (now (a .calendar)) (now (a .words)) (now (a .bits)) arrived)
+    (tail-high _ _ _ (start .pre .0 .1 .n-high) (at-if3 .if3 .left) (at-if4 .if4 .taken)))
 
 returns-5 : tie.Need-returns-5
 unfolding quietWork
@@ -75,10 +79,11 @@ returns-5 c =
     let at-pair = at-if5 .before in
     let at-if1 = at-pair .before .before .before .before .before in
     let start = at-if1 .before .before .before .before .before .before .before .before .before in
+    λ arrived.
     let a = start .args in
-    as-came (a .r) (now (a .cells)) (now (a .links)) (now (a .calendar)) (now (a .words)) (now (a .bits)) _ _ (c .refuse4 .ensures)
-    (unfit-output (quiet-work (a .k) (a .b) (a .j) (now (a .cells)) (now (a .links)) (now (a .calendar)) (now (a .words)) (now (a .bits))) _
-    (quiet-entry (a .k) (a .b) (a .j) (now (a .cells)) (now (a .links)) (now (a .calendar)) (now (a .words)) (now (a .bits)))
+    as-came (a .r) (now (a .cells)) (now (a .links)) (now (a .calendar)) (now (a .words)) (now (a .bits)) arrived _ _ (c .refuse4 .ensures)
+    (unfit-output (quiet-work (a .k) (a .b) (a .j) (now (a .cells)) (now (a .links)) (now (a .calendar)) (now (a .words)) (now (a .bits)) arrived) _
+    (quiet-entry (a .k) (a .b) (a .j) (now (a .cells)) (now (a .links)) (now (a .calendar)) (now (a .words)) (now (a .bits)) arrived)
     (not-shown _ _ (at-pair .pair .ensures) (at-if5 .if5 .taken)))
 
 quiet-marked-requires : tie.Need-quiet-marked-requires
@@ -100,11 +105,12 @@ returns-6 c =
     let at-if3 = at-if4 .before .before in
     let at-if1 = at-if3 .before .before in
     let start = at-if1 .before .before .before .before .before .before .before .before .before in
+    λ arrived.
     let a = start .args in
-    at-quiet-marked .quiet-marked .ensures
-    ∙ ap (finish (stateOf (a .r) (now (a .cells)) (now (a .links)) (now (a .calendar)) (now (a .words)) (now (a .bits))))
-    (sym (marked (quiet-work (a .k) (a .b) (a .j) (now (a .cells)) (now (a .links)) (now (a .calendar)) (now (a .words)) (now (a .bits))) _
-    (quiet-entry (a .k) (a .b) (a .j) (now (a .cells)) (now (a .links)) (now (a .calendar)) (now (a .words)) (now (a .bits)))
+    at-quiet-marked .quiet-marked .ensures arrived
+    ∙ ap (finish (stateOf (a .r) (now (a .cells)) (now (a .links)) (now (a .calendar)) (now (a .words)) (now (a .bits)) arrived))
+    (sym (marked (quiet-work (a .k) (a .b) (a .j) (now (a .cells)) (now (a .links)) (now (a .calendar)) (now (a .words)) (now (a .bits)) arrived) _
+    (quiet-entry (a .k) (a .b) (a .j) (now (a .cells)) (now (a .links)) (now (a .calendar)) (now (a .words)) (now (a .bits)) arrived)
     (both-low _ _ _ (at-if3 .if3 .left) (at-if4 .if4 .left))
     (shown _ _ (at-pair .pair .ensures) (at-if5 .if5 .left)) (at-if1 .if1 .left)))
 

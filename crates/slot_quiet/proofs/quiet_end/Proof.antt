@@ -21,7 +21,7 @@ put-less-requires c κs =
     let pre = start .pre in (
       omega arith,
       read-same _ _ _ (at-words-fall .words-fall .ensures)
-          (rw (quiet-kept (a .k) (a .b) (a .j) [] [] [] (now (a .words)) [] .waiting (a .o .vci)) (pre .0 .4)),
+          (rw (quiet-kept (a .k) (a .b) (a .j) [] [] [] (now (a .words)) [] [] .waiting (a .o .vci)) (pre .0 .4)),
     )
 
 put-link-requires : tie.Need-put-link-requires
@@ -42,9 +42,9 @@ returns c =
     let at-put-less = at-put-link .before .before .before .before in
     let at-words-fall = at-put-less .before .before .before .before in
     let start = at-words-fall .before .before .before .before .before in
-    λ cells calendar calendar′.
+    λ cells calendar calendar′ arrived.
     let a = start .args in
-    quiet-left (a .k) (a .b) (a .j) (a .o) cells (now (a .links)) calendar (now (a .words)) (now (a .bits)) (c .left .result) _ _ calendar′ _
+    quiet-left (a .k) (a .b) (a .j) (a .o) cells (now (a .links)) calendar (now (a .words)) (now (a .bits)) arrived (c .left .result) _ _ calendar′ _
     _ _ _ (c .left .ensures) (at-put-link .put-link .ensures) (at-words-fall .words-fall .ensures)
     (at-put-less .put-less .ensures) (c .before .before .before .before .release .ensures)
 

@@ -19,9 +19,10 @@ returns c =
     let at-if1 = c .before in
     let at-off-marked = at-if1 .before .before in
     let start = at-off-marked .before .before .before .before .before .before .before .before in
+    λ arrived.
     let a = start .args in
-    as-came (a .r) (now (a .cells)) (now (a .links)) (now (a .calendar)) (now (a .words)) (now (a .bits)) _ _ (c .refuse .ensures)
-    (marked-none (a .k) (a .b) (a .j) (now (a .cells)) (now (a .links)) (now (a .calendar)) (now (a .words)) (now (a .bits)) (a .head)
+    as-came (a .r) (now (a .cells)) (now (a .links)) (now (a .calendar)) (now (a .words)) (now (a .bits)) arrived _ _ (c .refuse .ensures)
+    (marked-none (a .k) (a .b) (a .j) (now (a .cells)) (now (a .links)) (now (a .calendar)) (now (a .words)) (now (a .bits)) arrived (a .head)
     (a .tail) _ (at-off-marked .off-marked .ensures) (not-true _ (at-if1 .if1 .taken)))
 
 may-free-requires : tie.Need-may-free-requires
@@ -31,7 +32,7 @@ may-free-requires c κs =
     let start = c .before .before .before .before .before .before .before .before .before .before .before in
     let a = start .args in
     let pre = start .pre in
-    let z = pre .0 in
+    let z = pre .0 .1 in
     let low = off-low _ _ _ _ _ _ _ _ _ (at-off-marked .off-marked .ensures) (not-false _ (at-if1 .if1 .left)) (joined-low (a .k) (endsOf (a .head) (a .tail)) (pre .1 .1 .1) (pre .1 .1 .0)) in
     (z .n-high, omega (arith, low, z .n-high), omega (arith, z .bits-long))
 
@@ -41,9 +42,10 @@ returns-2 c =
     let at-may-free = at-if2 .before in
     let at-off-marked = at-may-free .before .before .before .before in
     let start = at-off-marked .before .before .before .before .before .before .before .before in
+    λ arrived.
     let a = start .args in
-    as-came (a .r) (now (a .cells)) (now (a .links)) (now (a .calendar)) (now (a .words)) (now (a .bits)) _ _ (c .refuse2 .ensures)
-    (marked-unfit (a .k) (a .b) (a .j) (now (a .cells)) (now (a .links)) (now (a .calendar)) (now (a .words)) (now (a .bits)) (a .head)
+    as-came (a .r) (now (a .cells)) (now (a .links)) (now (a .calendar)) (now (a .words)) (now (a .bits)) arrived _ _ (c .refuse2 .ensures)
+    (marked-unfit (a .k) (a .b) (a .j) (now (a .cells)) (now (a .links)) (now (a .calendar)) (now (a .words)) (now (a .bits)) arrived (a .head)
     (a .tail) _ (at-off-marked .off-marked .ensures) (not-shown _ _ (at-may-free .may-free .ensures) (at-if2 .if2 .taken)))
 
 quiet-end-requires : tie.Need-quiet-end-requires
@@ -55,7 +57,7 @@ quiet-end-requires c κs =
     let start = at-off-marked .before .before .before .before .before .before .before .before in
     let a = start .args in
     let pre = start .pre in
-    let z = pre .0 in
+    let z = pre .0 .1 in
     let shows = off-shows _ _ _ _ _ _ _ _ (ap (λ (o : Off). o .ok) (sym (at-off-marked .off-marked .ensures)) ∙ not-false _ (at-if1 .if1 .left)) in
     let low = off-low _ _ _ _ _ _ _ _ _ (at-off-marked .off-marked .ensures) (not-false _ (at-if1 .if1 .left)) (joined-low (a .k) (endsOf (a .head) (a .tail)) (pre .1 .1 .1) (pre .1 .1 .0)) in
     let free = may-free-shows _ _ _ _ (z .n-high) (shown _ _ (at-may-free .may-free .ensures) (at-if2 .if2 .left)) in
@@ -79,12 +81,13 @@ returns-3 c =
     let at-if1 = at-may-free .before .before in
     let at-off-marked = at-if1 .before .before in
     let start = at-off-marked .before .before .before .before .before .before .before .before in
+    λ arrived.
     let a = start .args in
-    went (a .r) (now (a .cells)) (now (a .links)) (now (a .calendar)) (now (a .words)) (now (a .bits)) _ _ _
-    (marked-goes (a .k) (a .b) (a .j) (now (a .cells)) (now (a .links)) (now (a .calendar)) (now (a .words)) (now (a .bits)) (a .head)
+    went (a .r) (now (a .cells)) (now (a .links)) (now (a .calendar)) (now (a .words)) (now (a .bits)) arrived _ _ _
+    (marked-goes (a .k) (a .b) (a .j) (now (a .cells)) (now (a .links)) (now (a .calendar)) (now (a .words)) (now (a .bits)) arrived (a .head)
     (a .tail) _ (at-off-marked .off-marked .ensures) (not-false _ (at-if1 .if1 .left))
     (shown _ _ (at-may-free .may-free .ensures) (at-if2 .if2 .left)))
-    (at-quiet-end .quiet-end .ensures (now (a .cells)) (now (a .calendar)) (at-clear-entry .clear-entry .last .0) ∙
+    (at-quiet-end .quiet-end .ensures (now (a .cells)) (now (a .calendar)) (at-clear-entry .clear-entry .last .0) arrived ∙
     left-entry _ _ _ _ _ _ _ (at-clear-entry .clear-entry .ensures) refl)
 
 pub quiet-marked-spec : {M : Type 1} → statement M

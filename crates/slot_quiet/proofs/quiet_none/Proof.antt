@@ -16,9 +16,9 @@ returns : tie.Need-returns
 returns c =
     let at-words-fall = c .before .before in
     let start = at-words-fall .before .before .before in
-    λ cells links calendar bits.
+    λ cells links calendar bits arrived.
     let a = start .args in
-    quiet-served (a .k) (a .b) (a .j) cells links calendar (now (a .words)) bits _ _ refl refl (at-words-fall .words-fall .ensures)
+    quiet-served (a .k) (a .b) (a .j) cells links calendar (now (a .words)) bits arrived _ _ refl refl (at-words-fall .words-fall .ensures)
 
 pub quiet-none-spec : {M : Type 1} → statement M
 quiet-none-spec =

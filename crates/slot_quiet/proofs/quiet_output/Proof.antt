@@ -17,10 +17,10 @@ returns c =
     let at-if1 = c .before in
     let at-off-head = at-if1 .before .before in
     let start = at-off-head .before .before .before .before .before .before .before in
-    λ calendar.
+    λ calendar arrived.
     let a = start .args in
-    as-came (a .r) (now (a .cells)) (now (a .links)) calendar (now (a .words)) (now (a .bits)) _ _ (c .refuse .ensures)
-    (output-none (a .k) (a .b) (a .j) (now (a .cells)) (now (a .links)) calendar (now (a .words)) (now (a .bits)) _
+    as-came (a .r) (now (a .cells)) (now (a .links)) calendar (now (a .words)) (now (a .bits)) arrived _ _ (c .refuse .ensures)
+    (output-none (a .k) (a .b) (a .j) (now (a .cells)) (now (a .links)) calendar (now (a .words)) (now (a .bits)) arrived _
     (at-off-head .off-head .ensures) (not-true _ (at-if1 .if1 .taken)))
 
 may-free-requires : tie.Need-may-free-requires
@@ -38,10 +38,10 @@ returns-2 c =
     let at-may-free = at-if2 .before in
     let at-off-head = at-may-free .before .before .before .before in
     let start = at-off-head .before .before .before .before .before .before .before in
-    λ calendar.
+    λ calendar arrived.
     let a = start .args in
-    as-came (a .r) (now (a .cells)) (now (a .links)) calendar (now (a .words)) (now (a .bits)) _ _ (c .refuse2 .ensures)
-    (output-unfit (a .k) (a .b) (a .j) (now (a .cells)) (now (a .links)) calendar (now (a .words)) (now (a .bits)) _
+    as-came (a .r) (now (a .cells)) (now (a .links)) calendar (now (a .words)) (now (a .bits)) arrived _ _ (c .refuse2 .ensures)
+    (output-unfit (a .k) (a .b) (a .j) (now (a .cells)) (now (a .links)) calendar (now (a .words)) (now (a .bits)) arrived _
     (at-off-head .off-head .ensures) (not-shown _ _ (at-may-free .may-free .ensures) (at-if2 .if2 .taken)))
 
 quiet-end-requires : tie.Need-quiet-end-requires
@@ -69,13 +69,13 @@ returns-3 c =
     let at-if1 = at-may-free .before .before in
     let at-off-head = at-if1 .before .before in
     let start = at-off-head .before .before .before .before .before .before .before in
-    λ calendar.
+    λ calendar arrived.
     let a = start .args in
-    went (a .r) (now (a .cells)) (now (a .links)) calendar (now (a .words)) (now (a .bits)) _ _ _
-    (output-goes (a .k) (a .b) (a .j) (now (a .cells)) (now (a .links)) calendar (now (a .words)) (now (a .bits)) _
+    went (a .r) (now (a .cells)) (now (a .links)) calendar (now (a .words)) (now (a .bits)) arrived _ _ _
+    (output-goes (a .k) (a .b) (a .j) (now (a .cells)) (now (a .links)) calendar (now (a .words)) (now (a .bits)) arrived _
     (at-off-head .off-head .ensures) (not-false _ (at-if1 .if1 .left))
     (shown _ _ (at-may-free .may-free .ensures) (at-if2 .if2 .left)))
-    (at-quiet-end .quiet-end .ensures (now (a .cells)) calendar calendar)
+    (at-quiet-end .quiet-end .ensures (now (a .cells)) calendar calendar arrived)
 
 pub quiet-output-spec : {M : Type 1} → statement M
 quiet-output-spec =

@@ -18,10 +18,10 @@ returns c =
     let at-if2 = c .before in
     let at-if1 = at-if2 .before .before in
     let start = at-if1 .before .before .before .before .before .before in
-    λ calendar.
+    λ calendar arrived.
     let a = start .args in
-    as-came (a .r) (now (a .cells)) (now (a .links)) calendar (now (a .words)) (now (a .bits)) _ _ (c .refuse .ensures)
-    (unmarked-unfit (quiet-work (a .k) (a .b) (a .j) (now (a .cells)) (now (a .links)) calendar (now (a .words)) (now (a .bits)))
+    as-came (a .r) (now (a .cells)) (now (a .links)) calendar (now (a .words)) (now (a .bits)) arrived _ _ (c .refuse .ensures)
+    (unmarked-unfit (quiet-work (a .k) (a .b) (a .j) (now (a .cells)) (now (a .links)) calendar (now (a .words)) (now (a .bits)) arrived)
     (tail-left _ _ _ (start .pre .0 .0) (at-if1 .if1 .taken) (at-if2 .if2 .taken)))
 
 returns-2 : tie.Need-returns-2
@@ -31,12 +31,12 @@ returns-2 c =
     let at-if2 = at-quiet-none .before .before in
     let at-if1 = at-if2 .before .before in
     let start = at-if1 .before .before .before .before .before .before in
-    λ calendar.
+    λ calendar arrived.
     let a = start .args in
-    went (a .r) (now (a .cells)) (now (a .links)) calendar (now (a .words)) (now (a .bits)) _ _ _
-    (unmarked-none (quiet-work (a .k) (a .b) (a .j) (now (a .cells)) (now (a .links)) calendar (now (a .words)) (now (a .bits)))
+    went (a .r) (now (a .cells)) (now (a .links)) calendar (now (a .words)) (now (a .bits)) arrived _ _ _
+    (unmarked-none (quiet-work (a .k) (a .b) (a .j) (now (a .cells)) (now (a .links)) calendar (now (a .words)) (now (a .bits)) arrived)
     (both-empty _ _ _ (start .pre .0 .0) (at-if1 .if1 .taken) (at-if2 .if2 .left)) (at-if1 .if1 .taken))
-    (at-quiet-none .quiet-none .ensures (now (a .cells)) (now (a .links)) calendar (now (a .bits)))
+    (at-quiet-none .quiet-none .ensures (now (a .cells)) (now (a .links)) calendar (now (a .bits)) arrived)
 
 returns-3 : tie.Need-returns-3
 unfolding quietWork
@@ -44,10 +44,10 @@ returns-3 c =
     let at-if3 = c .before in
     let at-if1 = at-if3 .before .before in
     let start = at-if1 .before .before .before .before .before .before in
-    λ calendar.
+    λ calendar arrived.
     let a = start .args in
-    as-came (a .r) (now (a .cells)) (now (a .links)) calendar (now (a .words)) (now (a .bits)) _ _ (c .refuse2 .ensures)
-    (unmarked-unfit (quiet-work (a .k) (a .b) (a .j) (now (a .cells)) (now (a .links)) calendar (now (a .words)) (now (a .bits)))
+    as-came (a .r) (now (a .cells)) (now (a .links)) calendar (now (a .words)) (now (a .bits)) arrived _ _ (c .refuse2 .ensures)
+    (unmarked-unfit (quiet-work (a .k) (a .b) (a .j) (now (a .cells)) (now (a .links)) calendar (now (a .words)) (now (a .bits)) arrived)
     (head-high _ _ (a .k .outtail) (at-if1 .if1 .left) (at-if3 .if3 .taken)))
 
 returns-4 : tie.Need-returns-4
@@ -56,10 +56,10 @@ returns-4 c =
     let at-if4 = c .before in
     let at-if3 = at-if4 .before .before in
     let start = at-if3 .before .before .before .before .before .before .before .before in
-    λ calendar.
+    λ calendar arrived.
     let a = start .args in
-    as-came (a .r) (now (a .cells)) (now (a .links)) calendar (now (a .words)) (now (a .bits)) _ _ (c .refuse3 .ensures)
-    (unmarked-unfit (quiet-work (a .k) (a .b) (a .j) (now (a .cells)) (now (a .links)) calendar (now (a .words)) (now (a .bits)))
+    as-came (a .r) (now (a .cells)) (now (a .links)) calendar (now (a .words)) (now (a .bits)) arrived _ _ (c .refuse3 .ensures)
+    (unmarked-unfit (quiet-work (a .k) (a .b) (a .j) (now (a .cells)) (now (a .links)) calendar (now (a .words)) (now (a .bits)) arrived)
     (tail-high _ _ _ (start .pre .0 .0) (at-if3 .if3 .left) (at-if4 .if4 .taken)))
 
 quiet-output-requires : tie.Need-quiet-output-requires
@@ -76,11 +76,11 @@ returns-5 c =
     let at-if3 = at-if4 .before .before in
     let at-if1 = at-if3 .before .before in
     let start = at-if1 .before .before .before .before .before .before in
-    λ calendar.
+    λ calendar arrived.
     let a = start .args in
-    at-quiet-output .quiet-output .ensures calendar
-    ∙ ap (finish (stateOf (a .r) (now (a .cells)) (now (a .links)) calendar (now (a .words)) (now (a .bits))))
-    (sym (unmarked-output (quiet-work (a .k) (a .b) (a .j) (now (a .cells)) (now (a .links)) calendar (now (a .words)) (now (a .bits)))
+    at-quiet-output .quiet-output .ensures calendar arrived
+    ∙ ap (finish (stateOf (a .r) (now (a .cells)) (now (a .links)) calendar (now (a .words)) (now (a .bits)) arrived))
+    (sym (unmarked-output (quiet-work (a .k) (a .b) (a .j) (now (a .cells)) (now (a .links)) calendar (now (a .words)) (now (a .bits)) arrived)
     (both-low _ _ _ (at-if3 .if3 .left) (at-if4 .if4 .left)) (at-if1 .if1 .left)))
 
 pub quiet-unmarked-spec : {M : Type 1} → statement M

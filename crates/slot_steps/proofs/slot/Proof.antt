@@ -14,9 +14,9 @@ returns : tie.Need-returns
 returns c =
     let at-if1 = c .before in
     let at-shape = at-if1 .before in
-    let start = at-shape .before .before .before .before .before .before .before .before .before .before .before .before in
+    let start = at-shape .before .before .before .before .before .before .before .before .before .before .before .before .before .before in
     let a = start .args in
-    slot-refused (a .r) (now (a .cell)) (now (a .cells)) (now (a .links)) (now (a .calendar)) (now (a .words)) (now (a .bits)) _ _
+    slot-refused (a .r) (now (a .cell)) (now (a .cells)) (now (a .links)) (now (a .calendar)) (now (a .words)) (now (a .bits)) (now (a .arrived)) _ _
     (at-shape .shape .ensures) (at-if1 .if1 .taken) (c .refuse .ensures)
 
 returns-2 : tie.Need-returns-2
@@ -24,21 +24,21 @@ returns-2 c =
     let at-if2 = c .before in
     let at-if1 = at-if2 .before .before in
     let at-shape = at-if1 .before in
-    let start = at-shape .before .before .before .before .before .before .before .before .before .before .before .before in
+    let start = at-shape .before .before .before .before .before .before .before .before .before .before .before .before .before .before in
     let a = start .args in
-    as-came (a .r) (now (a .cells)) (now (a .links)) (now (a .calendar)) (now (a .words)) (now (a .bits)) _ _ (c .refuse2 .ensures)
-    (clock-turn (a .r) (now (a .cell)) (now (a .cells)) (now (a .links)) (now (a .calendar)) (now (a .words)) (now (a .bits))
+    as-came (a .r) (now (a .cells)) (now (a .links)) (now (a .calendar)) (now (a .words)) (now (a .bits)) (now (a .arrived)) _ _ (c .refuse2 .ensures)
+    (clock-turn (a .r) (now (a .cell)) (now (a .cells)) (now (a .links)) (now (a .calendar)) (now (a .words)) (now (a .bits)) (now (a .arrived))
     (at-if2 .if2 .taken)) ∙ sym (slot-goes (a .r) (now (a .cell)) (now (a .cells)) (now (a .links)) (now (a .calendar))
-    (now (a .words)) (now (a .bits)) _ (at-shape .shape .ensures) (at-if1 .if1 .left))
+    (now (a .words)) (now (a .bits)) (now (a .arrived)) _ (at-shape .shape .ensures) (at-if1 .if1 .left))
 
 -- V is at most 1,024, once refusal 1 is not given
 add-if3 : tie.Need-add-if3
 add-if3 c =
     let at-if1 = c .before .before .before in
     let at-shape = at-if1 .before in
-    let start = at-shape .before .before .before .before .before .before .before .before .before .before .before .before in
+    let start = at-shape .before .before .before .before .before .before .before .before .before .before .before .before .before .before in
     let a = start .args in
-    let h = shaped (a .r) (now (a .cell)) (now (a .cells)) (now (a .links)) (now (a .calendar)) (now (a .words)) (now (a .bits)) _ (at-shape .shape .ensures) (at-if1 .if1 .left) in
+    let h = shaped (a .r) (now (a .cell)) (now (a .cells)) (now (a .links)) (now (a .calendar)) (now (a .words)) (now (a .bits)) (now (a .arrived)) _ (at-shape .shape .ensures) (at-if1 .if1 .left) in
     omega (arith, h .v-high)
 
 clock-requires : tie.Need-clock-requires
@@ -46,9 +46,9 @@ clock-requires c κs =
     let at-if2 = c .before .before .before in
     let at-if1 = at-if2 .before .before in
     let at-shape = at-if1 .before in
-    let start = at-shape .before .before .before .before .before .before .before .before .before .before .before .before in
+    let start = at-shape .before .before .before .before .before .before .before .before .before .before .before .before .before .before in
     let a = start .args in
-    let h = shaped (a .r) (now (a .cell)) (now (a .cells)) (now (a .links)) (now (a .calendar)) (now (a .words)) (now (a .bits)) _ (at-shape .shape .ensures) (at-if1 .if1 .left) in
+    let h = shaped (a .r) (now (a .cell)) (now (a .cells)) (now (a .links)) (now (a .calendar)) (now (a .words)) (now (a .bits)) (now (a .arrived)) _ (at-shape .shape .ensures) (at-if1 .if1 .left) in
     (at-if2 .if2 .left, c .if3 .left, h .v-high)
 
 returns-3 : tie.Need-returns-3
@@ -57,41 +57,41 @@ returns-3 c =
     let at-if2 = at-if3 .before .before .before in
     let at-if1 = at-if2 .before .before in
     let at-shape = at-if1 .before in
-    let start = at-shape .before .before .before .before .before .before .before .before .before .before .before .before in
+    let start = at-shape .before .before .before .before .before .before .before .before .before .before .before .before .before .before in
     let a = start .args in
-    as-came (a .r) (now (a .cells)) (now (a .links)) (now (a .calendar)) (now (a .words)) (now (a .bits)) _ _ (c .refuse3 .ensures)
-    (clock-rotation (a .r) (now (a .cell)) (now (a .cells)) (now (a .links)) (now (a .calendar)) (now (a .words)) (now (a .bits))
+    as-came (a .r) (now (a .cells)) (now (a .links)) (now (a .calendar)) (now (a .words)) (now (a .bits)) (now (a .arrived)) _ _ (c .refuse3 .ensures)
+    (clock-rotation (a .r) (now (a .cell)) (now (a .cells)) (now (a .links)) (now (a .calendar)) (now (a .words)) (now (a .bits)) (now (a .arrived))
     (at-if2 .if2 .left) (at-if3 .if3 .taken)) ∙ sym (slot-goes (a .r) (now (a .cell)) (now (a .cells)) (now (a .links))
-    (now (a .calendar)) (now (a .words)) (now (a .bits)) _ (at-shape .shape .ensures) (at-if1 .if1 .left))
+    (now (a .calendar)) (now (a .words)) (now (a .bits)) (now (a .arrived)) _ (at-shape .shape .ensures) (at-if1 .if1 .left))
 
 steps-requires : tie.Need-steps-requires
 steps-requires c κs =
-    let at-clock = c .before .before .before .before .before in
+    let at-clock = c .before .before .before .before .before .before in
     let at-if1 = at-clock .before .before .before .before .before .before in
     let at-shape = at-if1 .before in
-    let start = at-shape .before .before .before .before .before .before .before .before .before .before .before .before in
+    let start = at-shape .before .before .before .before .before .before .before .before .before .before .before .before .before .before in
     let a = start .args in
-    let h = shaped (a .r) (now (a .cell)) (now (a .cells)) (now (a .links)) (now (a .calendar)) (now (a .words)) (now (a .bits)) _ (at-shape .shape .ensures) (at-if1 .if1 .left) in (
-      sized (a .r) (now (a .cell)) (now (a .cells)) (now (a .links)) (now (a .calendar)) (now (a .words)) (now (a .bits)) _
+    let h = shaped (a .r) (now (a .cell)) (now (a .cells)) (now (a .links)) (now (a .calendar)) (now (a .words)) (now (a .bits)) (now (a .arrived)) _ (at-shape .shape .ensures) (at-if1 .if1 .left) in (
+      sized (a .r) (now (a .cell)) (now (a .cells)) (now (a .links)) (now (a .calendar)) (now (a .words)) (now (a .bits)) (now (a .arrived)) _
           (at-clock .clock .ensures) h,
       h .cell-long,
     )
 
 returns-4 : tie.Need-returns-4
 returns-4 c =
-    let at-steps = c .before .before .before .before .before .before .before .before .before .before in
-    let at-clock = at-steps .before .before .before .before .before .before in
+    let at-steps = c .before .before .before .before .before .before .before .before .before .before .before .before in
+    let at-clock = at-steps .before .before .before .before .before .before .before in
     let at-if3 = at-clock .before in
     let at-if2 = at-if3 .before .before .before in
     let at-if1 = at-if2 .before .before in
     let at-shape = at-if1 .before in
-    let start = at-shape .before .before .before .before .before .before .before .before .before .before .before .before in
+    let start = at-shape .before .before .before .before .before .before .before .before .before .before .before .before .before .before in
     let a = start .args in
     at-steps .steps .ensures
-    ∙ ap (finish (stateOf (a .r) (now (a .cells)) (now (a .links)) (now (a .calendar)) (now (a .words)) (now (a .bits))))
-    (sym (clock-goes (a .r) (now (a .cell)) (now (a .cells)) (now (a .links)) (now (a .calendar)) (now (a .words)) (now (a .bits)) _
+    ∙ ap (finish (stateOf (a .r) (now (a .cells)) (now (a .links)) (now (a .calendar)) (now (a .words)) (now (a .bits)) (now (a .arrived))))
+    (sym (clock-goes (a .r) (now (a .cell)) (now (a .cells)) (now (a .links)) (now (a .calendar)) (now (a .words)) (now (a .bits)) (now (a .arrived)) _
     (at-clock .clock .ensures) (at-if2 .if2 .left) (at-if3 .if3 .left)))
-    ∙ sym (slot-goes (a .r) (now (a .cell)) (now (a .cells)) (now (a .links)) (now (a .calendar)) (now (a .words)) (now (a .bits)) _
+    ∙ sym (slot-goes (a .r) (now (a .cell)) (now (a .cells)) (now (a .links)) (now (a .calendar)) (now (a .words)) (now (a .bits)) (now (a .arrived)) _
     (at-shape .shape .ensures) (at-if1 .if1 .left))
 
 pub slot-spec : {M : Type 1} → statement M
@@ -105,8 +105,10 @@ slot-spec =
     (λ c. search needs)
     (λ c. search needs)
     (λ c. search needs)
+    (λ c. search needs)
     returns
     (λ c κs. search needs)
+    (λ c. search needs)
     (λ c. search needs)
     (λ c. search needs)
     (λ c. search needs)
@@ -120,9 +122,11 @@ slot-spec =
     (λ c. search needs)
     (λ c. search needs)
     (λ c. search needs)
+    (λ c. search needs)
     returns-3
     clock-requires
     steps-requires
+    (λ c. search needs)
     (λ c. search needs)
     (λ c. search needs)
     (λ c. search needs)

@@ -21,11 +21,11 @@ returns : tie.Need-returns
 returns c =
     let at-if1 = c .before in
     let at-bring = at-if1 .before .before in
-    let start = at-bring .before .before .before .before .before .before .before .before in
+    let start = at-bring .before .before .before .before .before .before .before .before .before in
     let a = start .args in
     let pre = start .pre in
-    as-came (a .r) (now (a .cells)) (now (a .links)) (now (a .calendar)) (now (a .words)) (now (a .bits)) _ _ (c .refuse .ensures)
-    (rotating-none (a .k) (lowestFree (now (a .bits))) (now (a .cell)) (now (a .cells)) (now (a .links)) (now (a .calendar)) (now (a .words)) (now (a .bits)) _
+    as-came (a .r) (now (a .cells)) (now (a .links)) (now (a .calendar)) (now (a .words)) (now (a .bits)) (now (a .arrived)) _ _ (c .refuse .ensures)
+    (rotating-none (a .k) (lowestFree (now (a .bits))) (now (a .cell)) (now (a .cells)) (now (a .links)) (now (a .calendar)) (now (a .words)) (now (a .bits)) (now (a .arrived)) _
     (at-bring .bring .ensures) (not-true _ (at-if1 .if1 .taken)))
 
 returns-2 : tie.Need-returns-2
@@ -35,11 +35,11 @@ returns-2 c =
     let at-name = at-judge .before .before in
     let at-if1 = at-name .before in
     let at-bring = at-if1 .before .before in
-    let start = at-bring .before .before .before .before .before .before .before .before in
+    let start = at-bring .before .before .before .before .before .before .before .before .before in
     let a = start .args in
     let pre = start .pre in
-    as-came (a .r) (now (a .cells)) (now (a .links)) (now (a .calendar)) (now (a .words)) (now (a .bits)) _ _ (c .refuse2 .ensures)
-    (arriving-none (a .k) (lowestFree (now (a .bits))) (now (a .cell)) (now (a .cells)) (now (a .links)) (now (a .calendar)) (now (a .words)) (now (a .bits)) _
+    as-came (a .r) (now (a .cells)) (now (a .links)) (now (a .calendar)) (now (a .words)) (now (a .bits)) (now (a .arrived)) _ _ (c .refuse2 .ensures)
+    (arriving-none (a .k) (lowestFree (now (a .bits))) (now (a .cell)) (now (a .cells)) (now (a .links)) (now (a .calendar)) (now (a .words)) (now (a .bits)) (now (a .arrived)) _
     (at-bring .bring .ensures) _ (at-judge .judge .ensures
     ∙ judged-cell (a .k .n) (a .k .v) (a .k .kind) (a .k .t) (now (a .words)) (now (a .cell)) _ (omega (arith, pre .0 .v-high))
     (at-name .name-of .ensures .0) (at-name .name-of .ensures .1)) (omega (arith, pre .0 .rotation-low, pre .0 .words-long))
@@ -49,17 +49,17 @@ returns-2 c =
 judge-requires : tie.Need-judge-requires
 unfolding cellName
 judge-requires c κs =
-    let start = c .before .before .before .before .before .before .before .before .before .before .before .before in
+    let start = c .before .before .before .before .before .before .before .before .before .before .before .before .before in
     let pre = start .pre in
     (omega (arith, pre .0 .words-long), pre .0 .v-high, λ ne. pre .1 (λ z. ne (c .before .name-of .ensures .0 ∙ simp (eq-eqb _ _ z))))
 
 accept-requires : tie.Need-accept-requires
 accept-requires c κs =
-    let at-if3 = c .before .before .before .before .before in
+    let at-if3 = c .before .before .before .before .before .before in
     let at-if2 = at-if3 .before .before in
     let at-judge = at-if2 .before .before in
     let at-name = at-judge .before .before in
-    let start = at-name .before .before .before .before .before .before .before .before .before .before .before in
+    let start = at-name .before .before .before .before .before .before .before .before .before .before .before .before in
     let a = start .args in
     let pre = start .pre in
     let e = at-judge .judge .ensures
@@ -73,19 +73,19 @@ accept-requires c κs =
 
 returns-3 : tie.Need-returns-3
 returns-3 c =
-    let at-accept = c .before .before .before .before .before .before .before .before .before .before in
-    let at-if3 = at-accept .before .before .before .before .before .before in
+    let at-accept = c .before .before .before .before .before .before .before .before .before .before .before .before in
+    let at-if3 = at-accept .before .before .before .before .before .before .before in
     let at-if2 = at-if3 .before .before in
     let at-judge = at-if2 .before .before in
     let at-name = at-judge .before .before in
     let at-if1 = at-name .before in
     let at-bring = at-if1 .before .before in
-    let start = at-bring .before .before .before .before .before .before .before .before in
+    let start = at-bring .before .before .before .before .before .before .before .before .before in
     let a = start .args in
     let pre = start .pre in
     at-accept .accept .ensures ∙ ap (finish (stateOf (a .r) (now (a .cells)) (now (a .links)) (now (a .calendar))
-    (now (a .words)) (now (a .bits)))) (sym (arriving-accepted (a .k) (lowestFree (now (a .bits))) (now (a .cell)) (now (a .cells)) (now (a .links)) (now (a .calendar))
-    (now (a .words)) (now (a .bits)) _ (at-bring .bring .ensures) _ (at-judge .judge .ensures
+    (now (a .words)) (now (a .bits)) (now (a .arrived)))) (sym (arriving-accepted (a .k) (lowestFree (now (a .bits))) (now (a .cell)) (now (a .cells)) (now (a .links)) (now (a .calendar))
+    (now (a .words)) (now (a .bits)) (now (a .arrived)) _ (at-bring .bring .ensures) _ (at-judge .judge .ensures
     ∙ judged-cell (a .k .n) (a .k .v) (a .k .kind) (a .k .t) (now (a .words)) (now (a .cell)) _ (omega (arith, pre .0 .v-high))
     (at-name .name-of .ensures .0) (at-name .name-of .ensures .1))
     (omega (arith, pre .0 .rotation-low, pre .0 .words-long)) (not-false _ (at-if1 .if1 .left))
@@ -96,13 +96,13 @@ quiet-requires c κs =
     let at-if2 = c .before .before .before .before .before .before .before in
     let at-judge = at-if2 .before .before in
     let at-name = at-judge .before .before in
-    let start = at-name .before .before .before .before .before .before .before .before .before .before .before in
+    let start = at-name .before .before .before .before .before .before .before .before .before .before .before .before in
     let a = start .args in
     let pre = start .pre in
     let e = at-judge .judge .ensures
     ∙ judged-cell (a .k .n) (a .k .v) (a .k .kind) (a .k .t) (now (a .words)) (now (a .cell)) _ (omega (arith, pre .0 .v-high))
     (at-name .name-of .ensures .0) (at-name .name-of .ensures .1) in (
-      pre .0,
+      (now (a .arrived), pre .0),
       λ x. rw (ap (λ (j : Judged). j .vci) e) (judged-shows (a .k) (now (a .cell)) (now (a .words)) .excess-is
           (ap (λ (j : Judged). j .ok) (sym e) ∙ not-false _ (at-if2 .if2 .left))
           (ap (λ (j : Judged). j .verdict) (sym e) ∙ eqb-true _ _ x)),
@@ -117,12 +117,12 @@ returns-4 c =
     let at-name = at-judge .before .before in
     let at-if1 = at-name .before in
     let at-bring = at-if1 .before .before in
-    let start = at-bring .before .before .before .before .before .before .before .before in
+    let start = at-bring .before .before .before .before .before .before .before .before .before in
     let a = start .args in
     let pre = start .pre in
-    at-quiet .quiet .ensures ∙ ap (finish (stateOf (a .r) (now (a .cells)) (now (a .links)) (now (a .calendar))
-    (now (a .words)) (now (a .bits)))) (sym (arriving-quiet (a .k) (lowestFree (now (a .bits))) (now (a .cell)) (now (a .cells)) (now (a .links)) (now (a .calendar))
-    (now (a .words)) (now (a .bits)) _ (at-bring .bring .ensures) _ (at-judge .judge .ensures
+    at-quiet .quiet .ensures (now (a .arrived)) ∙ ap (finish (stateOf (a .r) (now (a .cells)) (now (a .links)) (now (a .calendar))
+    (now (a .words)) (now (a .bits)) (now (a .arrived)))) (sym (arriving-quiet (a .k) (lowestFree (now (a .bits))) (now (a .cell)) (now (a .cells)) (now (a .links)) (now (a .calendar))
+    (now (a .words)) (now (a .bits)) (now (a .arrived)) _ (at-bring .bring .ensures) _ (at-judge .judge .ensures
     ∙ judged-cell (a .k .n) (a .k .v) (a .k .kind) (a .k .t) (now (a .words)) (now (a .cell)) _ (omega (arith, pre .0 .v-high))
     (at-name .name-of .ensures .0) (at-name .name-of .ensures .1))
     (omega (arith, pre .0 .rotation-low, pre .0 .words-long)) (not-false _ (at-if1 .if1 .left))
@@ -143,6 +143,7 @@ steps-spec =
     returns-2
     (λ c κs. search needs)
     accept-requires
+    (λ c. search needs)
     (λ c. search needs)
     (λ c. search needs)
     (λ c. search needs)

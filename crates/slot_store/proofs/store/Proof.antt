@@ -11,11 +11,11 @@ use Rattle.slot_store.proofs.store.Statement.{statement}
 use Rattle.slot_store.proofs.store.Tie as tie
 
 occupy-requires : tie.Need-occupy-requires
-occupy-requires c κs = let pre = c .before .before .before .before .before .before .before .before .before .before .before .pre in (omega (arith, pre .0 .bits-long), pre .1 .1 .is-free, omega (arith, pre .1 .1 .e-low, pre .0 .n-high))
+occupy-requires c κs = let pre = c .before .before .before .before .before .before .before .before .before .before .before .before .pre in (omega (arith, pre .0 .bits-long), pre .1 .1 .is-free, omega (arith, pre .1 .1 .e-low, pre .0 .n-high))
 
 put-entry-requires : tie.Need-put-entry-requires
 put-entry-requires c κs =
-    let pre = c .before .before .before .before .before .before .before .before .before .before .before .before .before .before .before .before .before .before .before .before .before .before .before .before .before .pre in
+    let pre = c .before .before .before .before .before .before .before .before .before .before .before .before .before .before .before .before .before .before .before .before .before .before .before .before .before .before .before .before .before .before .pre in
     omega (arith, pre .0 .calendar-long, pre .1 .1 .e-low)
 
 returns : tie.Need-returns
@@ -24,10 +24,11 @@ returns c =
     let at-put-entry = c .before .before in
     let at-tail-of = at-put-entry .before .before in
     let at-put-link = at-tail-of .before .before .before in
-    let at-put-sent = at-put-link .before .before .before .before .before in
+    let at-put-arrived = at-put-link .before .before .before .before .before in
+    let at-put-sent = at-put-arrived .before .before .before .before in
     let at-words-fill = at-put-sent .before .before .before .before .before .before .before .before in
-    let at-occupy = c .before .before .before .before .before .before .before .before .before .before .before .before .before .before .before .before in
-    let start = at-words-fill .before .before .before .before .before .before .before .before in (
+    let at-occupy = c .before .before .before .before .before .before .before .before .before .before .before .before .before .before .before .before .before .before .before .before in
+    let start = at-words-fill .before .before .before .before .before .before .before .before .before in (
       at-put-sent .put-sent .ensures,
       (
         at-put-link .put-link .ensures,
@@ -35,7 +36,7 @@ returns c =
           at-put-entry .put-entry .ensures
               ∙ ap (λ (tail : ℕ). writeEntry (now (start .args .calendar)) (start .args .a .e) (endsOf (start .args .a .x) tail))
               (at-tail-of .tail-of .ensures),
-          (at-words-fill .words-fill .ensures, at-occupy .occupy .ensures),
+          (at-words-fill .words-fill .ensures, (at-occupy .occupy .ensures, at-put-arrived .put-arrived .ensures)),
         ),
       ),
     )
@@ -49,7 +50,9 @@ store-spec =
     (λ c κs. search needs)
     (λ c κs. search needs)
     (λ c κs. search needs)
+    (λ c κs. search needs)
     put-entry-requires
+    (λ c. search needs)
     (λ c. search needs)
     (λ c. search needs)
     (λ c. search needs)
