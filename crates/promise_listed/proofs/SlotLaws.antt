@@ -75,8 +75,8 @@ module _ (n : ℕ) (b : List ℕ) where
 
     sizes : sizesHold s ≡ true
     sizes =
-        lengths-hold (s .ctl .n) (s .ctl .v) (s .cells) (s .links) (s .calendar) (s .words) (s .bits) cells-long (t .new .long)
-        (t .calendar-long) words-long (t .bits-long)
+        lengths-hold (s .ctl .n) (s .ctl .v) (s .cells) (s .links) (s .calendar) (s .words) (s .bits) (s .arrived) cells-long (t .new .long)
+        (t .calendar-long) words-long (t .bits-long) (i .stage .dates .long ∙ sym (i .stage .n-is))
 
     four : fourHold (s .ctl .n) (s .ctl .v) (beneath n b s list) ≡ true
     unfolding fourHold

@@ -8,7 +8,7 @@ use native.Mathlib.Omega.{arith}
 use lib.ListN.{length}
 use Rattle.meaning.specs.Plain.{_<?_, _≤?_, _=?_, next, _andThen_}
 use Rattle.meaning.specs.Numbers.{cellStart, connectionsIn, unused, kindFits, excess}
-use Rattle.meaning.specs.State.{State, Ends, endsOf, outputList, withRecord, withCells, withLinks, withCalendar, withWords, withBits}
+use Rattle.meaning.specs.State.{State, Ends, endsOf, outputList, withRecord, withCells, withLinks, withCalendar, withWords, withBits, withArrived}
 use Rattle.meaning.specs.State.{recordWith, withClock, withFree, withOutputList}
 use Rattle.meaning.specs.Header.{headerAt, clpIn, noUserCell, connection, namesConnection, namesOpen}
 use Rattle.meaning.specs.Bucket.{delay, fill}
@@ -77,7 +77,7 @@ module _ (n : ℕ) (b : List ℕ) where
       placing = record { space = free .head; left = head-taken t f .left }
 
       place-follows : Follows n b Any (place cell D (free .head) w) (placeListed cell D (over n b w list free .work) placing)
-      unfolding place placeListed placing withFree withBits withCells withLinks withCalendar withRecord recordWith
+      unfolding place placeListed placing withFree withBits withArrived withCells withLinks withCalendar withRecord recordWith
       place-follows =
           needs-both n b Any (endsFit (s .ctl .n) (entryAt (s .calendar) e)) _ _
           (λ _. record {

@@ -36,7 +36,7 @@ beneath n b s list =
       kind = r .kind;
       splitvci = r .splitvci;
       splitpath = r .splitpath;
-    }) (s .cells) list (s .calendar) (s .words) b
+    }) (s .cells) list (s .calendar) (s .words) b (s .arrived)
 
 abbrev pub over : ℕ → List ℕ → Work → List ℕ → Ends → ListedWork
 over n b w list free = workWith (workOf (beneath n b (w .state) list) (w .answer)) free

@@ -62,19 +62,21 @@ module _ (s : State) (a : AuditHolds s) where
   r = ranges-are N (s .ctl .v) (a .ranges)
 
   -- the lengths that are judged
-  bits-are : length (s .bits) =? bitWords ≡ true
+  abbrev four : Bool
+  four = length (s .cells) =? octets * N && length (s .links) =? N && length (s .calendar) =? perEntry * N && wordsLong (s .ctl .v) (s .words)
+
+  five-hold : four && length (s .bits) =? bitWords ≡ true
   unfolding lengthsHold
-  bits-are =
-      and-right (length (s .cells) =? octets * N && length (s .links) =? N && length (s .calendar) =? perEntry * N && wordsLong (s .ctl .v) (s .words))
-      (length (s .bits) =? bitWords) (a .lengths)
+  five-hold = and-left (four && length (s .bits) =? bitWords) (length (s .arrived) =? N) (a .lengths)
+
+  bits-are : length (s .bits) =? bitWords ≡ true
+  bits-are = and-right four (length (s .bits) =? bitWords) five-hold
 
   calendar-is : length (s .calendar) =? perEntry * N ≡ true
-  unfolding lengthsHold
   calendar-is =
       and-right (length (s .cells) =? octets * N && length (s .links) =? N) (length (s .calendar) =? perEntry * N)
       (and-left (length (s .cells) =? octets * N && length (s .links) =? N && length (s .calendar) =? perEntry * N) (wordsLong (s .ctl .v) (s .words))
-      (and-left (length (s .cells) =? octets * N && length (s .links) =? N && length (s .calendar) =? perEntry * N && wordsLong (s .ctl .v) (s .words))
-      (length (s .bits) =? bitWords) (a .lengths)))
+      (and-left four (length (s .bits) =? bitWords) five-hold))
 
   -- heads and tails
   out-fits : endsFit N (outputList s) ≡ true

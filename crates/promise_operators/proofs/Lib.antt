@@ -5,4 +5,3 @@ pub mod Lawful
 pub mod OperatorsLaws
 pub mod StayLaws
 pub mod SlotLaws
-pub mod PairsLaws

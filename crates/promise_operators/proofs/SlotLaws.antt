@@ -12,7 +12,7 @@ use lib.ListN.{length}
 use Rattle.base_hec.specs.Modes.{arrivingFits}
 use Rattle.meaning.specs.Plain.{if_then_else_, _<?_, _≤?_, _=?_, Out, refused, next, _andThen_}
 use Rattle.meaning.specs.Numbers.{rangesHold, octets, perEntry, cellStart, connectionsIn, wordsIn, bitWords, unused, kindFits, excess}
-use Rattle.meaning.specs.State.{State, sizesHold, lengthsHold, wordsLong, outputList, withRecord, withCells, withLinks, withCalendar, withWords, withBits}
+use Rattle.meaning.specs.State.{State, sizesHold, lengthsHold, wordsLong, outputList, withRecord, withCells, withLinks, withCalendar, withWords, withBits, withArrived}
 use Rattle.meaning.specs.State.{recordWith, withClock, withFree, withOutputList, recordInMode, withMode}
 use Rattle.meaning.specs.Header.{Header, headerAt, clpIn, noUserCell, Name, named, numberIn, nameIn, connection, namesConnection, namesOpen}
 use Rattle.meaning.specs.Bucket.{elapsed, delay}
@@ -107,7 +107,7 @@ module _ (z kind : ℕ) (other : Name) (is : named z other ≡ true) (b : Connec
   )
 
   judge-in : (x : ℕ) (cell : List ℕ) (u : ℕ) (w : Work) (conn : Connection) → u ≢ c → Midst w → AllOut Midst (judge x cell u w conn)
-  unfolding judge accept place withWords withCells withLinks withCalendar withFree withBits withRecord recordWith
+  unfolding judge accept place withWords withCells withLinks withCalendar withFree withBits withArrived withRecord recordWith
   judge-in x cell u w conn ne h =
       let s = w .state in
       if-all Midst (verdictOn (clpIn cell) conn =? excess) _ _ (λ _. wrote w u conn ne h)
@@ -219,7 +219,8 @@ module _ (z kind : ℕ) (other : Name) (is : named z other ≡ true) (b : Connec
     long e =
         let first = length (s .cells) =? octets * s .ctl .n && length (s .links) =? s .ctl .n && length (s .calendar) =? perEntry * s .ctl .n in
         let words = length (s .words) =? wordsIn (s .ctl .v) in
-        let d = both (first && words) (length (s .bits) =? bitWords) e .0 in
+        let bits = length (s .bits) =? bitWords in
+        let d = both (first && words) bits (both (first && words && bits) (length (s .arrived) =? s .ctl .n) e .0) .0 in
         eqb-true (length (s .words)) (wordsIn (s .ctl .v)) (both first words d .1) ∙ ap wordsIn v-is
 
     begun : (mode : ℕ) → sizesHold s ≡ true → Before (workOf (withMode s mode) (bareAnswer 0))

@@ -1,3 +1,2 @@
 pub mod Operators
 pub mod Untouched
-pub mod Pairs

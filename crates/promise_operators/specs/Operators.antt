@@ -10,7 +10,7 @@
 --   slots that have no cell of A's: cells of B, of nobody, dropped ones, or none
 -- What is then the same, `told`: the number of each open; verdict, VCI, D, due time and due slot of each cell, and its octets as sent
 -- What may differ: departure slots, by N-1 at most; which space is used; and so when A's close is no longer refused for waiting
---   cells. That each of these does differ in some pair of runs is shown in specs/Pairs.antt
+--   cells. That each of these does differ in some pair of runs is shown in crate promise_pairs
 --
 --   isOf c A name      == a connection of A's
 --   isA c A r x        == the call x after the run r is A's: an open or close as A, or a served slot with a cell that names one of

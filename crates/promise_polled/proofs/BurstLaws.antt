@@ -115,6 +115,7 @@ module _ (arrivals sizes departures answers : List ℕ) where
           eq-eqb (length (r .state .calendar)) (2 * N) (g .has .calendar-long),
           eq-eqb (length (r .state .words)) (wordsIn z) (g .words-long),
           eq-eqb (length (r .state .bits)) bitWords (g .has .bits-long),
+          eq-eqb (length (r .state .arrived)) N (g .dates .long),
         )
 
     whole : burst (r .state) arrivals sizes departures answers

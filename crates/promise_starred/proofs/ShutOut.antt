@@ -28,6 +28,7 @@ pub fiveSteps-meet : (o : Options) → Meets o (λ s cell. record {
   calendar = slot s cell .state .calendar;
   words = slot s cell .state .words;
   bits = slot s cell .state .bits;
+  arrived = slot s cell .state .arrived;
 })
 fiveSteps-meet o = record { promise = λ s reached cell. refl }
 

@@ -25,7 +25,7 @@ use Rattle.promise_starred.specs.ShutOut.{Given, Policer}
 
 -- ── the runs of another policer ──
 abbrev pub workBy : Given → Work
-workBy g = workOf (stateOf (g .served .ctl) (g .cells) (g .links) (g .calendar) (g .words) (g .bits)) (g .served .answer)
+workBy g = workOf (stateOf (g .served .ctl) (g .cells) (g .links) (g .calendar) (g .words) (g .bits) (g .arrived)) (g .served .answer)
 
 unfoldable pub callBy : Policer → Run → Call → Run
 callBy f r (onOpenWith who name m F C x) = call r (onOpenWith who name m F C x)
@@ -92,6 +92,7 @@ given w =
       calendar = w .state .calendar;
       words = w .state .words;
       bits = w .state .bits;
+      arrived = w .state .arrived;
     }
 
 abbrev pub keeper : Policer

@@ -97,7 +97,7 @@ pub data Row : Type 0 where
 -- setup of a policer that is not raw, at the UNI, with the second operator alone on it, over memories that held other numbers
 abbrev pub ready : ℕ → ℕ → SetUp
 ready N z =
-    setup N z (askedOf false uni 1 1) (stateOf zeros (replicate (octets * N) 7) (replicate N 7) (replicate (perEntry * N) 7) (replicate (wordsIn z) 7) (replicate bitWords 7))
+    setup N z (askedOf false uni 1 1) (stateOf zeros (replicate (octets * N) 7) (replicate N 7) (replicate (perEntry * N) 7) (replicate (wordsIn z) 7) (replicate bitWords 7) (replicate N 7))
 
 abbrev pub says : Row → List Said
 says (run N z steps) = number (ready N z .number) ∷ saysFrom (ready N z .state) steps

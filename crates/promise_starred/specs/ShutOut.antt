@@ -16,7 +16,7 @@ use Rattle.meaning.specs.Slot.{slot}
 use Rattle.meaning.specs.Promises.{slotPromise}
 use Rattle.meaning_runs.specs.Run.{Call, calls, freshRun}
 
--- what a slot gives back: record and answer, and the five memories
+-- what a slot gives back: record and answer, and the six memories
 pub record Given : Type 0 where
   pub served : Served
   pub cells : List ℕ
@@ -24,6 +24,7 @@ pub record Given : Type 0 where
   pub calendar : List ℕ
   pub words : List ℕ
   pub bits : List ℕ
+  pub arrived : List ℕ
 
 abbrev pub Policer : Type 0
 Policer = State → List ℕ → Given
@@ -35,7 +36,7 @@ pub data Reached (o : Options) : State → Type 0 where
 -- demand 2, of the slot
 pub record Meets (o : Options) (f : Policer) : Type 0 where
   pub promise : (s : State) → Reached o s → (cell : List ℕ)
-      → slotPromise s cell (workOf (stateOf (f s cell .served .ctl) (f s cell .cells) (f s cell .links) (f s cell .calendar) (f s cell .words) (f s cell .bits)) (f s cell .served .answer))
+      → slotPromise s cell (workOf (stateOf (f s cell .served .ctl) (f s cell .cells) (f s cell .links) (f s cell .calendar) (f s cell .words) (f s cell .bits) (f s cell .arrived)) (f s cell .served .answer))
 
 -- "a policer that always refuses"
 abbrev pub AlwaysRefuses : Options → Policer → Type 0
@@ -50,7 +51,7 @@ VerdictNeverVaries o f = (s s′ : State) → Reached o s → Reached o s′ →
 abbrev pub LaterOnlyMovesT : Options → Policer → Type 0
 LaterOnlyMovesT o f = (s : State) → Reached o s → s .ctl .t ≢ slotNumbers - 1 → (cell : List ℕ)
     → (f s cell .cells ≡ s .cells) × (f s cell .links ≡ s .links) × (f s cell .calendar ≡ s .calendar) × (f s cell .words ≡ s .words)
-    × (f s cell .bits ≡ s .bits)
+    × (f s cell .bits ≡ s .bits) × (f s cell .arrived ≡ s .arrived)
 
 -- "one that reports an invented D": in some slot another D than the five steps give
 pub record InventsD (o : Options) (f : Policer) : Type 0 where

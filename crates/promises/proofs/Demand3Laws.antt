@@ -58,7 +58,7 @@ module _ (N z kind : ℕ) (h : List Event) (s : State) (i : Inv N z kind h s) wh
   unfolding departuresOf
   departures-are v = ap (ofConnection (λ d. d .vci) v) (i .seen) ∙ ofConnection-map (λ d. d .vci) seenAs v (i .left)
 
-  cells-are : (v : ℕ) → cellsOf v h ≡ map cellLeft (gone v) ++ waiting v
+  pub cells-are : (v : ℕ) → cellsOf v h ≡ map cellLeft (gone v) ++ waiting v
   unfolding cellsOf
   cells-are v =
       i .order v

@@ -1,7 +1,7 @@
 -- DEMAND 2 over runs. A setup has answered 0, whatever the memory held before. Then the 32-bit slot number, which wraps,
 -- decides as a clock that never does: of any calls, refused ones among them, the answers, the line cells and the memories
--- are those of a policer (crate theory_clock, specs/Unwrapped.antt) whose clock is the number of slots served, t and `last`
--- being that policer's modulo 2^32. NeverWraps has a clause for each. Both have the header check of document 02 (i) in
+-- are those of a policer (crate theory_clock, specs/Unwrapped.antt) whose clock is the number of slots served, t, `last` and the
+-- arrival slots being that policer's modulo 2^32. NeverWraps has a clause for each. Both have the header check of document 02 (i) in
 -- front, so what is decided of is the mended header. By document 02 (vi) all of it holds on either kind of line, of VCs and of
 -- paths.
 use Prim.Native.Nat.{ℕ}

@@ -10,7 +10,7 @@ use lib.ListN.{length}
 use Rattle.meaning.specs.declared.Record.{Record}
 use Rattle.meaning.specs.Plain.{_=?_}
 use Rattle.meaning.specs.Numbers.{rangesHold, splitsHold, connectionsIn, unused, wordsIn}
-use Rattle.meaning.specs.State.{State, wordsLong, withRecord, withWords, recordWith, withClock}
+use Rattle.meaning.specs.State.{State, wordsLong, withRecord, withWords, withArrived, recordWith, withClock}
 use Rattle.meaning.specs.Header.{Name, named, numberIn}
 use Rattle.meaning.specs.Operators.{owns}
 use Rattle.meaning.specs.Bucket.{bucketOf, obeysRules, fall}
@@ -34,7 +34,7 @@ fits-stored N vc = refl
 -- refusals 1, 2, 4, 16 and 3 read nothing that differs
 shared-stored : (u : State) (who : ℕ) (name : Name) → length (u .words) ≡ wordsIn (u .ctl .v)
     → sharedRefusal (storedState u .ctl) (storedState u .words) who name ≡ sharedRefusal (u .ctl) (u .words) who name
-unfolding sharedRefusal owns storedState withClock withRecord withWords recordWith wordsLong
+unfolding sharedRefusal owns storedState withClock withRecord withWords withArrived recordWith wordsLong
 shared-stored u who name long =
     let r = u .ctl in
     let c = numberIn (r .v) name in
@@ -64,7 +64,7 @@ shared-low r words who name =
 pub open-agrees : (u : State) (who : ℕ) (name : Name) (m F C : ℕ) (x : Second) → Kept u
     → openCall (storedState u .ctl) (storedState u .words) who name m F C x
     ≡ storedCalled (u .ctl .v) (unwrappedOpen (u .ctl) (u .words) who name m F C x)
-unfolding openCall unwrappedOpen storedCalled storedState withClock withRecord withWords recordWith storedConnection openedConnection
+unfolding openCall unwrappedOpen storedCalled storedState withClock withRecord withWords withArrived recordWith storedConnection openedConnection
 open-agrees u who name m F C x kept =
     let r = u .ctl in
     let vci = numberIn (r .v) name in
@@ -106,7 +106,7 @@ closed-same = refl
 
 pub close-agrees : (u : State) (who : ℕ) (name : Name) → Kept u
     → closeCall (storedState u .ctl) (storedState u .words) who name ≡ storedCalled (u .ctl .v) (unwrappedClose (u .ctl) (u .words) who name)
-unfolding closeCall unwrappedClose storedCalled storedState withClock withRecord withWords recordWith storedConnection
+unfolding closeCall unwrappedClose storedCalled storedState withClock withRecord withWords withArrived recordWith storedConnection
 close-agrees u who name kept =
     let r = u .ctl in
     let vci = numberIn (r .v) name in

@@ -12,7 +12,7 @@ use lib.ListN.{length}
 use Rattle.meaning.specs.Plain.{_<?_, _≤?_, _=?_}
 use Rattle.meaning.specs.Numbers.{excess, unknown, cellStart, connectionsIn, unused, kindFits}
 use Rattle.meaning.specs.State.{outputList, withRecord, withCells, withLinks, withCalendar, withWords}
-use Rattle.meaning.specs.State.{recordWith, withClock, withBits, withFree, withOutputList}
+use Rattle.meaning.specs.State.{recordWith, withClock, withBits, withArrived, withFree, withOutputList}
 use Rattle.meaning.specs.Bits.{isFree, spacesFit}
 use Rattle.meaning.specs.Header.{headerAt, clpIn, noUserCell, connection, namesConnection, namesOpen}
 use Rattle.meaning.specs.Bucket.{fill, delay}
@@ -143,7 +143,7 @@ rotate-on z k r₀ w low h =
 -- 3: an arrival brings its connection up to date, and else keeps `last`
 pub judge-on : (z k r : ℕ) (most : ℕ → ℕ) (x : ℕ) (cell : List ℕ) (v : ℕ) (w : Work) (vc : Connection) → v < connectionsIn z → On z k r most w
     → Behind k (most v) vc → AllOut (On z k r most) (judge x cell v w vc)
-unfolding judge accept place withWords withCells withLinks withCalendar withFree withBits withRecord recordWith
+unfolding judge accept place withWords withCells withLinks withCalendar withFree withBits withArrived withRecord recordWith
 judge-on z k r most x cell v w vc low h b =
     let s = w .state in
     let clp = clpIn cell in

@@ -10,7 +10,7 @@ use borrow.Author.Tests.{eq-eqb, not-false}
 use lib.ListN.{getD, replicate, length-replicate}
 use Rattle.meaning.specs.Plain.{if_then_else_, _=?_}
 use Rattle.meaning.specs.Numbers.{rangesHold, splitsHold, openPlace, connectionsIn, kindFits, wordsIn}
-use Rattle.meaning.specs.State.{State, lengthsHold, withRecord, withWords, recordWith, withClock}
+use Rattle.meaning.specs.State.{State, lengthsHold, withRecord, withWords, withArrived, recordWith, withClock}
 use Rattle.meaning.specs.Header.{numberIn}
 use Rattle.meaning.specs.Words.{Connection, connectionAt, writeConnection}
 use Rattle.meaning.specs.Calls.{Asked, Options, chosen, Called, SetUp, freshRecord, freshState, setup}
@@ -24,7 +24,7 @@ use Rattle.theory_clock.specs.Stored.{storedConnection, storedWords, sto
 use Rattle.theory_clock.specs.Unwrapped.{unwrappedSlot, unwrappedFresh}
 use Rattle.theory_clock.specs.Kept.{Kept}
 use Rattle.theory_clock.specs.UnwrappedRun.{unwrappedCall, unwrappedCalls, unwrappedFreshRun, NeverWraps}
-use Rattle.theory_clock.proofs.Wrap.{stored-zero}
+use Rattle.theory_clock.proofs.Wrap.{stored-zero, arrivals-none}
 use Rattle.theory_clock.proofs.SlotAgrees.{slot-agrees, slot-keeps, slot-counts}
 use Rattle.theory_clock.proofs.CallsAgree.{open-agrees, open-keeps, close-agrees, close-keeps}
 
@@ -52,8 +52,8 @@ fresh-words (suc R) k =
 
 -- after setup t is 2^32-1, which is what is stored of 0 slots served
 pub fresh-agrees : (N z : ℕ) (o : Options) → storedState (unwrappedFresh N z o) ≡ freshState N z o
-unfolding storedState unwrappedFresh freshState freshRecord withClock withRecord withWords recordWith zeros
-fresh-agrees N z o = rw (stored-zero, fresh-words (connectionsIn z) (wordsIn z))
+unfolding storedState unwrappedFresh freshState freshRecord withClock withRecord withWords withArrived recordWith zeros
+fresh-agrees N z o = rw (stored-zero, fresh-words (connectionsIn z) (wordsIn z), arrivals-none N)
 
 pub fresh-kept : (N z : ℕ) (o : Options) → Kept (unwrappedFresh N z o)
 unfolding unwrappedFresh freshState freshRecord withClock withRecord recordWith connectionAt zeros
@@ -70,7 +70,7 @@ unfoldable pub storedRun : Run → Run
 storedRun r = runOf (storedState (r .state)) (r .events)
 
 pub call-agrees : (r : Run) (c : Call) → Kept (r .state) → call (storedRun r) c ≡ storedRun (unwrappedCall r c)
-unfolding call callAt slot unwrappedCall storedRun storedCalled storedWork storedState withClock withRecord withWords recordWith shown
+unfolding call callAt slot unwrappedCall storedRun storedCalled storedWork storedState withClock withRecord withWords withArrived recordWith shown
 call-agrees r (onOpenWith who name m F C x) kept =
     ap (λ (c : Called). runOf (withWords (storedState (r .state)) (c .words)) (opened who (numberIn (r .state .ctl .v) name) m F C x (c .number) ∷ r .events))
     (open-agrees (r .state) who name m F C x kept)
@@ -112,7 +112,7 @@ unfolding unwrappedFresh freshState withClock withRecord recordWith served
 fresh-counts N z o = refl
 
 pub never-wraps : (N z : ℕ) (o : Options) → rangesHold N z ≡ true → (cs : List Call) → NeverWraps N z o cs
-unfolding freshRun unwrappedFreshRun storedRun storedState withClock withRecord withWords
+unfolding freshRun unwrappedFreshRun storedRun storedState withClock withRecord withWords withArrived
 never-wraps N z o range cs =
     let fresh = runOf (unwrappedFresh N z o) [] in
     let all = calls-agree fresh cs (fresh-kept N z o) (fresh-counts N z o) in
@@ -135,7 +135,7 @@ setup-fresh N z a lent =
     if-holds P (not (rangesHold N z)) _ _ (λ _ p. absurd (omega arith))
     (λ range. if-holds P (not (splitsHold z (a .splitvci) (a .splitpath))) _ _ (λ _ p. absurd (omega arith))
     (λ _. if-holds P (not (kindFits (a .kind))) _ _ (λ _ p. absurd (omega arith))
-    (λ _. if-holds P (not (lengthsHold N z (lent .cells) (lent .links) (lent .calendar) (lent .words) (lent .bits))) _ _ (λ _ p. absurd (omega arith))
+    (λ _. if-holds P (not (lengthsHold N z (lent .cells) (lent .links) (lent .calendar) (lent .words) (lent .bits) (lent .arrived))) _ _ (λ _ p. absurd (omega arith))
     (λ _ p. (not-false (rangesHold N z) range, refl)))))
   where
     P : SetUp → Type 0

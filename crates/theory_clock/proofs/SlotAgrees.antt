@@ -6,18 +6,18 @@ use mathlib.Core.List.{List}
 use native.Mathlib.Omega.{arith}
 use native.Mathlib.Nat.{mod-lt}
 use borrow.Author.Tests.{leb-true, not-false, ne-eqb}
-use lib.ListN.{length}
+use lib.ListN.{length, length-map}
 use Rattle.base_hec.specs.Modes.{Arriving, arrivingFits}
 use Rattle.meaning.specs.Plain.{if_then_else_, _≤?_, _=?_, Out, refused, next, needs, _andThen_}
 use Rattle.meaning.specs.Numbers.{rangesHold, octets, leastV, mostV, mostN, connectionsIn, unused, wordsIn}
-use Rattle.meaning.specs.State.{State, wordsLong, lengthsHold, sizesHold, withRecord, withWords, recordWith, withClock}
+use Rattle.meaning.specs.State.{State, wordsLong, lengthsHold, sizesHold, withRecord, withWords, withArrived, recordWith, withClock}
 use Rattle.meaning.specs.State.{recordInMode, withMode}
 use Rattle.meaning.specs.Bits.{lowestFree}
 use Rattle.meaning.specs.Work.{Work, workOf, bareAnswer}
 use Rattle.meaning.specs.Slot.{step1, step2, step3, step4, step5, fiveSteps, finish, told, slotAt, slot}
 use Rattle.meaning_runs.specs.Run.{letIn}
 use Rattle.meaning_runs.proofs.OutLaws.{AllOut, if-holds, then-all}
-use Rattle.theory_clock.specs.Stored.{storedWords, storedState, storedWork}
+use Rattle.theory_clock.specs.Stored.{storedWords, storedArrival, storedArrivals, storedState, storedWork}
 use Rattle.theory_clock.specs.Unwrapped.{tick, rotate, arrive, unwrappedSteps, unwrappedSlot}
 use Rattle.theory_clock.specs.Kept.{since, longest, Kept}
 use Rattle.theory_clock.proofs.Outs.{both-true, mapOut, if-both, needs-map, then-map, then-agrees}
@@ -87,7 +87,7 @@ module _ (x : ℕ) (cell : List ℕ) (w : Work) (z k r : ℕ) (begun : On z k r 
   same₃ =
       then-agrees storedWork (On z (k + 1) next-r (since (connectionsIn z) next-r)) (step1 (storedWork w) andThen step2) (tick w andThen rotate)
       (step3 x cell) (arrive x cell) same₂ rotated
-      (λ w′ h. step3-stored x cell w′ (long-of _ w′ h) (on-near z (k + 1) next-r (since (connectionsIn z) next-r) w′ h gap))
+      (λ w′ h. step3-stored x cell w′ (long-of _ w′ h) (omega (arith, h .t-is)) (on-near z (k + 1) next-r (since (connectionsIn z) next-r) w′ h gap))
 
   same₄ : (step1 (storedWork w) andThen step2 andThen step3 x cell andThen step4)
       ≡ mapOut storedWork (tick w andThen rotate andThen arrive x cell andThen step4)
@@ -118,10 +118,10 @@ unfolding withMode withRecord recordInMode
 begin u mode kept = record { v-is = refl; t-is = refl; r-is = refl; done = refl; recent = kept .recent }
 
 lengths-stored : (u : State) (z : ℕ)
-    → lengthsHold (u .ctl .n) z (u .cells) (u .links) (u .calendar) (storedWords (connectionsIn z) (u .words)) (u .bits)
-    ≡ lengthsHold (u .ctl .n) z (u .cells) (u .links) (u .calendar) (u .words) (u .bits)
-unfolding lengthsHold wordsLong
-lengths-stored u z = rw (stored-length (connectionsIn z) (u .words))
+    → lengthsHold (u .ctl .n) z (u .cells) (u .links) (u .calendar) (storedWords (connectionsIn z) (u .words)) (u .bits) (storedArrivals (u .arrived))
+    ≡ lengthsHold (u .ctl .n) z (u .cells) (u .links) (u .calendar) (u .words) (u .bits) (u .arrived)
+unfolding lengthsHold wordsLong storedArrivals
+lengths-stored u z = rw (stored-length (connectionsIn z) (u .words), length-map (u .arrived) storedArrival)
 
 finish-stored : (u : State) (x : Out Work) → finish (storedState u) (mapOut storedWork x) ≡ storedWork (finish u x)
 unfolding finish storedWork
@@ -129,7 +129,7 @@ finish-stored u refused = refl
 finish-stored u (next w) = refl
 
 mode-stored : (u : State) (mode : ℕ) → workOf (withMode (storedState u) mode) (bareAnswer 0) ≡ storedWork (workOf (withMode u mode) (bareAnswer 0))
-unfolding storedWork storedState withMode withClock withRecord withWords recordWith recordInMode
+unfolding storedWork storedState withMode withClock withRecord withWords withArrived recordWith recordInMode
 mode-stored u mode = refl
 
 told-stored : (drop : Bool) (w : Work) → told drop (storedWork w) ≡ storedWork (told drop w)
@@ -181,7 +181,7 @@ module _ (x : ℕ) (u : State) (cell : List ℕ) where
       (workOf u (bareAnswer 9)) never-wrapped (λ _. refl) (λ _. checked-agrees kept range)
 
 pub slot-agrees : (u : State) (cell : List ℕ) → Kept u → slot (storedState u) cell ≡ storedWork (unwrappedSlot u cell)
-unfolding slot slotAt unwrappedSlot storedWork storedState withClock withRecord withWords recordWith
+unfolding slot slotAt unwrappedSlot storedWork storedState withClock withRecord withWords withArrived recordWith
 slot-agrees u cell kept =
     let N = u .ctl .n in
     let z = u .ctl .v in

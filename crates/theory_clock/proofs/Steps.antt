@@ -10,7 +10,7 @@ use lib.ListN.{length, getD}
 use Rattle.meaning.specs.Plain.{if_then_else_, _<?_, _≤?_, _=?_, Out, next, needs, _andThen_}
 use Rattle.meaning.specs.Numbers.{excess, unknown, openPlace, cellStart, connectionsIn, unused, kindFits, wordsIn}
 use Rattle.meaning.specs.State.{withRecord, withCells, withLinks, withCalendar, withWords, recordWith}
-use Rattle.meaning.specs.State.{withClock, withBits, withFree, withOutputList, outputList}
+use Rattle.meaning.specs.State.{withClock, withBits, withArrived, withFree, withOutputList, outputList}
 use Rattle.meaning.specs.Bits.{isFree, spacesFit, given}
 use Rattle.meaning.specs.Header.{Header, headerAt, clpIn, noUserCell, connection, namesConnection, namesOpen}
 use Rattle.meaning.specs.Bucket.{delay, fill}
@@ -23,13 +23,13 @@ use Rattle.meaning.proofs.NamesLaws.{names-low, names-used}
 use Rattle.theory_clock.specs.Stored.{stored, storedConnection, storedWords, storedState, storedWork}
 use Rattle.theory_clock.specs.Unwrapped.{caughtUp, tick, rotate, arrive}
 use Rattle.theory_clock.specs.Kept.{longest, Behind}
-use Rattle.theory_clock.proofs.Wrap.{stored-next, elapsed-true}
+use Rattle.theory_clock.proofs.Wrap.{stored-next, arrivals-set, elapsed-true}
 use Rattle.theory_clock.proofs.Outs.{both-true, mapOut, needs-map, if-map, then-map, then-same}
 use Rattle.theory_clock.proofs.WordsStored.{stored-read, stored-write, opened-stored}
 
 -- "1. t grows by one modulo 2^32": as the number of slots served does
 pub step1-stored : (w : Work) → step1 (storedWork w) ≡ mapOut storedWork (tick w)
-unfolding step1 tick storedWork storedState withClock withRecord withWords recordWith
+unfolding step1 tick storedWork storedState withClock withRecord withWords withArrived recordWith
 step1-stored w =
     let s = w .state in
     let r = s .ctl in
@@ -48,7 +48,7 @@ up-stored N k vc o a b =
 -- a connection's words are written
 pub connection-stored : (w : Work) (v : ℕ) (vc : Connection) → v < connectionsIn (w .state .ctl .v) → length (w .state .words) ≡ wordsIn (w .state .ctl .v)
     → withConnection (storedWork w) v (storedConnection vc) ≡ storedWork (withConnection w v vc)
-unfolding storedWork storedState withClock withRecord withWords recordWith
+unfolding storedWork storedState withClock withRecord withWords withArrived recordWith
 connection-stored w v vc h long =
     ap (λ (l : List ℕ). withState (storedWork w) (withWords (storedState (w .state)) l))
     (sym (stored-write (connectionsIn (w .state .ctl .v)) (w .state .words) v vc h long))
@@ -80,7 +80,7 @@ at-stored w v x f g low long near same =
 pub step2-stored : (w : Work) → w .state .ctl .rotation < connectionsIn (w .state .ctl .v) → length (w .state .words) ≡ wordsIn (w .state .ctl .v)
     → ((vci : ℕ) → unused (w .state .ctl .v) vci ≡ false → vci < connectionsIn (w .state .ctl .v) → Behind (w .state .ctl .t) longest (connectionAt (w .state .words) vci))
     → step2 (storedWork w) ≡ mapOut storedWork (rotate w)
-unfolding step2 rotate storedWork storedState withClock withRecord withWords recordWith
+unfolding step2 rotate storedWork storedState withClock withRecord withWords withArrived recordWith
 step2-stored w low long near =
     let s = w .state in
     let vci = s .ctl .rotation in
@@ -91,16 +91,17 @@ step2-stored w low long near =
     (λ vc. ap next (connection-stored w vci vc low long)))
 
 -- "3. Arrival at an open VC", from the end: the cell's place, the verdict, the whole step
-pub place-stored : (cell : List ℕ) (D x : ℕ) (w : Work) → place cell D x (storedWork w) ≡ mapOut storedWork (place cell D x w)
-unfolding place storedWork storedState withClock withRecord withWords recordWith withFree withBits withCells withLinks withCalendar
-place-stored cell D x w =
+pub place-stored : (cell : List ℕ) (D x : ℕ) (w : Work) → 1 ≤ w .state .ctl .t → place cell D x (storedWork w) ≡ mapOut storedWork (place cell D x w)
+unfolding place storedWork storedState withClock withRecord withWords withArrived recordWith withFree withBits withCells withLinks withCalendar
+place-stored cell D x w begun =
     let s = w .state in
-    needs-map storedWork (endsFit (s .ctl .n) (entryAt (s .calendar) ((s .ctl .turn + D) % s .ctl .n))) _ _ (λ _. refl)
+    needs-map storedWork (endsFit (s .ctl .n) (entryAt (s .calendar) ((s .ctl .turn + D) % s .ctl .n))) _ _
+    (λ _. rw (arrivals-set (s .arrived) x (s .ctl .t) begun))
 
 pub judge-stored : (x : ℕ) (cell : List ℕ) (v : ℕ) (w : Work) (vc : Connection) → v < connectionsIn (w .state .ctl .v) → length (w .state .words) ≡ wordsIn (w .state .ctl .v)
-    → judge x cell v (storedWork w) (storedConnection vc) ≡ mapOut storedWork (judge x cell v w vc)
-unfolding judge accept verdictOn storedWork storedState storedConnection withClock withRecord withWords recordWith
-judge-stored x cell v w vc h long =
+    → 1 ≤ w .state .ctl .t → judge x cell v (storedWork w) (storedConnection vc) ≡ mapOut storedWork (judge x cell v w vc)
+unfolding judge accept verdictOn storedWork storedState storedConnection withClock withRecord withWords withArrived recordWith
+judge-stored x cell v w vc h long begun =
     let s = w .state in
     let D = delay (vc .bucket) in
     let clp = clpIn cell in
@@ -113,13 +114,13 @@ judge-stored x cell v w vc h long =
     (λ _. needs-map storedWork (spacesFit (s .ctl .n) (s .ctl .free) (s .bits) && not (s .ctl .free =? 0)) _ _
     (λ _. needs-map storedWork (isFree (s .bits) x) _ _
     (λ _. ap (λ (w′ : Work). place sent D x (withArrival w′ verdict v D)) (connection-stored w v filled h long)
-    ∙ place-stored sent D x (withArrival (withConnection w v filled) verdict v D)))))
+    ∙ place-stored sent D x (withArrival (withConnection w v filled) verdict v D) begun))))
 
-pub step3-stored : (x : ℕ) (cell : List ℕ) (w : Work) → length (w .state .words) ≡ wordsIn (w .state .ctl .v)
+pub step3-stored : (x : ℕ) (cell : List ℕ) (w : Work) → length (w .state .words) ≡ wordsIn (w .state .ctl .v) → 1 ≤ w .state .ctl .t
     → ((vci : ℕ) → unused (w .state .ctl .v) vci ≡ false → vci < connectionsIn (w .state .ctl .v) → Behind (w .state .ctl .t) longest (connectionAt (w .state .words) vci))
     → step3 x cell (storedWork w) ≡ mapOut storedWork (arrive x cell w)
-unfolding step3 arrive storedWork storedState withClock withRecord withWords recordWith
-step3-stored x cell w long near =
+unfolding step3 arrive storedWork storedState withClock withRecord withWords withArrived recordWith
+step3-stored x cell w long begun near =
     let s = w .state in
     let h = headerAt (s .ctl .kind) cell 0 in
     let c = connection (s .ctl .v) h in
@@ -131,11 +132,11 @@ step3-stored x cell w long near =
     let low = names-low (s .ctl .v) h named in
     at-stored w c (next (withArrival w unknown (h .vci) 0)) _ (judge x cell c w) low long
     (near c (names-used (s .ctl .v) h named) low)
-    (λ vc. judge-stored x cell c w vc low long)))))
+    (λ vc. judge-stored x cell c w vc low long begun)))))
 
 -- "4. Entry T, if marked, is joined to the end of the Output List"
 pub step4-stored : (w : Work) → step4 (storedWork w) ≡ mapOut storedWork (step4 w)
-unfolding step4 storedWork storedState withClock withRecord withWords recordWith withOutputList withLinks withCalendar withBits
+unfolding step4 storedWork storedState withClock withRecord withWords withArrived recordWith withOutputList withLinks withCalendar withBits
 step4-stored w =
     let s = w .state in
     let entry = entryAt (s .calendar) (s .ctl .turn) in
@@ -159,7 +160,7 @@ open-names z l h p = both-true (namesConnection z h) (getD l (openPlace (connect
 
 pub depart-stored : (w : Work) (taken : Taken) → length (w .state .words) ≡ wordsIn (w .state .ctl .v)
     → depart (storedWork w) taken ≡ mapOut storedWork (depart w taken)
-unfolding depart storedConnection storedWork storedState withClock withRecord withWords recordWith withFree withBits withOutputList
+unfolding depart storedConnection storedWork storedState withClock withRecord withWords withArrived recordWith withFree withBits withOutputList
 depart-stored w taken long =
     let s = w .state in
     let h = headerAt (s .ctl .kind) (s .cells) (cellStart (taken .space)) in
@@ -178,7 +179,7 @@ depart-stored w taken long =
 
 pub step5-stored : (w : Work) → length (w .state .words) ≡ wordsIn (w .state .ctl .v)
     → step5 (storedWork w) ≡ mapOut storedWork (step5 w)
-unfolding step5 storedWork storedState withClock withRecord withWords recordWith
+unfolding step5 storedWork storedState withClock withRecord withWords withArrived recordWith
 step5-stored w long =
     let s = w .state in
     if-map storedWork (isEmpty (outputList s)) _ _ _ _ (λ _. refl)

@@ -1,10 +1,10 @@
 -- What 32 bits keep of the clock that never wraps: the record and memories of the policer, from those of its unwrapped
--- fellow. Only the numbers t and last differ.
+-- fellow. Only the numbers t and last and the arrival slots differ.
 use Prim.Native.Nat.{ℕ, zero, suc, _+_, _-_, _%_}
-use mathlib.Core.List.{List}
+use mathlib.Core.List.{List, map}
 use Rattle.meaning.specs.Plain.{if_then_else_, _=?_}
 use Rattle.meaning.specs.Numbers.{slotNumbers, connectionsIn}
-use Rattle.meaning.specs.State.{State, withClock, withWords}
+use Rattle.meaning.specs.State.{State, withClock, withWords, withArrived}
 use Rattle.meaning.specs.Words.{Connection, connectionAt, writeConnection}
 use Rattle.meaning.specs.Calls.{Called, calledOf}
 use Rattle.meaning.specs.Work.{Work, workOf}
@@ -30,10 +30,19 @@ unfoldable pub storedWords : ℕ → List ℕ → List ℕ
 storedWords zero words = words
 storedWords (suc R) words = writeConnection (storedWords R words) R (storedConnection (connectionAt words R))
 
+-- document 02 (x): an arrival slot. Where the unwrapped fellow counts the slots served up to the cell's own, from 1 on, the policer
+-- has its number, from 0 on; both hold 0 where no cell has come since setup
+unfoldable pub storedArrival : ℕ → ℕ
+storedArrival k = (k - 1) % slotNumbers
+
+unfoldable pub storedArrivals : List ℕ → List ℕ
+storedArrivals arrived = map storedArrival arrived
+
 unfoldable pub storedState : State → State
 storedState u =
     let r = u .ctl in
-    withWords (withClock u (stored (r .t)) (r .turn) (r .rotation)) (storedWords (connectionsIn (r .v)) (u .words))
+    let s1 = withClock u (stored (r .t)) (r .turn) (r .rotation) in
+    withArrived (withWords s1 (storedWords (connectionsIn (r .v)) (u .words))) (storedArrivals (u .arrived))
 
 -- the answer is the same
 unfoldable pub storedWork : Work → Work

@@ -1,8 +1,9 @@
 -- Open, close and slot with a clock that never wraps: an instance of those over any clock (specs/Clocked.antt).
 --
 -- The clock is the number k of slots served since setup, and stands where the record holds t. The word `last` of an open
--- connection holds the number of slots that had been served when it was opened or last brought up to date. Both grow without
--- bound: there is no modulus of t, `last` or elapsed here. All that touches none of the three is shared.
+-- connection holds the number of slots that had been served when it was opened or last brought up to date, and the arrival slot of a
+-- stored cell the number that had been served when it came, its own slot among them. All grow without bound: there is no modulus of t,
+-- `last`, arrival slot or elapsed here. All that touches none of them is shared.
 use Prim.Native.Nat.{ℕ, _+_, _-_}
 use mathlib.Core.List.{List}
 use Rattle.meaning.specs.declared.Record.{Record}

@@ -34,7 +34,7 @@ unwrappedFreshRun N z o = runOf (unwrappedFresh N z o) []
 
 -- Demand 2 over runs: of the same calls after setup, with the 32-bit clock and with the one that never wraps
 pub record NeverWraps (N z : ℕ) (o : Options) (cs : List Call) : Type 0 where
-  -- the same memories, t and `last` modulo 2^32
+  -- the same memories, t, `last` and the arrival slots modulo 2^32
   pub memories : calls (freshRun N z o) cs .state ≡ storedState (unwrappedCalls (unwrappedFreshRun N z o) cs .state)
   -- the same numbers, answers and line cells, call for call
   pub answers : calls (freshRun N z o) cs .events ≡ unwrappedCalls (unwrappedFreshRun N z o) cs .events

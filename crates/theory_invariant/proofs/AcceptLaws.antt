@@ -8,10 +8,10 @@ use mathlib.Core.Option.{Option, none, some}
 use native.Mathlib.Decide.{ℕ-discrete}
 use native.Mathlib.Omega.{arith}
 use borrow.Author.Tests.{ne-eqb, lt-ltb}
-use lib.ListN.{length}
+use lib.ListN.{length, set}
 use Rattle.meaning.specs.Plain.{_=?_, next}
 use Rattle.meaning.specs.Numbers.{connectionsIn, unused, empty, accepted, letsIn}
-use Rattle.meaning.specs.State.{State, withRecord, recordWith, withCells, withLinks, withCalendar, withWords, withBits, withFree, writeCell}
+use Rattle.meaning.specs.State.{State, withRecord, recordWith, withCells, withLinks, withCalendar, withWords, withBits, withArrived, withFree, writeCell}
 use Rattle.meaning.specs.Bits.{isFree, taken, marked}
 use Rattle.meaning.specs.Header.{headerAt, clpIn, connection, namesConnection}
 use Rattle.meaning.specs.Bucket.{bucketOf, delay, fill}
@@ -31,11 +31,13 @@ use Rattle.theory_queues.proofs.OrderLaws.{put-order}
 use Rattle.theory_queues.proofs.RisingLaws.{rising-add}
 use Rattle.theory_chains.proofs.CountLaws.{is-no, is-same}
 use Rattle.theory_table.specs.Stored.{stored, ConnectionIs, OpenConnection}
+use Rattle.theory_table.proofs.ClockLaws.{clock-next}
 use Rattle.theory_table.proofs.LeakLaws.{due-grows, rules-are}
 use Rattle.theory_table.proofs.VerdictLaws.{verdict-says}
 use Rattle.theory_table.proofs.ConnectionLaws.{delay-due, delay-low, moved, filled, filled-open}
 use Rattle.theory_memory.specs.Held.{Queued, dueOf, vciOf}
 use Rattle.theory_memory.proofs.HasLaws.{entry-fits, some-number, placed}
+use Rattle.theory_memory.proofs.DatesLaws.{dates-placed}
 use Rattle.theory_invariant.specs.Invariant.{cellIn, isOf, waits, Under, Sits, Stage}
 use Rattle.theory_invariant.specs.Came.{onward, Came}
 use Rattle.theory_invariant.proofs.StepLaws.{Goes}
@@ -119,10 +121,11 @@ module _ (x now : ℕ) (cell : List ℕ) (op : ℕ → Option Opening) (out : Li
         let s1 = withFree (w1 .state) (s .ctl .free - 1) (marked (taken (s .bits) x) e) in
         let s2 = withCells s1 (writeCell (s .cells) x sent) in
         let s3 = withLinks s2 (grown .links) in
-        withState w1 (withCalendar s3 (writeEntry (s .calendar) e (grown .ends)))
+        let s4 = withCalendar s3 (writeEntry (s .calendar) e (grown .ends)) in
+        withState w1 (withArrived s4 (set (s .arrived) x (s .ctl .t)))
 
     goes : accept x cell verdict u w vc ≡ next work
-    unfolding accept place withFree withBits withCells withLinks withCalendar withWords withRecord recordWith
+    unfolding accept place withFree withBits withArrived withCells withLinks withCalendar withWords withRecord recordWith
     goes =
         rw (
           lt-ltb q N (omega (arith, waits-low u (N - 1) out (turn cal) (omega (arith, room)), st .ranges .N-low)),
@@ -183,7 +186,7 @@ module _ (x now : ℕ) (cell : List ℕ) (op : ℕ → Option Opening) (out : Li
     less = omega (arith, D-due)
 
     pub accept-goes : Goes (accept x cell verdict u w vc) (Came N z kind now cell op out cal)
-    unfolding withFree withBits withCells withLinks withCalendar withWords withRecord recordWith
+    unfolding withFree withBits withArrived withCells withLinks withCalendar withWords withRecord recordWith
     accept-goes =
         record {
           work = work;
@@ -206,6 +209,7 @@ module _ (x now : ℕ) (cell : List ℕ) (op : ℕ → Option Opening) (out : Li
               kind-is = st .kind-is;
               kind-fits = st .kind-fits;
               has = placed low (st .has) x free D new D-low refl (sent-length verdict cell ∙ long);
+              dates = dates-placed (st .has) (st .dates) x free D new refl (s .ctl .t) (st .t-is ∙ clock-next now);
               words-long = write-length (s .words) u full ∙ st .words-long;
               table = λ v h1 h2. each v h1 h2 (ℕ-discrete v u);
             };

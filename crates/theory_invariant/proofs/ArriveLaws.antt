@@ -131,6 +131,7 @@ module _ (x now : ℕ) (cell : List ℕ) (op : ℕ → Option Opening) (out : Li
                 kind-is = st .kind-is;
                 kind-fits = st .kind-fits;
                 has = st .has;
+                dates = st .dates;
                 words-long = write-length (s .words) u vc ∙ st .words-long;
                 table = λ v h1 h2. renewed v h1 h2 (ℕ-discrete v u);
               })

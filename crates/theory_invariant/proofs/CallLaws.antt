@@ -80,6 +80,7 @@ module _ (N z kind : ℕ) (h : List Event) (s : State) (i : Inv N z kind h s) wh
           kind-is = i .stage .kind-is;
           kind-fits = i .stage .kind-fits;
           has = i .stage .has;
+          dates = i .stage .dates;
           words-long = i .stage .words-long;
           table = λ v h1 h2. rw (same .slots, e v) (i .stage .table v h1 h2);
         };
@@ -138,6 +139,7 @@ module _ (N z kind : ℕ) (h : List Event) (s : State) (i : Inv N z kind h s) wh
             kind-is = i .stage .kind-is;
             kind-fits = i .stage .kind-fits;
             has = i .stage .has;
+            dates = i .stage .dates;
             words-long = write-length (s .words) u vc′ ∙ i .stage .words-long;
             table = λ v h1 h2. each v h1 h2 (ℕ-discrete v u);
           };

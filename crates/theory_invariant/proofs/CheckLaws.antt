@@ -41,6 +41,7 @@ inv-mode N z kind h s mode i low =
         kind-is = i .stage .kind-is;
         kind-fits = i .stage .kind-fits;
         has = i .stage .has;
+        dates = i .stage .dates;
         words-long = i .stage .words-long;
         table = i .stage .table;
       };

@@ -28,6 +28,7 @@ use Rattle.theory_table.specs.Stored.{ConnectionIs, OpenConnection}
 use Rattle.theory_table.proofs.ConnectionLaws.{left-open}
 use Rattle.theory_memory.specs.Held.{Queued, spaceOf, vciOf, octetsIn}
 use Rattle.theory_memory.proofs.ShownLaws.{header-in, line-cell}
+use Rattle.theory_memory.proofs.DatesLaws.{dates-departed}
 use Rattle.theory_memory.proofs.MoveLaws.{out-bare, out-marked, out-low, out-taken, head-not-free, departed}
 use Rattle.theory_invariant.specs.Invariant.{isOf, waits, Under, Sits, Stage}
 use Rattle.theory_invariant.specs.Gone.{Gone}
@@ -180,6 +181,7 @@ module _ (now : ℕ) (op : ℕ → Option Opening) (r : List (List Queued)) wher
                 kind-is = st .kind-is;
                 kind-fits = st .kind-fits;
                 has = departed low (st .has) (taken .left) (taken .rest);
+                dates = dates-departed (st .dates);
                 words-long = write-length (s .words) u less ∙ st .words-long;
                 table = λ v h1 h2. each v h1 h2 (ℕ-discrete v u);
               };
@@ -190,6 +192,8 @@ module _ (now : ℕ) (op : ℕ → Option Opening) (r : List (List Queued)) wher
                 line-cell N (st .ranges .N-low) (st .ranges .N-high) (s .cells) idle (st .has .cells-long) refl x
                     (out-low low (st .has))
                     ∙ octets-are,
+                omega (arith, out-low low (st .has), st .dates .long),
+                ap (λ (k : ℕ). getD (s .arrived) k 0) (st .has .out-is .0) ∙ st .dates .dated-out .0,
               );
             };
           }

@@ -6,6 +6,7 @@ use mathlib.Core.List.{List, [], _∷_, _++_, map, append-nil}
 use mathlib.Core.Option.{Option}
 use native.Mathlib.Omega.{arith}
 use borrow.Author.Tests.{ne-eqb}
+use lib.ListN.{getD}
 use Rattle.meaning.specs.declared.Answer.{Answer}
 use Rattle.meaning.specs.Numbers.{octets, empty}
 use Rattle.meaning.specs.Work.{Work, answerOf}
@@ -61,13 +62,22 @@ module _ (N : ℕ) (small : N ≤ 1_024) (h : List Event) (cell : List ℕ) (w :
   -- the same without its space
   pub left-as : (o : List Queued) → Departs N o (half verdict vci D) w → LeftAs (map cellIn o) w
   left-as [] d = (ap (λ (a : Answer). a .space) d, ap (λ (a : Answer). a .departing) d)
-  left-as (c ∷ o) d = (λ e. ne (sym (ap (λ (a : Answer). a .space) (d .1)) ∙ e), ap (λ (a : Answer). a .departing) (d .1), line)
+  left-as (c ∷ o) d = (
+    λ e. ne (sym space ∙ e),
+    ap (λ (a : Answer). a .departing) (d .1),
+    line,
+    omega (arith, space, d .4),
+    ap (λ (k : ℕ). getD (w .state .arrived) k 0) space ∙ d .5,
+  )
     where
+      space : w .answer .space ≡ d .0
+      space = ap (λ (a : Answer). a .space) (d .1)
+
       ne : d .0 ≢ empty
       ne e = omega (arith, d .2)
 
       line : shown w ≡ c .cell .octets
-      line = shown-some w (d .0) (ap (λ (a : Answer). a .space) (d .1)) ne ∙ d .3
+      line = shown-some w (d .0) space ne ∙ d .3
 
   module _ (f : Final verdict vci D w) where
     pub opened-after : _≡_ {A = ℕ → Option Opening} (λ v. openingOf v (eventOf cell w ∷ h))

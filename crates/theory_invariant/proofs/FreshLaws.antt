@@ -26,7 +26,7 @@ use Rattle.theory_queues.proofs.LineLaws.{fresh-good}
 use Rattle.theory_chains.specs.Strung.{is, inside}
 use Rattle.theory_table.proofs.ClockLaws.{slots-many}
 use Rattle.theory_table.proofs.LeakLaws.{and-left, and-right}
-use Rattle.theory_memory.specs.Held.{Queued, dueOf, Held, freeAt, Has}
+use Rattle.theory_memory.specs.Held.{Queued, dueOf, Held, Dated, freeAt, Has}
 use Rattle.theory_invariant.specs.Invariant.{Ranges, Sits, Inv}
 
 pub ranges-are : (N z : ℕ) → rangesHold N z ≡ true → Ranges N z
@@ -131,6 +131,11 @@ module _ (N z : ℕ) (o : Options) (r : Ranges N z) where
           kind-is = refl;
           kind-fits = kind-number (o .kind);
           has = fresh-has;
+          dates = record {
+            long = length-replicate N 0;
+            dated-out = tt;
+            dated-cal = alls-turn (Dated (replicate N 0)) (bare w) (alls-bare (Dated (replicate N 0)) w);
+          };
           words-long = length-replicate (wordsIn z) 0;
           table = λ v h1 h2. getD-replicate (wordsIn z) (openPlace v) 0 0 (omega arith);
         };
@@ -171,7 +176,7 @@ pub setup-fresh : (N z : ℕ) (a : Asked) (lent : State)
     × (kindNumber (kindOf (a .kind)) ≡ a .kind)
 unfolding setup
 setup-fresh N z a lent e =
-    go (rangesHold N z) (splitsHold z (a .splitvci) (a .splitpath)) (kindFits (a .kind)) (lengthsHold N z (lent .cells) (lent .links) (lent .calendar) (lent .words) (lent .bits)) refl refl refl e
+    go (rangesHold N z) (splitsHold z (a .splitvci) (a .splitpath)) (kindFits (a .kind)) (lengthsHold N z (lent .cells) (lent .links) (lent .calendar) (lent .words) (lent .bits) (lent .arrived)) refl refl refl e
   where
     asItCame : State
     asItCame = withRecord lent zeros

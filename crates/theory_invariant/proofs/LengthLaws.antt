@@ -23,15 +23,16 @@ pub words-hold : (z : ℕ) (words : List ℕ) → length words ≡ wordsIn z →
 unfolding wordsLong
 words-hold z words e = eq-eqb (length words) (wordsIn z) e
 
-pub lengths-hold : (N z : ℕ) (cells links calendar words bits : List ℕ) → length cells ≡ 53 * N → length links ≡ N
-    → length calendar ≡ 2 * N → length words ≡ wordsIn z → length bits ≡ bitWords
-    → lengthsHold N z cells links calendar words bits ≡ true
+pub lengths-hold : (N z : ℕ) (cells links calendar words bits arrived : List ℕ) → length cells ≡ 53 * N → length links ≡ N
+    → length calendar ≡ 2 * N → length words ≡ wordsIn z → length bits ≡ bitWords → length arrived ≡ N
+    → lengthsHold N z cells links calendar words bits arrived ≡ true
 unfolding lengthsHold
-lengths-hold N z cells links calendar words bits e1 e2 e3 e4 e5 =
+lengths-hold N z cells links calendar words bits arrived e1 e2 e3 e4 e5 e6 =
     rw (
       eq-eqb (length cells) (53 * N) e1,
       eq-eqb (length links) N e2,
       eq-eqb (length calendar) (2 * N) e3,
       words-hold z words e4,
       eq-eqb (length bits) bitWords e5,
+      eq-eqb (length arrived) N e6,
     )

@@ -19,6 +19,7 @@ use Rattle.theory_queues.proofs.QueueLaws.{sum-append, turn-sums}
 use Rattle.theory_table.specs.Stored.{ConnectionIs}
 use Rattle.theory_memory.specs.Held.{Queued}
 use Rattle.theory_memory.proofs.HasLaws.{out-fits}
+use Rattle.theory_memory.proofs.DatesLaws.{dates-turned}
 use Rattle.theory_memory.proofs.MoveLaws.{first-fits, first-bare, passed, first-marked, transferred}
 use Rattle.theory_invariant.specs.Invariant.{isOf, waits, Stage}
 use Rattle.theory_invariant.proofs.StepLaws.{Goes}
@@ -69,6 +70,7 @@ module _ (now kind : ℕ) (op : ℕ → Option Opening) where
                 kind-fits = st .kind-fits;
                 has = rw (append-nil o, add-one T)
                     (passed low (st .turn-low) (st .has));
+                dates = dates-turned (st .dates);
                 words-long = st .words-long;
                 table = λ v h1 h2. subst (λ (i : ℕ). ConnectionIs N (connectionsIn z) (suc now) v (connectionAt (s .words) v) i (op v)) (same v)
                     (st .table v h1 h2);
@@ -102,6 +104,7 @@ module _ (now kind : ℕ) (op : ℕ → Option Opening) where
                 kind-is = st .kind-is;
                 kind-fits = st .kind-fits;
                 has = rw (add-one T) (transferred low (st .turn-low) (st .has));
+                dates = dates-turned (st .dates);
                 words-long = st .words-long;
                 table = λ v h1 h2. subst (λ (i : ℕ). ConnectionIs N (connectionsIn z) (suc now) v (connectionAt (s .words) v) i (op v)) (same v)
                     (st .table v h1 h2);

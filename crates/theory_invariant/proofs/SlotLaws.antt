@@ -65,8 +65,8 @@ module _ (N z kind : ℕ) (h : List Event) (s : State) (i : Inv N z kind h s) wh
 
   pub lengths-at : sizesHold s ≡ true
   lengths-at = rw (i .stage .n-is, i .stage .v-is)
-      (lengths-hold N z (s .cells) (s .links) (s .calendar) (s .words) (s .bits) (i .stage .has .cells-long)
-      (i .stage .has .links-long) (i .stage .has .calendar-long) (i .stage .words-long) (i .stage .has .bits-long))
+      (lengths-hold N z (s .cells) (s .links) (s .calendar) (s .words) (s .bits) (s .arrived) (i .stage .has .cells-long)
+      (i .stage .has .links-long) (i .stage .has .calendar-long) (i .stage .words-long) (i .stage .has .bits-long) (i .stage .dates .long))
 
   -- fewer than N cells wait, so a space is free, whatever comes
   pub room : sums one (turn (i .cal)) + sum one (i .out) < N

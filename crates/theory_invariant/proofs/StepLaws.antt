@@ -62,6 +62,7 @@ module _ (kind : ℕ) (openings : ℕ → Option Opening) (o : List Queued) (r :
             kind-is = st .kind-is;
             kind-fits = st .kind-fits;
             has = tick (omega (arith, st .ranges .N-high)) (st .has);
+            dates = st .dates;
             words-long = st .words-long;
             table = st .table;
           };
@@ -124,6 +125,7 @@ module _ (kind : ℕ) (openings : ℕ → Option Opening) (o : List Queued) (r :
           kind-is = st .kind-is;
           kind-fits = st .kind-fits;
           has = st .has;
+          dates = st .dates;
           words-long = len;
           table = t;
         }

@@ -25,7 +25,7 @@ use Rattle.meaning_runs.specs.Seen.{Cell, Departure, ofConnection, cellsIn, dep
 use Rattle.theory_queues.specs.Queue.{sum, sums, All, Alls, flat, turn, Rising, Good}
 use Rattle.theory_chains.specs.Strung.{is}
 use Rattle.theory_table.specs.Stored.{earliest, clock, ConnectionIs}
-use Rattle.theory_memory.specs.Held.{Queued, dueOf, vciOf, Has}
+use Rattle.theory_memory.specs.Held.{Queued, dueOf, vciOf, Has, Dates}
 
 pub record Left : Type 0 where
   pub slot : ℕ
@@ -79,6 +79,7 @@ pub record Stage (N z kind k j b : ℕ) (s : State) (openings : ℕ → Option O
   pub kind-is : s .ctl .kind ≡ kind
   pub kind-fits : kindFits kind ≡ true
   pub has : Has N b (s .cells) (s .links) (s .calendar) (outputList s) (s .ctl .free) (s .bits) o r
+  pub dates : Dates N (s .arrived) o r
   pub words-long : length (s .words) ≡ wordsIn z
   pub table : (v : ℕ) → unused z v ≡ false → v < connectionsIn z → ConnectionIs N (connectionsIn z) j v (connectionAt (s .words) v) (waits v o r) (openings v)
 

@@ -4,3 +4,4 @@ pub mod HeldLaws
 pub mod ShownLaws
 pub mod HasLaws
 pub mod MoveLaws
+pub mod DatesLaws

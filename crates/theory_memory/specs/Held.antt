@@ -1,17 +1,18 @@
 -- The memory that holds the line: the free spaces, the Output List and the time slot queues share out the N spaces, and
--- each queued cell's space holds its octets. A proof device.
+-- each queued cell's space holds its octets and its arrival slot. A proof device.
 --
 --   Queued   == an accepted cell, and the space that it was given
 --   freeAt   == 1 where the space is free, otherwise 0
 --   Has      == the lists of spaces are o and r, where r is the calendar from the entry b on, modulo N, and every other space
 --               below N is free; the entries that hold a cell are marked, and no other
+--   Dates    == beside each queued cell's octets its arrival slot is kept, modulo 2^32
 use Prim.Native.Nat.{ℕ, _+_, _*_, _%_, _≤_, _<_}
 use mathlib.Core.Path.{_≡_}
 use mathlib.Core.Bool.{true, not, _&&_}
 use mathlib.Core.List.{List, []}
 use lib.ListN.{length, getD, take, drop}
 use Rattle.meaning.specs.Plain.{if_then_else_, _<?_}
-use Rattle.meaning.specs.Numbers.{mostN, bitWords}
+use Rattle.meaning.specs.Numbers.{mostN, bitWords, slotNumbers}
 use Rattle.meaning.specs.State.{Ends}
 use Rattle.meaning.specs.Bits.{isFree, isMarked, spacesFit}
 use Rattle.meaning.specs.Lists.{isEmpty, entryAt}
@@ -38,6 +39,9 @@ octetsIn cells x = take 53 (drop (53 * x) cells)
 abbrev pub Held : List ℕ → Queued → Type 0
 Held cells c = octetsIn cells (c .space) ≡ c .cell .octets
 
+abbrev pub Dated : List ℕ → Queued → Type 0
+Dated arrived c = getD arrived (c .space) 0 ≡ c .cell .arrival % slotNumbers
+
 abbrev pub cnts : ℕ → List (List Queued) → ℕ
 cnts k r = sums (λ c. is k (c .space)) r
 
@@ -60,3 +64,8 @@ pub record Has (N b : ℕ) (cells links calendar : List ℕ) (out : Ends) (numbe
   pub full : number + sum one o + sums one r ≡ N
   pub held-out : All (Held cells) o
   pub held-cal : Alls (Held cells) r
+
+pub record Dates (N : ℕ) (arrived : List ℕ) (o : List Queued) (r : List (List Queued)) : Type 0 where
+  pub long : length arrived ≡ N
+  pub dated-out : All (Dated arrived) o
+  pub dated-cal : Alls (Dated arrived) r

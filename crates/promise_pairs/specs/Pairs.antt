@@ -24,7 +24,8 @@ use Rattle.meaning.specs.Calls.{UNI, optionsWith}
 use Rattle.meaning_runs.specs.Run.{Call, onOpenWith, onClose, onSlot, Event, opened, closed, ran, numberOf, Run, calls, freshRun}
 use Rattle.meaning_runs.specs.Seen.{cellsOf, departureAt}
 use Rattle.promise_limits.specs.Reached.{cleanFor}
+use Rattle.promise_tally.specs.Summary.{summaryOf}
 use Rattle.promise_operators.specs.Operators.{Card, Ask, asked, closedWith}
 
 abbrev pub cardOf : ℕ → Card
 cardOf N = record { N = N; z = 3; kind = 0; splitvci = 2; splitpath = 1 }
@@ -61,6 +62,16 @@ pub record DeparturesDiffer (raw : Bool) : Type 0 where
   pub asks-same : asked (cardOf 2) A (start 2 raw) sharedAtTwo ≡ asked (cardOf 2) A (start 2 raw) aloneAtTwo
   pub shared : departureAt 2 1 (calls (start 2 raw) sharedAtTwo .events) .slot ≡ 3
   pub alone : departureAt 2 1 (calls (start 2 raw) aloneAtTwo .events) .slot ≡ 2
+
+-- "the delay summary": of the same runs, A's cells of slots 0 and 1 wait 0 and 2 slots with B, 0 and 1 without. The first four bins of A's
+-- summary, kept from setup on:
+abbrev pub binsOfA : Bool → List Call → List ℕ
+binsOfA raw cs = take 4 (summaryOf 2 (start 2 raw .state) cs .tally .bins)
+
+pub record SummariesDiffer (raw : Bool) : Type 0 where
+  pub asks-same : asked (cardOf 2) A (start 2 raw) sharedAtTwo ≡ asked (cardOf 2) A (start 2 raw) aloneAtTwo
+  pub shared : binsOfA raw sharedAtTwo ≡ 1 ∷ 0 ∷ 1 ∷ 0 ∷ []
+  pub alone : binsOfA raw aloneAtTwo ≡ 1 ∷ 1 ∷ 0 ∷ 0 ∷ []
 
 -- "which space is used": A's cell waits in space 1 with B, in space 0 without
 abbrev pub spacesOf : ℕ → List Event → List ℕ

@@ -1,0 +1,9 @@
+pub mod DelayLaws
+pub mod ApartLaws
+pub mod PairLaws
+pub mod CallLaws
+pub mod EventLaws
+pub mod RunLaws
+pub mod SortLaws
+pub mod Top
+pub mod WorkedLaws
