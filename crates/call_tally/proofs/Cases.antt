@@ -15,7 +15,7 @@ use Rattle.call_tally.specs.Tally.{mostCells, sum, tallyFits, isConnecti
 use Rattle.call_tally.proofs.Sums.{Over, not-wrapped}
 
 -- two tests that hold together
-false-true : false ≡ true → ⊥
+pub false-true : false ≡ true → ⊥
 false-true h = let z : _≡_ {A = ℕ} 0 1 = cc in omega arith
 
 pub both : (a b : Bool) → (a && b) ≡ true → (a ≡ true) × (b ≡ true)

@@ -4,3 +4,4 @@ pub mod Steps
 pub mod Counting
 pub mod TallyLaws
 pub mod PercentileLaws
+pub mod Standing

@@ -6,6 +6,7 @@
 --   tallyFits bins n     == n is a number that a tally can have, and the sum of its bins; else refusal 3
 --   binOf d              == the bin of a delay of d slots
 --   tallyOne t d         == the tally t after one more cell, which waited d slots
+--   standing             == the refusal that a tally has before any slot, or 0
 --   tallySlot            == the call after a slot
 --   lowest need s bins   == the lowest bin at which 1,000 times the running sum reaches need, s being the sum before the first
 --   percentileOf         == the call that reports a percentile
@@ -15,7 +16,7 @@ use mathlib.Core.Bool.{Bool, not, _&&_, _||_}
 use mathlib.Core.List.{List, [], _∷_}
 use lib.ListN.{length, getD, set}
 use Rattle.meaning.specs.Plain.{if_then_else_, _<?_, _≤?_, _=?_}
-use Rattle.meaning.specs.Numbers.{rangesHold, connectionsIn, unused}
+use Rattle.meaning.specs.Numbers.{empty, rangesHold, connectionsIn, unused}
 use Rattle.meaning.specs.Bucket.{elapsed}
 use Rattle.meaning.specs.declared.Record.{Record}
 use Rattle.call_tally.specs.declared.Tally.{Tally}
@@ -69,6 +70,10 @@ tallyRefusal bins cells r arrived c x o =
     else if not (isConnection (r .v) c) then 4
     else if not (spaceFits (r .n) c x o && tallyFits bins cells) then 3
     else 0
+
+-- the same of a tally as it stands, as in a slot in which nothing leaves
+abbrev pub standing : List ℕ → ℕ → Record → ℕ → ℕ → ℕ
+standing bins cells r arrived c = tallyRefusal bins cells r arrived c empty 0
 
 -- one cell more in a bin
 abbrev pub oneMore : List ℕ → ℕ → List ℕ

@@ -3,11 +3,12 @@
 ghost use mathlib.Core.Path.{_≡_};
 ghost use mathlib.Core.Bool.{true};
 ghost use Prim.Native.Nat.{_+_, _*_, _%_, _^_, _≤_, _<_};
-ghost use lib.ListN.{length};
+ghost use lib.ListN.{length, getD, set};
 ghost use Rattle.meaning.specs.Plain.{if_then_else_};
 ghost use Rattle.meaning.specs.Bucket.{elapsed};
 ghost use Rattle.call_tally.specs.Step.{stepOf};
-ghost use Rattle.call_tally.specs.Tally.{binOf, sum, mostCells, tallyFits, isConnection, spaceFits, tallyRefusal, tallyOf, oneMore, tallyOne, tallySlot, lowest, shareFits, percentileOf};
+ghost use Rattle.call_tally.specs.Tally.{binOf, sum, mostCells, tallyFits, isConnection, spaceFits, tallyRefusal, standing};
+ghost use Rattle.call_tally.specs.Tally.{tallyOf, oneMore, tallyOne, tallySlot, lowest, shareFits, percentileOf};
 use leaf_refusal::ranges_hold;
 use meaning::PATHS;
 use meaning::Record;
@@ -203,8 +204,16 @@ fn step_of(
     }
 }
 
+// So many cells more in one bin. (An element of an array within a struct within a struct is reached by lending the array.)
+fn add_to(bins: &mut [u64; 64], bin: usize, more: u64)
+    requires { ⌜ (length (now bins) ≡ 64) × (bin < 64) × (getD (now bins) bin 0 + more < 2 ^ 64) ⌝ }
+    ensures { λ r. ⌜ now (bins .exit) ≡ set (now (bins .entry)) bin (getD (now (bins .entry)) bin 0 + more) ⌝ }
+{
+    bins[bin] = bins[bin] + more;
+}
+
 // After a slot that answered this departing space and VCI: the tally of the named connection. One way for every answer, without a
-// branch, copies the bins the least.
+// branch, and in the struct that is given back, copies the bins the least.
 pub fn tally_slot(
     tally: Tally,
     ctl: Record,
@@ -224,14 +233,56 @@ pub fn tally_slot(
         space,
         departing,
     );
-    let k = step.bin;
-    let mut next = tally;
-    next.bins[k] = next.bins[k] + step.more;
-    next.cells = tally.cells + step.more;
-    Tallied {
+    let mut given = Tallied {
         number: step.number,
-        tally: next,
+        tally: tally,
+    };
+    add_to(&mut given.tally.bins, step.bin, step.more);
+    given.tally.cells = tally.cells + step.more;
+    given
+}
+
+// Refusals 1, 2, 4 and 3 of a tally before the first slot of a burst.
+pub fn standing_refusal(
+    bins: &[u64; 64],
+    cells: u64,
+    ctl: Record,
+    arrived: usize,
+    connection: u16,
+) -> u16
+    requires { ⌜ length (now bins) ≡ 64 ⌝ }
+    ensures { λ r. ⌜ r ≡ standing (now (bins .entry)) cells ctl arrived connection ⌝ }
+{
+    refusal_of(bins, cells, ctl, arrived, connection, 65535, 0)
+}
+
+// The same after a slot of a burst, where the tally was judged before the first: its bins are not added up again. What is given
+// back is the number of cells.
+pub fn take_departure(
+    bins: &mut [u64; 64],
+    cells: u64,
+    ctl: Record,
+    arrived: &[u32],
+    connection: u16,
+    space: u16,
+    departing: u16,
+) -> u64
+    requires { ⌜ (length (now bins) ≡ 64) × (standing (now bins) cells ctl (length (now arrived)) connection ≡ 0) ⌝ }
+    ensures { λ r. ⌜ tallyOf (now (bins .exit)) r ≡ tallySlot (tallyOf (now (bins .entry)) cells) ctl (now (arrived .entry)) connection space departing .tally ⌝ }
+{
+    if departing != connection {
+        return cells;
     }
+    if space >= ctl.n {
+        return cells;
+    }
+    if cells == 4294967296 {
+        return cells;
+    }
+    let delay = delay_of(ctl.t, arrived[space as usize]);
+    let bin = bin_of(delay);
+    add_to(bins, bin, 1);
+    cells + 1
 }
 
 // All bins together reach what is needed, so the last one is not looked at.

@@ -10,9 +10,15 @@ ghost use Rattle.meaning.specs.Promises.{setupPromise, openPromise, closePromis
 ghost use Rattle.meaning.specs.Lent.{before, after, setUpAfter, servedAfter};
 ghost use Rattle.call_burst.specs.Promise.{burstPromise};
 ghost use Rattle.call_time.specs.Schedule.{timed};
+ghost use Rattle.call_tally.specs.Tally.{tallySlot, percentileOf};
+ghost use Rattle.call_tallied.specs.Promise.{talliedPromise};
 ghost use Rattle.clurimoon.specs.Places.{placePromise};
 use call_burst::BurstEnd;
 use call_line::Place;
+use call_tallied::BurstTallied;
+use call_tally::Bin;
+use call_tally::Tallied;
+use call_tally::Tally;
 use call_time::Tat;
 use call_time::Timed;
 use meaning::Fresh;
@@ -33,8 +39,9 @@ pub extern "C" fn clurimoon_setup(
     calendar: &mut [u16],
     words: &mut [u32],
     bits: &mut [u64],
+    arrived: &mut [u32],
 ) -> Fresh
-    ensures { λ r. ⌜ setupPromise n v (askedOf raw kind splitvci splitpath) (before zeros cells links calendar words bits) (setUpAfter r cells links calendar words bits) ⌝ }
+    ensures { λ r. ⌜ setupPromise n v (askedOf raw kind splitvci splitpath) (before zeros cells links calendar words bits arrived) (setUpAfter r cells links calendar words bits arrived) ⌝ }
 {
     call_setup::setup(
         n,
@@ -48,6 +55,7 @@ pub extern "C" fn clurimoon_setup(
         calendar,
         words,
         bits,
+        arrived,
     )
 }
 
@@ -127,11 +135,12 @@ pub extern "C" fn clurimoon_slot(
     calendar: &mut [u16],
     words: &mut [u32],
     bits: &mut [u64],
+    arrived: &mut [u32],
     cell: &[u8],
 ) -> Served
-    ensures { λ s. ⌜ slotPromise (before ctl cells links calendar words bits) (now (cell .entry)) (servedAfter s cells links calendar words bits) ⌝ }
+    ensures { λ s. ⌜ slotPromise (before ctl cells links calendar words bits arrived) (now (cell .entry)) (servedAfter s cells links calendar words bits arrived) ⌝ }
 {
-    call_slot::slot(ctl, cells, links, calendar, words, bits, cell)
+    call_slot::slot(ctl, cells, links, calendar, words, bits, arrived, cell)
 }
 
 // No slice can be handed back to C: the answer says where the line's part lies.
@@ -150,10 +159,11 @@ pub extern "C" fn clurimoon_audit(
     calendar: &[u16],
     words: &[u32],
     bits: &[u64],
+    arrived: &[u32],
 ) -> bool
-    ensures { λ a. ⌜ AuditPromise (before ctl cells links calendar words bits) a ⌝ }
+    ensures { λ a. ⌜ AuditPromise (before ctl cells links calendar words bits arrived) a ⌝ }
 {
-    call_audit::audit(ctl, cells, links, calendar, words, bits)
+    call_audit::audit(ctl, cells, links, calendar, words, bits, arrived)
 }
 
 #[no_mangle]
@@ -164,12 +174,13 @@ pub extern "C" fn clurimoon_burst(
     calendar: &mut [u16],
     words: &mut [u32],
     bits: &mut [u64],
+    arrived: &mut [u32],
     arrivals: &[u8],
     sizes: &[u8],
     departures: &mut [u8],
     answers: &mut [u16],
 ) -> BurstEnd
-    ensures { λ r. ⌜ burstPromise (before ctl cells links calendar words bits) arrivals sizes departures answers r (after (r .ctl) cells links calendar words bits) ⌝ }
+    ensures { λ r. ⌜ burstPromise (before ctl cells links calendar words bits arrived) arrivals sizes departures answers r (after (r .ctl) cells links calendar words bits arrived) ⌝ }
 {
     call_burst::burst(
         ctl,
@@ -178,6 +189,7 @@ pub extern "C" fn clurimoon_burst(
         calendar,
         words,
         bits,
+        arrived,
         arrivals,
         sizes,
         departures,
@@ -199,4 +211,65 @@ pub extern "C" fn clurimoon_time(state: Tat, n: u16, m: u8, f: u32, c: u32, arri
     ensures { λ r. ⌜ r ≡ timed state n m f c arrival ⌝ }
 {
     call_time::time(state, n, m, f, c, arrival)
+}
+
+// After a slot: the delay summary of one connection, handed what the slot answered. Of the policer nothing is written.
+#[no_mangle]
+pub extern "C" fn clurimoon_tally_slot(
+    tally: Tally,
+    ctl: Record,
+    arrived: &[u32],
+    connection: u16,
+    space: u16,
+    departing: u16,
+) -> Tallied
+    ensures { λ r. ⌜ r ≡ tallySlot tally ctl (now (arrived .entry)) connection space departing ⌝ }
+{
+    call_tally::tally_slot(tally, ctl, arrived, connection, space, departing)
+}
+
+// The share is in thousandths.
+#[no_mangle]
+pub extern "C" fn clurimoon_percentile(tally: Tally, share: u16) -> Bin
+    ensures { λ r. ⌜ r ≡ percentileOf tally share ⌝ }
+{
+    call_tally::percentile(tally, share)
+}
+
+// A burst in place of another, for a card that wants one connection's delays: within a burst a space may be taken again, and its
+// arrival slot with it.
+#[no_mangle]
+pub extern "C" fn clurimoon_burst_tallied(
+    tally: Tally,
+    connection: u16,
+    ctl: Record,
+    cells: &mut [u8],
+    links: &mut [u16],
+    calendar: &mut [u16],
+    words: &mut [u32],
+    bits: &mut [u64],
+    arrived: &mut [u32],
+    arrivals: &[u8],
+    sizes: &[u8],
+    departures: &mut [u8],
+    answers: &mut [u16],
+) -> BurstTallied
+    ensures { λ r. ⌜ talliedPromise tally connection (before ctl cells links calendar words bits arrived) arrivals sizes departures answers r
+        (after (r .end .ctl) cells links calendar words bits arrived) ⌝ }
+{
+    call_tallied::burst_tallied(
+        tally,
+        connection,
+        ctl,
+        cells,
+        links,
+        calendar,
+        words,
+        bits,
+        arrived,
+        arrivals,
+        sizes,
+        departures,
+        answers,
+    )
 }

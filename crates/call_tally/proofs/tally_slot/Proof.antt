@@ -1,12 +1,14 @@
 -- `call_tally::tally_slot` meets its contract: what the step says is added to its bin and to the number, and neither wraps.
-use Prim.Native.Nat.{ℕ, _<_}
-use mathlib.Core.Path.{_≡_, sym, ap, subst, _∙_}
+use Prim.Native.Nat.{ℕ, _+_}
+use mathlib.Core.Path.{sym, ap, subst, _∙_}
+use mathlib.Core.List.{List}
 use native.Mathlib.Omega.{arith}
-use lib.ListN.{length, getD}
+use lib.ListN.{getD}
 use mir.Syntax.{w64}
 use mir.Val.{Fits}
 use borrow.Author.Needs.{needs}
 use Rattle.call_tally.specs.declared.Step.{Step}
+use Rattle.call_tally.specs.Tally.{tallyOf, talliedOf}
 use Rattle.call_tally.proofs.Steps.{Stepped, stepped, moved, moved-is, bin-fits, cells-fit}
 use Rattle.call_tally.proofs.tally_slot.Statement.{statement}
 use Rattle.call_tally.proofs.tally_slot.Tie as tie
@@ -18,46 +20,26 @@ good c =
     subst (λ (s : Step). Stepped (a .t1 .bins) (a .t1 .cells) s) (sym (c .step-of .ensures))
     (stepped (a .t1) (a .ctl) (a .arrived .now) (a .connection) (a .space) (a .departing))
 
-mul-next : tie.Need-mul-next
-mul-next c = let h = good c .in-bins in search needs
-
-element-copy-out-next : tie.Need-element-copy-out-next
-element-copy-out-next c = let h = good c .in-bins in search needs
-
-add-next : tie.Need-add-next
-add-next c =
-    let t = c .before .before .before .before .before .before .args .t1 in
-    let k = c .before .before .step-of .result .bin in
+add-to-requires : tie.Need-add-to-requires
+add-to-requires c κs =
+    let t = c .before .before .before .before .before .args .t1 in
+    let k = c .before .step-of .result .bin in
     let e : Fits w64 (getD (t .bins) k 0) = search needs in
-    omega (arith, bin-fits (t .bins) (t .cells) k (good (c .before .before) .adds) (e .fits))
+    (search needs, good (c .before) .in-bins, bin-fits (t .bins) (t .cells) k (good (c .before) .adds) (e .fits))
 
-mul-next-2 : tie.Need-mul-next-2
-mul-next-2 c = let h = good (c .before .before) .in-bins in search needs
-
-element-write-next : tie.Need-element-write-next
-element-write-next c = let h = good (c .before .before) .in-bins in search needs
-
-add-next-2 : tie.Need-add-next-2
-add-next-2 c =
+add-given : tie.Need-add-given
+add-given c =
     let t = c .before .before .before .before .before .before .before .args .t1 in
     let e : Fits w64 (t .cells) = search needs in
     omega (arith, cells-fit (t .bins) (t .cells) (good (c .before .before .before) .adds) (e .fits))
 
 returns : tie.Need-returns
 returns c =
-    let a = c .before .before .before .before .before .before .before .args in
-    ap (λ (s : Step). moved (a .t1) s) (c .before .before .before .step-of .ensures)
+    let a = c .before .before .before .before .before .before .before .before .args in
+    let s = c .before .before .before .before .step-of in
+    ap (λ (bins : List ℕ). talliedOf (s .result .number) (tallyOf bins (a .t1 .cells + s .result .more))) (c .before .before .add-to .ensures)
+    ∙ ap (λ (s : Step). moved (a .t1) s) (s .ensures)
     ∙ moved-is (a .t1) (a .ctl) (a .arrived .now) (a .connection) (a .space) (a .departing)
 
 pub tally-slot-spec : {M : Type 1} → statement M
-tally-slot-spec =
-    tie.close
-    (tie.spec
-    (λ c κs. search needs)
-    mul-next
-    element-copy-out-next
-    add-next
-    mul-next-2
-    element-write-next
-    add-next-2
-    returns)
+tally-slot-spec = tie.close (tie.spec (λ c κs. search needs) add-to-requires add-given returns)
