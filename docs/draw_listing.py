@@ -93,4 +93,5 @@ def main(words):
     sys.stdout.write(picture(cells, first, last))
 
 
-main(sys.argv[1:])
+if __name__ == "__main__":
+    main(sys.argv[1:])

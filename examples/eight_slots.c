@@ -16,6 +16,7 @@ static uint8_t cells[CLURIMOON_CELLS(N)];
 static uint16_t links[CLURIMOON_LINKS(N)], calendar[CLURIMOON_CALENDAR(N)];
 static uint32_t vcs[CLURIMOON_VCS(V)];
 static uint64_t bits[CLURIMOON_BITS];
+static uint32_t arrived[CLURIMOON_ARRIVED(N)];
 
 /* A cell's header names its VC: VPI 0, VCI in octets 2 to 4. */
 static void put_vci(uint8_t *cell, unsigned vci) {
@@ -42,7 +43,7 @@ int main(void) {
      whole card, and is the second. */
   clurimoon_set set = clurimoon_setup(N, V, false, CLURIMOON_UNI, 1, 1, cells, sizeof cells, links,
                                       CLURIMOON_LINKS(N), calendar, CLURIMOON_CALENDAR(N), vcs, CLURIMOON_VCS(V),
-                                      bits, CLURIMOON_BITS);
+                                      bits, CLURIMOON_BITS, arrived, CLURIMOON_ARRIVED(N));
   if (set.number != CLURIMOON_DONE) return 1;
   clurimoon_record record = set.record;
 
@@ -56,7 +57,7 @@ int main(void) {
     clurimoon_served served =
         clurimoon_slot(record, cells, sizeof cells, links, CLURIMOON_LINKS(N), calendar,
                        CLURIMOON_CALENDAR(N), vcs, CLURIMOON_VCS(V),
-                       bits, CLURIMOON_BITS, cell, arrives[k] ? sizeof cell : 0);
+                       bits, CLURIMOON_BITS, arrived, CLURIMOON_ARRIVED(N), cell, arrives[k] ? sizeof cell : 0);
     if (served.answer.number != CLURIMOON_DONE) return 1;
     record = served.record;
     print_slot(record.t, served.answer);
@@ -67,7 +68,8 @@ int main(void) {
     (void)line; /* part.length octets from here go out */
   }
   return clurimoon_audit(record, cells, sizeof cells, links, CLURIMOON_LINKS(N), calendar,
-                         CLURIMOON_CALENDAR(N), vcs, CLURIMOON_VCS(V), bits, CLURIMOON_BITS)
+                         CLURIMOON_CALENDAR(N), vcs, CLURIMOON_VCS(V), bits, CLURIMOON_BITS, arrived,
+                         CLURIMOON_ARRIVED(N))
              ? 0
              : 1;
 }

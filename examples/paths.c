@@ -15,6 +15,7 @@ static uint8_t cells[CLURIMOON_CELLS(N)];
 static uint16_t links[CLURIMOON_LINKS(N)], calendar[CLURIMOON_CALENDAR(N)];
 static uint32_t vcs[CLURIMOON_VCS(V)];
 static uint64_t bits[CLURIMOON_BITS];
+static uint32_t arrived[CLURIMOON_ARRIVED(N)];
 
 /* At the NNI there is no GFC: twelve bits of VPI, then the VCI. */
 static void put_header(uint8_t *cell, unsigned vpi, unsigned vci) {
@@ -43,7 +44,8 @@ int main(void) {
   static const unsigned vci[SLOTS] = {100, 0, VC, 100, 65535, VC, 100, 100, V + PATH, 5};
 
   clurimoon_set set = clurimoon_setup(N, V, false, CLURIMOON_NNI, 1, 1, cells, sizeof cells, links, CLURIMOON_LINKS(N),
-                                      calendar, CLURIMOON_CALENDAR(N), vcs, CLURIMOON_VCS(V), bits, CLURIMOON_BITS);
+                                      calendar, CLURIMOON_CALENDAR(N), vcs, CLURIMOON_VCS(V), bits, CLURIMOON_BITS,
+                                      arrived, CLURIMOON_ARRIVED(N));
   if (set.number != CLURIMOON_DONE) return 1;
   clurimoon_record record = set.record;
 
@@ -59,7 +61,7 @@ int main(void) {
     put_header(cell, vpi[k], vci[k]);
     clurimoon_served served = clurimoon_slot(record, cells, sizeof cells, links, CLURIMOON_LINKS(N), calendar,
                                              CLURIMOON_CALENDAR(N), vcs, CLURIMOON_VCS(V),
-                                             bits, CLURIMOON_BITS, cell, sizeof cell);
+                                             bits, CLURIMOON_BITS, arrived, CLURIMOON_ARRIVED(N), cell, sizeof cell);
     if (served.answer.number != CLURIMOON_DONE) return 1;
     record = served.record;
     print_slot(record.t, served.answer);
@@ -69,7 +71,7 @@ int main(void) {
   const uint16_t closed = clurimoon_close_path(record, vcs, CLURIMOON_VCS(V), CLURIMOON_OWNER_SECOND, PATH);
   printf("close %u %u\n", (unsigned)CLURIMOON_PATH_NUMBER(V, PATH), (unsigned)closed);
   return clurimoon_audit(record, cells, sizeof cells, links, CLURIMOON_LINKS(N), calendar, CLURIMOON_CALENDAR(N), vcs,
-                         CLURIMOON_VCS(V), bits, CLURIMOON_BITS)
+                         CLURIMOON_VCS(V), bits, CLURIMOON_BITS, arrived, CLURIMOON_ARRIVED(N))
              ? 0
              : 1;
 }

@@ -18,11 +18,12 @@ static uint8_t cells[CLURIMOON_CELLS(N)];
 static uint16_t links[CLURIMOON_LINKS(N)], calendar[CLURIMOON_CALENDAR(N)];
 static uint32_t vcs[CLURIMOON_VCS(V)];
 static uint64_t bits[CLURIMOON_BITS];
+static uint32_t arrived[CLURIMOON_ARRIVED(N)];
 static clurimoon_record record;
 
 #define MEMORY                                                                                              \
   cells, sizeof cells, links, CLURIMOON_LINKS(N), calendar, CLURIMOON_CALENDAR(N), vcs, CLURIMOON_VCS(V), bits, \
-      CLURIMOON_BITS
+      CLURIMOON_BITS, arrived, CLURIMOON_ARRIVED(N)
 
 /* Serves empty slots. Arrivals are not read where the size is 0, and departures are not written where nothing leaves. */
 static int pay(uint32_t slots) {

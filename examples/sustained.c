@@ -15,6 +15,7 @@ static uint8_t cells[CLURIMOON_CELLS(N)];
 static uint16_t links[CLURIMOON_LINKS(N)], calendar[CLURIMOON_CALENDAR(N)];
 static uint32_t vcs[CLURIMOON_VCS(V)];
 static uint64_t bits[CLURIMOON_BITS];
+static uint32_t arrived[CLURIMOON_ARRIVED(N)];
 
 /* VPI 0, the VCI, CLP in the last bit of octet 4; octet 5 as the line before us left it. */
 static void put_header(uint8_t *cell, unsigned vci, unsigned clp) {
@@ -37,7 +38,8 @@ int main(void) {
   static const unsigned clp[9] = {0, 0, 0, 1, 0, 0, 0, 1, 0};
 
   clurimoon_set set = clurimoon_setup(N, V, false, CLURIMOON_UNI, 1, 1, cells, sizeof cells, links, CLURIMOON_LINKS(N),
-                                      calendar, CLURIMOON_CALENDAR(N), vcs, CLURIMOON_VCS(V), bits, CLURIMOON_BITS);
+                                      calendar, CLURIMOON_CALENDAR(N), vcs, CLURIMOON_VCS(V), bits, CLURIMOON_BITS,
+                                      arrived, CLURIMOON_ARRIVED(N));
   if (set.number != CLURIMOON_DONE) return 1;
   clurimoon_record record = set.record;
 
@@ -51,7 +53,7 @@ int main(void) {
     put_header(cell, arrives[k], clp[k]);
     clurimoon_served served = clurimoon_slot(record, cells, sizeof cells, links, CLURIMOON_LINKS(N), calendar,
                                              CLURIMOON_CALENDAR(N), vcs, CLURIMOON_VCS(V),
-                                             bits, CLURIMOON_BITS, cell, sizeof cell);
+                                             bits, CLURIMOON_BITS, arrived, CLURIMOON_ARRIVED(N), cell, sizeof cell);
     if (served.answer.number != CLURIMOON_DONE) return 1;
     record = served.record;
     print_slot(record.t, served.answer);
@@ -61,7 +63,7 @@ int main(void) {
   const uint16_t closed = clurimoon_close(record, vcs, CLURIMOON_VCS(V), CLURIMOON_OWNER_SECOND, DISCARDS);
   printf("close %d %u\n", DISCARDS, (unsigned)closed);
   return clurimoon_audit(record, cells, sizeof cells, links, CLURIMOON_LINKS(N), calendar, CLURIMOON_CALENDAR(N), vcs,
-                         CLURIMOON_VCS(V), bits, CLURIMOON_BITS)
+                         CLURIMOON_VCS(V), bits, CLURIMOON_BITS, arrived, CLURIMOON_ARRIVED(N))
              ? 0
              : 1;
 }

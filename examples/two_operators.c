@@ -16,10 +16,11 @@ static uint8_t cells[CLURIMOON_CELLS(N)];
 static uint16_t links[CLURIMOON_LINKS(N)], calendar[CLURIMOON_CALENDAR(N)];
 static uint32_t vcs[CLURIMOON_VCS(V)];
 static uint64_t bits[CLURIMOON_BITS];
+static uint32_t arrived[CLURIMOON_ARRIVED(N)];
 
 #define MEMORY                                                                                              \
   cells, sizeof cells, links, CLURIMOON_LINKS(N), calendar, CLURIMOON_CALENDAR(N), vcs, CLURIMOON_VCS(V), bits, \
-      CLURIMOON_BITS
+      CLURIMOON_BITS, arrived, CLURIMOON_ARRIVED(N)
 
 /* Eight slots of the first operator's VC, with the second's cells in the slots that the first leaves free. */
 static int run(int beside) {

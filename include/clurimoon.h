@@ -17,7 +17,8 @@
  *  - a pointer is followed by the length of what it points to, in elements;
  *  - lent buffers don't overlap one another, and the arriving cell does not lie
  *    in the cell memory;
- *  - links, calendar and answers are aligned to 2 octets, VC words to 4, bits to 8;
+ *  - links, calendar and answers are aligned to 2 octets, VC words and arrival slots to
+ *    4, bits to 8;
  *  - the pointer of a length of 0 is not followed and may be NULL.
  *
  * Widths: a value is judged as the parameter's type holds it. C cuts a wider
@@ -54,20 +55,22 @@
    CLURIMOON_F_MAX, whatever L is, and C from F to this. */
 #define CLURIMOON_C2_MAX 1073741824
 
-/* How much to lend, in elements: octets, 16-bit, 16-bit, 32-bit and 64-bit numbers. */
+/* How much to lend, in elements: octets, 16-bit, 16-bit, 32-bit, 64-bit and 32-bit
+   numbers. The last are the arrival slots, one for each space. */
 #define CLURIMOON_CELLS(n) ((size_t)53 * (size_t)(n))
 #define CLURIMOON_LINKS(n) ((size_t)(n))
 #define CLURIMOON_CALENDAR(n) ((size_t)2 * (size_t)(n))
 #define CLURIMOON_VCS(v) ((size_t)12 * ((size_t)(v) + CLURIMOON_PATHS))
 #define CLURIMOON_BITS ((size_t)32)
+#define CLURIMOON_ARRIVED(n) ((size_t)(n))
 
 /* Of the words of bits, where those of the calendar entries begin: words 0 to 15 have a
    bit for each space, set where it is free, words 16 to 31 one for each calendar
    entry, set where it is not empty. */
 #define CLURIMOON_ENTRY_BITS ((size_t)16)
 
-/* The octets of all five memories together; the record is kept apart. */
-#define CLURIMOON_OCTETS(n, v) ((size_t)59 * (size_t)(n) + (size_t)48 * ((size_t)(v) + CLURIMOON_PATHS) + (size_t)256)
+/* The octets of all six memories together; the record is kept apart. */
+#define CLURIMOON_OCTETS(n, v) ((size_t)63 * (size_t)(n) + (size_t)48 * ((size_t)(v) + CLURIMOON_PATHS) + (size_t)256)
 
 /* The number of a path in answers, and the place of its words: 12 * that number. */
 #define CLURIMOON_PATH_NUMBER(v, vpi) ((size_t)(v) + (size_t)(vpi))
@@ -77,6 +80,14 @@
 #define CLURIMOON_DEPARTURES(k) ((size_t)53 * (size_t)(k))
 #define CLURIMOON_ANSWERS(k) ((size_t)6 * (size_t)(k))
 
+/* A tally's bins, the last of which has all delays from 63 slots up, and the most cells
+   that it takes. A share is in thousandths: 500 is the median, 999 all but one in a
+   thousand, 1,000 the longest. */
+#define CLURIMOON_BINS 64
+#define CLURIMOON_TALLY_MAX ((uint64_t)1 << 32)
+#define CLURIMOON_SHARE_MIN 1
+#define CLURIMOON_SHARE_MAX 1000
+
 /* Refusal numbers. 10 is the trace reader's; no call of this header gives it.
    clurimoon_text says each in words. */
 enum clurimoon_number {
@@ -84,7 +95,7 @@ enum clurimoon_number {
   CLURIMOON_REFUSED_RANGE = 1,        /* N or V outside its range; setup, open, close: a split outside its range */
   CLURIMOON_REFUSED_LENGTH = 2,       /* a lent buffer has another length than it must */
   CLURIMOON_REFUSED_STORED = 3,       /* the call would read a stored number outside its range */
-  CLURIMOON_REFUSED_VCI = 4,          /* VCI outside 1 to V-1, or path number outside 1 to 255 */
+  CLURIMOON_REFUSED_VCI = 4,          /* VCI outside 1 to V-1, or path number outside 1 to 255; tally: no connection's number */
   CLURIMOON_REFUSED_ALREADY_OPEN = 5, /* open: already open */
   CLURIMOON_REFUSED_RULES = 6,        /* open: m, F or C against the rules */
   CLURIMOON_REFUSED_NOT_OPEN = 7,     /* close: not open */
@@ -94,6 +105,7 @@ enum clurimoon_number {
   CLURIMOON_REFUSED_SECOND = 11,      /* open_sustained, open_path: second bucket against its limits */
   CLURIMOON_REFUSED_NOT_AFTER = 12,   /* time: arrival not after the previous one, or outside the run */
   CLURIMOON_REFUSED_KIND = 13,        /* setup: line kind unknown */
+  CLURIMOON_REFUSED_SHARE = 15,       /* percentile: share outside 1 to 1,000, or no cell sent */
   CLURIMOON_REFUSED_NOT_OWNER = 16,   /* open, close: not this operator's connection */
 
   /* The same by their names of before. Write those above: CLURIMOON_CELL is an
@@ -111,6 +123,7 @@ enum clurimoon_number {
   CLURIMOON_SECOND = CLURIMOON_REFUSED_SECOND,
   CLURIMOON_NOT_AFTER = CLURIMOON_REFUSED_NOT_AFTER,
   CLURIMOON_KIND = CLURIMOON_REFUSED_KIND,
+  CLURIMOON_SHARE = CLURIMOON_REFUSED_SHARE,
   CLURIMOON_NOT_OWNER = CLURIMOON_REFUSED_NOT_OWNER
 };
 
@@ -224,6 +237,32 @@ typedef struct {
   size_t done;
 } clurimoon_burst_end;
 
+/* The delays of one connection's cells, 520 octets: how many of its cells left 0, 1, ..
+   62 slots after the slot of their arrival, how many 63 or more, and how many they are
+   together. The caller keeps it; all zeros is a tally of no cell. */
+typedef struct {
+  uint64_t bins[CLURIMOON_BINS];
+  uint64_t cells;
+} clurimoon_tally;
+
+/* What a tally answers: refusal number, and the tally after it; in a refusal as it came. */
+typedef struct {
+  uint16_t number;
+  clurimoon_tally tally;
+} clurimoon_tallied;
+
+/* What a percentile answers: refusal number, and a bin, 0 to 63: so many slots, or 63 and
+   more. 0 in a refusal. */
+typedef struct {
+  uint16_t number, bin;
+} clurimoon_bin;
+
+/* What a burst answers that keeps a tally. */
+typedef struct {
+  clurimoon_burst_end end;
+  clurimoon_tally tally;
+} clurimoon_burst_tally;
+
 /* How long until a cell leaves: refusal number; so many slots from now, 1 to N-1, or 1
    where N is 1; 0 where none waits, and in a refusal. */
 typedef struct {
@@ -267,16 +306,16 @@ extern "C" {
  * Refusals, in this order: 1 if n is not 1 to 1,024 or v not 2 to 1,024, or split_vci
  * is not 1 to v-1, or split_path not 1 to 255; 13 if kind is neither 0 nor 1; 2 if the
  * lengths are not 53 n octets of cells, n links, 2 n calendar numbers, 12 (v + 256) VC
- * words, whatever the kind is, and 32 words of bits, whatever n is. A refusal writes
- * nothing and hands back a record of zeros.
+ * words, whatever the kind is, 32 words of bits, whatever n is, and n arrival slots. A
+ * refusal writes nothing and hands back a record of zeros.
  *
- * Done: cells, links and VC words are 0; every calendar number is 65,535; the bits
- * of spaces 0 to n-1 are set (space x has bit x % 64 of word x / 64) and no other,
- * those of the calendar entries too (entry e has bit e % 64 of word 16 + e / 64); the
- * Output List is empty. The record has t 2^32-1, T n-1 and rotation v+255, so
- * that the first slot is slot 0; free is n; raw is 1 or 0, the mode is 0,
- * correction; kind and both splits are those that were asked for. No VC and no path
- * is open.
+ * Done: cells, links, VC words and arrival slots are 0; every calendar number is
+ * 65,535; the bits of spaces 0 to n-1 are set (space x has bit x % 64 of word x / 64)
+ * and no other, those of the calendar entries too (entry e has bit e % 64 of word 16 +
+ * e / 64); the Output List is empty. The record has t 2^32-1, T n-1 and rotation v+255,
+ * so that the first slot is slot 0; free is n; raw is 1 or 0, the mode is 0,
+ * correction; kind and both splits are those that were asked for. No VC and no path is
+ * open.
  */
 clurimoon_set clurimoon_setup(uint16_t n, uint16_t v, bool raw, uint16_t kind,
                               uint16_t split_vci, uint16_t split_path,
@@ -284,7 +323,8 @@ clurimoon_set clurimoon_setup(uint16_t n, uint16_t v, bool raw, uint16_t kind,
                               uint16_t *links, size_t links_length,
                               uint16_t *calendar, size_t calendar_length,
                               uint32_t *vcs, size_t vcs_length,
-                              uint64_t *bits, size_t bits_length);
+                              uint64_t *bits, size_t bits_length,
+                              uint32_t *arrived, size_t arrived_length);
 
 /*
  * Opens VC vci with L = 2^m, fill F and capacity C: a peak rate of L/F cells a
@@ -390,7 +430,7 @@ uint16_t clurimoon_close_path(clurimoon_record record,
  * Serves one slot. `cell` is what arrived: 53 octets, or none (length 0).
  *
  * Refusals, in this order: 1 if the record's N or V is outside its range; 2 if
- * one of the five memories has another length than at setup; 9 if the cell's
+ * one of the six memories has another length than at setup; 9 if the cell's
  * length is neither 0 nor 53; 3 if the slot would read a stored number outside
  * its range, raw, mode and kind among them: raw is read when 53 octets are lent,
  * mode when raw is then 1, kind when the cell is not dropped and when one departs,
@@ -402,7 +442,8 @@ uint16_t clurimoon_close_path(clurimoon_record record,
  * words 0 to 15; a number `free` other than the ones in these words; none free
  * for a cell; a freed space already free. Number and bits are read as earlier steps
  * of the slot left them, and not at all in a slot that neither takes nor frees. No
- * slot judges a bit of a calendar entry, whatever words 16 to 31 hold.
+ * slot judges a bit of a calendar entry, whatever words 16 to 31 hold, nor an arrival
+ * slot, which has any value.
  *
  * The header check comes first, where raw is 1 and a cell is lent, idle and
  * unassigned cells too. Octet 5 must be the remainder of the first four octets
@@ -441,19 +482,19 @@ uint16_t clurimoon_close_path(clurimoon_record record,
  * covers the second bucket's words too: m, F, C and flag by the limits of
  * clurimoon_open_sustained, and S at most C.
  *
- * Done: the clock, T and rotation grow by one, rotation over all V + 256 numbers;
- * the connection that rotation names, if open, is brought up to date (0 and V name
- * none); the arriving cell is judged and, if accepted or
- * tagged, stored in the lowest free space, whose bit is cleared while the number
- * `free` falls by one, and joined to the head of calendar entry T+D, whose bit is set;
- * entry T, where it is not empty, goes to the end of the Output List, and its bit is
- * cleared; the head of the Output List departs, its space's bit is set, and the number
- * grows by one. No octet and no word changes but those that
- * these steps name.
+ * Done: the clock, T and rotation grow by one, rotation over all V + 256 numbers; the
+ * connection that rotation names, if open, is brought up to date (0 and V name none);
+ * the arriving cell is judged and, if accepted or tagged, stored in the lowest free
+ * space, whose bit is cleared while the number `free` falls by one, and whose arrival
+ * slot becomes the clock's t, and joined to the head of calendar entry T+D, whose bit
+ * is set; entry T, where it is not empty, goes to the end of the Output List, and its
+ * bit is cleared; the head of the Output List departs, its space's bit is set, and the
+ * number grows by one. No octet and no word changes but those that these steps name.
  *
  * The departing cell stays in its space, `answer.space`, until a later slot
  * stores another there, which may be the next: show it with clurimoon_line before
- * the next slot.
+ * the next slot. So does its arrival slot, number `answer.space` of the arrival slots:
+ * it waited t less that, modulo 2^32; clurimoon_tally_slot counts it.
  */
 clurimoon_served clurimoon_slot(clurimoon_record record,
                                 uint8_t *cells, size_t cells_length,
@@ -461,6 +502,7 @@ clurimoon_served clurimoon_slot(clurimoon_record record,
                                 uint16_t *calendar, size_t calendar_length,
                                 uint32_t *vcs, size_t vcs_length,
                                 uint64_t *bits, size_t bits_length,
+                                uint32_t *arrived, size_t arrived_length,
                                 const uint8_t *cell, size_t cell_length);
 
 /*
@@ -488,7 +530,7 @@ clurimoon_part clurimoon_line(const uint8_t *cells, size_t cells_length,
  * number of its queued cells; raw, mode and kind are among the ranges, each 0 or 1
  * whatever the others are, and so are both splits and the words of a second bucket of
  * an open VC or path. The words of numbers 0 and V don't matter, nor do links that no
- * chain reads.
+ * chain reads, nor what the arrival slots hold: of these the length alone is judged.
  * It is true after every call since a setup that answered 0, where each call got
  * record and memories as the call before left them.
  */
@@ -497,7 +539,8 @@ bool clurimoon_audit(clurimoon_record record,
                      const uint16_t *links, size_t links_length,
                      const uint16_t *calendar, size_t calendar_length,
                      const uint32_t *vcs, size_t vcs_length,
-                     const uint64_t *bits, size_t bits_length);
+                     const uint64_t *bits, size_t bits_length,
+                     const uint32_t *arrived, size_t arrived_length);
 
 /*
  * Says how many slots from now, if no cell arrives, the next cell leaves; writes
@@ -535,7 +578,7 @@ clurimoon_wait clurimoon_next(clurimoon_record record,
  * the order of clurimoon_answer.
  *
  * Refusals, in this order: 1 if the record's N or V is outside its range; 2 if
- * one of the five memories has another length than at setup, or arrivals and
+ * one of the six memories has another length than at setup, or arrivals and
  * departures are not 53 times, answers not 6 times as long as sizes. Each leaves
  * everything as it came, with done 0.
  *
@@ -554,10 +597,77 @@ clurimoon_burst_end clurimoon_burst(clurimoon_record record,
                                     uint16_t *calendar, size_t calendar_length,
                                     uint32_t *vcs, size_t vcs_length,
                                     uint64_t *bits, size_t bits_length,
+                                    uint32_t *arrived, size_t arrived_length,
                                     const uint8_t *arrivals, size_t arrivals_length,
                                     const uint8_t *sizes, size_t sizes_length,
                                     uint8_t *departures, size_t departures_length,
                                     uint16_t *answers, size_t answers_length);
+
+/*
+ * Tallies what a slot has sent, for the delay summary of one connection. Call it after the
+ * slot and before the next: record is what the slot handed back, `space` and `out_vci` are
+ * its answer's, `arrived` the policer's arrival slots, n of them. connection is the
+ * number of the VC or path that the tally is of: a VCI, or V + VPI. It writes nothing; the
+ * tally goes in and out by value.
+ *
+ * Refusals, in this order: 1 if the record's N or V is outside its range; 2 if there are
+ * not N arrival slots; 4 if connection is the number of none, that is not 1 to V-1 nor
+ * V+1 to V+255; 3 if the tally's cells are above 2^32 or are not the sum of its bins, or
+ * if out_vci is connection and space is not below N. In a refusal the tally is as it came.
+ * Whether the connection is open doesn't matter, and no word of it is read.
+ *
+ * Done: where out_vci is not connection, the tally is as it came: another's cell left, or
+ * none. Otherwise the delay is the record's t less the arrival slot of space, modulo 2^32;
+ * bin 0 to 62 of that delay, or bin 63 where it is 63 or more, grows by one, and so do the
+ * cells. A tally of 2^32 cells takes no more: it is as it came, with 0.
+ *
+ * Over a run that begins where no cell of the connection waits, called after each slot
+ * with the tally of the call before, from zeros on: each bin is how many of the
+ * connection's cells waited so long, the k-th accepted or tagged one being the k-th to
+ * leave; 3 is not given.
+ */
+clurimoon_tallied clurimoon_tally_slot(clurimoon_tally tally, clurimoon_record record,
+                                       const uint32_t *arrived, size_t arrived_length,
+                                       uint16_t connection, uint16_t space,
+                                       uint16_t out_vci);
+
+/*
+ * The percentile of a tally: the lowest bin at which 1,000 times the sum of the bins up to
+ * it is at least share times the cells. 500 asks for the median, 999 for the delay that at
+ * most one cell in a thousand exceeds, 1,000 for the longest. Bin 63 is 63 slots or more.
+ *
+ * Refusals, in this order: 3 if the tally's cells are above 2^32 or are not the sum of
+ * its bins; 15 if share is not 1 to 1,000, or the tally has no cell. The bin is then 0.
+ */
+clurimoon_bin clurimoon_percentile(clurimoon_tally tally, uint16_t share);
+
+/*
+ * clurimoon_burst with a tally of one connection: what a card calls that polls and wants
+ * that connection's delays. After the burst it would be too late, since a space may be
+ * taken again within it and its arrival slot written anew.
+ *
+ * Refusals, in this order: those of clurimoon_tally_slot after a slot that sent nothing,
+ * once: 1; 2 if there are not N arrival slots; 4 if connection is the number of none; 3 if
+ * the tally's cells are above 2^32 or are not the sum of its bins; then 2 if another lent
+ * length does not fit, as for clurimoon_burst. Each leaves everything as it came, the tally
+ * too, with done 0.
+ *
+ * Otherwise it is clurimoon_burst, slot by slot, and after each slot that is served
+ * clurimoon_tally_slot with its answer. Where a slot would be refused, with 9 or 3, the
+ * burst stops before it, and the tally is that after `done` slots.
+ */
+clurimoon_burst_tally clurimoon_burst_tallied(clurimoon_tally tally, uint16_t connection,
+                                              clurimoon_record record,
+                                              uint8_t *cells, size_t cells_length,
+                                              uint16_t *links, size_t links_length,
+                                              uint16_t *calendar, size_t calendar_length,
+                                              uint32_t *vcs, size_t vcs_length,
+                                              uint64_t *bits, size_t bits_length,
+                                              uint32_t *arrived, size_t arrived_length,
+                                              const uint8_t *arrivals, size_t arrivals_length,
+                                              const uint8_t *sizes, size_t sizes_length,
+                                              uint8_t *departures, size_t departures_length,
+                                              uint16_t *answers, size_t answers_length);
 
 /*
  * Judges one cell by the generator's own rule, virtual scheduling: a cell of a
@@ -606,6 +716,7 @@ static inline const char *clurimoon_text(unsigned number) {
   case CLURIMOON_REFUSED_SECOND: return "m, F, C or flag of the second bucket outside its limits";
   case CLURIMOON_REFUSED_NOT_AFTER: return "the arrival is not after the previous one, or outside the run";
   case CLURIMOON_REFUSED_KIND: return "the line kind is neither UNI nor NNI";
+  case CLURIMOON_REFUSED_SHARE: return "the share is not 1 to 1000, or no cell was sent";
   case CLURIMOON_REFUSED_NOT_OWNER: return "not this operator's connection";
   default: return "no number of this library";
   }

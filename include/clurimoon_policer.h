@@ -43,7 +43,8 @@ typedef struct {
   uint16_t *links, *calendar;
   uint32_t *vcs;
   uint64_t *bits;
-  size_t cells_length, links_length, calendar_length, vcs_length, bits_length;
+  uint32_t *arrived;
+  size_t cells_length, links_length, calendar_length, vcs_length, bits_length, arrived_length;
 } clurimoon_policer;
 
 /* What a policer is set up with. Zero: octet 5 is not checked, the line is a UNI, and one
@@ -105,6 +106,8 @@ typedef struct {
 
 /* A burst's answers are handed to the library as numbers of 16 bits, six a slot. */
 typedef char clurimoon_answer_is_six_numbers[sizeof(clurimoon_answer) == 12 ? 1 : -1];
+/* A tally goes in and out as 65 numbers of 64 bits, with nothing between them. */
+typedef char clurimoon_tally_is_65_numbers[sizeof(clurimoon_tally) == 520 ? 1 : -1];
 
 /*
  * The octets of one block for n spaces and VCIs below v; 0 if n or v is out of range.
@@ -135,11 +138,13 @@ static inline uint16_t clurimoon_policer_lend(clurimoon_policer *policer, uint16
   policer->calendar = NULL;
   policer->vcs = NULL;
   policer->bits = NULL;
+  policer->arrived = NULL;
   policer->cells_length = 0;
   policer->links_length = 0;
   policer->calendar_length = 0;
   policer->vcs_length = 0;
   policer->bits_length = 0;
+  policer->arrived_length = 0;
   if (needed == 0) return CLURIMOON_REFUSED_RANGE;
   if (block == NULL || octets < needed || (uintptr_t)block % 8u != 0) return CLURIMOON_REFUSED_LENGTH;
   policer->bits_length = CLURIMOON_BITS;
@@ -147,11 +152,14 @@ static inline uint16_t clurimoon_policer_lend(clurimoon_policer *policer, uint16
   policer->links_length = CLURIMOON_LINKS(n);
   policer->calendar_length = CLURIMOON_CALENDAR(n);
   policer->cells_length = CLURIMOON_CELLS(n);
+  policer->arrived_length = CLURIMOON_ARRIVED(n);
   policer->cells = at + needed - policer->cells_length;
   policer->bits = (uint64_t *)(void *)at;
   at += policer->bits_length * sizeof(uint64_t);
   policer->vcs = (uint32_t *)(void *)at;
   at += policer->vcs_length * sizeof(uint32_t);
+  policer->arrived = (uint32_t *)(void *)at;
+  at += policer->arrived_length * sizeof(uint32_t);
   policer->links = (uint16_t *)(void *)at;
   at += policer->links_length * sizeof(uint16_t);
   policer->calendar = (uint16_t *)(void *)at;
@@ -176,7 +184,8 @@ static inline uint16_t clurimoon_policer_setup(clurimoon_policer *policer, uint1
                         policer->links, policer->links_length,
                         policer->calendar, policer->calendar_length,
                         policer->vcs, policer->vcs_length,
-                        policer->bits, policer->bits_length);
+                        policer->bits, policer->bits_length,
+                        policer->arrived, policer->arrived_length);
   policer->record = set.record;
   if (set.number != CLURIMOON_DONE) (void)clurimoon_policer_lend(policer, 0, 0, NULL, 0);
   return set.number;
@@ -213,6 +222,7 @@ static inline clurimoon_answer clurimoon_policer_slot(clurimoon_policer *policer
                                                  policer->calendar, policer->calendar_length,
                                                  policer->vcs, policer->vcs_length,
                                                  policer->bits, policer->bits_length,
+                                                 policer->arrived, policer->arrived_length,
                                                  cell, cell != NULL ? (size_t)CLURIMOON_CELL : (size_t)0);
   policer->record = served.record;
   return served.answer;
@@ -242,7 +252,8 @@ static inline bool clurimoon_policer_audit(const clurimoon_policer *policer) {
                          policer->links, policer->links_length,
                          policer->calendar, policer->calendar_length,
                          policer->vcs, policer->vcs_length,
-                         policer->bits, policer->bits_length);
+                         policer->bits, policer->bits_length,
+                         policer->arrived, policer->arrived_length);
 }
 
 /*
@@ -268,6 +279,7 @@ static inline size_t clurimoon_policer_burst(clurimoon_policer *policer, const u
                                                   policer->calendar, policer->calendar_length,
                                                   policer->vcs, policer->vcs_length,
                                                   policer->bits, policer->bits_length,
+                                                  policer->arrived, policer->arrived_length,
                                                   arrivals, CLURIMOON_ARRIVALS(lent),
                                                   sizes, slots,
                                                   departures, CLURIMOON_DEPARTURES(lent),
@@ -275,6 +287,58 @@ static inline size_t clurimoon_policer_burst(clurimoon_policer *policer, const u
   policer->record = end.record;
   if (number != NULL) *number = end.number;
   return end.done;
+}
+
+/*
+ * The number that a connection has in answers, and by which its delays are tallied: a
+ * VC's VCI, a path's V + VPI. 0, which is nobody's, where VCI or VPI is outside its
+ * range. Whose it is doesn't matter.
+ */
+static inline uint16_t clurimoon_policer_number(const clurimoon_policer *policer, clurimoon_connection connection) {
+  const uint16_t most = connection.path ? (uint16_t)CLURIMOON_PATHS : policer->record.v;
+  if (connection.number == 0 || connection.number >= most) return 0;
+  return (uint16_t)(connection.path ? policer->record.v + connection.number : connection.number);
+}
+
+/*
+ * After a slot, and before the next: takes what it has sent into the tally of one
+ * connection's delays, clurimoon_tally_slot. The tally is zeros at first, and the
+ * caller's; clurimoon_percentile says what is in it. In a refusal it is as it was.
+ */
+static inline uint16_t clurimoon_policer_tally(const clurimoon_policer *policer, clurimoon_tally *tally,
+                                               clurimoon_connection connection, const clurimoon_answer *answer) {
+  const clurimoon_tallied tallied = clurimoon_tally_slot(*tally, policer->record, policer->arrived, policer->arrived_length,
+                                                         clurimoon_policer_number(policer, connection), answer->space,
+                                                         answer->out_vci);
+  *tally = tallied.tally;
+  return tallied.number;
+}
+
+/*
+ * clurimoon_policer_burst with the tally of one connection's delays: each of the burst's
+ * slots goes into it, clurimoon_burst_tallied.
+ */
+static inline size_t clurimoon_policer_burst_tallied(clurimoon_policer *policer, clurimoon_tally *tally,
+                                                     clurimoon_connection connection, const uint8_t *arrivals,
+                                                     const uint8_t *sizes, size_t slots, uint8_t *departures,
+                                                     clurimoon_answer *answers, uint16_t *number) {
+  const size_t lent = slots <= (size_t)-1 / CLURIMOON_CELL ? slots : 0; /* as above */
+  const clurimoon_burst_tally after = clurimoon_burst_tallied(*tally, clurimoon_policer_number(policer, connection),
+                                                              policer->record,
+                                                              policer->cells, policer->cells_length,
+                                                              policer->links, policer->links_length,
+                                                              policer->calendar, policer->calendar_length,
+                                                              policer->vcs, policer->vcs_length,
+                                                              policer->bits, policer->bits_length,
+                                                              policer->arrived, policer->arrived_length,
+                                                              arrivals, CLURIMOON_ARRIVALS(lent),
+                                                              sizes, slots,
+                                                              departures, CLURIMOON_DEPARTURES(lent),
+                                                              (uint16_t *)(void *)answers, CLURIMOON_ANSWERS(lent));
+  policer->record = after.end.record;
+  *tally = after.tally;
+  if (number != NULL) *number = after.end.number;
+  return after.end.done;
 }
 
 /*

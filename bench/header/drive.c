@@ -23,6 +23,7 @@ static uint8_t cells[CLURIMOON_CELLS(1024)], arrivals[53 * block], sizes[block],
 static uint16_t links[1024], calendar[2048], answers[6 * block];
 static uint32_t vcs[CLURIMOON_VCS(1024)];
 static uint64_t bits[CLURIMOON_BITS];
+static uint32_t arrived[1024];
 static clurimoon_record record;
 static unsigned n, v, wrong, made;
 static unsigned long long state = 1992, sum;
@@ -60,7 +61,7 @@ static void prepare(void) {
   }
 }
 
-#define MEMORY cells, 53 * (size_t)n, links, n, calendar, 2 * (size_t)n, vcs, CLURIMOON_VCS(v), bits, CLURIMOON_BITS
+#define MEMORY cells, 53 * (size_t)n, links, n, calendar, 2 * (size_t)n, vcs, CLURIMOON_VCS(v), bits, CLURIMOON_BITS, arrived, n
 
 static void serve(void) {
   for (unsigned k = 0; k < block; ++k) {
@@ -142,7 +143,7 @@ int main(int count, char **arguments) {
     else check_all(strcmp(kind, "table") == 0 ? check_by_table : check_by_shifts);
     add(answers, sizeof answers);
   }
-  add(cells, 53 * (size_t)n), add(links, 2 * (size_t)n), add(calendar, 4 * (size_t)n), add(vcs, 4 * CLURIMOON_VCS(v)), add(bits, 8 * CLURIMOON_BITS);
+  add(cells, 53 * (size_t)n), add(links, 2 * (size_t)n), add(calendar, 4 * (size_t)n), add(vcs, 4 * CLURIMOON_VCS(v)), add(bits, 8 * CLURIMOON_BITS), add(arrived, 4 * (size_t)n);
   printf("%016llx\n", sum);
   return 0;
 }

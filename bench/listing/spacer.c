@@ -11,6 +11,7 @@ static uint8_t cells[53 * 1024];
 static uint16_t links[1024], calendar[2048];
 static uint32_t vcs[CLURIMOON_VCS(1024)];
 static uint64_t bits[CLURIMOON_BITS];
+static uint32_t arrived[1024];
 static size_t used;
 
 static void flush(void) {
@@ -76,7 +77,7 @@ int main(void) {
   clurimoon_record r = {.n = (uint16_t)n, .v = (uint16_t)v, .t = UINT32_MAX, .T = (uint16_t)(n - 1),
                         .rotation = (uint16_t)(v + 255), .free = (uint16_t)n,
                         .out_head = 65535, .out_tail = 65535, .kind = input[1] == 'N'};
-  const lent_memory lent = {cells, links, calendar, vcs, bits, 53 * n, n, 2 * n, CLURIMOON_VCS(v), CLURIMOON_BITS};
+  const lent_memory lent = {cells, links, calendar, vcs, bits, arrived, 53 * n, n, 2 * n, CLURIMOON_VCS(v), CLURIMOON_BITS, n};
   memset(calendar, 255, sizeof calendar);
   for (uint32_t i = 0; i < n; i++) bits[i / 64] |= (uint64_t)1 << i % 64;
   text_line("setup ", (uint32_t[]){n, v, 0}, 3);

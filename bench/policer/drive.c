@@ -15,6 +15,7 @@ enum { N = 76, V = 64, TRAFFIC = 1024, BURST = 64 };
 static uint8_t cells[CLURIMOON_CELLS(N)];
 static uint16_t links[CLURIMOON_LINKS(N)], calendar[CLURIMOON_CALENDAR(N)];
 static uint32_t vcs[CLURIMOON_VCS(V)];
+static uint32_t arrived[CLURIMOON_ARRIVED(N)];
 static uint64_t bits[CLURIMOON_BITS], block[CLURIMOON_POLICER_WORDS(N, V)];
 static clurimoon_record record;
 static clurimoon_policer policer;
@@ -26,7 +27,7 @@ static unsigned long sum;
 
 #define MEMORIES                                                                                             \
   cells, CLURIMOON_CELLS(N), links, CLURIMOON_LINKS(N), calendar, CLURIMOON_CALENDAR(N), vcs, CLURIMOON_VCS(V), \
-      bits, CLURIMOON_BITS
+      bits, CLURIMOON_BITS, arrived, CLURIMOON_ARRIVED(N)
 
 __attribute__((noinline)) void by_plain(unsigned slots) {
   for (unsigned k = 0; k < slots; ++k) {

@@ -44,7 +44,7 @@ static inline bool bad_buckets(const u32 *vc, u32 n) {
 }
 
 /* False, and nothing is written, for refusal 3. N, V and all lengths are fit. */
-static bool careful(clurimoon_record *r, uint8_t *cells, u16 *links, u16 *calendar, u32 *vcs, u64 *bits,
+static bool careful(clurimoon_record *r, uint8_t *cells, u16 *links, u16 *calendar, u32 *vcs, u64 *bits, u32 *arrived,
                     const uint8_t *cell, size_t cell_length, clurimoon_answer *answer) {
   const u32 n = r->n, v = r->v, t = r->t + 1, mask = mask_of(r->kind);
   if (unlikely(r->T >= n || r->rotation >= v + paths)) return false;
@@ -130,7 +130,7 @@ static bool careful(clurimoon_record *r, uint8_t *cells, u16 *links, u16 *calend
   if (x != none) {
     met[w_waiting] += 1;
     take_space(bits, x);
-    copy_cell(cells + 53 * x, cell);
+    copy_cell(cells + 53 * x, cell), arrived[x] = t;
     if (verdict == CLURIMOON_TAGGED) tag(cells + 53 * x, cell);
     if (joined != none) links[x] = (uint16_t)joined;
     calendar[2 * e] = (uint16_t)x, calendar[2 * e + 1] = (uint16_t)e_tail, mark(bits, e);

@@ -54,7 +54,7 @@ inlined void write_arrival(policer *p, const plan *a, bool stays, u16 *answer) {
   }
   a->met[w_S] = a->s + a->met[w_F], a->met[w_last] = p->t, a->met[w_S2] = a->second;
   if (stays) a->met[w_waiting] += 1, take_space(bits(p), a->x);
-  copy_cell(cells(p) + 53 * a->x, a->cell);
+  copy_cell(cells(p) + 53 * a->x, a->cell), arrived(p)[a->x] = p->t;
   if (unlikely(a->verdict == CLURIMOON_TAGGED)) tag(cells(p) + 53 * a->x, a->cell);
   /* entry T is emptied again in step 4 */
   if (a->e_pair != no_pair) {
@@ -210,7 +210,7 @@ inlined bool serve(policer *p, const uint8_t *cell, size_t size, given to) {
 static u16 refusal_of(u32 n, u32 v, const lent_memory *lent) {
   if (n - 1 >= 1024 || v - 2 >= 1023) return 1;
   if (lent->cells_length != 53 * n || lent->links_length != n || lent->calendar_length != 2 * n ||
-      lent->vcs_length != words * (v + paths) || lent->bits_length != CLURIMOON_BITS)
+      lent->vcs_length != words * (v + paths) || lent->bits_length != CLURIMOON_BITS || lent->arrived_length != n)
     return 2;
   return 0;
 }
@@ -221,7 +221,7 @@ static __attribute__((noinline, cold)) u16 odd_slot(clurimoon_record *r, const l
   const u16 number = refusal_of(r->n, r->v, lent);
   if (number != 0) return number;
   if (cell_length != 0 && cell_length != 53) return 9;
-  return careful(r, lent->cells, lent->links, lent->calendar, lent->vcs, lent->bits, cell, cell_length, answer) ? 0 : 3;
+  return careful(r, lent->cells, lent->links, lent->calendar, lent->vcs, lent->bits, lent->arrived, cell, cell_length, answer) ? 0 : 3;
 }
 static __attribute__((noinline, cold)) void odd_answer(clurimoon_record *r, const lent_memory *lent, const uint8_t *cell,
                                                        size_t cell_length, clurimoon_answer *answer) {
@@ -235,7 +235,8 @@ exported void checking_slot(clurimoon_record *restrict r, const lent_memory *len
                .mask = mask_of(r->kind)};
   if (unlikely(p.n - 1 >= 1024) || unlikely(p.v - 2 >= 1023) || unlikely(lent->cells_length != 53 * p.n) ||
       unlikely(lent->links_length != p.n) || unlikely(lent->calendar_length != 2 * p.n) ||
-      unlikely(lent->vcs_length != words * (p.v + paths)) || unlikely(lent->bits_length != CLURIMOON_BITS) || unlikely(r->kind > 1))
+      unlikely(lent->vcs_length != words * (p.v + paths)) || unlikely(lent->bits_length != CLURIMOON_BITS) ||
+      unlikely(lent->arrived_length != p.n) || unlikely(r->kind > 1))
     goto odd;
   /* one comparison for the range and for the step round */
   if (unlikely(p.T >= p.n)) {
@@ -278,7 +279,8 @@ exported burst_end checking_burst(clurimoon_record *restrict r, const lent_memor
                bad_pair(r->out_head, r->out_tail, r->n)))
     return odd_slots(r, lent, b, 0, slots);
   policer p = {.n = r->n, .v = r->v, .record = NULL, .mask = mask_of(r->kind), .kept_cells = lent->cells, .kept_links = lent->links,
-               .kept_calendar = lent->calendar, .kept_vcs = lent->vcs, .kept_bits = lent->bits};
+               .kept_calendar = lent->calendar, .kept_vcs = lent->vcs, .kept_bits = lent->bits,
+               .kept_arrived = lent->arrived};
   take(&p, r);
   const uint8_t *cell = b->arrivals, *size = b->sizes, *const end = size + slots;
   given to = {b->answers, b->departures, true};

@@ -32,6 +32,7 @@ typedef struct {
   uint16_t links[1024], calendar[2048], *answers;
   uint32_t vcs[CLURIMOON_VCS(1024)];
   uint64_t bits[CLURIMOON_BITS];
+  uint32_t arrived[1024];
 } policer;
 static policer policers[forms];
 static uint8_t *arrivals, *sizes;
@@ -55,10 +56,10 @@ static uint32_t capped(contract k) {
 }
 
 static void begin(policer *p) {
-  p->lent = (lent_memory){p->cells, p->links, p->calendar, p->vcs, p->bits, 53 * n, n, 2 * n, CLURIMOON_VCS(v), CLURIMOON_BITS};
+  p->lent = (lent_memory){p->cells, p->links, p->calendar, p->vcs, p->bits, p->arrived, 53 * n, n, 2 * n, CLURIMOON_VCS(v), CLURIMOON_BITS, n};
   const clurimoon_set set =
       clurimoon_setup((uint16_t)n, (uint16_t)v, false, kind == with_path ? CLURIMOON_NNI : CLURIMOON_UNI, 1, 1, p->cells, 53 * n,
-                      p->links, n, p->calendar, 2 * n, p->vcs, CLURIMOON_VCS(v), p->bits, CLURIMOON_BITS);
+                      p->links, n, p->calendar, 2 * n, p->vcs, CLURIMOON_VCS(v), p->bits, CLURIMOON_BITS, p->arrived, n);
   if (set.number != 0) fail("setup");
   p->record = set.record;
   const contract path = contract_of_path();
@@ -99,7 +100,7 @@ SLOTS_BY(by_checking_slot, checking_slot)
 BURSTS_BY(by_trusting_burst, trusting_burst)
 BURSTS_BY(by_checking_burst, checking_burst)
 
-#define MEMORY p->cells, 53 * n, p->links, n, p->calendar, 2 * n, p->vcs, CLURIMOON_VCS(v), p->bits, CLURIMOON_BITS
+#define MEMORY p->cells, 53 * n, p->links, n, p->calendar, 2 * n, p->vcs, CLURIMOON_VCS(v), p->bits, CLURIMOON_BITS, p->arrived, n
 static void by_clurimoon_slot(policer *p) {
   for (size_t k = 0; k < slots; ++k) {
     const clurimoon_served s = clurimoon_slot(p->record, MEMORY, arrivals + 53 * k, sizes[k]);
@@ -132,7 +133,7 @@ static uint64_t sum_of(const policer *p) {
   sum = 14695981039346656037u;
   add(p->answers, 12 * slots), add(p->departures, 53 * slots);
   add(numbers, sizeof numbers), add(p->cells, 53 * n), add(p->links, 2 * n), add(p->calendar, 4 * n);
-  add(p->vcs, 4 * CLURIMOON_VCS(v)), add(p->bits, 8 * CLURIMOON_BITS);
+  add(p->vcs, 4 * CLURIMOON_VCS(v)), add(p->bits, 8 * CLURIMOON_BITS), add(p->arrived, 4 * n);
   return sum;
 }
 

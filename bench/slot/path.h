@@ -118,6 +118,7 @@ typedef struct {
   u16 *kept_links, *kept_calendar;
   u32 *kept_vcs;
   u64 *kept_bits;
+  u32 *kept_arrived;
   index_t kept_free, kept_out_head, kept_out_tail;
 } policer;
 
@@ -128,6 +129,7 @@ MEMORY(u16, links)
 MEMORY(u16, calendar)
 MEMORY(u32, vcs)
 MEMORY(u64, bits)
+MEMORY(u32, arrived)
 
 /* `free_number` is the record's `free`, whose name C has already. */
 #define NUMBER(name, field)                                                                                                   \

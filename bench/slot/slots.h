@@ -4,13 +4,14 @@
 #define SLOTS_H
 #include "clurimoon.h"
 
-/* The five lent memories with their lengths, in elements. */
+/* The six lent memories with their lengths, in elements. */
 typedef struct {
   uint8_t *cells;
   uint16_t *links, *calendar;
   uint32_t *vcs;
   uint64_t *bits;
-  size_t cells_length, links_length, calendar_length, vcs_length, bits_length;
+  uint32_t *arrived;
+  size_t cells_length, links_length, calendar_length, vcs_length, bits_length, arrived_length;
 } lent_memory;
 
 /* What a burst is lent besides: an octet a slot in sizes, 53 in arrivals and departures, six numbers in answers. */

@@ -42,7 +42,7 @@ inlined bool arrive(policer *p, const uint8_t *cell, given to) {
   const index_t d = s >> vc[w_m], x = lowest_free(bits(p));
   put_pair(to.answer, (tagged ? CLURIMOON_TAGGED : CLURIMOON_ACCEPTED) << 16), to.answer[3] = (u16)d;
   vc[w_S] = s + f;
-  copy_cell(cells(p) + 53 * x, cell);
+  copy_cell(cells(p) + 53 * x, cell), arrived(p)[x] = p->t;
   if (unlikely(tagged)) tag(cells(p) + 53 * x, cell);
   if (d == 0 && out_head(p) == none && pair_at(p->entry) == no_pair) {
     if (to.copied) {
@@ -112,7 +112,8 @@ exported void trusting_slot(clurimoon_record *restrict r, const lent_memory *len
 
 exported burst_end trusting_burst(clurimoon_record *restrict r, const lent_memory *lent, const lent_burst *b) {
   policer p = {.n = r->n, .v = r->v, .record = NULL, .mask = mask_of(r->kind), .kept_cells = lent->cells, .kept_links = lent->links,
-               .kept_calendar = lent->calendar, .kept_vcs = lent->vcs, .kept_bits = lent->bits};
+               .kept_calendar = lent->calendar, .kept_vcs = lent->vcs, .kept_bits = lent->bits,
+               .kept_arrived = lent->arrived};
   take(&p, r);
   const uint8_t *cell = b->arrivals, *size = b->sizes, *const end = size + b->sizes_length;
   given to = {b->answers, b->departures, true};

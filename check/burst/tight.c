@@ -42,6 +42,7 @@ typedef struct {
   uint16_t links[CLURIMOON_LINKS(MOST)], calendar[CLURIMOON_CALENDAR(MOST)];
   uint32_t words[CLURIMOON_VCS(CLURIMOON_V_MAX)];
   uint64_t bits[CLURIMOON_BITS];
+  uint32_t arrived[CLURIMOON_ARRIVED(MOST)];
 } policer;
 
 static unsigned long long runs, slots, windows, fewer, tagged, of_paths;
@@ -59,7 +60,8 @@ static void set_up(policer *p, unsigned family, uint32_t n, uint32_t v) {
   clurimoon_set set;
   p->family = family, p->n = n, p->v = v, p->now = 0;
   set = clurimoon_setup((uint16_t)n, (uint16_t)v, false, kind_of(n), 1, 1, p->cells, CLURIMOON_CELLS(n), p->links,
-                        CLURIMOON_LINKS(n), p->calendar, CLURIMOON_CALENDAR(n), p->words, CLURIMOON_VCS(v), p->bits, CLURIMOON_BITS);
+                        CLURIMOON_LINKS(n), p->calendar, CLURIMOON_CALENDAR(n), p->words, CLURIMOON_VCS(v), p->bits, CLURIMOON_BITS,
+                        p->arrived, CLURIMOON_ARRIVED(n));
   if (set.number != CLURIMOON_DONE) fail(p, "setup was refused");
   p->record = set.record;
 }
@@ -95,7 +97,8 @@ static uint32_t serve_with(policer *p, uint32_t vci, uint32_t due_in, uint32_t v
   clurimoon_served s;
   write_header(p, cell, vci);
   s = clurimoon_slot(p->record, p->cells, CLURIMOON_CELLS(p->n), p->links, CLURIMOON_LINKS(p->n), p->calendar,
-                     CLURIMOON_CALENDAR(p->n), p->words, CLURIMOON_VCS(p->v), p->bits, CLURIMOON_BITS, cell, vci == 0 ? 0 : CLURIMOON_CELL);
+                     CLURIMOON_CALENDAR(p->n), p->words, CLURIMOON_VCS(p->v), p->bits, CLURIMOON_BITS, p->arrived,
+                     CLURIMOON_ARRIVED(p->n), cell, vci == 0 ? 0 : CLURIMOON_CELL);
   if (s.answer.number != CLURIMOON_DONE) fail(p, "a slot was refused");
   if (s.answer.verdict != (vci == 0 ? CLURIMOON_NOTHING : verdict)) fail(p, "a cell was not accepted, or not tagged");
   tagged += s.answer.verdict == CLURIMOON_TAGGED;

@@ -65,6 +65,18 @@ static void structs(void) {
   CHECK(sizeof(clurimoon_wait) == 4);
   LAID(clurimoon_wait, number, 0, 2);
   LAID(clurimoon_wait, slots, 2, 2);
+  CHECK(sizeof(clurimoon_tally) == 520 && CLURIMOON_BINS == 64);
+  LAID(clurimoon_tally, bins, 0, 512);
+  LAID(clurimoon_tally, cells, 512, 8);
+  CHECK(sizeof(clurimoon_tallied) == 528);
+  LAID(clurimoon_tallied, number, 0, 2);
+  LAID(clurimoon_tallied, tally, 8, 520);
+  CHECK(sizeof(clurimoon_bin) == 4);
+  LAID(clurimoon_bin, number, 0, 2);
+  LAID(clurimoon_bin, bin, 2, 2);
+  CHECK(sizeof(clurimoon_burst_tally) == 552 + sizeof(size_t));
+  LAID(clurimoon_burst_tally, end, 0, sizeof(clurimoon_burst_end));
+  LAID(clurimoon_burst_tally, tally, sizeof(clurimoon_burst_end), 520);
   CHECK(sizeof(clurimoon_tat) == 24);
   LAID(clurimoon_tat, tat, 0, 8);
   LAID(clurimoon_tat, arrival, 8, 8);
@@ -80,10 +92,12 @@ static void structs(void) {
 static void macros(void) {
   CHECK(CLURIMOON_CELLS(1024) == 54272 && CLURIMOON_LINKS(76) == 76);
   CHECK(CLURIMOON_CALENDAR(76) == 152 && CLURIMOON_VCS(64) == 3840 && CLURIMOON_VCS(1024) == 15360);
-  CHECK(CLURIMOON_OCTETS(76, 64) == 20100 && CLURIMOON_BITS == 32 && CLURIMOON_ENTRY_BITS == 16);
+  CHECK(CLURIMOON_OCTETS(76, 64) == 20404 && CLURIMOON_BITS == 32 && CLURIMOON_ENTRY_BITS == 16);
   CHECK(CLURIMOON_OCTETS(76, 64) ==
         CLURIMOON_CELLS(76) + 2 * CLURIMOON_LINKS(76) + 2 * CLURIMOON_CALENDAR(76) + 4 * CLURIMOON_VCS(64) +
-            8 * CLURIMOON_BITS);
+            8 * CLURIMOON_BITS + 4 * CLURIMOON_ARRIVED(76));
+  CHECK(CLURIMOON_ARRIVED(1024) == 1024 && CLURIMOON_TALLY_MAX == 4294967296u && CLURIMOON_SHARE == 15);
+  CHECK(CLURIMOON_SHARE_MIN == 1 && CLURIMOON_SHARE_MAX == 1000);
   CHECK(CLURIMOON_DONE == 0 && CLURIMOON_RANGE == 1 && CLURIMOON_LENGTH == 2 && CLURIMOON_STORED == 3);
   CHECK(CLURIMOON_VCI == 4 && CLURIMOON_ALREADY_OPEN == 5 && CLURIMOON_RULES == 6 && CLURIMOON_NOT_OPEN == 7);
   CHECK(CLURIMOON_WAITING == 8 && CLURIMOON_CELL_LENGTH == 9 && CLURIMOON_UNREADABLE == 10);
@@ -102,8 +116,10 @@ static uint8_t cells[53 * N], idle[53];
 static uint16_t links[N], calendar[2 * N];
 static uint32_t vcs[12 * (V + 256)];
 static uint64_t bits[32];
+static uint32_t arrived[N];
 
-#define MEMORY cells, sizeof cells, links, N, calendar, 2 * N, vcs, WORDS, bits, 32
+#define MEMORY cells, sizeof cells, links, N, calendar, 2 * N, vcs, WORDS, bits, 32, arrived, N
+#define NO_MEMORY NULL, 0, NULL, 0, NULL, 0, NULL, 0, NULL, 0, NULL, 0
 
 static int same_record(clurimoon_record a, clurimoon_record b) {
   return a.n == b.n && a.v == b.v && a.t == b.t && a.T == b.T && a.rotation == b.rotation && a.free == b.free &&
@@ -126,7 +142,7 @@ static void setup_fields(bool raw, uint16_t kind) {
   unsigned k;
   clurimoon_set set;
   memset(cells, 7, sizeof cells), memset(links, 7, sizeof links), memset(vcs, 7, sizeof vcs);
-  memset(bits, 7, sizeof bits);
+  memset(bits, 7, sizeof bits), memset(arrived, 7, sizeof arrived);
   set = clurimoon_setup(N, V, raw, kind, 1, 1, MEMORY);
   CHECK(set.number == CLURIMOON_DONE);
   CHECK(set.record.n == N && set.record.v == V && set.record.t == 4294967295u);
@@ -136,7 +152,7 @@ static void setup_fields(bool raw, uint16_t kind) {
   CHECK(set.record.raw == (raw ? 1 : 0) && set.record.mode == CLURIMOON_CORRECTION);
   CHECK(clurimoon_audit(set.record, MEMORY));
   for (k = 0; k < sizeof cells; ++k) CHECK(cells[k] == 0);
-  for (k = 0; k < N; ++k) CHECK(links[k] == 0);
+  for (k = 0; k < N; ++k) CHECK(links[k] == 0 && arrived[k] == 0);
   for (k = 0; k < 32; ++k) CHECK(bits[k] == (k == 0 ? 31 : 0));
   for (k = 0; k < 2 * N; ++k) CHECK(calendar[k] == CLURIMOON_NONE);
   for (k = 0; k < WORDS; ++k) CHECK(vcs[k] == 0);
@@ -178,16 +194,18 @@ static void every_number(void) {
   clurimoon_served s;
   memset(&zeros, 0, sizeof zeros), memset(cell, 0, sizeof cell);
   CHECK(set.number == CLURIMOON_RANGE && same_record(set.record, zeros));
-  set = clurimoon_setup(N, V, true, CLURIMOON_UNI, 1, 1, cells, sizeof cells - 1, links, N, calendar, 2 * N, vcs, WORDS, bits, 32);
+  set = clurimoon_setup(N, V, true, CLURIMOON_UNI, 1, 1, cells, sizeof cells - 1, links, N, calendar, 2 * N, vcs, WORDS, bits, 32, arrived, N);
   CHECK(set.number == CLURIMOON_LENGTH && same_record(set.record, zeros));
   /* The line kind after N and V, and before the lengths. */
   set = clurimoon_setup(N, V, true, 2, 1, 1, MEMORY);
   CHECK(set.number == CLURIMOON_KIND && same_record(set.record, zeros));
   CHECK(clurimoon_setup(N, V, false, 65535, 1, 1, MEMORY).number == CLURIMOON_KIND);
   CHECK(clurimoon_setup(N, 1, false, 2, 1, 1, MEMORY).number == CLURIMOON_RANGE);
-  CHECK(clurimoon_setup(N, V, false, 2, 1, 1, NULL, 0, NULL, 0, NULL, 0, NULL, 0, NULL, 0).number == CLURIMOON_KIND);
-  CHECK(clurimoon_setup(N, V, false, 1, 1, 1, cells, sizeof cells, links, N, calendar, 2 * N, vcs, 12 * V, bits, 32).number == CLURIMOON_LENGTH);
-  CHECK(clurimoon_setup(N, V, false, 1, 1, 1, cells, sizeof cells, links, N, calendar, 2 * N, vcs, WORDS, bits, 16).number == CLURIMOON_LENGTH);
+  CHECK(clurimoon_setup(N, V, false, 2, 1, 1, NO_MEMORY).number == CLURIMOON_KIND);
+  CHECK(clurimoon_setup(N, V, false, 1, 1, 1, cells, sizeof cells, links, N, calendar, 2 * N, vcs, 12 * V, bits, 32, arrived, N).number == CLURIMOON_LENGTH);
+  CHECK(clurimoon_setup(N, V, false, 1, 1, 1, cells, sizeof cells, links, N, calendar, 2 * N, vcs, WORDS, bits, 16, arrived, N).number == CLURIMOON_LENGTH);
+  CHECK(clurimoon_setup(N, V, false, 1, 1, 1, cells, sizeof cells, links, N, calendar, 2 * N, vcs, WORDS, bits, 32, arrived, N - 1).number == CLURIMOON_LENGTH);
+  CHECK(clurimoon_setup(N, V, false, 1, 1, 1, cells, sizeof cells, links, N, calendar, 2 * N, vcs, WORDS, bits, 32, NULL, 0).number == CLURIMOON_LENGTH);
   set = clurimoon_setup(N, V, false, CLURIMOON_UNI, 1, 1, MEMORY);
   r = set.record;
   CHECK(clurimoon_open(r, vcs, WORDS - 1, 1, 1, 2, 10, 26) == CLURIMOON_LENGTH);
@@ -426,7 +444,7 @@ static void raw_unfit(void) {
   s = clurimoon_slot(r, MEMORY, NULL, 0);
   CHECK(s.answer.number == CLURIMOON_DONE && s.record.raw == 2);
   CHECK(refused(clurimoon_slot(r, MEMORY, cell, 52).answer, CLURIMOON_CELL_LENGTH));
-  CHECK(refused(clurimoon_slot(r, NULL, 0, links, N, calendar, 2 * N, vcs, WORDS, bits, 32, cell, 53).answer,
+  CHECK(refused(clurimoon_slot(r, NULL, 0, links, N, calendar, 2 * N, vcs, WORDS, bits, 32, arrived, N, cell, 53).answer,
                 CLURIMOON_LENGTH));
   r.n = 0;
   CHECK(refused(clurimoon_slot(r, MEMORY, cell, 53).answer, CLURIMOON_RANGE));
@@ -683,7 +701,7 @@ static void tagging(bool tags, bool raw) {
     if (verdict == CLURIMOON_EXCESS) {
       CHECK(answers_with(s.answer, CLURIMOON_EXCESS, 3, 0, CLURIMOON_NONE, 0));
     } else {
-      CHECK(answers_with(s.answer, verdict, 3, 0, 0, 3) && shown(s.answer, line));
+      CHECK(answers_with(s.answer, verdict, 3, 0, 0, 3) && shown(s.answer, line) && arrived[0] == k);
     }
     r = s.record;
   }
@@ -730,14 +748,16 @@ static int refused_unchanged(clurimoon_record r, const uint8_t *cell, size_t len
   static uint16_t links_before[N], calendar_before[2 * N];
   static uint32_t vcs_before[WORDS];
   static uint64_t bits_before[32];
+  static uint32_t arrived_before[N];
   clurimoon_served s;
   memcpy(cells_before, cells, sizeof cells), memcpy(links_before, links, sizeof links);
   memcpy(calendar_before, calendar, sizeof calendar), memcpy(vcs_before, vcs, sizeof vcs);
-  memcpy(bits_before, bits, sizeof bits);
+  memcpy(bits_before, bits, sizeof bits), memcpy(arrived_before, arrived, sizeof arrived);
   s = clurimoon_slot(r, MEMORY, cell, length);
   return refused(s.answer, CLURIMOON_STORED) && same_record(s.record, r) && memcmp(cells_before, cells, sizeof cells) == 0 &&
          memcmp(links_before, links, sizeof links) == 0 && memcmp(calendar_before, calendar, sizeof calendar) == 0 &&
-         memcmp(vcs_before, vcs, sizeof vcs) == 0 && memcmp(bits_before, bits, sizeof bits) == 0;
+         memcmp(vcs_before, vcs, sizeof vcs) == 0 && memcmp(bits_before, bits, sizeof bits) == 0 &&
+         memcmp(arrived_before, arrived, sizeof arrived) == 0;
 }
 
 /* Bits and number of free spaces: 3 where a space is taken, and where one is freed; not read elsewhere. */
@@ -796,11 +816,11 @@ static void splits(void) {
       if (fit) CHECK(set.record.split_vci == vcis[k] && set.record.split_path == paths[j] && clurimoon_audit(set.record, MEMORY));
       else CHECK(same_record(set.record, zeros));
       CHECK(clurimoon_setup(N, V, false, 2, vcis[k], paths[j], MEMORY).number == (fit ? CLURIMOON_KIND : CLURIMOON_RANGE));
-      CHECK(clurimoon_setup(N, V, false, 1, vcis[k], paths[j], NULL, 0, NULL, 0, NULL, 0, NULL, 0, NULL, 0).number == (fit ? CLURIMOON_LENGTH : CLURIMOON_RANGE));
+      CHECK(clurimoon_setup(N, V, false, 1, vcis[k], paths[j], NO_MEMORY).number == (fit ? CLURIMOON_LENGTH : CLURIMOON_RANGE));
     }
   }
-  CHECK(clurimoon_setup(N, 2, false, 1, 1, 1, cells, sizeof cells, links, N, calendar, 2 * N, vcs, 12 * 258, bits, 32).number == CLURIMOON_DONE);
-  CHECK(clurimoon_setup(N, 2, false, 1, 2, 1, cells, sizeof cells, links, N, calendar, 2 * N, vcs, 12 * 258, bits, 32).number == CLURIMOON_RANGE);
+  CHECK(clurimoon_setup(N, 2, false, 1, 1, 1, cells, sizeof cells, links, N, calendar, 2 * N, vcs, 12 * 258, bits, 32, arrived, N).number == CLURIMOON_DONE);
+  CHECK(clurimoon_setup(N, 2, false, 1, 2, 1, cells, sizeof cells, links, N, calendar, 2 * N, vcs, 12 * 258, bits, 32, arrived, N).number == CLURIMOON_RANGE);
 }
 
 /* Each of the five calls by each operator, on each connection: only its owner is let through, whatever the words hold. */
@@ -952,7 +972,7 @@ static void next_refusals(void) {
 
 /* N 1 has no entry after T: a cell leaves in the slot of its arrival. */
 static void next_at_n_1(void) {
-  clurimoon_record r = clurimoon_setup(1, 2, false, CLURIMOON_UNI, 1, 1, cells, 53, links, 1, calendar, 2, vcs, 12 * 258, bits, 32).record;
+  clurimoon_record r = clurimoon_setup(1, 2, false, CLURIMOON_UNI, 1, 1, cells, 53, links, 1, calendar, 2, vcs, 12 * 258, bits, 32, arrived, 1).record;
   clurimoon_wait w;
   memset(bits + 16, 255, 16 * sizeof *bits);
   w = clurimoon_next(r, calendar, 2, bits, 32);
@@ -1023,9 +1043,298 @@ static void marks(void) {
   CHECK(answers_with(s.answer, CLURIMOON_NOTHING, 0, 0, 0, 3) && bits[16] == 16 && bits[0] == 31);
 }
 
+static const clurimoon_tally no_cells = {{0}, 0};
+
+static int same_tally(clurimoon_tally a, clurimoon_tally b) { return a.cells == b.cells && memcmp(a.bins, b.bins, sizeof a.bins) == 0; }
+
+/* A tally that differs from another in one bin alone, by one cell. */
+static int took_one(clurimoon_tally before, clurimoon_tally after, unsigned bin) {
+  before.bins[bin] += 1, before.cells += 1;
+  return same_tally(before, after);
+}
+
+/* Slots 0 to 3 bring a cell each that is accepted, with D 0 to 3, slot 4 one that is excess: where each arrival slot is kept, and
+   how long each cell waited. */
+static void arrival_slots(unsigned filler) {
+  static const uint32_t kept[7][3] = {{0, 0, 0}, {1, 0, 0}, {1, 2, 0}, {3, 2, 0}, {3, 2, 0}, {3, 2, 0}, {3, 2, 0}};
+  static const unsigned waited[7] = {0, 9, 1, 9, 2, 9, 3}; /* 9: nothing leaves */
+  uint8_t cell[53];
+  clurimoon_record r = clurimoon_setup(N, V, false, CLURIMOON_UNI, 1, 1, MEMORY).record;
+  clurimoon_tally of_3 = no_cells, of_4 = no_cells;
+  unsigned slot, k;
+  CHECK(clurimoon_open(r, vcs, WORDS, 1, 3, 0, 2, 5) == CLURIMOON_DONE);
+  for (k = 0; k < N; ++k) arrived[k] = filler; /* they may hold anything: the audit says yes, and no verdict is another */
+  CHECK(clurimoon_audit(r, MEMORY));
+  for (slot = 0; slot < 7; ++slot) {
+    clurimoon_served s;
+    clurimoon_tallied t;
+    put_cell(cell, slot < 5 ? 3 : 4, slot);
+    s = clurimoon_slot(r, MEMORY, cell, slot < 6 ? 53 : 0);
+    r = s.record;
+    CHECK(s.answer.verdict == (slot < 4 ? CLURIMOON_ACCEPTED : slot == 4 ? CLURIMOON_EXCESS : slot == 5 ? CLURIMOON_UNKNOWN : CLURIMOON_NOTHING));
+    CHECK((s.answer.space == CLURIMOON_NONE) == (waited[slot] == 9) && clurimoon_audit(r, MEMORY));
+    for (k = 0; k < N; ++k) CHECK(arrived[k] == (k == 0 || (k == 1 && slot >= 2) ? kept[slot][k] : filler));
+    t = clurimoon_tally_slot(of_3, r, arrived, N, 3, s.answer.space, s.answer.out_vci);
+    CHECK(t.number == CLURIMOON_DONE && (waited[slot] == 9 ? same_tally(t.tally, of_3) : took_one(of_3, t.tally, waited[slot])));
+    of_3 = t.tally;
+    /* Of VC 4, which isn't open, and whose cells are none of these. */
+    t = clurimoon_tally_slot(of_4, r, arrived, N, 4, s.answer.space, s.answer.out_vci);
+    CHECK(t.number == CLURIMOON_DONE && same_tally(t.tally, no_cells));
+  }
+  CHECK(of_3.cells == 4 && clurimoon_percentile(of_3, 500).bin == 1 && clurimoon_percentile(of_3, 501).bin == 2);
+  CHECK(clurimoon_percentile(of_4, 500).number == CLURIMOON_SHARE);
+}
+
+/* One arrival slot too many, or too few, in each call that takes them. */
+static void arrived_lengths(void) {
+  enum { K = 1 };
+  static uint32_t many[N + 1];
+  static uint8_t cell[53], size = 53, departures[53];
+  static uint16_t answers[6];
+  unsigned k;
+  clurimoon_record r = clurimoon_setup(N, V, false, CLURIMOON_UNI, 1, 1, MEMORY).record;
+  for (k = 0; k < 3; ++k) {
+    const size_t length = k == 0 ? N - 1 : k == 1 ? N + 1 : 0;
+#define OTHERS cells, sizeof cells, links, N, calendar, 2 * N, vcs, WORDS, bits, 32, many, length
+    CHECK(clurimoon_setup(N, V, false, CLURIMOON_UNI, 1, 1, OTHERS).number == CLURIMOON_LENGTH && !clurimoon_audit(r, OTHERS));
+    CHECK(refused(clurimoon_slot(r, OTHERS, NULL, 0).answer, CLURIMOON_LENGTH));
+    CHECK(clurimoon_burst(r, OTHERS, cell, 53, &size, K, departures, 53, answers, 6).number == CLURIMOON_LENGTH);
+    CHECK(clurimoon_burst_tallied(no_cells, 3, r, OTHERS, cell, 53, &size, K, departures, 53, answers, 6).end.number == CLURIMOON_LENGTH);
+    CHECK(clurimoon_tally_slot(no_cells, r, many, length, 3, 0, 3).number == CLURIMOON_LENGTH);
+  }
+}
+
+/* All 32 bits of the clock are kept, over its wrap too; and a slot that is refused where the cell would join has kept none. */
+static void arrival_clock(void) {
+  static const uint32_t clocks[6] = {255, 65535, 65536, 305419896, UINT32_MAX - 1, UINT32_MAX};
+  uint8_t cell[53];
+  unsigned k;
+  put_cell(cell, 3, 0x33);
+  for (k = 0; k < 6; ++k) {
+    clurimoon_record r = clurimoon_setup(N, V, false, CLURIMOON_UNI, 1, 1, MEMORY).record;
+    clurimoon_served s;
+    r.t = clocks[k];
+    CHECK(clurimoon_open(r, vcs, WORDS, 1, 3, 0, 2, 5) == CLURIMOON_DONE);
+    calendar[0] = N, arrived[0] = 77;
+    CHECK(refused_unchanged(r, cell, 53) && arrived[0] == 77);
+    calendar[0] = CLURIMOON_NONE;
+    s = clurimoon_slot(r, MEMORY, cell, 53);
+    CHECK(answers_with(s.answer, CLURIMOON_ACCEPTED, 3, 0, 0, 3) && s.record.t == (uint32_t)(clocks[k] + 1) && arrived[0] == s.record.t);
+  }
+}
+
+/* A cell waits, and its arrival slot is damaged: the audit says yes, the cell leaves as it would have, and is tallied by what stands
+   there. */
+static void arrival_damaged(uint32_t kept, unsigned bin) {
+  uint8_t cell[53];
+  clurimoon_record r = clurimoon_setup(N, V, false, CLURIMOON_UNI, 1, 1, MEMORY).record;
+  clurimoon_served s;
+  clurimoon_tallied t;
+  CHECK(clurimoon_open(r, vcs, WORDS, 1, 3, 0, 2, 5) == CLURIMOON_DONE);
+  put_cell(cell, 3, 0x33);
+  r = clurimoon_slot(r, MEMORY, cell, 53).record;
+  r = clurimoon_slot(r, MEMORY, cell, 53).record;
+  CHECK(arrived[0] == 1 && r.free == N - 1);
+  arrived[0] = kept;
+  CHECK(clurimoon_audit(r, MEMORY));
+  s = clurimoon_slot(r, MEMORY, NULL, 0);
+  CHECK(answers_with(s.answer, CLURIMOON_NOTHING, 0, 0, 0, 3) && arrived[0] == kept);
+  t = clurimoon_tally_slot(no_cells, s.record, arrived, N, 3, s.answer.space, s.answer.out_vci);
+  CHECK(t.number == CLURIMOON_DONE && took_one(no_cells, t.tally, bin));
+}
+
+/* A refused tally comes back as it was, and nothing is written. */
+static int tally_refuses(clurimoon_tally tally, clurimoon_record r, size_t length, unsigned connection, unsigned space, unsigned out,
+                         unsigned number) {
+  uint32_t before[N];
+  clurimoon_tallied t;
+  memcpy(before, arrived, sizeof arrived);
+  t = clurimoon_tally_slot(tally, r, length == 0 ? NULL : arrived, length, (uint16_t)connection, (uint16_t)space, (uint16_t)out);
+  return t.number == number && same_tally(t.tally, tally) && memcmp(before, arrived, sizeof arrived) == 0;
+}
+
+/* 1, 2, 4 and 3, each with all that come after it. */
+static void tally_refusals(void) {
+  static const unsigned none_named[6] = {0, V, V + 256, V + 257, 1280, 65535}, past[4] = {N, N + 1, 1024, 65535};
+  static const unsigned named[4] = {1, V - 1, V + 1, V + 255};
+  clurimoon_record good = clurimoon_setup(N, V, false, CLURIMOON_UNI, 4, 200, MEMORY).record, r;
+  clurimoon_tally unfit = no_cells, fit = no_cells;
+  unsigned k, j;
+  unfit.cells = 1, fit.bins[7] = 5, fit.bins[63] = 2, fit.cells = 7;
+  /* No number of the record is read but N, V and t. */
+  good.t = 1000, good.T = good.rotation = good.free = good.out_head = good.raw = good.mode = good.kind = 7777;
+  good.split_vci = good.split_path = 0, good.out_tail = 3;
+  for (k = 0; k < N; ++k) arrived[k] = 1000 - 7;
+  for (k = 0; k < 4; ++k) {
+    static const uint16_t outside[4] = {0, 1025, 1, 1025};
+    r = good;
+    if (k < 2) r.n = outside[k];
+    else r.v = outside[k];
+    CHECK(tally_refuses(unfit, r, 0, 0, N, 0, CLURIMOON_RANGE) && tally_refuses(fit, r, N, 3, 0, 3, CLURIMOON_RANGE));
+  }
+  CHECK(tally_refuses(unfit, good, 0, 0, N, 0, CLURIMOON_LENGTH) && tally_refuses(fit, good, N - 1, 3, 0, 3, CLURIMOON_LENGTH));
+  r = good, r.n = N + 1;
+  CHECK(tally_refuses(fit, r, N, 3, 0, 3, CLURIMOON_LENGTH));
+  r.n = N - 1;
+  CHECK(tally_refuses(fit, r, N, 3, 0, 3, CLURIMOON_LENGTH) && tally_refuses(fit, r, N, 3, 0, 4, CLURIMOON_LENGTH));
+  for (k = 0; k < 6; ++k) CHECK(tally_refuses(unfit, good, N, none_named[k], N, none_named[k], CLURIMOON_VCI));
+  for (k = 0; k < 4; ++k) {
+    clurimoon_tallied t = clurimoon_tally_slot(fit, good, arrived, N, (uint16_t)named[k], N - 1, (uint16_t)named[k]);
+    CHECK(t.number == CLURIMOON_DONE && took_one(fit, t.tally, 7));
+    CHECK(tally_refuses(unfit, good, N, named[k], 0, named[k], CLURIMOON_STORED));
+    /* Judged also where another's cell leaves, or none. */
+    CHECK(tally_refuses(unfit, good, N, named[k], CLURIMOON_NONE, 0, CLURIMOON_STORED) && tally_refuses(unfit, good, N, named[k], 0, 2, CLURIMOON_STORED));
+    for (j = 0; j < 4; ++j) {
+      CHECK(tally_refuses(fit, good, N, named[k], past[j], named[k], CLURIMOON_STORED));
+      CHECK(tally_refuses(fit, good, N, named[k], past[j], 0, CLURIMOON_DONE) && tally_refuses(fit, good, N, named[k], past[j], 2, CLURIMOON_DONE));
+    }
+  }
+}
+
+/* Which tallies are 3, for both calls: the sum must not wrap, and 2^32 is the most. */
+static void tallies_fit(void) {
+  clurimoon_record r = clurimoon_setup(N, V, false, CLURIMOON_UNI, 1, 1, MEMORY).record;
+  const uint64_t most = (uint64_t)1 << 32;
+  unsigned k;
+  for (k = 0; k < 14; ++k) {
+    clurimoon_tally t = no_cells;
+    clurimoon_tallied after;
+    const int fit = k == 0 || k == 1 || k == 2 || k == 9;
+    if (k == 0) t.bins[63] = most, t.cells = most;
+    if (k == 1) t.bins[0] = most - 1, t.bins[40] = 1, t.cells = most;
+    if (k == 2) t.bins[5] = most - 1, t.cells = most - 1;
+    if (k == 3) t.bins[5] = most + 1, t.cells = most + 1;
+    if (k == 4) t.bins[5] = 8, t.cells = 7;
+    if (k == 5) t.bins[5] = 8, t.cells = 9;
+    if (k == 6) t.bins[5] = most + 8, t.cells = 8;
+    if (k == 7) t.bins[0] = t.bins[63] = (uint64_t)1 << 63, t.bins[5] = 8, t.cells = 8;
+    if (k == 8) t.bins[0] = (uint64_t)0 - 8, t.bins[1] = 10, t.cells = 2;
+    if (k == 9) memset(t.bins, 0, sizeof t.bins);
+    if (k == 10) t.cells = (uint64_t)0 - 1;
+    if (k == 11) t.bins[5] = (uint64_t)1 << 40, t.cells = (uint64_t)1 << 40;
+    if (k == 12) t.bins[5] = 8, t.bins[63] = 1, t.cells = 8;
+    if (k == 13) t.bins[0] = 1, t.bins[5] = 8, t.cells = 8;
+    after = clurimoon_tally_slot(t, r, arrived, N, 3, CLURIMOON_NONE, 0);
+    CHECK(after.number == (fit ? CLURIMOON_DONE : CLURIMOON_STORED) && same_tally(after.tally, t));
+    CHECK(clurimoon_percentile(t, 1000).number == (!fit ? CLURIMOON_STORED : k == 9 ? CLURIMOON_SHARE : CLURIMOON_DONE));
+    CHECK(clurimoon_percentile(t, 0).number == (!fit ? CLURIMOON_STORED : CLURIMOON_SHARE) && clurimoon_percentile(t, 0).bin == 0);
+    CHECK(clurimoon_percentile(t, 1001).number == (!fit ? CLURIMOON_STORED : CLURIMOON_SHARE));
+    /* One more: a tally of 2^32 takes none. */
+    r.t = 3, arrived[2] = 3;
+    after = clurimoon_tally_slot(t, r, arrived, N, 3, 2, 3);
+    CHECK(after.number == (fit ? CLURIMOON_DONE : CLURIMOON_STORED));
+    CHECK(fit && t.cells != most ? took_one(t, after.tally, 0) : same_tally(after.tally, t));
+  }
+}
+
+/* Delays at the edges of the bins, and over the clock's wrap. */
+static void tally_bins(void) {
+  static const uint32_t waited[12] = {0, 1, 61, 62, 63, 64, 127, 128, 1023, 65536, 65541, UINT32_MAX}, clocks[4] = {0, 5, 62, 2000000000};
+  clurimoon_record r = clurimoon_setup(N, V, false, CLURIMOON_UNI, 1, 1, MEMORY).record;
+  unsigned k, j;
+  for (k = 0; k < 12; ++k) {
+    for (j = 0; j < 4; ++j) {
+      clurimoon_tallied t;
+      r.t = clocks[j], arrived[k % N] = clocks[j] - waited[k];
+      t = clurimoon_tally_slot(no_cells, r, arrived, N, V + 9, (uint16_t)(k % N), V + 9);
+      CHECK(t.number == CLURIMOON_DONE && took_one(no_cells, t.tally, waited[k] < 63 ? waited[k] : 63));
+    }
+  }
+}
+
+/* Ten cells, at 2, 2, 2, 3, 3, 5, 8, 8, 62 and 63 and more: the share asks for the n-th of them, rounded up. */
+static void percentiles(void) {
+  static const unsigned sorted[10] = {2, 2, 2, 3, 3, 5, 8, 8, 62, 63};
+  clurimoon_tally t = no_cells;
+  unsigned k, share;
+  for (k = 0; k < 10; ++k) t.bins[sorted[k]] += 1, t.cells += 1;
+  for (share = 1; share <= 1000; ++share) {
+    const clurimoon_bin b = clurimoon_percentile(t, (uint16_t)share);
+    CHECK(b.number == CLURIMOON_DONE && b.bin == sorted[(share + 99) / 100 - 1]);
+  }
+  for (k = 0; k < 64; ++k) {
+    /* One cell alone, and 2^32 of them: every share asks for it. */
+    memset(&t, 0, sizeof t), t.bins[k] = t.cells = 1;
+    CHECK(clurimoon_percentile(t, 1).bin == k && clurimoon_percentile(t, 500).bin == k && clurimoon_percentile(t, 1000).bin == k);
+    t.bins[k] = t.cells = (uint64_t)1 << 32;
+    CHECK(clurimoon_percentile(t, 1).bin == k && clurimoon_percentile(t, 999).bin == k && clurimoon_percentile(t, 1000).bin == k);
+  }
+}
+
+/* All memories, the record and the tally after a refused burst are as they were. */
+static int burst_refuses(clurimoon_tally tally, unsigned connection, clurimoon_record r, size_t cells_lent, size_t arrived_lent, uint8_t size, unsigned number) {
+  static uint8_t cells_before[sizeof cells], departures[53], cell[53];
+  static uint32_t vcs_before[WORDS], arrived_before[N];
+  static uint64_t bits_before[32];
+  static uint16_t answers[6];
+  clurimoon_burst_tally t;
+  memcpy(cells_before, cells, sizeof cells), memcpy(vcs_before, vcs, sizeof vcs), memcpy(arrived_before, arrived, sizeof arrived);
+  memcpy(bits_before, bits, sizeof bits), memset(departures, 7, sizeof departures), memset(answers, 7, sizeof answers);
+  put_cell(cell, 3, 0x33);
+  t = clurimoon_burst_tallied(tally, (uint16_t)connection, r, cells, cells_lent, links, N, calendar, 2 * N, vcs, WORDS, bits, 32, arrived,
+                              arrived_lent, cell, 53, &size, 1, departures, 53, answers, 6);
+  return t.end.number == number && t.end.done == 0 && same_record(t.end.record, r) && same_tally(t.tally, tally) &&
+         memcmp(cells_before, cells, sizeof cells) == 0 && memcmp(vcs_before, vcs, sizeof vcs) == 0 &&
+         memcmp(arrived_before, arrived, sizeof arrived) == 0 && memcmp(bits_before, bits, sizeof bits) == 0 && departures[0] == 7 &&
+         departures[52] == 7 && answers[0] == 0x0707 && answers[5] == 0x0707;
+}
+
+static void burst_tally_refusals(void) {
+  static const unsigned none_named[5] = {0, V, V + 256, V + 257, 65535};
+  clurimoon_record good = clurimoon_setup(N, V, false, CLURIMOON_UNI, 1, 1, MEMORY).record, r = good;
+  clurimoon_tally unfit = no_cells, full = no_cells;
+  unsigned k;
+  CHECK(clurimoon_open(good, vcs, WORDS, 1, 3, 0, 2, 5) == CLURIMOON_DONE);
+  unfit.bins[3] = 1, full.bins[9] = full.cells = (uint64_t)1 << 32;
+  r.n = 0;
+  /* The tally's own come first, then the burst's. */
+  CHECK(burst_refuses(unfit, 0, r, sizeof cells - 1, N - 1, 52, CLURIMOON_RANGE));
+  CHECK(burst_refuses(unfit, 0, good, sizeof cells - 1, N - 1, 52, CLURIMOON_LENGTH));
+  for (k = 0; k < 5; ++k) CHECK(burst_refuses(unfit, none_named[k], good, sizeof cells - 1, N, 52, CLURIMOON_VCI));
+  CHECK(burst_refuses(unfit, 3, good, sizeof cells - 1, N, 52, CLURIMOON_STORED) && burst_refuses(unfit, 3, good, sizeof cells, N, 53, CLURIMOON_STORED));
+  CHECK(burst_refuses(no_cells, 3, good, sizeof cells - 1, N, 52, CLURIMOON_LENGTH) && burst_refuses(full, 3, good, sizeof cells - 53, N, 53, CLURIMOON_LENGTH));
+  CHECK(burst_refuses(no_cells, 3, good, sizeof cells, N, 52, CLURIMOON_CELL_LENGTH));
+  r = good, r.T = N;
+  CHECK(burst_refuses(no_cells, 3, r, sizeof cells, N, 53, CLURIMOON_STORED) && burst_refuses(full, V + 255, r, sizeof cells, N, 0, CLURIMOON_STORED));
+}
+
+/* A policer of three spaces under bursts: each space is taken again within a burst, so that after it the arrival slots would say
+   another delay. The tally is that of the slots one by one, and of the arrivals that the answers tell of. */
+static void bursts_tallied(void) {
+  enum { K = 40, M = 3, W = 12 * (V + 256) };
+  static uint8_t arrivals[53 * K], sizes[K], departures[53 * K];
+  static uint16_t answers[6 * K];
+  clurimoon_record r = clurimoon_setup(M, V, false, CLURIMOON_UNI, 1, 1, cells, 53 * M, links, M, calendar, 2 * M, vcs, W, bits, 32, arrived, M).record;
+  clurimoon_burst_tally t;
+  clurimoon_tally counted = no_cells, after;
+  unsigned k, came[K], first = 0, next = 0, again = 0;
+  CHECK(clurimoon_open(r, vcs, W, 1, 3, 0, 1, 1) == CLURIMOON_DONE && clurimoon_open_path(r, vcs, W, 1, 7, 0, 2, 4, 0, 0, 0, 0) == CLURIMOON_DONE);
+  for (k = 0; k < K; ++k) put_path_cell(arrivals + 53 * k, k % 3 == 0 ? 0 : 7, 3, k), sizes[k] = k % 8 == 7 ? 0 : 53;
+  sizes[35] = 54;
+  t = clurimoon_burst_tallied(counted, V + 7, r, cells, 53 * M, links, M, calendar, 2 * M, vcs, W, bits, 32, arrived, M, arrivals, sizeof arrivals,
+                              sizes, K, departures, sizeof departures, answers, 6 * K);
+  CHECK(t.end.number == CLURIMOON_CELL_LENGTH && t.end.done == 35 && t.end.record.t == 34);
+  for (k = 0; k < 35; ++k) {
+    const uint16_t *a = answers + 6 * k;
+    if (a[CLURIMOON_ANSWER_VERDICT] == CLURIMOON_ACCEPTED && a[CLURIMOON_ANSWER_VCI] == V + 7) came[next++] = k;
+    if (a[CLURIMOON_ANSWER_OUT_VCI] != V + 7) continue;
+    again += arrived[a[CLURIMOON_ANSWER_SPACE]] != came[first];
+    counted.bins[k - came[first++]] += 1, counted.cells += 1;
+  }
+  CHECK(same_tally(t.tally, counted) && counted.cells > 5 && again > 5);
+  /* A tally goes on in the next burst, and one that fills up takes no more. */
+  after = t.tally, after.bins[63] += (uint64_t)4294967296u - after.cells - 2, after.cells = (uint64_t)4294967296u - 2, sizes[35] = 53;
+  t = clurimoon_burst_tallied(after, V + 7, t.end.record, cells, 53 * M, links, M, calendar, 2 * M, vcs, W, bits, 32, arrived, M, arrivals,
+                              sizeof arrivals, sizes, K, departures, sizeof departures, answers, 6 * K);
+  CHECK(t.end.number == CLURIMOON_DONE && t.end.done == K && t.tally.cells == 4294967296u);
+  after.cells = 0;
+  for (k = 0; k < CLURIMOON_BINS; ++k) after.cells += t.tally.bins[k] - after.bins[k];
+  CHECK(after.cells == 2);
+}
+
 /* Every slice, of length 0, as NULL. */
 static void nulls(void) {
-  clurimoon_set set = clurimoon_setup(N, V, false, CLURIMOON_UNI, 1, 1, NULL, 0, NULL, 0, NULL, 0, NULL, 0, NULL, 0);
+  clurimoon_set set = clurimoon_setup(N, V, false, CLURIMOON_UNI, 1, 1, NO_MEMORY);
   clurimoon_record r;
   clurimoon_part part;
   clurimoon_burst_end e;
@@ -1037,14 +1346,19 @@ static void nulls(void) {
   CHECK(clurimoon_close(r, NULL, 0, 1, 1) == CLURIMOON_LENGTH);
   CHECK(clurimoon_open_path(r, NULL, 0, 1, 1, 2, 10, 26, 0, 0, 0, 0) == CLURIMOON_LENGTH);
   CHECK(clurimoon_close_path(r, NULL, 0, 1, 1) == CLURIMOON_LENGTH);
-  CHECK(refused(clurimoon_slot(r, NULL, 0, NULL, 0, NULL, 0, NULL, 0, NULL, 0, NULL, 0).answer, CLURIMOON_LENGTH));
+  CHECK(refused(clurimoon_slot(r, NO_MEMORY, NULL, 0).answer, CLURIMOON_LENGTH));
   CHECK(clurimoon_slot(r, MEMORY, NULL, 0).answer.number == CLURIMOON_DONE);
   part = clurimoon_line(NULL, 0, NULL, 0, 0);
   CHECK(part.from_idle == 1 && part.start == 0 && part.length == 0);
-  CHECK(!clurimoon_audit(r, NULL, 0, NULL, 0, NULL, 0, NULL, 0, NULL, 0));
+  CHECK(!clurimoon_audit(r, NO_MEMORY));
   e = clurimoon_burst(r, MEMORY, NULL, 0, NULL, 0, NULL, 0, NULL, 0);
   CHECK(e.number == CLURIMOON_DONE && e.done == 0 && same_record(e.record, r));
-  e = clurimoon_burst(r, NULL, 0, NULL, 0, NULL, 0, NULL, 0, NULL, 0, NULL, 0, NULL, 0, NULL, 0, NULL, 0);
+  e = clurimoon_burst(r, NO_MEMORY, NULL, 0, NULL, 0, NULL, 0, NULL, 0);
+  CHECK(e.number == CLURIMOON_LENGTH && e.done == 0 && same_record(e.record, r));
+  CHECK(clurimoon_tally_slot(no_cells, r, NULL, 0, 3, 0, 3).number == CLURIMOON_LENGTH);
+  e = clurimoon_burst_tallied(no_cells, 3, r, MEMORY, NULL, 0, NULL, 0, NULL, 0, NULL, 0).end;
+  CHECK(e.number == CLURIMOON_DONE && e.done == 0 && same_record(e.record, r));
+  e = clurimoon_burst_tallied(no_cells, 3, r, NO_MEMORY, NULL, 0, NULL, 0, NULL, 0, NULL, 0).end;
   CHECK(e.number == CLURIMOON_LENGTH && e.done == 0 && same_record(e.record, r));
 }
 
@@ -1055,13 +1369,13 @@ static void bursts(void) {
   static uint16_t answers[6 * K];
   unsigned k;
   enum { W = 12 * 258 };
-  clurimoon_record r = clurimoon_setup(1, 2, false, CLURIMOON_NNI, 1, 1, cells, 53, links, 1, calendar, 2, vcs, W, bits, 32).record;
+  clurimoon_record r = clurimoon_setup(1, 2, false, CLURIMOON_NNI, 1, 1, cells, 53, links, 1, calendar, 2, vcs, W, bits, 32, arrived, 1).record;
   clurimoon_burst_end e;
   CHECK(clurimoon_open(r, vcs, W, 1, 1, 0, 1, 1) == CLURIMOON_DONE && clurimoon_open_path(r, vcs, W, 1, 5, 0, 1, 1, 0, 0, 0, 0) == CLURIMOON_DONE);
   memset(departures, 0xee, sizeof departures), memset(answers, 0xee, sizeof answers);
   for (k = 0; k < K; ++k) put_path_cell(arrivals + 53 * k, k == 2 ? 5 : 0, 1, 100 + k), sizes[k] = k == 4 ? 0 : 53;
   sizes[7] = 52;
-  e = clurimoon_burst(r, cells, 53, links, 1, calendar, 2, vcs, W, bits, 32, arrivals, sizeof arrivals, sizes, K,
+  e = clurimoon_burst(r, cells, 53, links, 1, calendar, 2, vcs, W, bits, 32, arrived, 1, arrivals, sizeof arrivals, sizes, K,
                       departures, sizeof departures, answers, 6 * K);
   CHECK(e.number == CLURIMOON_CELL_LENGTH && e.done == 7 && e.record.t == 6);
   for (k = 0; k < K; ++k) {
@@ -1075,7 +1389,7 @@ static void bursts(void) {
     if (left) CHECK(memcmp(departures + 53 * k, arrivals + 53 * k, 53) == 0);
     else CHECK(departures[53 * k] == 0xee && departures[53 * k + 52] == 0xee);
   }
-  e = clurimoon_burst(r, cells, 53, links, 1, calendar, 2, vcs, W, bits, 32, arrivals, sizeof arrivals, sizes, K,
+  e = clurimoon_burst(r, cells, 53, links, 1, calendar, 2, vcs, W, bits, 32, arrived, 1, arrivals, sizeof arrivals, sizes, K,
                       departures, sizeof departures - 1, answers, 6 * K);
   CHECK(e.number == CLURIMOON_LENGTH && e.done == 0 && same_record(e.record, r));
 }
@@ -1160,6 +1474,16 @@ int main(void) {
   next_at_n_1();
   next_far();
   marks();
+  arrival_slots(0), arrival_slots(12345), arrival_slots(UINT32_MAX);
+  arrival_damaged(2, 0), arrival_damaged(0, 2), arrival_damaged(3, 63), arrival_damaged(12345, 63);
+  arrival_clock();
+  arrived_lengths();
+  tally_refusals();
+  tallies_fit();
+  tally_bins();
+  percentiles();
+  burst_tally_refusals();
+  bursts_tallied();
   line_parts();
   nulls();
   bursts();

@@ -296,8 +296,10 @@ void beside(Random &random) {
   std::vector<uint16_t> links(CLURIMOON_LINKS(n)), calendar(CLURIMOON_CALENDAR(n));
   std::vector<uint32_t> words(CLURIMOON_VCS(vcs));
   std::vector<uint64_t> bits(CLURIMOON_BITS);
+  std::vector<uint32_t> arrived(CLURIMOON_ARRIVED(n));
   const clurimoon_set set = clurimoon_setup(n, vcs, raw, kind, 1, 1, cells.data(), cells.size(), links.data(), links.size(),
-                                            calendar.data(), calendar.size(), words.data(), words.size(), bits.data(), bits.size());
+                                            calendar.data(), calendar.size(), words.data(), words.size(), bits.data(), bits.size(),
+                                            arrived.data(), arrived.size());
   clurimoon_record record = set.record;
   const uint16_t name = static_cast<uint16_t>(one.v);
   const uint8_t m = static_cast<uint8_t>(k.m);
@@ -310,7 +312,8 @@ void beside(Random &random) {
     const Arrived a = arrives(random, one, vcs, raw);
     const clurimoon_served s =
         clurimoon_slot(record, cells.data(), cells.size(), links.data(), links.size(), calendar.data(), calendar.size(),
-                       words.data(), words.size(), bits.data(), bits.size(), a.octets.data(), a.octets.size());
+                       words.data(), words.size(), bits.data(), bits.size(), arrived.data(), arrived.size(), a.octets.data(),
+                       a.octets.size());
     const uint16_t verdict = s.answer.verdict;
     record = s.record;
     meet(BESIDE_UNKNOWN, verdict == 3), meet(BESIDE_DROPPED, verdict == 4), meet(BESIDE_NOTHING, a.octets.empty());

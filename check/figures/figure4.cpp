@@ -65,7 +65,7 @@ public:
   Run(unsigned sources, uint64_t seed) : n(sources), random(seed + sources) {
     const clurimoon_set set = clurimoon_setup(N, V, false, CLURIMOON_UNI, 1, 1, cells.data(), cells.size(),
                                               links.data(), links.size(), calendar.data(), calendar.size(),
-                                              vcs.data(), vcs.size(), bits.data(), bits.size());
+                                              vcs.data(), vcs.size(), bits.data(), bits.size(), arrived.data(), arrived.size());
     if (set.number != 0) fail("setup was refused");
     record = set.record;
     const uint64_t leak = 1u << 15, f = (leak * n * 1000 + 408) / 816;
@@ -91,6 +91,7 @@ private:
                         answers = std::vector<uint16_t>(6 * block);
   std::vector<uint32_t> vcs = std::vector<uint32_t>(CLURIMOON_VCS(V));
   std::vector<uint64_t> bits = std::vector<uint64_t>(CLURIMOON_BITS);
+  std::vector<uint32_t> arrived = std::vector<uint32_t>(CLURIMOON_ARRIVED(N));
   std::vector<uint64_t> due = std::vector<uint64_t>(4096); // by arrival slot; none waits so long
 
   void arrive(uint64_t slot, size_t k) {
@@ -106,7 +107,7 @@ private:
     for (size_t k = 0; k < block; ++k) arrive(from + k, k);
     const clurimoon_burst_end end = clurimoon_burst(
         record, cells.data(), cells.size(), links.data(), links.size(), calendar.data(), calendar.size(),
-        vcs.data(), vcs.size(), bits.data(), bits.size(), arrivals.data(), arrivals.size(), sizes.data(), sizes.size(),
+        vcs.data(), vcs.size(), bits.data(), bits.size(), arrived.data(), arrived.size(), arrivals.data(), arrivals.size(), sizes.data(), sizes.size(),
         departures.data(), departures.size(), answers.data(), answers.size());
     if (end.number != 0 || end.done != block) fail("a burst was refused");
     record = end.record;

@@ -2,9 +2,9 @@
  * The incident: a routine that loaded the last row of a table whole read past the
  * end of its buffer, and took the cards down where no memory followed. Here every
  * lent buffer ends exactly at an unreadable page, and then begins exactly after
- * one, for every N from 1 to 1,024, while setup, opens, slots at full load, burst,
- * line, audit and the call for the next departure run, with VCs and paths, at both
- * line kinds. An octet read outside
+ * one, for every N from 1 to 1,024, while setup, opens, slots at full load, bursts,
+ * line, audit, the call for the next departure and the tally of delays run, with VCs
+ * and paths, at both line kinds. An octet read outside
  * a buffer ends the program; an octet written on its free side is found by comparing
  * what was put there. The words of path 255 end where the buffer ends.
  *
@@ -98,21 +98,22 @@ static void untouched(const struct fence *f, const char *name) {
     if (*from != filler) fail(name);
 }
 
-static struct fence cells_fence, links_fence, calendar_fence, vcs_fence, bits_fence, cell_fence, idle_fence;
+static struct fence cells_fence, links_fence, calendar_fence, vcs_fence, bits_fence, arrived_fence, cell_fence, idle_fence;
 static struct fence arrivals_fence, sizes_fence, departures_fence, answers_fence;
 
 static uint8_t *cells, *cell, *idle, *arrivals, *sizes, *departures;
 static uint16_t *links, *calendar, *answers;
-static uint32_t *vcs;
+static uint32_t *vcs, *arrived;
 static uint64_t *bits;
-static unsigned long long slots_served, cells_sent, calls_made, refused, mended, dropped, tagged, not_sustained;
+static clurimoon_tally tally; /* of the last path at the NNI, of the last VC at the UNI: the delays of its cells */
+static unsigned long long slots_served, cells_tallied, cells_sent, calls_made, refused, mended, dropped, tagged, not_sustained;
 static unsigned long long of_paths[2];
 static unsigned greatest_space, greatest_d, greatest_wait;
 
 static void make_fences(void) {
   cells_fence = make_fence(CLURIMOON_CELLS(1024)), links_fence = make_fence(2 * 1024);
   calendar_fence = make_fence(4 * 1024), vcs_fence = make_fence(4 * CLURIMOON_VCS(1024));
-  bits_fence = make_fence(8 * CLURIMOON_BITS);
+  bits_fence = make_fence(8 * CLURIMOON_BITS), arrived_fence = make_fence(4 * CLURIMOON_ARRIVED(1024));
   cell_fence = make_fence(53), idle_fence = make_fence(53);
   arrivals_fence = make_fence(53 * slots_in_burst), sizes_fence = make_fence(slots_in_burst);
   departures_fence = make_fence(53 * slots_in_burst), answers_fence = make_fence(12 * slots_in_burst);
@@ -124,6 +125,7 @@ static void lend_all(unsigned n, unsigned v) {
   calendar = lend(&calendar_fence, 2 * CLURIMOON_CALENDAR(n));
   vcs = lend(&vcs_fence, 4 * CLURIMOON_VCS(v));
   bits = lend(&bits_fence, 8 * CLURIMOON_BITS);
+  arrived = lend(&arrived_fence, 4 * CLURIMOON_ARRIVED(n));
   cell = lend(&cell_fence, 53), idle = lend(&idle_fence, 53);
   arrivals = lend(&arrivals_fence, 53 * slots_in_burst), sizes = lend(&sizes_fence, slots_in_burst);
   departures = lend(&departures_fence, 53 * slots_in_burst);
@@ -135,7 +137,7 @@ static void all_untouched(void) {
       untouched(&links_fence, "written beside the links");
   untouched(&calendar_fence, "written beside the calendar"),
       untouched(&vcs_fence, "written beside the VC words");
-  untouched(&bits_fence, "written beside the bits");
+  untouched(&bits_fence, "written beside the bits"), untouched(&arrived_fence, "written beside the arrival slots");
   untouched(&cell_fence, "written beside the cell"), untouched(&idle_fence, "written beside the idle cell");
   untouched(&arrivals_fence, "written beside the arrivals"),
       untouched(&sizes_fence, "written beside the sizes");
@@ -170,7 +172,7 @@ static unsigned damage_header(uint8_t *to, unsigned mark) {
 
 #define MEMORY                                                                                               \
   cells, CLURIMOON_CELLS(n), links, CLURIMOON_LINKS(n), calendar, CLURIMOON_CALENDAR(n), vcs, CLURIMOON_VCS(v), \
-      bits, CLURIMOON_BITS
+      bits, CLURIMOON_BITS, arrived, CLURIMOON_ARRIVED(n)
 
 /* What the check makes of a cell with so many wrong bits: mended, dropped, or let through as it is. */
 static void judge_check(unsigned verdict, unsigned mode, unsigned wrong, bool lent) {
@@ -231,6 +233,25 @@ static unsigned of_the_open(unsigned v, unsigned k) {
   return open[k % 5];
 }
 
+/* The connection whose delays are tallied. */
+static uint16_t tallied(unsigned v) { return (uint16_t)(kind == CLURIMOON_NNI ? v + 255 : v - 1); }
+
+/* The tally after a slot, from arrival slots between unreadable pages; no cell waits 2 N slots. */
+static void tally_it(clurimoon_record r, unsigned n, unsigned v, clurimoon_answer a) {
+  now_doing = "tally_slot";
+  const clurimoon_tallied t = clurimoon_tally_slot(tally, r, arrived, CLURIMOON_ARRIVED(n), tallied(v), a.space, a.out_vci);
+  const bool left = a.out_vci == tallied(v);
+  if (t.number != 0 || t.tally.cells != tally.cells + left) fail("a cell was not tallied, or one that did not leave");
+  if (left) {
+    const uint32_t waited = r.t - arrived[a.space];
+    const unsigned bin = waited < 63 ? waited : 63;
+    if (waited >= 2 * n) fail("a cell waited longer than it can");
+    if (t.tally.bins[bin] != tally.bins[bin] + 1) fail("a cell was tallied in another bin");
+  }
+  tally = t.tally, cells_tallied += left;
+  ++calls_made;
+}
+
 static clurimoon_record one_slot(clurimoon_record r, unsigned n, unsigned v, size_t length, unsigned wrong,
                                  unsigned connection) {
   /* An empty cell is lent as a pointer to unreadable memory. */
@@ -257,10 +278,13 @@ static clurimoon_record one_slot(clurimoon_record r, unsigned n, unsigned v, siz
     if (s.answer.space > greatest_space) greatest_space = s.answer.space;
   }
   if (s.answer.d > greatest_d) greatest_d = s.answer.d;
+  tally_it(s.record, n, v, s.answer);
   return s.record;
 }
 
-static clurimoon_record one_burst(clurimoon_record r, unsigned n, unsigned v, unsigned seed) {
+#define BURST(slots) arrivals, 53 * (slots), sizes, slots, departures, 53 * (slots), answers, 6 * (slots)
+
+static clurimoon_record one_burst(clurimoon_record r, unsigned n, unsigned v, unsigned seed, bool tallies) {
   unsigned wrong[slots_in_burst], connection[slots_in_burst], mode = r.mode;
   for (unsigned k = 0; k < slots_in_burst; ++k) {
     sizes[k] = (k + seed) % 7 == 0 ? 0 : 53;
@@ -268,9 +292,15 @@ static clurimoon_record one_burst(clurimoon_record r, unsigned n, unsigned v, un
     write_cell(arrivals + 53 * k, connection[k], k);
     wrong[k] = damage_header(arrivals + 53 * k, k + seed);
   }
-  now_doing = "burst";
-  clurimoon_burst_end e = clurimoon_burst(r, MEMORY, arrivals, 53 * slots_in_burst, sizes, slots_in_burst,
-                                          departures, 53 * slots_in_burst, answers, 6 * slots_in_burst);
+  now_doing = tallies ? "burst_tallied" : "burst";
+  clurimoon_burst_end e;
+  const uint64_t before = tally.cells;
+  if (tallies) {
+    const clurimoon_burst_tally t = clurimoon_burst_tallied(tally, tallied(v), r, MEMORY, BURST(slots_in_burst));
+    e = t.end, tally = t.tally;
+  } else {
+    e = clurimoon_burst(r, MEMORY, BURST(slots_in_burst));
+  }
   if (e.number != 0 || e.done != slots_in_burst) fail("a burst was refused");
   slots_served += e.done, ++calls_made;
   for (unsigned k = 0; k < slots_in_burst; ++k) {
@@ -279,9 +309,14 @@ static clurimoon_record one_burst(clurimoon_record r, unsigned n, unsigned v, un
     if (sizes[k] != 0) mode = wrong[k] ? 1 : 0;
   }
   if (e.record.mode != mode) fail("the header check is in the wrong mode");
+  uint64_t left = 0;
+  for (unsigned k = 0; k < slots_in_burst; ++k) left += answers[6 * k + CLURIMOON_ANSWER_OUT_VCI] == tallied(v);
+  if (tally.cells != before + (tallies ? left : 0)) fail("a burst tallied other cells than left");
+  if (tallies) cells_tallied += left;
   const uint8_t *nowhere = cells_fence.start + cells_fence.room;
-  e = clurimoon_burst(e.record, MEMORY, nowhere, 0, nowhere, 0, (uint8_t *)(uintptr_t)nowhere, 0,
-                      (uint16_t *)(uintptr_t)nowhere, 0);
+#define NOWHERE nowhere, 0, nowhere, 0, (uint8_t *)(uintptr_t)nowhere, 0, (uint16_t *)(uintptr_t)nowhere, 0
+  if (tallies) e = clurimoon_burst_tallied(tally, tallied(v), e.record, MEMORY, NOWHERE).end;
+  else e = clurimoon_burst(e.record, MEMORY, NOWHERE);
   if (e.number != 0 || e.done != 0) fail("an empty burst was refused");
   ++calls_made;
   return e.record;
@@ -297,7 +332,8 @@ static clurimoon_record in_the_last_space(clurimoon_record r, unsigned n, unsign
   r = one_slot(r, n, v, 53, 0, one);
   now_doing = "burst";
   write_cell(arrivals, other, 0), sizes[0] = 53;
-  const clurimoon_burst_end e = clurimoon_burst(r, MEMORY, arrivals, 53, sizes, 1, departures, 53, answers, 6);
+  const clurimoon_burst_end e = clurimoon_burst(r, MEMORY, BURST(1));
+  if (arrived[n - 1] != e.record.t) fail("the last space's arrival slot was not written");
   if (e.number != 0 || answers[CLURIMOON_ANSWER_SPACE] != n - 1 || e.record.free != 1) fail("the last space was not taken");
   memcpy(bits, before, sizeof before);
   r = e.record, r.free = (uint16_t)n;
@@ -333,6 +369,14 @@ static void run_damaged(clurimoon_record good, unsigned n, unsigned v) {
     const unsigned unfit = which / 2 == 0 || which / 2 == 3 || which / 2 == 4 ? CLURIMOON_STORED : CLURIMOON_DONE;
     if (clurimoon_next(r, calendar, CLURIMOON_CALENDAR(n), bits, CLURIMOON_BITS).number != unfit) fail("next answers otherwise");
     calls_made += 3;
+  }
+  /* A departing space that is none: the arrival slots have no such number. Another's is not looked at. */
+  for (unsigned space = n; space < 65536; space = space < 65534 ? 65534 : space + 1) {
+    if (clurimoon_tally_slot(tally, good, arrived, CLURIMOON_ARRIVED(n), tallied(v), (uint16_t)space, tallied(v)).number != CLURIMOON_STORED)
+      fail("a space past the last was tallied");
+    if (clurimoon_tally_slot(tally, good, arrived, CLURIMOON_ARRIVED(n), tallied(v), (uint16_t)space, 0).number != CLURIMOON_DONE)
+      fail("a slot that sent nothing was refused");
+    calls_made += 2, ++refused;
   }
   /* Bits in the first and the last word of spaces: more than the number says, and at or above N. In the first and the last
      of entries: of one that is empty, and at or above N, which no slot judges. */
@@ -392,28 +436,40 @@ static void run_too_small(clurimoon_record good, unsigned n, unsigned v) {
     else r.v = (uint16_t)(v < 1024 ? v + 1 : v - 1), r.split_vci = 1;
     if (clurimoon_slot(r, MEMORY, cell, 53).answer.number != CLURIMOON_LENGTH)
       fail("wrong lengths were not refused");
-    if (clurimoon_burst(r, MEMORY, arrivals, 53 * slots_in_burst, sizes, slots_in_burst, departures,
-                        53 * slots_in_burst, answers, 6 * slots_in_burst)
-            .number != CLURIMOON_LENGTH)
-      fail("wrong lengths were not refused");
+    if (clurimoon_burst(r, MEMORY, BURST(slots_in_burst)).number != CLURIMOON_LENGTH) fail("wrong lengths were not refused");
     if (clurimoon_audit(r, MEMORY)) fail("the audit says yes to wrong lengths");
+    if (which == 0 && clurimoon_tally_slot(tally, r, arrived, CLURIMOON_ARRIVED(n), tallied(v), 0, tallied(v)).number != CLURIMOON_LENGTH)
+      fail("wrong lengths were not refused");
     if (which == 0 && clurimoon_next(r, calendar, CLURIMOON_CALENDAR(n), bits, CLURIMOON_BITS).number != CLURIMOON_LENGTH)
       fail("wrong lengths were not refused");
-    calls_made += 4 - which, refused += 3 - which;
+    calls_made += 5 - 2 * which, refused += 4 - 2 * which;
   }
   /* A word of bits too few, those of the spaces alone, or none: neither a word before them nor an unreadable one is read. */
   for (unsigned short_by = 1; short_by <= 32; short_by += short_by == 1 ? 15 : 16) {
     uint64_t *few = short_by == 32 ? (uint64_t *)(void *)(bits_fence.start + bits_fence.room) : at_end ? bits + short_by : bits;
     if (clurimoon_slot(good, cells, CLURIMOON_CELLS(n), links, CLURIMOON_LINKS(n), calendar, CLURIMOON_CALENDAR(n), vcs,
-                       CLURIMOON_VCS(v), few, 32 - short_by, cell, 53)
+                       CLURIMOON_VCS(v), few, 32 - short_by, arrived, CLURIMOON_ARRIVED(n), cell, 53)
             .answer.number != CLURIMOON_LENGTH)
       fail("too few bits were not refused");
     if (clurimoon_audit(good, cells, CLURIMOON_CELLS(n), links, CLURIMOON_LINKS(n), calendar, CLURIMOON_CALENDAR(n), vcs,
-                        CLURIMOON_VCS(v), few, 32 - short_by))
+                        CLURIMOON_VCS(v), few, 32 - short_by, arrived, CLURIMOON_ARRIVED(n)))
       fail("the audit says yes to too few bits");
     if (clurimoon_next(good, calendar, CLURIMOON_CALENDAR(n), few, 32 - short_by).number != CLURIMOON_LENGTH)
       fail("too few bits were not refused");
     calls_made += 3, refused += 2;
+  }
+  /* An arrival slot too few, or none: neither one before them nor an unreadable one is read or written. */
+  for (unsigned count = n - 1;; count = 0) {
+    uint32_t *few = count == 0 ? (uint32_t *)(void *)(arrived_fence.start + arrived_fence.room) : at_end ? arrived + 1 : arrived;
+#define FEW cells, CLURIMOON_CELLS(n), links, CLURIMOON_LINKS(n), calendar, CLURIMOON_CALENDAR(n), vcs, CLURIMOON_VCS(v), bits, CLURIMOON_BITS, few, count
+    if (clurimoon_slot(good, FEW, cell, 53).answer.number != CLURIMOON_LENGTH ||
+        clurimoon_burst(good, FEW, BURST(slots_in_burst)).number != CLURIMOON_LENGTH ||
+        clurimoon_burst_tallied(tally, tallied(v), good, FEW, BURST(slots_in_burst)).end.number != CLURIMOON_LENGTH ||
+        clurimoon_tally_slot(tally, good, few, count, tallied(v), 0, tallied(v)).number != CLURIMOON_LENGTH)
+      fail("too few arrival slots were not refused");
+    if (clurimoon_audit(good, FEW)) fail("the audit says yes to too few arrival slots");
+    calls_made += 5, refused += 4;
+    if (count == 0) break;
   }
   clurimoon_record wide = good;
   wide.v = (uint16_t)(v < 1024 ? v + 1 : v - 1), wide.split_vci = 1;
@@ -480,6 +536,9 @@ static void run_policer(unsigned n, unsigned v) {
   clurimoon_set set = clurimoon_setup((uint16_t)n, (uint16_t)v, raw, kind, split_vci, split_path, MEMORY);
   if (set.number != 0) fail("setup was refused");
   clurimoon_record r = set.record;
+  memset(&tally, 0, sizeof tally);
+  for (unsigned k = 0; k < n; ++k)
+    if (arrived[k] != 0) fail("an arrival slot is not 0 after setup");
   now_doing = "open";
   /* Bursty VCs and paths, with the greatest tolerance: they fill the memory. */
   for (unsigned k = 0; k < 5; ++k) {
@@ -498,7 +557,8 @@ static void run_policer(unsigned n, unsigned v) {
     const unsigned wrong = damage_header(cell, k);
     r = one_slot(r, n, v, k % 11 == 10 ? 0 : 53, wrong, connection);
   }
-  r = one_burst(r, n, v, n);
+  r = one_burst(r, n, v, n, false);
+  r = one_burst(r, n, v, n + 3, true);
   now_doing = "audit";
   if (!clurimoon_audit(r, MEMORY)) fail("the audit says no");
   calls_made += 1;
@@ -591,10 +651,11 @@ int main(void) {
     fflush(stdout);
   }
   printf("guard: N 1 to 1,024 and V 2 to 1,024, twice%s: %llu calls (%llu refused), %llu slots, %llu "
-         "cells sent, %llu mended, %llu dropped, %llu tagged, %llu above a sustainable rate without the flag, %llu and %llu of paths at the UNI and the NNI, no octet touched outside\n",
-         rounds == 4 ? ", raw and not" : "", calls_made, refused, slots_served, cells_sent, mended, dropped, tagged, not_sustained,
+         "cells sent, %llu of them tallied, %llu mended, %llu dropped, %llu tagged, %llu above a sustainable rate without the flag, %llu and %llu of paths at the UNI and the NNI, no octet touched outside\n",
+         rounds == 4 ? ", raw and not" : "", calls_made, refused, slots_served, cells_sent, cells_tallied, mended, dropped, tagged, not_sustained,
          of_paths[CLURIMOON_UNI], of_paths[CLURIMOON_NNI]);
   if (tagged < 10000 || not_sustained < 10000) fail("too few cells were above a sustainable rate");
+  if (cells_tallied < 100000) fail("too few cells were tallied");
   if (of_paths[CLURIMOON_UNI] < 10000 || of_paths[CLURIMOON_NNI] < 10000) fail("too few cells were of paths");
   return 0;
 }

@@ -4,6 +4,7 @@
 
 #include <algorithm>
 #include <bitset>
+#include <numeric>
 
 namespace calls {
 
@@ -50,6 +51,11 @@ const char *const mark_name[mark_count] = {
 const char *const owner_name[owner_count] = {
 #define X(name) #name,
     CALLS_OWNERS(X)
+#undef X
+};
+const char *const delay_name[delay_count] = {
+#define X(name) #name,
+    CALLS_DELAYS(X)
 #undef X
 };
 Tally tally;
@@ -118,7 +124,7 @@ bool sizes_in_range(uint16_t n, uint16_t v) { return 1 <= n && n <= 1024 && 2 <=
 bool lengths_fit(uint16_t n, uint16_t v, const Memory &lent) {
   return lent.cells.length == size_t{53} * n && lent.links.length == n &&
          lent.calendar.length == size_t{2} * n && lent.vcs.length == size_t{word_count} * (v + paths) &&
-         lent.bits.length == free_words + entry_words;
+         lent.bits.length == free_words + entry_words && lent.arrived.length == n;
 }
 
 bool is_free(const Lent<uint64_t> &bits, unsigned space) {
@@ -211,6 +217,7 @@ void meet(Path what) { tally.path[what] += 1; }
 void meet(Space what) { tally.space[what] += 1; }
 void meet(Mark what) { tally.mark[what] += 1; }
 void meet(Owner what) { tally.owner[what] += 1; }
+void meet(Delay what) { tally.delay[what] += 1; }
 
 // "a bit at or above N, a number other than the ones": two clauses from `first`.
 void need_spaces(uint16_t n, uint16_t free, const Lent<uint64_t> &bits, Clause first) {
@@ -258,6 +265,7 @@ public:
     return {r, answer};
   }
   bool touched_marks() const { return marked; }
+  bool wrote_an_arrival_slot() const { return stored_in != empty; }
 
 private:
   clurimoon_record r;
@@ -327,7 +335,7 @@ private:
     const bool tags = words[w_tag] == 1;
     tally_buckets(words, header.clp, above_peak, above_second);
     answer.verdict = CLURIMOON_EXCESS;
-    if (above_peak || (header.clp == 0 && above_second && !tags)) return;
+    if (above_peak || (header.clp == 0 && above_second && !tags)) return meet(arrival_slot_kept_for_an_excess_one);
     answer.verdict = header.clp == 0 && above_second ? CLURIMOON_TAGGED : CLURIMOON_ACCEPTED;
     answer.d = static_cast<uint16_t>(words[w_S] >> words[w_m]);
     need(words[w_waiting] < n, arrival_waiting);
@@ -337,6 +345,11 @@ private:
     if (answer.verdict == CLURIMOON_TAGGED) tag();
     const uint16_t space = take_free();
     journal.put_cell(lent.cells.at + size_t{53} * space, arriving.data());
+    // Request (x): "Arrival slots are kept beside the cells, 32 bits, wrapping."
+    journal.put(lent.arrived.at[space], r.t);
+    meet(answer.verdict == CLURIMOON_TAGGED ? arrival_slot_written_for_a_tagged_one : arrival_slot_written);
+    if (space == r.out_head) meet(arrival_slot_of_the_next_to_depart_written);
+    if (r.t == 0 || r.t == UINT32_MAX) meet(arrival_slot_at_the_wrap);
     join(static_cast<unsigned>((r.T + answer.d) % n), space);
   }
 
@@ -569,6 +582,7 @@ clurimoon_set setup(uint16_t n, uint16_t v, bool raw, uint16_t kind, Splits spli
   std::fill_n(lent.vcs.at, lent.vcs.length, uint32_t{0});
   std::fill_n(lent.calendar.at, lent.calendar.length, empty);
   std::fill_n(lent.bits.at, lent.bits.length, uint64_t{0});
+  std::fill_n(lent.arrived.at, lent.arrived.length, uint32_t{0});
   for (unsigned space = 0; space < n; ++space) lent.bits.at[space / word_bits] |= uint64_t{1} << space % word_bits;
   clurimoon_record record{};
   record.n = n, record.v = v;
@@ -775,6 +789,7 @@ clurimoon_served judged_slot(const clurimoon_record &record, Memory lent, Lent<c
   } catch (const Unfit &unfit) {
     tally.clause[unfit.clause] += 1;
     if (slot.touched_marks()) meet(undone_with_a_mark);
+    if (slot.wrote_an_arrival_slot()) meet(arrival_slot_written_and_undone);
     journal.undo();
     return refused(record, 3);
   }
@@ -1025,24 +1040,198 @@ uint16_t walked(const clurimoon_record &record, Lent<const uint16_t> calendar) {
   return 0;
 }
 
-clurimoon_burst_end burst(const clurimoon_record &record, Memory lent, Lent<const uint8_t> arrivals,
-                          Lent<const uint8_t> sizes, Lent<uint8_t> departures, Lent<uint16_t> answers) {
-  if (!sizes_in_range(record.n, record.v)) return {record, 1, 0};
-  const size_t slots = sizes.length;
-  if (!lengths_fit(record.n, record.v, lent) || arrivals.length != 53 * slots ||
-      departures.length != 53 * slots || answers.length != 6 * slots)
-    return {record, 2, 0};
+namespace {
+
+// What a burst is lent besides the memories.
+struct Burst {
+  Lent<const uint8_t> arrivals, sizes;
+  Lent<uint8_t> departures;
+  Lent<uint16_t> answers;
+};
+
+uint16_t refuse_burst(const clurimoon_record &record, const Memory &lent, const Burst &b) {
+  if (!sizes_in_range(record.n, record.v)) return 1;
+  const size_t slots = b.sizes.length;
+  const bool fit = lengths_fit(record.n, record.v, lent) && b.arrivals.length == 53 * slots &&
+                   b.departures.length == 53 * slots && b.answers.length == 6 * slots;
+  return fit ? 0 : 2;
+}
+
+// The slots of a burst that is not refused, one by one; each served one is told of.
+template <class Then> clurimoon_burst_end serve_burst(const clurimoon_record &record, const Memory &lent, const Burst &b, Then then) {
   clurimoon_record now = record;
-  for (size_t k = 0; k < slots; ++k) {
-    const clurimoon_served served = slot(now, lent, {arrivals.at + 53 * k, sizes.at[k]});
+  for (size_t k = 0; k < b.sizes.length; ++k) {
+    const clurimoon_served served = slot(now, lent, {b.arrivals.at + 53 * k, b.sizes.at[k]});
     const clurimoon_answer &a = served.answer;
     if (a.number != 0) return {now, a.number, k};
     now = served.record;
     const uint16_t numbers[6] = {a.number, a.verdict, a.vci, a.d, a.space, a.out_vci};
-    std::copy(numbers, numbers + 6, answers.at + 6 * k);
-    if (a.space != empty) std::copy_n(lent.cells.at + size_t{53} * a.space, 53, departures.at + 53 * k);
+    std::copy(numbers, numbers + 6, b.answers.at + 6 * k);
+    if (a.space != empty) std::copy_n(lent.cells.at + size_t{53} * a.space, 53, b.departures.at + 53 * k);
+    then(now, a);
   }
-  return {now, 0, slots};
+  return {now, 0, b.sizes.length};
+}
+
+// Request (x): "64 bins beside the number of cells", "A tally of 2^32 cells takes no more".
+constexpr uint64_t most_cells = 4294967296;
+constexpr unsigned bins = 64;
+
+// "3, a tally whose number is above 2^32 or not the sum of its bins": each bin is taken off the number, until none is left.
+bool adds_up(const clurimoon_tally &t) {
+  uint64_t left = t.cells;
+  for (uint64_t bin : t.bins) {
+    if (bin > left) return false;
+    left -= bin;
+  }
+  return left == 0 && t.cells <= most_cells;
+}
+
+// How it doesn't add up: what a sum that wraps, one of 32 bits, or no look at the number would have let pass.
+void tally_unfit(const clurimoon_tally &t) {
+  uint64_t wrapped = 0;
+  uint32_t low = 0;
+  bool wide = false;
+  for (uint64_t bin : t.bins) wrapped += bin, low += static_cast<uint32_t>(bin), wide = wide || bin >= most_cells;
+  if (t.cells == most_cells + 1 && wrapped == t.cells) meet(unfit_cells_above);
+  if (t.cells <= most_cells && !wide && wrapped == t.cells + 1) meet(unfit_sum_one_more);
+  if (t.cells <= most_cells && !wide && wrapped + 1 == t.cells) meet(unfit_sum_one_less);
+  if (t.cells <= most_cells && wrapped == t.cells) meet(unfit_sum_wraps);
+  if (t.cells < most_cells && wide && wrapped != t.cells && low == t.cells) meet(unfit_bin_wide);
+}
+
+// "4 is for numbers that name none": document 02 numbers VCs 1 to V-1, and path p V + p, 1 to 255.
+bool names_a_connection(unsigned v, unsigned c) { return (c >= 1 && c < v) || (c > v && c - v < paths); }
+
+void tally_4(unsigned v, unsigned c) {
+  meet(c == 0 ? tally_refused_4_0 : c == v ? tally_refused_4_V : c == v + paths ? tally_refused_4_V_256 : tally_refused_4_above);
+}
+
+void tally_waited(const clurimoon_record &record, const clurimoon_tally &before, uint16_t connection, uint16_t space, uint32_t arrival) {
+  const uint32_t delay = record.t - arrival;
+  if (delay <= 1) meet(delay == 0 ? waited_0 : waited_1);
+  if (delay >= 62) meet(delay == 62 ? waited_62 : delay == 63 ? waited_63 : delay == 64 ? waited_64 : waited_longer);
+  if (arrival > record.t && delay < 1024) meet(waited_over_the_wrap);
+  meet(connection > record.v ? tallied_path : tallied_vc);
+  if (space == record.n - 1) meet(tallied_the_last_space);
+  if (before.cells == most_cells - 1) meet(took_the_last_cell);
+}
+
+} // namespace
+
+clurimoon_burst_end burst(const clurimoon_record &record, Memory lent, Lent<const uint8_t> arrivals,
+                          Lent<const uint8_t> sizes, Lent<uint8_t> departures, Lent<uint16_t> answers) {
+  const Burst b = {arrivals, sizes, departures, answers};
+  if (const uint16_t number = refuse_burst(record, lent, b)) return {record, number, 0};
+  return serve_burst(record, lent, b, [](const clurimoon_record &, const clurimoon_answer &) {});
+}
+
+clurimoon_tallied tally_slot(const clurimoon_tally &before, const clurimoon_record &record, Lent<const uint32_t> arrived,
+                             uint16_t connection, uint16_t space, uint16_t out_vci) {
+  const bool fits = adds_up(before), named = names_a_connection(record.v, connection);
+  if (!sizes_in_range(record.n, record.v)) {
+    meet(tally_refused_1);
+    if (arrived.length != record.n) meet(tally_1_before_2);
+    return {1, before};
+  }
+  if (arrived.length != record.n) {
+    meet(arrived.length < record.n ? tally_refused_2_short : tally_refused_2_long);
+    if (!named) meet(tally_2_before_4);
+    return {2, before};
+  }
+  if (!named) {
+    tally_4(record.v, connection);
+    if (!fits) meet(tally_4_before_3);
+    return {4, before};
+  }
+  const bool left = out_vci == connection;
+  if (!fits || (left && space >= record.n)) {
+    if (!fits) tally_unfit(before);
+    if (!fits && !left) meet(tally_3_though_another_left);
+    if (fits) meet(space == record.n ? tally_3_space_N : tally_3_space_above);
+    return {3, before};
+  }
+  if (!left) {
+    meet(out_vci == 0 ? none_left : another_left);
+    if (out_vci != 0 && space >= record.n) meet(another_left_with_a_wide_space);
+    if (before.cells == most_cells) meet(full_and_another_left);
+    return {0, before};
+  }
+  if (before.cells == most_cells) return meet(full_took_no_more), clurimoon_tallied{0, before};
+  tally_waited(record, before, connection, space, arrived.at[space]);
+  clurimoon_tallied after = {0, before};
+  const uint32_t waited = record.t - arrived.at[space];
+  unsigned bin = 0;
+  while (bin < bins - 1 && bin != waited) ++bin; // "bin 63 holds all from 63 up"
+  after.tally.bins[bin] += 1, after.tally.cells += 1;
+  return after;
+}
+
+// "the lowest bin at which 1,000 times the running sum is at least the asked share times the cells sent"
+clurimoon_bin percentile(const clurimoon_tally &t, uint16_t share) {
+  const bool asked = share >= 1 && share <= 1000;
+  if (!adds_up(t)) {
+    tally_unfit(t);
+    if (!asked) meet(percentile_3_before_15);
+    return {3, 0};
+  }
+  if (!asked || t.cells == 0) {
+    if (t.cells == 0 && asked) meet(percentile_refused_15_no_cell);
+    if (share == 0) meet(percentile_refused_15_share_0);
+    if (share == 1001) meet(percentile_refused_15_share_1001);
+    return {15, 0};
+  }
+  uint16_t bin = 0;
+  const auto reached = [&](unsigned at) { return 1000 * std::accumulate(t.bins, t.bins + at + 1, uint64_t{0}); };
+  while (reached(bin) < share * t.cells) ++bin;
+  if (share == 1) meet(percentile_of_share_1);
+  if (share == 500) meet(percentile_of_share_500);
+  if (share == 999) meet(percentile_of_share_999);
+  if (share == 1000) meet(percentile_of_share_1000);
+  meet(bin == 0 ? percentile_bin_0 : bin == bins - 1 ? percentile_bin_63 : percentile_between);
+  if (reached(bin) == share * t.cells) meet(percentile_reached_exactly);
+  if (bin > 0 && reached(bin - 1u) != 0) meet(percentile_one_short_before);
+  if (bin > 0 && t.bins[bin - 1] == 0) meet(percentile_past_empty_bins);
+  if (t.cells == most_cells) meet(percentile_of_2_to_the_32);
+  return {0, bin};
+}
+
+clurimoon_burst_tally burst_tallied(const clurimoon_tally &before, uint16_t connection, const clurimoon_record &record, Memory lent,
+                                    Lent<const uint8_t> arrivals, Lent<const uint8_t> sizes, Lent<uint8_t> departures,
+                                    Lent<uint16_t> answers) {
+  const Burst b = {arrivals, sizes, departures, answers};
+  const bool named = names_a_connection(record.v, connection), fits = adds_up(before);
+  const uint16_t unfit = refuse_burst(record, lent, b); // by N, V and all lengths
+  // "the tally is judged once": as after a slot that sent nothing, and then the burst
+  uint16_t number = !sizes_in_range(record.n, record.v) ? 1 : lent.arrived.length != record.n ? 2 : !named ? 4 : !fits ? 3 : unfit;
+  if (number == 2 && lent.arrived.length == record.n) meet(burst_tally_2_after_the_tally);
+  if (number == 2 && !named) meet(burst_tally_2_before_4);
+  if (number == 4) {
+    meet(burst_tally_refused_4);
+    if (!fits) meet(burst_tally_4_before_3);
+    if (unfit == 2) meet(burst_tally_4_before_2);
+  }
+  if (number == 3) {
+    meet(burst_tally_refused_3);
+    if (unfit == 2) meet(burst_tally_3_before_2);
+    else if (sizes.length != 0 && sizes.at[0] != 0 && sizes.at[0] != 53) meet(burst_tally_3_before_9);
+  }
+  if (number != 0) return {{record, number, 0}, before};
+  clurimoon_burst_tally after = {{}, before};
+  unsigned took = 0;
+  std::vector<bool> departed(record.n, false);
+  bool again = false;
+  after.end = serve_burst(record, lent, b, [&](const clurimoon_record &now, const clurimoon_answer &a) {
+    const clurimoon_tallied tallied = tally_slot(after.tally, now, {lent.arrived.at, lent.arrived.length}, connection, a.space, a.out_vci);
+    if (a.out_vci == connection) took += 1, again = again || departed[a.space], departed[a.space] = true;
+    after.tally = tallied.tally;
+  });
+  const bool stopped = after.end.number != 0, filled = before.cells != most_cells && after.tally.cells == most_cells;
+  if (stopped) meet(burst_tally_stopped);
+  if (took != 0) meet(burst_tally_took);
+  if (again) meet(burst_tally_space_taken_again);
+  if (filled && after.tally.cells - before.cells < took) meet(burst_tally_filled_up);
+  return after;
 }
 
 } // namespace calls

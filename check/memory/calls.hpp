@@ -265,6 +265,39 @@ enum Owner {
 };
 extern const char *const owner_name[owner_count];
 
+// What a slot did to the arrival slots, and what the tally of a connection's delays and its percentile were asked and said.
+#define CALLS_DELAYS(X)                                                                                      \
+  X(arrival_slot_written) X(arrival_slot_written_for_a_tagged_one) X(arrival_slot_kept_for_an_excess_one)    \
+  X(arrival_slot_written_and_undone) X(arrival_slot_of_the_next_to_depart_written) X(arrival_slot_at_the_wrap) \
+  X(waited_0) X(waited_1) X(waited_62) X(waited_63) X(waited_64) X(waited_longer) X(waited_over_the_wrap)    \
+  X(tallied_vc) X(tallied_path) X(tallied_the_last_space)                                                    \
+  X(another_left) X(none_left) X(another_left_with_a_wide_space) /* the space isn't read then */             \
+  X(full_took_no_more) X(full_and_another_left) X(took_the_last_cell) /* of 2^32 */                          \
+  X(tally_refused_1) X(tally_refused_2_short) X(tally_refused_2_long) X(tally_refused_4_0) X(tally_refused_4_V) \
+  X(tally_refused_4_V_256) X(tally_refused_4_above) X(tally_1_before_2) X(tally_2_before_4) X(tally_4_before_3) \
+  X(tally_3_space_N) X(tally_3_space_above) X(tally_3_though_another_left)                                   \
+  X(unfit_cells_above) /* 2^32 + 1, which is the sum of its bins */                                          \
+  X(unfit_sum_one_more) X(unfit_sum_one_less) X(unfit_sum_wraps) /* on 64 bits it would be the cells */      \
+  X(unfit_bin_wide) /* a bin of 2^32 and more whose lower 32 bits would do */                                \
+  X(percentile_refused_15_share_0) X(percentile_refused_15_share_1001) X(percentile_refused_15_no_cell)      \
+  X(percentile_3_before_15) X(percentile_of_share_1) X(percentile_of_share_500) X(percentile_of_share_999)   \
+  X(percentile_of_share_1000) X(percentile_bin_0) X(percentile_bin_63) X(percentile_between)                 \
+  X(percentile_reached_exactly) /* 1,000 times the running sum is share times cells */                       \
+  X(percentile_one_short_before) /* and at a lower bin not empty it was not yet */                           \
+  X(percentile_past_empty_bins) X(percentile_of_2_to_the_32)                                                 \
+  X(burst_tally_refused_4) X(burst_tally_refused_3) X(burst_tally_2_before_4) X(burst_tally_4_before_3)      \
+  X(burst_tally_4_before_2) X(burst_tally_3_before_2) /* a length but that of the arrival slots is wrong */  \
+  X(burst_tally_2_after_the_tally) X(burst_tally_3_before_9) X(burst_tally_stopped) X(burst_tally_took)      \
+  X(burst_tally_space_taken_again) X(burst_tally_filled_up)
+
+enum Delay {
+#define X(name) name,
+  CALLS_DELAYS(X)
+#undef X
+      delay_count
+};
+extern const char *const delay_name[delay_count];
+
 // What was met, for the summary of a run.
 struct Tally {
   std::array<uint64_t, clause_count> clause{};
@@ -276,6 +309,7 @@ struct Tally {
   std::array<uint64_t, space_count> space{};
   std::array<uint64_t, mark_count> mark{};
   std::array<uint64_t, owner_count> owner{};
+  std::array<uint64_t, delay_count> delay{};
   std::array<uint64_t, 40> mended_bit{};
 };
 extern Tally tally;
@@ -291,6 +325,7 @@ struct Memory {
   Lent<uint16_t> links, calendar;
   Lent<uint32_t> vcs;
   Lent<uint64_t> bits;
+  Lent<uint32_t> arrived;
 };
 
 // The first connections that are the second operator's: a VCI, and a path's number.
@@ -326,5 +361,13 @@ clurimoon_wait next(const clurimoon_record &, Lent<const uint16_t> calendar, Len
 uint16_t walked(const clurimoon_record &, Lent<const uint16_t> calendar);
 clurimoon_burst_end burst(const clurimoon_record &, Memory, Lent<const uint8_t> arrivals,
                           Lent<const uint8_t> sizes, Lent<uint8_t> departures, Lent<uint16_t> answers);
+// The delay summary of one connection, from document 02's words: `tally` here and in the header is that of its delays.
+clurimoon_tallied tally_slot(const clurimoon_tally &, const clurimoon_record &, Lent<const uint32_t> arrived,
+                             uint16_t connection, uint16_t space, uint16_t out_vci);
+clurimoon_bin percentile(const clurimoon_tally &, uint16_t share);
+// A burst, and after each of its slots the tally.
+clurimoon_burst_tally burst_tallied(const clurimoon_tally &, uint16_t connection, const clurimoon_record &, Memory,
+                                    Lent<const uint8_t> arrivals, Lent<const uint8_t> sizes, Lent<uint8_t> departures,
+                                    Lent<uint16_t> answers);
 
 } // namespace calls

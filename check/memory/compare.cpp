@@ -1,5 +1,5 @@
 // Compares the archive with the second implementation of the calls, after every
-// call: the answer, the record, all five memories, and what lies around them.
+// call: the answer, the record, all six memories, and what lies around them.
 //
 //   compare SEED CALLS [SCENARIO]
 //
@@ -25,7 +25,10 @@ public:
                                                                    {"close_path", {0, 1, 2, 3, 4, 7, 8, 16}},
                                                                    {"slot", {0, 1, 2, 3, 9}},
                                                                    {"next", {0, 1, 2, 3}},
-                                                                   {"burst", {0, 1, 2, 3, 9}}};
+                                                                   {"burst", {0, 1, 2, 3, 9}},
+                                                                   {"tally_slot", {0, 1, 2, 3, 4}},
+                                                                   {"percentile", {0, 3, 15}},
+                                                                   {"burst_tallied", {0, 1, 2, 3, 4, 9}}};
     for (const auto &[call, which] : expected) {
       std::printf("  %-14s", call.c_str());
       for (unsigned number : which) item("  " + std::to_string(number) + ":", met[call][number]);
@@ -45,6 +48,7 @@ public:
     std::printf("\n  slots beside the old form:"), item("", beside_old), item(", in another space", other_spaces);
     std::printf("\n  next departures beside a walk over the entries: none waits"), item("", walked_none), item(", some", walked_some);
     item("; beside what then left", left_asleep), item(", empty slots", slots_asleep);
+    std::printf("\n  delays beside a recount of the answers: by slots"), item("", followed_sent), item(", in bursts", followed_sent_in_bursts);
     std::printf("\n");
   }
   // Which of the forty bits were mended: the one least often, that is.
@@ -112,6 +116,7 @@ int main(int count_arguments, char **arguments) {
   summary.clauses("bits and number of free spaces:", calls::space_name, calls::tally.space);
   summary.clauses("bits of the calendar entries:", calls::mark_name, calls::tally.mark);
   summary.clauses("splits and operators:", calls::owner_name, calls::tally.owner);
+  summary.clauses("arrival slots, tallies and percentiles:", calls::delay_name, calls::tally.delay);
   if (may_be_raw) summary.clauses("the header check:", calls::check_name, calls::tally.check), summary.bits();
   std::printf("memories: %llu calls in %llu scenarios compared, all equal\n",
               static_cast<unsigned long long>(made), static_cast<unsigned long long>(scenario));

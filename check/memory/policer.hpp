@@ -6,7 +6,7 @@
 
 #include "../random.hpp"
 #include "../second/hec.hpp"
-#include "twin.hpp"
+#include "delays.hpp"
 
 namespace memories {
 
@@ -22,11 +22,11 @@ constexpr size_t words_per_connection = 12, paths = 256;
 constexpr size_t free_words = 16, bit_words = 32;
 
 // The old form of a policer from its setup on, with document 01's Free List. What it says is compared with the archive while
-// the archive's policer is fresh: all but which space a cell has.
+// the archive's policer is fresh: all but which space a cell has; so the arrival slot of what departs is the same, too.
 class Old {
 public:
   Old(uint16_t n, uint16_t v, bool raw, uint16_t kind, calls::Splits splits)
-      : cells(size_t{53} * n), links(n), calendar(size_t{2} * n), vcs(words_per_connection * (v + paths)), bits(bit_words) {
+      : cells(size_t{53} * n), links(n), calendar(size_t{2} * n), vcs(words_per_connection * (v + paths)), bits(bit_words), arrived(n) {
     record = calls::setup(n, v, raw, kind, splits, lend()).record;
     for (uint16_t space = 0; space < n; ++space) list.push_back(space);
   }
@@ -36,13 +36,14 @@ public:
   void close(calls::Name name, uint16_t number) {
     same<uint64_t>("number beside the old form", calls::close(record, lend().vcs, name), number);
   }
-  void slot(const uint8_t *cell, size_t length, clurimoon_answer got, const uint8_t *departed) {
+  void slot(const uint8_t *cell, size_t length, clurimoon_answer got, const uint8_t *departed, std::optional<uint32_t> arrival) {
     const clurimoon_served served = calls::slot_listed(record, lend(), {cell, length}, list);
     record = served.record;
     clurimoon_answer a = served.answer;
     beside_old += 1, other_spaces += a.space != got.space;
     if (a.space != none && got.space != none) {
       if (std::memcmp(&cells[size_t{53} * a.space], departed, 53) != 0) fail("other octets depart than of the old form");
+      if (arrival && arrived[a.space] != *arrival) fail("another arrival slot is kept than of the old form");
       a.space = got.space;
     }
     same("answer beside the old form", a, got);
@@ -53,10 +54,12 @@ private:
   std::vector<uint16_t> links, calendar;
   std::vector<uint32_t> vcs;
   std::vector<uint64_t> bits;
+  std::vector<uint32_t> arrived;
   clurimoon_record record{};
   std::deque<uint16_t> list;
   calls::Memory lend() {
-    return {{cells.data(), cells.size()}, {links.data(), links.size()}, {calendar.data(), calendar.size()}, {vcs.data(), vcs.size()}, {bits.data(), bits.size()}};
+    return {{cells.data(), cells.size()}, {links.data(), links.size()}, {calendar.data(), calendar.size()},
+            {vcs.data(), vcs.size()},     {bits.data(), bits.size()},   {arrived.data(), arrived.size()}};
   }
 };
 
@@ -69,12 +72,15 @@ protected:
     Twin<uint16_t> links, calendar;
     Twin<uint32_t> vcs;
     Twin<uint64_t> bits;
+    Twin<uint32_t> arrived;
   };
   Random random;
   uint16_t n = 1, v = 2;
   clurimoon_record record{};
   Memories memory;
   std::optional<Old> old; // asked while the policer is fresh
+  Recount recount; // kept while the policer is fresh
+  clurimoon_answer last{0, 0, 0, 0, none, 0}; // of the slot before
   bool fresh = true; // since setup each call got what the call before left
   unsigned load = 90;
   unsigned wrong = 10; // cells in a hundred that come with a wrong header, where it is checked
@@ -129,11 +135,13 @@ protected:
     memory.calendar.resize(size_t{2} * n, {none});
     memory.vcs.resize(words_per_connection * connections(), {1, 2, 10, 10, 0, 0, 1, 2, 20, 60, 0, 1});
     memory.bits.resize(bit_words, {1, uint64_t{1} << 63});
+    memory.arrived.resize(n, {UINT32_MAX, 0, 7});
     for (size_t k = 0; k < memory.cells.size(); k += random.between(1, 60))
       memory.cells.set(k, static_cast<uint8_t>(random.next()));
     for (size_t k = 0; k < memory.vcs.size(); k += random.between(1, 20))
       memory.vcs.set(k, static_cast<uint32_t>(random.next()));
     for (size_t k = 0; k < bit_words; k += random.between(1, 4)) memory.bits.set(k, random.next());
+    for (size_t k = 0; k < n; k += random.between(1, 4)) memory.arrived.set(k, static_cast<uint32_t>(random.next()));
   }
 
   // Setup over old content; where sizes or lengths are wrong it must refuse.
@@ -154,6 +162,7 @@ protected:
     // Another size with just its lengths is done, too, and is not the policer that follows.
     if (got.number != 0 || asked_n != n || asked_v != v) return false;
     old.emplace(n, v, raw, kind, splits);
+    recount.begin(likely_connection());
     if (random.once_in(2)) disguise(0);
     if (random.once_in(2)) disguise(v);
     for (uint64_t k = random.between(1, 12); k > 0; --k) any_open();
@@ -189,6 +198,7 @@ protected:
     for (size_t w = free_words; w < bit_words; ++w) memory.bits.set(w, 0);
     for (size_t k = 0; k < memory.calendar.size(); ++k) memory.calendar.set(k, none);
     for (size_t k = 0; k < memory.vcs.size(); ++k) memory.vcs.set(k, 0);
+    for (size_t k = 0; k < n; ++k) memory.arrived.set(k, 0);
     record = {n,
               v,
               UINT32_MAX,
@@ -206,19 +216,19 @@ protected:
   }
 
   struct Lengths {
-    size_t cells, links, calendar, vcs, bits;
+    size_t cells, links, calendar, vcs, bits, arrived;
     bool null;
   };
   Lengths lengths() {
     return {memory.cells.size(), memory.links.size(), memory.calendar.size(), memory.vcs.size(), memory.bits.size(),
-            random.once_in(2)};
+            memory.arrived.size(), random.once_in(2)};
   }
   size_t wrong_length(size_t length, size_t unit) {
     return random.pick<size_t>({0, length - 1, length + 1, length - unit, length + unit, length});
   }
   Lengths wrong_lengths() {
     Lengths lent = lengths();
-    const uint64_t which = random.below(6);
+    const uint64_t which = random.below(7);
     if (which == 0 || which == 4) lent.cells = wrong_length(lent.cells, 53);
     if (which == 1 || which == 4) lent.links = wrong_length(lent.links, 1);
     if (which == 2 || which == 4) lent.calendar = wrong_length(lent.calendar, 2);
@@ -227,8 +237,11 @@ protected:
     if (which == 3 || which == 4) lent.vcs = random.once_in(3) ? other : wrong_length(lent.vcs, words_per_connection);
     // a word for each 64 of N, a word a space, the spaces alone, and entries by N behind them
     if (which == 5 || which == 4) lent.bits = random.pick<size_t>({0, 1, 15, 16, 16, 17, 31, 33, (n + 63u) / 64u, n, 16 + (n + 63u) / 64u});
+    if (which == 6 || which == 4) lent.arrived = wrong_arrived();
     return lent;
   }
+  // One less, one more, none, twice as many, and one for each connection.
+  size_t wrong_arrived() { return random.pick<size_t>({n - 1u, n + 1u, 0, 2u * n, connections(), n}); }
   // For open and close: a wrong length more often where the splits would be refused before it.
   size_t words_lent() {
     const bool fit = record.split_vci != 0 && record.split_vci < v && record.split_path != 0 && record.split_path < paths;
@@ -239,7 +252,7 @@ protected:
   calls::Memory lend_ours(const Lengths &lent) {
     return {memory.cells.lend_ours(lent.cells), memory.links.lend_ours(lent.links),
             memory.calendar.lend_ours(lent.calendar), memory.vcs.lend_ours(lent.vcs),
-            memory.bits.lend_ours(lent.bits)};
+            memory.bits.lend_ours(lent.bits), memory.arrived.lend_ours(lent.arrived)};
   }
   void compare_memories() const {
     memory.cells.compare("cells");
@@ -247,6 +260,7 @@ protected:
     memory.calendar.compare("calendar");
     memory.vcs.compare("VC words");
     memory.bits.compare("bits");
+    memory.arrived.compare("arrival slots");
   }
   void begin_call(const char *name) {
     call_name = name;
@@ -261,7 +275,8 @@ protected:
                         memory.links.lend_theirs(lent.links, lent.null), lent.links,
                         memory.calendar.lend_theirs(lent.calendar, lent.null), lent.calendar,
                         memory.vcs.lend_theirs(lent.vcs, lent.null), lent.vcs,
-                        memory.bits.lend_theirs(lent.bits, lent.null), lent.bits);
+                        memory.bits.lend_theirs(lent.bits, lent.null), lent.bits,
+                        memory.arrived.lend_theirs(lent.arrived, lent.null), lent.arrived);
     same<uint64_t>("number", expected.number, got.number);
     same_record(expected.record, got.record);
     compare_memories();
@@ -479,6 +494,7 @@ protected:
                        memory.calendar.lend_theirs(lent.calendar, lent.null), lent.calendar,
                        memory.vcs.lend_theirs(lent.vcs, lent.null), lent.vcs,
                        memory.bits.lend_theirs(lent.bits, lent.null), lent.bits,
+                       memory.arrived.lend_theirs(lent.arrived, lent.null), lent.arrived,
                        length == 0 && lent.null ? nullptr : cell, length);
     same("answer", expected.answer, got.answer);
     same_record(expected.record, got.record);
@@ -487,16 +503,78 @@ protected:
     record = got.record;
     count("slot", got.answer.number);
     never_3(got.answer.number);
-    if (got.answer.number == 0) tally(got.answer.verdict, got.answer.space);
+    if (got.answer.number == 0) last = got.answer, seen(got.record.t, got.answer), follow();
     if (!old || !fresh || got.answer.number == 2) return;
     uint8_t departed[53] = {};
+    std::optional<uint32_t> arrival;
     for (size_t k = 0; k < 53 && got.answer.space < n; ++k) departed[k] = memory.cells.get(size_t{53} * got.answer.space + k);
-    old->slot(cell, length, got.answer, departed);
+    if (got.answer.space < n) arrival = memory.arrived.get(got.answer.space);
+    old->slot(cell, length, got.answer, departed, arrival);
   }
-  void tally(uint16_t verdict, uint16_t space) {
-    if (verdict > 5) fail("a verdict above 5");
-    verdicts[verdict] += 1;
-    sent += space != none;
+  void seen(uint32_t t, const clurimoon_answer &a) {
+    if (a.verdict > 5) fail("a verdict above 5");
+    verdicts[a.verdict] += 1;
+    sent += a.space != none;
+    if (fresh) recount.slot(t, a.verdict, a.vci, a.out_vci);
+  }
+  // In a fresh state the tally of one connection takes each slot, and stays what is counted from the answers.
+  void follow() {
+    if (!fresh) return;
+    call_name = "tally_slot";
+    const Lent<uint32_t> arrived = memory.arrived.lend_ours(n);
+    const clurimoon_tallied expected = calls::tally_slot(recount.tallied, record, {arrived.at, n}, recount.followed, last.space, last.out_vci);
+    const clurimoon_tallied got =
+        clurimoon_tally_slot(recount.tallied, record, memory.arrived.lend_theirs(n, false), n, recount.followed, last.space, last.out_vci);
+    same_tallied(expected, got);
+    if (got.number != 0) fail("a tally was refused in a fresh state");
+    recount.tallied = got.tally;
+    recount.compare();
+    followed_sent += last.out_vci == recount.followed;
+    call_name = "slot";
+  }
+  void same_tallied(const clurimoon_tallied &expected, const clurimoon_tallied &got) {
+    same<uint64_t>("number", expected.number, got.number);
+    same_tally(expected.tally, got.tally);
+    memory.arrived.compare("arrival slots");
+  }
+
+  // A tally by chance, mostly of what the last slot sent.
+  uint16_t any_connection() {
+    if (random.percent(75)) return last.out_vci != 0 && random.once_in(2) ? last.out_vci : likely_connection();
+    return random.pick<uint16_t>({0, 1, static_cast<uint16_t>(v - 1), v, v, static_cast<uint16_t>(v + 1), static_cast<uint16_t>(v + 255),
+                                  static_cast<uint16_t>(v + 256), static_cast<uint16_t>(v + 256), static_cast<uint16_t>(v + 257), 65535, any_vci()});
+  }
+  void tally_slot() {
+    begin_call("tally_slot");
+    const clurimoon_tally tally = any_tally(random);
+    clurimoon_record asked = record;
+    if (random.once_in(25)) asked.n = random.pick<uint16_t>({0, 1025, 65535, static_cast<uint16_t>(n + 1)});
+    if (random.once_in(25)) asked.v = random.pick<uint16_t>({0, 1, 1025, 65535});
+    const uint16_t connection = any_connection(), any = static_cast<uint16_t>(random.next());
+    const uint16_t out = random.percent(70) ? connection : random.pick<uint16_t>({0, last.out_vci, any, static_cast<uint16_t>(connection + 1)});
+    uint16_t space = random.percent(60) && last.space < n ? last.space : static_cast<uint16_t>(random.below(n));
+    if (random.once_in(6)) space = random.pick<uint16_t>({static_cast<uint16_t>(n - 1), n, n, static_cast<uint16_t>(n + 1), 1024, none, any});
+    // The arrival slot is another for this call, now and then: at an edge of the bins, or anything.
+    const uint32_t kept = memory.arrived.get(space < n ? space : 0);
+    const bool another = random.once_in(3) && space < n;
+    if (another) memory.arrived.set(space, record.t - random.pick<uint32_t>({0, 1, 61, 62, 63, 64, 1023, UINT32_MAX, static_cast<uint32_t>(random.next())}));
+    const size_t lent = random.once_in(12) ? wrong_arrived() : n;
+    const Lent<uint32_t> arrived = memory.arrived.lend_ours(lent);
+    const clurimoon_tallied expected = calls::tally_slot(tally, asked, {arrived.at, lent}, connection, space, out);
+    const clurimoon_tallied got =
+        clurimoon_tally_slot(tally, asked, memory.arrived.lend_theirs(lent, random.once_in(2)), lent, connection, space, out);
+    same_tallied(expected, got);
+    count("tally_slot", got.number);
+    if (another) memory.arrived.set(space, kept);
+  }
+  void percentile() {
+    begin_call("percentile");
+    const clurimoon_tally tally = fresh && random.once_in(4) ? recount.tallied : any_tally(random);
+    const uint16_t share = any_share(tally, random);
+    const clurimoon_bin expected = calls::percentile(tally, share), got = clurimoon_percentile(tally, share);
+    same<uint64_t>("number", expected.number, got.number);
+    same<uint64_t>("bin", expected.bin, got.bin);
+    count("percentile", got.number);
   }
 
   void burst() {
@@ -521,20 +599,38 @@ protected:
           random.pick<size_t *>({&lent_arrivals, &lent_departures, &lent_answers, &lent_sizes});
       *which = *which == 0 || random.once_in(2) ? *which + 1 : *which - 1;
     }
-    const Lengths lent = usual_lengths();
+    Lengths lent = usual_lengths();
     const auto our_arrivals = arrivals.lend_ours(lent_arrivals), our_sizes = sizes.lend_ours(lent_sizes);
-    const clurimoon_burst_end expected = calls::burst(
-        record, lend_ours(lent), {our_arrivals.at, our_arrivals.length}, {our_sizes.at, our_sizes.length},
-        departures.lend_ours(lent_departures), answers.lend_ours(lent_answers));
-    const clurimoon_burst_end got = clurimoon_burst(
-        record, memory.cells.lend_theirs(lent.cells, lent.null), lent.cells,
-        memory.links.lend_theirs(lent.links, lent.null), lent.links,
-        memory.calendar.lend_theirs(lent.calendar, lent.null), lent.calendar,
-        memory.vcs.lend_theirs(lent.vcs, lent.null), lent.vcs,
-        memory.bits.lend_theirs(lent.bits, lent.null), lent.bits, arrivals.lend_theirs(lent_arrivals, lent.null),
-        lent_arrivals, sizes.lend_theirs(lent_sizes, lent.null), lent_sizes,
-        departures.lend_theirs(lent_departures, lent.null), lent_departures,
-        answers.lend_theirs(lent_answers, lent.null), lent_answers);
+    // With a tally, in a fresh state mostly that of the connection that is followed; else its count begins anew.
+    const bool tallies = random.once_in(2), followed = tallies && fresh && random.percent(70);
+    const clurimoon_tally tally = followed ? recount.tallied : any_tally(random);
+    const uint16_t connection = followed ? recount.followed : any_connection();
+    if (tallies && !followed && random.once_in(12)) lent.arrived = wrong_arrived();
+#define THEIRS                                                                                               \
+  record, memory.cells.lend_theirs(lent.cells, lent.null), lent.cells,                                       \
+      memory.links.lend_theirs(lent.links, lent.null), lent.links,                                           \
+      memory.calendar.lend_theirs(lent.calendar, lent.null), lent.calendar,                                  \
+      memory.vcs.lend_theirs(lent.vcs, lent.null), lent.vcs, memory.bits.lend_theirs(lent.bits, lent.null),  \
+      lent.bits, memory.arrived.lend_theirs(lent.arrived, lent.null), lent.arrived,                          \
+      arrivals.lend_theirs(lent_arrivals, lent.null), lent_arrivals, sizes.lend_theirs(lent_sizes, lent.null), \
+      lent_sizes, departures.lend_theirs(lent_departures, lent.null), lent_departures,                       \
+      answers.lend_theirs(lent_answers, lent.null), lent_answers
+#define OURS                                                                                                 \
+  record, lend_ours(lent), {our_arrivals.at, our_arrivals.length}, {our_sizes.at, our_sizes.length},         \
+      departures.lend_ours(lent_departures), answers.lend_ours(lent_answers)
+    clurimoon_burst_end expected{}, got{};
+    if (tallies) {
+      call_name = "burst_tallied";
+      const clurimoon_burst_tally ours = calls::burst_tallied(tally, connection, OURS);
+      const clurimoon_burst_tally theirs = clurimoon_burst_tallied(tally, connection, THEIRS);
+      expected = ours.end, got = theirs.end;
+      same_tally(ours.tally, theirs.tally);
+      if (followed) recount.tallied = theirs.tally;
+    } else {
+      expected = calls::burst(OURS), got = clurimoon_burst(THEIRS);
+    }
+#undef OURS
+#undef THEIRS
     same<uint64_t>("number", expected.number, got.number);
     same<uint64_t>("done", expected.done, got.done);
     same_record(expected.record, got.record);
@@ -542,17 +638,22 @@ protected:
     arrivals.compare("arrivals"), sizes.compare("sizes");
     departures.compare("departures"), answers.compare("answers");
     record = got.record;
-    count("burst", got.number);
-    never_3(got.number);
+    count(call_name, got.number);
+    if (!tallies || followed) never_3(got.number);
     burst_slots += got.done;
-    for (size_t k = 0; k < got.done; ++k) tally(answers.get(6 * k + 1), answers.get(6 * k + 4));
-    for (size_t k = 0; old && fresh && k < got.done; ++k) {
-      uint16_t six[6];
+    const uint64_t left = recount.left;
+    for (size_t k = 0; k < got.done; ++k) {
+      const clurimoon_answer answer = {answers.get(6 * k),     answers.get(6 * k + 1), answers.get(6 * k + 2),
+                                       answers.get(6 * k + 3), answers.get(6 * k + 4), answers.get(6 * k + 5)};
+      seen(static_cast<uint32_t>(got.record.t - (got.done - 1 - k)), answer);
+      last = answer;
+      if (!old || !fresh) continue;
       uint8_t cell[53], departed[53];
-      for (size_t i = 0; i < 6; ++i) six[i] = answers.get(6 * k + i);
       for (size_t i = 0; i < 53; ++i) cell[i] = arrivals.get(53 * k + i), departed[i] = departures.get(53 * k + i);
-      old->slot(cell, sizes.get(k), {six[0], six[1], six[2], six[3], six[4], six[5]}, departed);
+      old->slot(cell, sizes.get(k), answer, departed, std::nullopt);
     }
+    if (followed) recount.compare(), followed_sent_in_bursts += recount.left - left;
+    else if (fresh && got.done != 0) recount.begin(likely_connection());
   }
 
   void line() {
@@ -585,12 +686,13 @@ protected:
                                      memory.links.lend_theirs(lent.links, lent.null), lent.links,
                                      memory.calendar.lend_theirs(lent.calendar, lent.null), lent.calendar,
                                      memory.vcs.lend_theirs(lent.vcs, lent.null), lent.vcs,
-                                     memory.bits.lend_theirs(lent.bits, lent.null), lent.bits);
+                                     memory.bits.lend_theirs(lent.bits, lent.null), lent.bits,
+                                     memory.arrived.lend_theirs(lent.arrived, lent.null), lent.arrived);
     same<uint64_t>("yes", expected, got);
     compare_memories();
     const bool right = lent.cells == memory.cells.size() && lent.links == memory.links.size() &&
                        lent.calendar == memory.calendar.size() && lent.vcs == memory.vcs.size() &&
-                       lent.bits == memory.bits.size();
+                       lent.bits == memory.bits.size() && lent.arrived == memory.arrived.size();
     if (fresh && right && !got) fail("the audit says no in a fresh state");
     (got ? audits_yes : audits_no) += 1;
     met["audit"][0] += 1;
@@ -638,7 +740,8 @@ protected:
         asleep.links.lend_theirs(asleep.links.size(), false), asleep.links.size(),
         asleep.calendar.lend_theirs(asleep.calendar.size(), false), asleep.calendar.size(),
         asleep.vcs.lend_theirs(asleep.vcs.size(), false), asleep.vcs.size(),
-        asleep.bits.lend_theirs(asleep.bits.size(), false), asleep.bits.size(), arrivals.data(), arrivals.size(), sizes.data(),
+        asleep.bits.lend_theirs(asleep.bits.size(), false), asleep.bits.size(),
+        asleep.arrived.lend_theirs(asleep.arrived.size(), false), asleep.arrived.size(), arrivals.data(), arrivals.size(), sizes.data(),
         sizes.size(), departures.data(), departures.size(), answers.data(), answers.size());
     if (end.number != 0 || end.done != quiet) fail("an empty slot was refused in a sound state");
     size_t first = 0;
@@ -651,7 +754,9 @@ protected:
   void calls_for(uint64_t count) {
     for (; count > 0; --count) {
       const uint64_t kind = random.below(100);
-      if (kind < 60) slot();
+      if (kind < 55) slot();
+      else if (kind < 58) tally_slot();
+      else if (kind < 60) percentile();
       else if (kind < 66) next();
       else if (kind < 72) any_open();
       else if (kind < 78) close();

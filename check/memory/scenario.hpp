@@ -30,10 +30,11 @@ public:
 private:
   Memories kept;
   clurimoon_record kept_record{};
+  Recount kept_recount;
   bool kept_fresh = true;
 
-  void keep() { kept = memory, kept_record = record, kept_fresh = fresh; }
-  void restore() { memory = kept, record = kept_record, fresh = kept_fresh; }
+  void keep() { kept = memory, kept_record = record, kept_recount = recount, kept_fresh = fresh; }
+  void restore() { memory = kept, record = kept_record, recount = kept_recount, fresh = kept_fresh; }
 
   // A 16-bit number at an edge of something.
   uint16_t edge_number() {
@@ -142,7 +143,7 @@ private:
   void damage() {
     fresh = false;
     damages += 1;
-    switch (random.below(may_be_raw ? 37 : 35)) {
+    switch (random.below(may_be_raw ? 39 : 37)) {
     case 0: damage_record(); break;
     case 1: memory.links.set(likely_space(), edge_number()); break;
     case 2: memory.calendar.set(2 * likely_entry() + random.below(2), edge_number()); break;
@@ -179,8 +180,10 @@ private:
     // So far on that cells join the calendar's last words, or close the ring.
     case 33: record.T = static_cast<uint16_t>(n - random.between(1, std::min<uint64_t>(n, 60))); break;
     case 34: damage_splits(); break;
-    case 35: record.raw = random.pick<uint16_t>({0, 1, 1, 2, 256, 65535}); break;
-    case 36: record.mode = random.pick<uint16_t>({0, 1, 1, 2, 256, 65535}); break;
+    case 35: damage_arrived(); break;
+    case 36: shift_clock(); break;
+    case 37: record.raw = random.pick<uint16_t>({0, 1, 1, 2, 256, 65535}); break;
+    case 38: record.mode = random.pick<uint16_t>({0, 1, 1, 2, 256, 65535}); break;
     }
   }
   // Splits out of their ranges, or moved past a connection in use; an open or a close reads them, a slot doesn't.
@@ -343,6 +346,15 @@ private:
     record.t += by;
     for (size_t at = 0; at < memory.vcs.size(); at += words_per_connection)
       if (memory.vcs.get(at) == 1) memory.vcs.set(at + 5, memory.vcs.get(at + 5) + by);
+    for (size_t space = 0; space < n; ++space) memory.arrived.set(space, memory.arrived.get(space) + by);
+  }
+  // Arrival slots that hold anything: of the space that leaves next, or of all. They change no verdict, and the audit's yes stays.
+  void damage_arrived() {
+    const auto any = [&] {
+      return random.pick<uint32_t>({0, record.t, record.t + 1, record.t - 61, record.t - 62, record.t - 63, record.t - 64, UINT32_MAX, static_cast<uint32_t>(random.next())});
+    };
+    if (random.once_in(2)) return memory.arrived.set(likely_space(), any());
+    for (size_t space = 0; space < n; ++space) memory.arrived.set(space, any());
   }
   // T at the next marked entry: every chain is sound, but entry T isn't empty.
   void mark_entry_T() {

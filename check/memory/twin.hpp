@@ -105,7 +105,7 @@ inline void same_record(const clurimoon_record &expected, const clurimoon_record
 inline std::map<std::string, std::array<uint64_t, 17>> met;
 inline std::array<uint64_t, 6> verdicts;
 inline uint64_t sent, audits_yes, audits_no, parts_empty, parts_idle, parts_cell, burst_slots, damages, beside_old, other_spaces, walked_none, walked_some,
-    left_asleep, slots_asleep;
+    left_asleep, slots_asleep, followed_sent, followed_sent_in_bursts;
 
 inline void count(const char *call, unsigned number) {
   if (number > 16) fail("a number above 16");

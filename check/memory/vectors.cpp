@@ -3,8 +3,12 @@
 //
 //   vectors FILE
 //
+// With ALONE defined the second implementation is run by itself, and no archive is needed.
+//
 // A vector is some lines up to an empty one: `vector NAME CALL STATE`; the record, the lengths and what the memories hold
 // (spaces, connections and words of bits that aren't named are 0); `args`; `answer`; then `after same`, or `after` and the lines that have changed.
+// A tally of delays is a line of its own before the call, `tally`, and after it, `tally_after`: the number of cells, and the bins
+// that aren't 0. A percentile has a tally and no state.
 #include <cstdio>
 #include <cstdlib>
 #include <fstream>
@@ -31,8 +35,12 @@ struct State {
   std::vector<uint16_t> links, calendar;
   std::vector<uint32_t> vcs;
   std::vector<uint64_t> bits;
+  std::vector<uint32_t> arrived;
+  bool names_arrived = true; // a vector from before request (x) doesn't: there may be anything in them
+  clurimoon_tally tally{};
   calls::Memory lend() {
-    return {{cells.data(), cells.size()}, {links.data(), links.size()}, {calendar.data(), calendar.size()}, {vcs.data(), vcs.size()}, {bits.data(), bits.size()}};
+    return {{cells.data(), cells.size()}, {links.data(), links.size()},  {calendar.data(), calendar.size()},
+            {vcs.data(), vcs.size()},     {bits.data(), bits.size()},    {arrived.data(), arrived.size()}};
   }
 };
 
@@ -66,9 +74,10 @@ public:
     if (value > most) fail(key + " does not fit");
     return value;
   }
+  bool has(const std::string &key) const { return values.count(key) != 0; }
   uint16_t half(const std::string &key) { return static_cast<uint16_t>(number(key, UINT16_MAX)); }
   // A field that a vector from before request (xi) hasn't: there all connections are the second operator's.
-  uint16_t half_or(const std::string &key, uint16_t value) { return values.count(key) ? half(key) : value; }
+  uint16_t half_or(const std::string &key, uint16_t value) { return has(key) ? half(key) : value; }
   uint8_t octet(const std::string &key) { return static_cast<uint8_t>(number(key, UINT8_MAX)); }
   uint32_t word(const std::string &key) { return static_cast<uint32_t>(number(key, UINT32_MAX)); }
   void done() const {
@@ -119,8 +128,22 @@ clurimoon_record read_record(const std::string &line) {
   return f.done(), r;
 }
 
+// `number=` and the bins that aren't 0.
+clurimoon_tally read_tally(const std::string &line) {
+  clurimoon_tally tally{};
+  const size_t space = line.find(' ');
+  Fields number(line.substr(0, space));
+  tally.cells = number.number("number", UINT64_MAX), number.done();
+  std::vector<uint64_t> bins(CLURIMOON_BINS);
+  if (space != std::string::npos) place_parts(bins, line.substr(space + 1), 1, numbers<uint64_t>);
+  std::copy(bins.begin(), bins.end(), tally.bins);
+  return tally;
+}
+
 State read_state(Lines lines) {
   State state;
+  if (lines.count("tally")) state.tally = read_tally(lines["tally"]);
+  if (!lines.count("length")) return state;
   if (lines.count("rec")) state.record = read_record(lines["rec"]);
   Fields length(lines["length"]);
   state.cells.resize(length.word("cells")), state.vcs.resize(length.word("words"));
@@ -129,6 +152,9 @@ State read_state(Lines lines) {
   state.bits.resize(free_bits + entry_bits);
   state.links = numbers<uint16_t>(lines["links"]), state.calendar = numbers<uint16_t>(lines["calendar"]);
   if (state.links.size() != length.word("links") || state.calendar.size() != length.word("calendar")) fail("lengths");
+  state.arrived = numbers<uint32_t>(lines["arrivals"]), state.names_arrived = length.has("arrivals");
+  if (!state.names_arrived) state.arrived.resize(state.links.size());
+  else if (state.arrived.size() != length.word("arrivals")) fail("lengths");
   length.done();
   place_parts(state.cells, lines["cells"], 53, from_hex);
   place_parts(state.vcs, lines["words"], 12, numbers<uint32_t>);
@@ -146,18 +172,26 @@ template <class Word> void same_memory(const std::string &what, const std::vecto
       fail(what + "[" + std::to_string(k) + "]: expected " + std::to_string(expected[k]) + ", got " + std::to_string(got[k]));
 }
 
+// Where the second implementation is run by itself, no call of the archive is compiled.
+#ifdef ALONE
+#define BOTH(theirs, ours) (static_cast<void>(archive), ours)
+#else
+#define BOTH(theirs, ours) (archive ? theirs : ours)
+#endif
+
 // Makes the call, on one side or the other, and writes its answer as the file does.
 std::string make(bool archive, const std::string &call, const std::string &arguments, State &s) {
   Fields f(arguments);
   std::string answer;
-#define THEIRS s.cells.data(), s.cells.size(), s.links.data(), s.links.size(), s.calendar.data(), s.calendar.size(), s.vcs.data(), s.vcs.size(), s.bits.data(), s.bits.size()
+#define THEIRS s.cells.data(), s.cells.size(), s.links.data(), s.links.size(), s.calendar.data(), s.calendar.size(), s.vcs.data(), s.vcs.size(), s.bits.data(), s.bits.size(), s.arrived.data(), s.arrived.size()
+#define NAMED_WORDS s.record, s.vcs.data(), s.vcs.size()
   if (call == "setup") {
     const uint16_t n = f.half("N"), v = f.half("V");
     const bool raw = f.number("raw", 1) == 1;
     const uint16_t kind = f.half("kind");
     const calls::Splits splits = {f.half_or("split_vci", 1), f.half_or("split_path", 1)};
-    const clurimoon_set set = archive ? clurimoon_setup(n, v, raw, kind, splits.vci, splits.path, THEIRS)
-                                      : calls::setup(n, v, raw, kind, splits, s.lend());
+    const clurimoon_set set = BOTH(clurimoon_setup(n, v, raw, kind, splits.vci, splits.path, THEIRS),
+                                   calls::setup(n, v, raw, kind, splits, s.lend()));
     s.record = set.record;
     answer = "number=" + std::to_string(set.number);
   } else if (call == "open") {
@@ -167,36 +201,49 @@ std::string make(bool archive, const std::string &call, const std::string &argum
     r.m = f.octet("m"), r.f = f.word("F"), r.c = f.word("C");
     r.m2 = f.octet("m2"), r.f2 = f.word("F2"), r.c2 = f.word("C2"), r.tag = f.octet("flag");
     State once_more = s;
-    const auto theirs = path ? clurimoon_open_path : clurimoon_open_sustained;
-    const uint16_t number = archive ? theirs(s.record, s.vcs.data(), s.vcs.size(), owner, number_asked, r.m, r.f, r.c, r.m2, r.f2, r.c2, r.tag)
-                                    : calls::open(s.record, s.lend().vcs, {path, number_asked, owner}, r);
+    const calls::Name asked = {path, number_asked, owner};
+    const uint16_t number = BOTH((path ? clurimoon_open_path : clurimoon_open_sustained)(NAMED_WORDS, owner, number_asked, r.m, r.f, r.c, r.m2, r.f2, r.c2, r.tag),
+                                 calls::open(s.record, s.lend().vcs, asked, r));
     if (archive && !path && r.m2 == 0 && r.f2 == 0 && r.c2 == 0 && r.tag == 0) {
-      const uint16_t plain = clurimoon_open(once_more.record, once_more.vcs.data(), once_more.vcs.size(), owner, number_asked, r.m, r.f, r.c);
+      std::swap(s, once_more);
+      const uint16_t plain = BOTH(clurimoon_open(NAMED_WORDS, owner, number_asked, r.m, r.f, r.c), number);
       if (plain != number || once_more.vcs != s.vcs) fail("open differs from open_sustained with zeros");
     }
     answer = "number=" + std::to_string(number);
   } else if (call == "close") {
     const bool path = f.number("path", 1) == 1;
     const uint16_t number_asked = f.half("number"), owner = f.half_or("op", 1);
-    const auto theirs = path ? clurimoon_close_path : clurimoon_close;
-    answer = "number=" + std::to_string(archive ? theirs(s.record, s.vcs.data(), s.vcs.size(), owner, number_asked)
-                                                : calls::close(s.record, s.lend().vcs, {path, number_asked, owner}));
+    const calls::Name asked = {path, number_asked, owner};
+    answer = "number=" + std::to_string(BOTH((path ? clurimoon_close_path : clurimoon_close)(NAMED_WORDS, owner, number_asked),
+                                             calls::close(s.record, s.lend().vcs, asked)));
   } else if (call == "slot") {
     const std::string digits = f.text("cell");
     const std::vector<uint8_t> cell = from_hex(digits == "-" ? "" : digits), before = cell;
-    const clurimoon_served served = archive ? clurimoon_slot(s.record, THEIRS, cell.data(), cell.size())
-                                            : calls::slot(s.record, s.lend(), {cell.data(), cell.size()});
+    const calls::Lent<const uint8_t> arriving = {cell.data(), cell.size()};
+    const clurimoon_served served = BOTH(clurimoon_slot(s.record, THEIRS, cell.data(), cell.size()), calls::slot(s.record, s.lend(), arriving));
     s.record = served.record;
     const clurimoon_answer &a = served.answer;
     if (cell != before) fail("the arriving cell was written");
     answer = "number=" + std::to_string(a.number) + " verdict=" + std::to_string(a.verdict) + " vci=" + std::to_string(a.vci) +
              " d=" + std::to_string(a.d) + " space=" + std::to_string(a.space) + " out=" + std::to_string(a.out_vci);
   } else if (call == "next") {
-    const clurimoon_wait wait = archive ? clurimoon_next(s.record, s.calendar.data(), s.calendar.size(), s.bits.data(), s.bits.size())
-                                        : calls::next(s.record, {s.calendar.data(), s.calendar.size()}, {s.bits.data(), s.bits.size()});
+    const calls::Lent<const uint16_t> calendar = {s.calendar.data(), s.calendar.size()};
+    const calls::Lent<const uint64_t> bits = {s.bits.data(), s.bits.size()};
+    const clurimoon_wait wait = BOTH(clurimoon_next(s.record, calendar.at, calendar.length, bits.at, bits.length), calls::next(s.record, calendar, bits));
     answer = "number=" + std::to_string(wait.number) + " slots=" + std::to_string(wait.slots);
   } else if (call == "audit") {
-    answer = std::string("yes=") + ((archive ? clurimoon_audit(s.record, THEIRS) : calls::audit(s.record, s.lend())) ? "1" : "0");
+    answer = std::string("yes=") + (BOTH(clurimoon_audit(s.record, THEIRS), calls::audit(s.record, s.lend())) ? "1" : "0");
+  } else if (call == "tally") {
+    const uint16_t named = f.half("named"), space = f.half("space"), out = f.half("out");
+    const calls::Lent<const uint32_t> arrived = {s.arrived.data(), s.arrived.size()};
+    const clurimoon_tallied tallied = BOTH(clurimoon_tally_slot(s.tally, s.record, arrived.at, arrived.length, named, space, out),
+                                           calls::tally_slot(s.tally, s.record, arrived, named, space, out));
+    s.tally = tallied.tally;
+    answer = "number=" + std::to_string(tallied.number);
+  } else if (call == "percentile") {
+    const uint16_t share = f.half("share");
+    const clurimoon_bin bin = BOTH(clurimoon_percentile(s.tally, share), calls::percentile(s.tally, share));
+    answer = "number=" + std::to_string(bin.number) + " bin=" + std::to_string(bin.bin);
   } else {
     fail("no such call: " + call);
   }
@@ -215,6 +262,10 @@ void run(bool archive, const std::string &call, const Lines &before, const Lines
   same_memory(who + ": calendar", expected.calendar, state.calendar);
   same_memory(who + ": VC words", expected.vcs, state.vcs);
   same_memory(who + ": bits", expected.bits, state.bits);
+  if (expected.names_arrived) same_memory(who + ": arrival slots", expected.arrived, state.arrived);
+  if (expected.tally.cells != state.tally.cells) fail(who + ": another number of cells in the tally");
+  same_memory(who + ": bins", std::vector<uint64_t>(expected.tally.bins, expected.tally.bins + CLURIMOON_BINS),
+              std::vector<uint64_t>(state.tally.bins, state.tally.bins + CLURIMOON_BINS));
 }
 
 } // namespace
@@ -238,16 +289,28 @@ int main(int count, char **arguments) {
       } else if (key == "after") {
         changed = true, after = before;
         if (rest != "" && rest != "same") fail("after what?");
+      } else if (key == "tally") {
+        before[key] = after[key] = rest;
+      } else if (key == "tally_after") {
+        if (rest != "same") after["tally"] = rest;
       } else {
         (changed ? after : before)[key] = rest;
       }
     }
+    if (!changed && call == "percentile") after = before, changed = true; // it has no state
     if (!changed) fail("it has no end");
     run(false, call, before, after);
+#ifndef ALONE
     run(true, call, before, after);
+#endif
     vectors += 1, numbers_met[call + " " + before["answer"].substr(0, before["answer"].find(' '))] += 1;
   }
-  std::printf("vectors: %u calls from %s, archive and second implementation:", vectors, arguments[1]);
+#ifdef ALONE
+  const char *const who = "second implementation";
+#else
+  const char *const who = "archive and second implementation";
+#endif
+  std::printf("vectors: %u calls from %s, %s:", vectors, arguments[1], who);
   for (const auto &[what, times] : numbers_met) std::printf(" %s (%u)", what.c_str(), times);
   std::printf("\n");
   return vectors == 0;

@@ -39,7 +39,7 @@ const char *const wanted[] = {
     "A: accepted", "A: excess", "A: unknown", "A: tagged", "A: a VC's cell", "A: a path's cell", "A: D above 0", "A: D of N-1",
     "B: open 0", "B: open 5", "B: open 16 on A's", "B: close 0", "B: close 16 on A's", "B: a cell of B's let in", "B: unknown", "B: mended", "B: dropped",
     "differs: departure slot", "differs: departure slot by N-1", "differs: space", "differs: close of A, by a waiting cell", "differs: next departure",
-    "differs: free spaces", "differs: mode", "pairs to their end"};
+    "differs: free spaces", "differs: mode", "differs: delay summary", "same: delay summary", "pairs to their end"};
 void meet(const std::string &what) { met[what] += 1; }
 
 struct Rates {
@@ -88,12 +88,12 @@ struct Gone {
   Cell cell;
 };
 
-#define LENT cells.data(), cells.size(), links.data(), links.size(), calendar.data(), calendar.size(), words.data(), words.size(), bits.data(), bits.size()
+#define LENT cells.data(), cells.size(), links.data(), links.size(), calendar.data(), calendar.size(), words.data(), words.size(), bits.data(), bits.size(), arrived.data(), arrived.size()
 // One run: its own record, memories, and what left of A's connections.
 class Card {
 public:
   Card(const Setup &setup, uint64_t seed)
-      : s(setup), random(seed), cells(size_t{53} * s.n), links(s.n), calendar(size_t{2} * s.n), words(CLURIMOON_VCS(s.v)), bits(CLURIMOON_BITS) {
+      : s(setup), random(seed), cells(size_t{53} * s.n), links(s.n), calendar(size_t{2} * s.n), words(CLURIMOON_VCS(s.v)), bits(CLURIMOON_BITS), arrived(s.n) {
     const clurimoon_set set = clurimoon_setup(s.n, s.v, s.raw, s.kind, s.split_vci, s.split_path, LENT);
     if (set.number != 0) fail("setup");
     record = set.record;
@@ -105,8 +105,11 @@ public:
   std::vector<uint16_t> links, calendar;
   std::vector<uint32_t> words;
   std::vector<uint64_t> bits;
+  std::vector<uint32_t> arrived;
   std::map<unsigned, std::vector<Gone>> gone;     // by A's connection
   std::map<unsigned, std::vector<uint64_t>> dues; // the due slot of each cell of A's that was let in
+  std::map<unsigned, std::vector<uint64_t>> came; // and the slot of its arrival
+  std::map<unsigned, clurimoon_tally> delays;     // the delay summary of each connection of A's
   uint64_t slots = 0;
 
   uint16_t call(uint16_t owner, const Ask &ask) {
@@ -123,7 +126,7 @@ public:
     if (a.number != 0) fail("a slot was refused from a fresh state");
     record = served.record;
     if (a.space != CLURIMOON_NONE && s.of_a(a.out_vci)) leave(a);
-    if ((a.verdict == CLURIMOON_ACCEPTED || a.verdict == CLURIMOON_TAGGED) && s.of_a(a.vci)) dues[a.vci].push_back(slots + a.d);
+    if ((a.verdict == CLURIMOON_ACCEPTED || a.verdict == CLURIMOON_TAGGED) && s.of_a(a.vci)) dues[a.vci].push_back(slots + a.d), came[a.vci].push_back(slots);
     slots += 1, slots_run += 1;
     return a;
   }
@@ -149,6 +152,10 @@ private:
     Gone g{slots, a.space, {}};
     std::copy_n(cells.begin() + 53 * a.space, 53, g.cell.begin());
     gone[a.out_vci].push_back(g);
+    clurimoon_tally &tally = delays[a.out_vci];
+    const clurimoon_tallied tallied = clurimoon_tally_slot(tally, record, arrived.data(), arrived.size(), a.out_vci, a.space, a.out_vci);
+    if (tallied.number != 0) fail("a tally was refused from a fresh state");
+    tally = tallied.tally;
   }
 };
 
@@ -344,6 +351,18 @@ private:
         if (apart != 0 && apart == s.n - 1u) meet("differs: departure slot by N-1");
         if (first[k].space != second[k].space) meet("differs: space");
       }
+    }
+    for (Card *card : {&one, &two}) recounted(*card);
+    for (const auto &[connection, tally] : one.delays)
+      meet(std::equal(tally.bins, tally.bins + CLURIMOON_BINS, two.delays[connection].bins) ? "same: delay summary" : "differs: delay summary");
+  }
+  // Each delay summary is what is counted from the run: the k-th cell of a connection that was let in is the k-th of it to leave.
+  void recounted(Card &card) const {
+    for (const auto &[connection, cells] : card.gone) {
+      clurimoon_tally counted{};
+      for (size_t k = 0; k < cells.size(); ++k) counted.bins[std::min<uint64_t>(cells[k].slot - card.came[connection][k], CLURIMOON_BINS - 1)] += 1;
+      const clurimoon_tally &tally = card.delays[connection];
+      if (tally.cells != cells.size() || !std::equal(tally.bins, tally.bins + CLURIMOON_BINS, counted.bins)) fail("a delay summary is not what was counted");
     }
   }
 };
