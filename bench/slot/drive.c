@@ -1,15 +1,16 @@
 /*
  * Drives the forms of the slot path through the same traffic.
  *
- *   drive count FORM N V LOAD SLOTS [sustained|paths]
+ *   drive count FORM N V LOAD SLOTS [TRAFFIC]
  *                                        one form, for callgrind; prints a sum over answers, departures and memory
- *   drive time N V LOAD SLOTS REPEATS [sustained|paths]
+ *   drive time N V LOAD SLOTS REPEATS [TRAFFIC]
  *                                        all forms in turns; fails where the sums differ before or after; prints for each
  *                                        form the median, the least and the quartiles of nanoseconds a slot, and the
  *                                        median over the rounds of the archive's time to the C's
  *
- * LOAD is in percent. SLOTS is a multiple of 64, the length of a burst. With `sustained` every second VC has a second
- * bucket; with `paths` the line is an NNI, and one path carries half of the cells.
+ * LOAD is in percent. SLOTS is a multiple of 64, the length of a burst. TRAFFIC is plain, sustained (every second VC has a
+ * second bucket), paths (the line is an NNI, and one path carries half of the cells), raw (the header check comes in front),
+ * storm, unknown or empty; plain where it is left out.
  */
 #define _POSIX_C_SOURCE 199309L
 #include <stdio.h>
@@ -23,6 +24,7 @@
 enum { block = 64, forms = 6, most_repeats = 1001 };
 static const char *const names[forms] = {"trusting_slot",  "checking_slot",  "clurimoon_slot",
                                          "trusting_burst", "checking_burst", "clurimoon_burst"};
+static const char *const kind_names[kinds] = {"plain", "sustained", "paths", "raw", "storm", "unknown", "empty"};
 
 /* A policer of its own for each form: record, memories and what its bursts give back. */
 typedef struct {
@@ -58,7 +60,7 @@ static uint32_t capped(contract k) {
 static void begin(policer *p) {
   p->lent = (lent_memory){p->cells, p->links, p->calendar, p->vcs, p->bits, p->arrived, 53 * n, n, 2 * n, CLURIMOON_VCS(v), CLURIMOON_BITS, n};
   const clurimoon_set set =
-      clurimoon_setup((uint16_t)n, (uint16_t)v, false, kind == with_path ? CLURIMOON_NNI : CLURIMOON_UNI, 1, 1, p->cells, 53 * n,
+      clurimoon_setup((uint16_t)n, (uint16_t)v, kind == raw_line, kind == with_path ? CLURIMOON_NNI : CLURIMOON_UNI, 1, 1, p->cells, 53 * n,
                       p->links, n, p->calendar, 2 * n, p->vcs, CLURIMOON_VCS(v), p->bits, CLURIMOON_BITS, p->arrived, n);
   if (set.number != 0) fail("setup");
   p->record = set.record;
@@ -148,15 +150,15 @@ static void tally(const policer *p) {
     if (a[3] > worst) worst = a[3];
   }
   const double part = 100.0 / (double)slots;
-  printf("of 100 slots: cells %.1f, accepted %.1f and tagged %.1f (D above 0: %.1f, greatest %lu), excess %.1f, unknown %.1f, sent %.1f, of the path %.1f\n",
+  printf("of 100 slots: cells %.1f, accepted %.1f and tagged %.1f (D above 0: %.1f, greatest %lu), excess %.1f, unknown %.1f, dropped %.2f, sent %.1f, of the path %.1f\n",
          busy * part, verdicts[1] * part, verdicts[5] * part, delayed * part, worst, verdicts[2] * part, verdicts[3] * part,
-         sent * part, of_path * part);
+         verdicts[4] * part, sent * part, of_path * part);
 }
 
-static int form_of(const char *name) {
-  for (int form = 0; form < forms; ++form)
-    if (strcmp(names[form], name) == 0) return form;
-  fail("no such form");
+static unsigned place_of(const char *name, const char *const *all, unsigned count) {
+  for (unsigned place = 0; place < count; ++place)
+    if (strcmp(all[place], name) == 0) return place;
+  fprintf(stderr, "%s: ", name), fail("no such form or traffic");
   return 0;
 }
 
@@ -210,11 +212,10 @@ static void time_all(unsigned repeats) {
 }
 
 int main(int count, char **arguments) {
-  kind = count != 8 ? plain : strcmp(arguments[7], "sustained") == 0 ? sustained : strcmp(arguments[7], "paths") == 0 ? with_path : plain;
-  count -= kind != plain;
-  const int counting = count == 7 && strcmp(arguments[1], "count") == 0;
-  if (!counting && !(count == 7 && strcmp(arguments[1], "time") == 0))
-    return fprintf(stderr, "drive count FORM N V LOAD SLOTS [sustained|paths] | drive time N V LOAD SLOTS REPEATS [sustained|paths]\n"), 2;
+  const int counting = count > 1 && strcmp(arguments[1], "count") == 0;
+  if ((count != 7 && count != 8) || (!counting && strcmp(arguments[1], "time") != 0))
+    return fprintf(stderr, "drive count FORM N V LOAD SLOTS [TRAFFIC] | drive time N V LOAD SLOTS REPEATS [TRAFFIC]\n"), 2;
+  if (count == 8) kind = (traffic)place_of(arguments[7], kind_names, kinds);
   char **sizes_of = arguments + (counting ? 3 : 2);
   n = (unsigned)atoi(sizes_of[0]), v = (unsigned)atoi(sizes_of[1]), load = (unsigned)atoi(sizes_of[2]);
   slots = (size_t)atol(sizes_of[3]);
@@ -222,7 +223,7 @@ int main(int count, char **arguments) {
   sizes = room(slots), arrivals = room(53 * slots);
   make_traffic(v, load, kind, slots, sizes, arrivals);
   if (counting) {
-    const int form = form_of(arguments[2]);
+    const unsigned form = place_of(arguments[2], names, forms);
     policer *p = policers + form;
     show_cells = 1;
     begin(p), serve_by[form](p);

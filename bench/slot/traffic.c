@@ -12,17 +12,24 @@
  *
  * With a path: the line is an NNI; the cells of the same second VCs come on one path instead, with their VCIs, about half
  * of all. The path has three fifths of the line for its peak.
+ *
+ * The others are made of the plain traffic, slot by slot, when that is there. Raw: each cell gets its octet 5, each empty slot
+ * an idle cell, and one header in 10,000 a wrong bit. Storm: of the cells three tenths are plain; the others are of one VC
+ * more, whose peak is a tenth of the line. Unknown: each cell gets the header of an unknown one. Empty: nothing is left.
  */
 #include "traffic.h"
 
-#include <stdlib.h>
+#include <string.h>
+
+#include "clurimoon.h"
 
 /* m, the peak rate relative to the others, the tolerance in slots. */
 static const struct {
   unsigned m, weight, tolerance;
 } classes[8] = {{0, 1, 75}, {2, 2, 40}, {4, 4, 75}, {6, 1, 20}, {8, 8, 60}, {3, 2, 75}, {5, 1, 10}, {12, 3, 50}};
 
-enum { closed_each = 16, greedy_each = 13, booked = 2, part = 1024, longest = 32, patience = 256, slower = 2, burst = 3 };
+enum { closed_each = 16, greedy_each = 13, booked = 2, part = 1024, longest = 32, patience = 256, slower = 2, burst = 3,
+       plain_in_ten = 3, wrong_each = 10000 };
 
 static int is_open(unsigned vci) { return vci != 0 && vci % closed_each != closed_each - 1; }
 
@@ -44,6 +51,7 @@ static int is_second(unsigned vci) { return vci / 8 % 2 == 1; }
 contract contract_of_path(void) { return (contract){1, 4, 27, 27 + (75 << 4), 0, 0, 0, 0}; }
 
 contract contract_of(unsigned vci, unsigned v, traffic kind) {
+  if (kind == with_storm && vci == the_storm) return (contract){1, 4, 160, 160 + (75 << 4), 0, 0, 0, 0};
   contract k = {is_open(vci) && !(kind == with_path && is_second(vci)), (uint8_t)classes[vci % 8].m, 0, 0, 0, 0, 0, 0};
   if (!k.open) return k;
   k.f = (uint32_t)((interval_of(vci, weights(v)) << k.m) / part);
@@ -119,17 +127,45 @@ static unsigned other_vpi(traffic kind) {
   return kind == with_path && vpi == the_path ? vpi + 1 : vpi;
 }
 
-static void make_cell(uint8_t *cell, unsigned vci, unsigned v, traffic kind) {
-  for (unsigned octet = 0; octet < 53; ++octet) cell[octet] = (uint8_t)drawn(256);
-  const unsigned chance = drawn(100);
-  if (chance == 0) put_header(cell, 0, 0, kind);
-  else if (chance > 1) put_header(cell, kind == with_path && is_second(vci) ? the_path : 0, vci, kind);
-  else if (drawn(3) == 0) put_header(cell, other_vpi(kind), vci, kind);
+static void make_unknown(uint8_t *cell, unsigned vci, unsigned v, traffic kind) {
+  if (drawn(3) == 0) put_header(cell, other_vpi(kind), vci, kind);
   else if (drawn(2) == 0) put_header(cell, 0, v + drawn(65536 - v), kind);
   else put_header(cell, 0, drawn(v / closed_each) * closed_each + closed_each - 1, kind);
 }
 
-void make_traffic(unsigned v, unsigned load, traffic kind, size_t slots, uint8_t *sizes, uint8_t *arrivals) {
+static void draw_octets(uint8_t *cell) {
+  for (unsigned octet = 0; octet < 53; ++octet) cell[octet] = (uint8_t)drawn(256);
+}
+
+static void make_cell(uint8_t *cell, unsigned vci, unsigned v, traffic kind) {
+  draw_octets(cell);
+  const unsigned chance = drawn(100);
+  if (chance == 0) put_header(cell, 0, 0, kind);
+  else if (chance > 1) put_header(cell, kind == with_path && is_second(vci) ? the_path : 0, vci, kind);
+  else make_unknown(cell, vci, v, kind);
+}
+
+static void make_raw(uint8_t *cell, uint8_t *size) {
+  if (*size == 0) {
+    memset(cell, 0x6a, 53);
+    clurimoon_put_header(cell, 0, 0, 0, 1);
+  }
+  *size = 53;
+  clurimoon_put_hec(cell);
+  if (drawn(wrong_each) != 0) return;
+  const unsigned bit = drawn(40);
+  cell[bit / 8] ^= (uint8_t)(128 >> bit % 8);
+}
+
+/* The storm takes so much of what the others leave that all together are the load. */
+static void make_storm(uint8_t *cell, uint8_t *size, unsigned load) {
+  if (*size != 0 || drawn(1000 - plain_in_ten * load) >= (10 - plain_in_ten) * load) return;
+  *size = 53;
+  draw_octets(cell);
+  put_header(cell, 0, the_storm, with_storm);
+}
+
+static void make_plain(unsigned v, unsigned load, traffic kind, size_t slots, uint8_t *sizes, uint8_t *arrivals) {
   const unsigned sum = weights(v);
   state = 1992, sources = 0;
   for (unsigned vci = 1; vci < v; ++vci) {
@@ -149,5 +185,16 @@ void make_traffic(unsigned v, unsigned load, traffic kind, size_t slots, uint8_t
     make_cell(arrivals + 53 * k, heap[0].vci, v, kind);
     if (kind == sustained) arrivals[53 * k + 3] = (uint8_t)((arrivals[53 * k + 3] & 254) | (arrivals[53 * k + 52] < 26));
     advance(heap, load, sum), sink(0);
+  }
+}
+
+void make_traffic(unsigned v, unsigned load, traffic kind, size_t slots, uint8_t *sizes, uint8_t *arrivals) {
+  make_plain(v, kind == with_storm ? load * plain_in_ten / 10 : load, kind, slots, sizes, arrivals);
+  for (size_t k = 0; k < slots; ++k) {
+    uint8_t *cell = arrivals + 53 * k;
+    if (kind == raw_line) make_raw(cell, sizes + k);
+    if (kind == with_storm) make_storm(cell, sizes + k, load);
+    if (kind == all_unknown && sizes[k] != 0) make_unknown(cell, 1 + drawn(v - 1), v, kind);
+    if (kind == all_empty) sizes[k] = 0;
   }
 }
