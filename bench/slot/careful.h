@@ -52,6 +52,15 @@ static bool careful(clurimoon_record *r, uint8_t *cells, u16 *links, u16 *calend
   u32 free = r->free, out_head = r->out_head, out_tail = r->out_tail;
   u32 verdict = CLURIMOON_NOTHING, d = 0, seen = 0, sent = 0;
 
+  /* The header check: a dropped cell is none for what follows. */
+  uint8_t held[53];
+  u16 mode = r->mode;
+  if (cell_length != 0 && r->raw != 0) {
+    if (r->raw > 1 || mode > 1) return false;
+    cell = checked(&mode, cell, held);
+    if (cell == NULL) cell_length = 0, verdict = CLURIMOON_DROPPED;
+  }
+
   /* Step 2: the VC or path whose turn it is, and its S afterwards. */
   u32 *turn = NULL, turn_s = 0, turn_second = 0;
   if (rotation != 0 && rotation != v) {
@@ -138,7 +147,7 @@ static bool careful(clurimoon_record *r, uint8_t *cells, u16 *links, u16 *calend
   if (head != none) calendar[2 * T] = calendar[2 * T + 1] = (uint16_t)none, unmark(bits, T);
   if (follows != none) links[follows] = (uint16_t)head;
   if (left) left[w_waiting] -= 1, give_space(bits, y);
-  r->t = t, r->T = (u16)T, r->rotation = (u16)rotation;
+  r->t = t, r->T = (u16)T, r->rotation = (u16)rotation, r->mode = mode;
   r->free = (u16)free, r->out_head = (u16)out_head, r->out_tail = (u16)out_tail;
   *answer = (clurimoon_answer){0, (u16)verdict, (u16)seen, (u16)d, (u16)y, (u16)sent};
   return true;

@@ -1,6 +1,7 @@
 /* The slot path with every test of refusals 1, 2, 9 and 3 before any write. The likely ways through a slot are written
    out, each with its tests first and its writes last. What is unfit or odd (lists that share spaces, a space queued and free)
-   leaves them before any write, and careful.h serves that slot or refuses it.
+   leaves them before any write, and careful.h serves that slot or refuses it. So does a cell of a raw policer whose header
+   is wrong, and the next one, in detection: what is left is a clean header, which the check neither changes nor is changed by.
 
    Throughout, T is below N, rotation below V + 256 and the line kind 0 or 1; the Output List's head and tail are both below
    N or both 65,535. In a burst the words of free spaces fit as well: the ones are counted when it begins, and each slot keeps
@@ -160,6 +161,7 @@ inlined bool arrive(policer *p, plan *a, size_t size, given to) {
   a->kind = nothing;
   if (size == 0) return finish(p, a, to);
   if (unlikely(size != 53)) return false;
+  if (p->record ? unlikely(!passes(p->record, a->cell)) : p->raw && unlikely(!is_clean(a->cell))) return false;
   const index_t number = number_of(a->name = name_of(a->cell, p->mask), p->v);
   a->d = 0, a->met = NULL, a->kind = away;
   u32 *vc = vcs(p) + words * number, room;
@@ -269,31 +271,26 @@ static __attribute__((noinline, cold)) burst_end odd_slots(clurimoon_record *r, 
   return (burst_end){k, 0};
 }
 
-exported burst_end checking_burst(clurimoon_record *restrict r, const lent_memory *lent, const lent_burst *b) {
-  const size_t slots = b->sizes_length;
-  const u16 number = refusal_of(r->n, r->v, lent);
-  if (unlikely(number != 0)) return (burst_end){0, number};
-  if (unlikely(b->arrivals_length != 53 * slots || b->departures_length != 53 * slots || b->answers_length != 6 * slots))
-    return (burst_end){0, 2};
-  if (unlikely(r->T >= r->n || r->rotation >= r->v + paths || r->kind > 1 || !spaces_fit(lent->bits, r->n, r->free) ||
-               bad_pair(r->out_head, r->out_tail, r->n)))
-    return odd_slots(r, lent, b, 0, slots);
-  policer p = {.n = r->n, .v = r->v, .record = NULL, .mask = mask_of(r->kind), .kept_cells = lent->cells, .kept_links = lent->links,
-               .kept_calendar = lent->calendar, .kept_vcs = lent->vcs, .kept_bits = lent->bits,
+/* In a burst of a raw policer the mode is correction but in odd slots. */
+inlined burst_end burst_of(clurimoon_record *restrict r, const lent_memory *lent, const lent_burst *b, bool raw) {
+  policer p = {.n = r->n, .v = r->v, .record = NULL, .raw = raw, .mask = mask_of(r->kind), .kept_cells = lent->cells,
+               .kept_links = lent->links, .kept_calendar = lent->calendar, .kept_vcs = lent->vcs, .kept_bits = lent->bits,
                .kept_arrived = lent->arrived};
   take(&p, r);
-  const uint8_t *cell = b->arrivals, *size = b->sizes, *const end = size + slots;
+  const uint8_t *cell = b->arrivals, *size = b->sizes, *const end = size + b->sizes_length;
   given to = {b->answers, b->departures, true};
   while (size != end) {
     const uint8_t *const from = size, *const stop = size + begin_run(&p, (size_t)(end - size));
-    for (; size != stop; ++size, cell += 53, to.answer += 6, to.departure += 53, p.entry += 2, p.turn += words) {
-      p.t += 1;
-      if (unlikely(!serve(&p, cell, *size, to))) break;
-    }
+    if (!raw || likely(r->mode == CLURIMOON_CORRECTION))
+      for (; size != stop; ++size, cell += 53, to.answer += 6, to.departure += 53, p.entry += 2, p.turn += words) {
+        p.t += 1;
+        if (likely(serve(&p, cell, *size, to))) continue;
+        p.t -= 1;
+        break;
+      }
     end_run(&p, (index_t)(size - from));
     if (likely(size == stop)) continue;
     /* one slot by itself, from the record before it */
-    p.t -= 1;
     give(&p, r);
     const size_t k = (size_t)(size - b->sizes);
     const burst_end ended = odd_slots(r, lent, b, k, k + 1);
@@ -302,5 +299,17 @@ exported burst_end checking_burst(clurimoon_record *restrict r, const lent_memor
     ++size, cell += 53, to.answer += 6, to.departure += 53;
   }
   give(&p, r);
-  return (burst_end){slots, 0};
+  return (burst_end){b->sizes_length, 0};
+}
+
+exported burst_end checking_burst(clurimoon_record *restrict r, const lent_memory *lent, const lent_burst *b) {
+  const size_t slots = b->sizes_length;
+  const u16 number = refusal_of(r->n, r->v, lent);
+  if (unlikely(number != 0)) return (burst_end){0, number};
+  if (unlikely(b->arrivals_length != 53 * slots || b->departures_length != 53 * slots || b->answers_length != 6 * slots))
+    return (burst_end){0, 2};
+  if (unlikely(r->T >= r->n || r->rotation >= r->v + paths || r->kind > 1 || r->raw > 1 || !spaces_fit(lent->bits, r->n, r->free) ||
+               bad_pair(r->out_head, r->out_tail, r->n)))
+    return odd_slots(r, lent, b, 0, slots);
+  return r->raw == 0 ? burst_of(r, lent, b, false) : burst_of(r, lent, b, true);
 }

@@ -83,8 +83,8 @@ inlined void copy_cell(uint8_t *to, const uint8_t *from) {
   memcpy(to + 45, &last, 8);
 }
 
-/* Octet 5 of a tagged cell, by a table for each of the four octets: a path's cell has any VCI. Each table has what its
-   octet's bits leave, added up; the first has 01010101 besides. */
+/* Octet 5, by a table for each of the four octets: a path's cell has any VCI. Each table has what its octet's bits leave,
+   added up; the first has 01010101 besides. */
 #define BIT(b, k, rest) ((b) >> (k)&1 ? (rest) : 0)
 #define OF(b, r0, r1, r2, r3, r4, r5, r6, r7)                                                                          \
   (uint8_t)(BIT(b, 0, r0) ^ BIT(b, 1, r1) ^ BIT(b, 2, r2) ^ BIT(b, 3, r3) ^ BIT(b, 4, r4) ^ BIT(b, 5, r5) ^ BIT(b, 6, r6) ^ \
@@ -97,12 +97,36 @@ inlined void copy_cell(uint8_t *to, const uint8_t *from) {
 #define ROW(of, b) FOUR(of, b), FOUR(of, (b) + 4), FOUR(of, (b) + 8), FOUR(of, (b) + 12)
 #define ROWS(of, b) ROW(of, b), ROW(of, (b) + 16), ROW(of, (b) + 32), ROW(of, (b) + 48)
 #define ALL(of) {ROWS(of, 0), ROWS(of, 64), ROWS(of, 128), ROWS(of, 192)}
-static const uint8_t of_1[256] = ALL(OF_1), of_2[256] = ALL(OF_2), of_3[256] = ALL(OF_3), of_4[256] = ALL(OF_4);
+static const uint8_t rest[4][256] = {ALL(OF_1), ALL(OF_2), ALL(OF_3), ALL(OF_4)};
+inlined uint8_t octet_5(const uint8_t *cell, uint8_t octet_4) {
+  return rest[0][cell[0]] ^ rest[1][cell[1]] ^ rest[2][cell[2]] ^ rest[3][octet_4];
+}
 inlined bool clp_0(const uint8_t *cell) { return (cell[3] & 1) == 0; }
 /* Tags what was copied from `cell`. */
 inlined void tag(uint8_t *to, const uint8_t *cell) {
   const uint8_t octet_4 = cell[3] | 1;
-  to[3] = octet_4, to[4] = of_1[cell[0]] ^ of_2[cell[1]] ^ of_3[cell[2]] ^ of_4[octet_4];
+  to[3] = octet_4, to[4] = octet_5(cell, octet_4);
+}
+
+/* The header check. A clean header in correction changes nothing; that is the likely way, for a slot by itself: */
+inlined bool is_clean(const uint8_t *cell) { return octet_5(cell, cell[3]) == cell[4]; }
+inlined bool passes(const clurimoon_record *r, const uint8_t *cell) {
+  /* raw 1 and mode 0, as one number */
+  return r->raw == 0 || (likely(pair_at(&r->raw) == 1) && likely(is_clean(cell)));
+}
+/* Any header, in either mode: what goes on, the cell or `held`, which is the mended copy, or NULL where it is dropped. */
+static __attribute__((noinline, cold)) const uint8_t *checked(u16 *mode, const uint8_t *cell, uint8_t *held) {
+  const bool corrects = *mode == CLURIMOON_CORRECTION;
+  const uint8_t wrong = octet_5(cell, cell[3]) ^ cell[4];
+  *mode = wrong == 0 ? CLURIMOON_CORRECTION : CLURIMOON_DETECTION;
+  if (wrong == 0) return cell;
+  for (index_t bit = 0; corrects && bit < 40; ++bit) {
+    const index_t octet = bit / 8, one = 128 >> bit % 8;
+    if (wrong != (octet == 4 ? one : (index_t)(rest[octet][one] ^ rest[octet][0]))) continue;
+    copy_cell(held, cell), held[octet] ^= (uint8_t)one;
+    return held;
+  }
+  return NULL;
 }
 
 /* A policer. Through a burst its numbers and the places of its memories are kept in locals; for one slot they stay where
@@ -110,6 +134,7 @@ inlined void tag(uint8_t *to, const uint8_t *cell) {
 typedef struct {
   clurimoon_record *record;
   const lent_memory *lent;
+  bool raw; /* of a burst */
   index_t n, v, T, rotation;
   u32 t, mask; /* of a header, by the line kind */
   u16 *entry; /* entry T */

@@ -97,8 +97,9 @@ inlined void serve(policer *p, const uint8_t *cell, size_t size, given to) {
   leave(p, to);
 }
 
-exported void trusting_slot(clurimoon_record *restrict r, const lent_memory *lent, const uint8_t *cell, size_t cell_length,
-                            clurimoon_answer *answer) {
+/* A slot whose cell, if any, left the header check. */
+inlined void one_slot(clurimoon_record *restrict r, const lent_memory *lent, const uint8_t *cell, size_t cell_length,
+                      clurimoon_answer *answer) {
   policer p = {.n = r->n, .v = r->v, .lent = lent, .t = r->t + 1, .record = r, .mask = mask_of(r->kind)};
   index_t T = r->T + 1u, rotation = r->rotation + 1u;
   if (unlikely(T == p.n)) T = 0;
@@ -110,21 +111,49 @@ exported void trusting_slot(clurimoon_record *restrict r, const lent_memory *len
   serve(&p, cell, cell_length, (given){(u16 *)answer, NULL, false});
 }
 
-exported burst_end trusting_burst(clurimoon_record *restrict r, const lent_memory *lent, const lent_burst *b) {
-  policer p = {.n = r->n, .v = r->v, .record = NULL, .mask = mask_of(r->kind), .kept_cells = lent->cells, .kept_links = lent->links,
-               .kept_calendar = lent->calendar, .kept_vcs = lent->vcs, .kept_bits = lent->bits,
+/* A slot whose cell may be mended or dropped. */
+static __attribute__((noinline, cold)) void odd_slot(clurimoon_record *r, const lent_memory *lent, const uint8_t *cell,
+                                                     clurimoon_answer *answer) {
+  uint8_t held[53];
+  cell = checked(&r->mode, cell, held);
+  one_slot(r, lent, cell, cell == NULL ? 0 : 53, answer);
+  if (cell == NULL) answer->verdict = CLURIMOON_DROPPED;
+}
+
+exported void trusting_slot(clurimoon_record *restrict r, const lent_memory *lent, const uint8_t *cell, size_t cell_length,
+                            clurimoon_answer *answer) {
+  if (cell_length != 0 && unlikely(!passes(r, cell))) odd_slot(r, lent, cell, answer);
+  else one_slot(r, lent, cell, cell_length, answer);
+}
+
+/* In a burst of a raw policer the mode is correction but in slots by themselves. */
+inlined burst_end burst_of(clurimoon_record *restrict r, const lent_memory *lent, const lent_burst *b, bool raw) {
+  policer p = {.n = r->n, .v = r->v, .record = NULL, .raw = raw, .mask = mask_of(r->kind), .kept_cells = lent->cells,
+               .kept_links = lent->links, .kept_calendar = lent->calendar, .kept_vcs = lent->vcs, .kept_bits = lent->bits,
                .kept_arrived = lent->arrived};
   take(&p, r);
   const uint8_t *cell = b->arrivals, *size = b->sizes, *const end = size + b->sizes_length;
   given to = {b->answers, b->departures, true};
   while (size != end) {
     const uint8_t *const from = size, *const stop = size + begin_run(&p, (size_t)(end - size));
-    for (; size != stop; ++size, cell += 53, to.answer += 6, to.departure += 53, p.entry += 2, p.turn += words) {
-      p.t += 1;
-      serve(&p, cell, *size, to);
-    }
-    end_run(&p, (index_t)(stop - from));
+    if (!raw || likely(r->mode == CLURIMOON_CORRECTION))
+      for (; size != stop; ++size, cell += 53, to.answer += 6, to.departure += 53, p.entry += 2, p.turn += words) {
+        if (raw && *size != 0 && unlikely(!is_clean(cell))) break;
+        p.t += 1;
+        serve(&p, cell, *size, to);
+      }
+    end_run(&p, (index_t)(size - from));
+    if (!raw || likely(size == stop)) continue;
+    give(&p, r);
+    trusting_slot(r, lent, cell, *size, (clurimoon_answer *)to.answer);
+    if (to.answer[4] != none) copy_cell(to.departure, lent->cells + 53 * to.answer[4]);
+    take(&p, r);
+    ++size, cell += 53, to.answer += 6, to.departure += 53;
   }
   give(&p, r);
   return (burst_end){b->sizes_length, 0};
+}
+
+exported burst_end trusting_burst(clurimoon_record *restrict r, const lent_memory *lent, const lent_burst *b) {
+  return r->raw == 0 ? burst_of(r, lent, b, false) : burst_of(r, lent, b, true);
 }
