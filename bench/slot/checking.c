@@ -1,7 +1,7 @@
 /* The slot path with every test of refusals 1, 2, 9 and 3 before any write. The likely ways through a slot are written
    out, each with its tests first and its writes last. What is unfit or odd (lists that share spaces, a space queued and free)
-   leaves them before any write, and careful.h serves that slot or refuses it. So does a cell of a raw policer whose header
-   is wrong, and the next one, in detection: what is left is a clean header, which the check neither changes nor is changed by.
+   leaves them before any write, and careful.h serves that slot or refuses it. So does a cell of a raw policer whose header is
+   wrong, or that comes in detection: on the likely ways the header check changes neither cell nor mode.
 
    Throughout, T is below N, rotation below V + 256 and the line kind 0 or 1; the Output List's head and tail are both below
    N or both 65,535. In a burst the words of free spaces fit as well: the ones are counted when it begins, and each slot keeps
@@ -156,20 +156,10 @@ inlined bool finish(policer *p, plan *a, given to) {
   return leave(p, a, to, first, next, tail, true, true, head);
 }
 
-/* Steps 3 to 5. */
-inlined bool arrive(policer *p, plan *a, size_t size, given to) {
-  a->kind = nothing;
-  if (size == 0) return finish(p, a, to);
-  if (unlikely(size != 53)) return false;
-  if (p->record ? unlikely(!passes(p->record, a->cell)) : p->raw && unlikely(!is_clean(a->cell))) return false;
-  const index_t number = number_of(a->name = name_of(a->cell, p->mask), p->v);
-  a->d = 0, a->met = NULL, a->kind = away;
-  u32 *vc = vcs(p) + words * number, room;
-  if (unlikely(number == 0) || unlikely(vc[w_open] != 1)) {
-    if (number != 0 && vc[w_open] != 0) return false;
-    a->verdict = a->name == 0 ? CLURIMOON_NOTHING : CLURIMOON_UNKNOWN;
-    return finish(p, a, to);
-  }
+/* Steps 3 to 5 where the cell names an open VC or path. */
+inlined bool meet(policer *p, plan *a, u32 *vc, index_t number, given to) {
+  u32 room;
+  a->kind = away;
   if (!brought(vc, p->n, p->t, &a->s, &a->second, &room)) return false;
   a->met = vc, a->name = number;
   a->verdict = CLURIMOON_EXCESS;
@@ -194,6 +184,27 @@ inlined bool arrive(policer *p, plan *a, size_t size, given to) {
   if (a->e >= calendar(p) + 2 * p->n) a->e -= 2 * p->n;
   a->e_pair = pair_at(a->e);
   if (a->e_pair != no_pair && (unlikely((u16)a->e_pair >= p->n) || unlikely(a->e_pair >> 16 >= p->n))) return false;
+  return finish(p, a, to);
+}
+
+/* Steps 3 to 5. */
+inlined bool arrive(policer *p, plan *a, size_t size, given to) {
+  if (size != 0) {
+    if (unlikely(size != 53)) return false;
+    if (is_raw(p) && unlikely(!passes(p->record, a->cell))) return false;
+    a->name = name_of(a->cell, p->mask);
+    /* a raw line has idle cells where another has none */
+    if (is_raw(p) && a->name == 0) goto idle;
+    const index_t number = number_of(a->name, p->v);
+    u32 *vc = vcs(p) + words * number;
+    a->d = 0, a->met = NULL;
+    if (likely(number != 0) && likely(vc[w_open] == 1)) return meet(p, a, vc, number, to);
+    if (number != 0 && vc[w_open] != 0) return false;
+    a->kind = away, a->verdict = CLURIMOON_UNKNOWN;
+    if (likely(a->name != 0)) return finish(p, a, to);
+  }
+idle:
+  a->kind = nothing;
   return finish(p, a, to);
 }
 
@@ -271,7 +282,7 @@ static __attribute__((noinline, cold)) burst_end odd_slots(clurimoon_record *r, 
   return (burst_end){k, 0};
 }
 
-/* In a burst of a raw policer the mode is correction but in odd slots. */
+/* Of a raw policer: in detection each slot is an odd one. */
 inlined burst_end burst_of(clurimoon_record *restrict r, const lent_memory *lent, const lent_burst *b, bool raw) {
   policer p = {.n = r->n, .v = r->v, .record = NULL, .raw = raw, .mask = mask_of(r->kind), .kept_cells = lent->cells,
                .kept_links = lent->links, .kept_calendar = lent->calendar, .kept_vcs = lent->vcs, .kept_bits = lent->bits,

@@ -108,11 +108,10 @@ inlined void tag(uint8_t *to, const uint8_t *cell) {
   to[3] = octet_4, to[4] = octet_5(cell, octet_4);
 }
 
-/* The header check. A clean header in correction changes nothing; that is the likely way, for a slot by itself: */
-inlined bool is_clean(const uint8_t *cell) { return octet_5(cell, cell[3]) == cell[4]; }
+/* The header check of a raw policer. The likely way is a clean header in correction, which changes nothing: raw 1 and mode 0
+   are tested as one number. A burst, without a record, is in correction there. */
 inlined bool passes(const clurimoon_record *r, const uint8_t *cell) {
-  /* raw 1 and mode 0, as one number */
-  return r->raw == 0 || (likely(pair_at(&r->raw) == 1) && likely(is_clean(cell)));
+  return (r == NULL || likely(pair_at(&r->raw) == 1)) && likely(octet_5(cell, cell[3]) == cell[4]);
 }
 /* Any header, in either mode: what goes on, the cell or `held`, which is the mended copy, or NULL where it is dropped. */
 static __attribute__((noinline, cold)) const uint8_t *checked(u16 *mode, const uint8_t *cell, uint8_t *held) {
@@ -134,7 +133,7 @@ static __attribute__((noinline, cold)) const uint8_t *checked(u16 *mode, const u
 typedef struct {
   clurimoon_record *record;
   const lent_memory *lent;
-  bool raw; /* of a burst */
+  bool raw; /* in a burst, for which it is a constant */
   index_t n, v, T, rotation;
   u32 t, mask; /* of a header, by the line kind */
   u16 *entry; /* entry T */
@@ -166,6 +165,8 @@ MEMORY(u32, arrived)
 NUMBER(free_number, free)
 NUMBER(out_head, out_head)
 NUMBER(out_tail, out_tail)
+
+inlined bool is_raw(const policer *p) { return p->record ? p->record->raw != 0 : p->raw; }
 
 static const u32 closed[words]; /* stands for records 0 and V, which are never open and whose words are not read */
 

@@ -92,7 +92,8 @@ inlined void serve(policer *p, const uint8_t *cell, size_t size, given to) {
     if (turn[w_S2] != 0) turn[w_S2] = fallen_second(turn, p->t);
     turn[w_S] = fallen(turn, p->t), turn[w_last] = p->t;
   }
-  if (size == 0) memset(to.answer, 0, 8);
+  /* a raw line has idle cells where another has none */
+  if (size == 0 || (is_raw(p) && name_of(cell, p->mask) == 0)) memset(to.answer, 0, 8);
   else if (arrive(p, cell, to)) return;
   leave(p, to);
 }
@@ -111,7 +112,7 @@ inlined void one_slot(clurimoon_record *restrict r, const lent_memory *lent, con
   serve(&p, cell, cell_length, (given){(u16 *)answer, NULL, false});
 }
 
-/* A slot whose cell may be mended or dropped. */
+/* A slot whose cell may be mended or dropped, or leads back to correction. */
 static __attribute__((noinline, cold)) void odd_slot(clurimoon_record *r, const lent_memory *lent, const uint8_t *cell,
                                                      clurimoon_answer *answer) {
   uint8_t held[53];
@@ -122,11 +123,11 @@ static __attribute__((noinline, cold)) void odd_slot(clurimoon_record *r, const 
 
 exported void trusting_slot(clurimoon_record *restrict r, const lent_memory *lent, const uint8_t *cell, size_t cell_length,
                             clurimoon_answer *answer) {
-  if (cell_length != 0 && unlikely(!passes(r, cell))) odd_slot(r, lent, cell, answer);
+  if (cell_length != 0 && r->raw != 0 && unlikely(!passes(r, cell))) odd_slot(r, lent, cell, answer);
   else one_slot(r, lent, cell, cell_length, answer);
 }
 
-/* In a burst of a raw policer the mode is correction but in slots by themselves. */
+/* Of a raw policer: a wrong header and, in detection, each slot is served by itself. */
 inlined burst_end burst_of(clurimoon_record *restrict r, const lent_memory *lent, const lent_burst *b, bool raw) {
   policer p = {.n = r->n, .v = r->v, .record = NULL, .raw = raw, .mask = mask_of(r->kind), .kept_cells = lent->cells,
                .kept_links = lent->links, .kept_calendar = lent->calendar, .kept_vcs = lent->vcs, .kept_bits = lent->bits,
@@ -138,7 +139,7 @@ inlined burst_end burst_of(clurimoon_record *restrict r, const lent_memory *lent
     const uint8_t *const from = size, *const stop = size + begin_run(&p, (size_t)(end - size));
     if (!raw || likely(r->mode == CLURIMOON_CORRECTION))
       for (; size != stop; ++size, cell += 53, to.answer += 6, to.departure += 53, p.entry += 2, p.turn += words) {
-        if (raw && *size != 0 && unlikely(!is_clean(cell))) break;
+        if (raw && *size != 0 && unlikely(!passes(NULL, cell))) break;
         p.t += 1;
         serve(&p, cell, *size, to);
       }
