@@ -41,12 +41,7 @@ static bool raw; /* the policer checks headers */
 static uint16_t kind;
 static uint16_t split_vci, split_path; /* what is the second operator's from here on */
 
-/* A slot that has no header check, in the place of the archive's, is run with NOT_RAW defined. */
-#ifdef NOT_RAW
-enum { rounds = 2, damages = 12 };
-#else
 enum { rounds = 4, damages = 16 };
-#endif
 static const char *now_doing = "nothing";
 
 static void fail(const char *what) {

@@ -39,7 +39,7 @@ public:
     std::printf("  verdicts in served slots:");
     item(" nothing", verdicts[0]), item(", accepted", verdicts[1]), item(", excess", verdicts[2]);
     item(", unknown", verdicts[3]);
-    if (may_be_raw) item(", dropped", verdicts[4]);
+    item(", dropped", verdicts[4]);
     item(", tagged", verdicts[5]);
     item("; sent", sent), item("; slots in bursts", burst_slots);
     std::printf("\n  audits:");
@@ -63,18 +63,12 @@ public:
   void clauses(const char *title, const char *const (&names)[size], const std::array<uint64_t, size> &times) {
     std::printf("  %s", title);
     for (size_t k = 0; k < size; ++k)
-      if (may_be_raw || !of_the_header_check(names[k]))
-        item((k % 5 == 0 ? "\n    " : "; ") + std::string(names[k]), times[k]);
+      item((k % 5 == 0 ? "\n    " : "; ") + std::string(names[k]), times[k]);
     std::printf("\n");
   }
 
 private:
   const uint64_t enough;
-
-  static bool of_the_header_check(const std::string &name) {
-    return name == "slot_raw" || name == "slot_mode" || name == "no_raw" || name == "no_mode" ||
-           name == "tagged_and_mended" || name == "path_mended" || name == "kind_not_read_for_a_dropped_cell";
-  }
   void item(const std::string &name, uint64_t times) {
     std::printf("%s %llu%s", name.c_str(), static_cast<unsigned long long>(times),
                 times < enough ? " (TOO SELDOM)" : "");
@@ -117,7 +111,7 @@ int main(int count_arguments, char **arguments) {
   summary.clauses("bits of the calendar entries:", calls::mark_name, calls::tally.mark);
   summary.clauses("splits and operators:", calls::owner_name, calls::tally.owner);
   summary.clauses("arrival slots, tallies and percentiles:", calls::delay_name, calls::tally.delay);
-  if (may_be_raw) summary.clauses("the header check:", calls::check_name, calls::tally.check), summary.bits();
+  summary.clauses("the header check:", calls::check_name, calls::tally.check), summary.bits();
   std::printf("memories: %llu calls in %llu scenarios compared, all equal\n",
               static_cast<unsigned long long>(made), static_cast<unsigned long long>(scenario));
   if (!summary.complete) return std::fprintf(stderr, "memories: FAILED, something was met too seldom\n"), 1;

@@ -10,13 +10,6 @@
 
 namespace memories {
 
-// A slot that has no header check, in the place of the archive's, is compared with NOT_RAW defined.
-#ifdef NOT_RAW
-constexpr bool may_be_raw = false;
-#else
-constexpr bool may_be_raw = true;
-#endif
-
 constexpr size_t words_per_connection = 12, paths = 256;
 // Of the words of bits, those of spaces, and all of them: those of calendar entries follow.
 constexpr size_t free_words = 16, bit_words = 32;
@@ -156,7 +149,7 @@ protected:
     if (random.once_in(10)) splits.path = random.pick<uint16_t>({0, 256, 256, 257, 65535});
     uint16_t kind = random.once_in(2) ? CLURIMOON_UNI : CLURIMOON_NNI;
     if (random.once_in(12)) kind = random.pick<uint16_t>({2, 3, 256, 257, 65535});
-    const bool raw = may_be_raw && random.once_in(2);
+    const bool raw = random.once_in(2);
     const clurimoon_set got = setup(asked_n, asked_v, raw, kind, splits, lent);
     record = got.record;
     // Another size with just its lengths is done, too, and is not the policer that follows.
@@ -192,7 +185,7 @@ protected:
     if (n <= 1024 && v == 2) v = 1025;
     favourites = {1}, favourite_paths = {1, 255};
     make_buffers();
-    setup(n, v, may_be_raw && random.once_in(2), random.pick<uint16_t>({0, 1, 2, 65535}), {1, 1}, lengths());
+    setup(n, v, random.once_in(2), random.pick<uint16_t>({0, 1, 2, 65535}), {1, 1}, lengths());
     for (uint16_t space = 0; space < n; ++space) memory.links.set(space, 0);
     for (size_t w = 0; w < free_words; ++w) memory.bits.set(w, n >= 64 * (w + 1) ? UINT64_MAX : n > 64 * w ? (uint64_t{1} << (n - 64 * w)) - 1 : 0);
     for (size_t w = free_words; w < bit_words; ++w) memory.bits.set(w, 0);
@@ -207,8 +200,8 @@ protected:
               n,
               none,
               none,
-              static_cast<uint16_t>(may_be_raw ? random.below(4) : 0),
-              static_cast<uint16_t>(may_be_raw ? random.below(3) : 0),
+              static_cast<uint16_t>(random.below(4)),
+              static_cast<uint16_t>(random.below(3)),
               static_cast<uint16_t>(random.below(4)),
               1,
               1};

@@ -143,7 +143,7 @@ private:
   void damage() {
     fresh = false;
     damages += 1;
-    switch (random.below(may_be_raw ? 39 : 37)) {
+    switch (random.below(39)) {
     case 0: damage_record(); break;
     case 1: memory.links.set(likely_space(), edge_number()); break;
     case 2: memory.calendar.set(2 * likely_entry() + random.below(2), edge_number()); break;
