@@ -21,12 +21,12 @@ use Rattle.meaning.specs.Lists.{endsFit, entryAt, writeEntry}
 use Rattle.meaning.specs.Lent.{Slice, Lent}
 use Rattle.mem_lists.specs.declared.Off.{Off}
 use Rattle.mem_lists.specs.Spaces.{endsOf, linked, offAs, offOf}
+use Rattle.mem_lists.specs.Leaver.{offAfter}
 use Rattle.slot_plan.specs.Plan.{joinedLinks, joinedHead, seatEnds}
-use Rattle.slot_plan.specs.Facts.{OffStored}
 use Rattle.burst_way.specs.declared.Way.{Way}
 use Rattle.burst_way.specs.Way.{slotRecord}
 use Rattle.burst_arrive.specs.declared.Spot.{Spot}
-use Rattle.burst_arrive.specs.Arriving.{judgedAt, seatAt}
+use Rattle.burst_arrive.specs.Arriving.{seatAt}
 use Rattle.burst_depart.specs.declared.Leave.{Leave}
 
 -- what is left of a list from x to tail once x has gone
@@ -100,9 +100,12 @@ OffHere k cells links words joins entry o =
 abbrev pub entryThen : Record → Spot → List ℕ → Ends
 entryThen k p calendar = entryAt (writeEntry calendar (p .e) (seatEnds (seatAt p))) (k .turn)
 
--- where a cell is accepted into the seat of p
+-- where a cell is accepted into the seat of p, and its connection is p's: of the judgement nothing else matters here
 abbrev pub OffThen : Record → Spot → List ℕ → List ℕ → List ℕ → Bool → Ends → Off → Type 0
-OffThen k p cells links words = OffStored k (judgedAt words p) (seatAt p) cells links words
+OffThen k p cells links words joins entry o =
+    o
+    ≡ offAfter (k .n) (k .v) (k .kind) cells (linked joins (k .outtail) (entry .head) (linked (not (p .head =? empty)) (p .x) (p .head) links)) words
+    (p .vci) (p .x) (joinedHead k entry) (entry .tail)
 
 -- ---- the same of lent memories, for contracts: w is the policer in the slot to come
 abbrev pub OffHereIn : Way → Lent → Lent → Lent → Bool → Ends → Off → Type 0

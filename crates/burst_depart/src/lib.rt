@@ -12,7 +12,7 @@ ghost use Rattle.mem_lists.specs.Spaces.{endsOf};
 ghost use Rattle.mem_lists.specs.Leaver.{leaverOf};
 ghost use Rattle.slot_plan.specs.Plan.{seatEnds};
 ghost use Rattle.slot_plan.specs.Facts.{SizedWith};
-ghost use Rattle.burst_way.specs.Way.{slotRecord};
+ghost use Rattle.burst_way.specs.Way.{slotRecord, NamesBy};
 ghost use Rattle.burst_arrive.specs.Arriving.{seatAt, Seats};
 ghost use Rattle.burst_depart.specs.Leaving.{Left, PlannedUnmarked, PlannedMarked, Planned, Leaves, leaveWith, OffHereIn, OffThenIn, entryThen, MayRead};
 use burst_arrive::Spot;
@@ -35,12 +35,14 @@ pub struct Leave {
 }
 
 // The connection whose cell is in space x, if that cell may depart, else 0.
-fn seen(n: usize, v: usize, kind: u16, cells: &[u8], words: &[u32], x: usize) -> usize
-    requires { ⌜ (n ≤ mostN) × (v ≤ mostV) × (cellStart x + octets ≤ length (now cells)) × (length (now words) ≡ wordsIn v) ⌝ }
-    ensures { λ r. ⌜ r ≡ leaverOf n v kind (now (cells .entry)) (now (words .entry)) x ⌝ }
+fn seen(w: Way, cells: &[u8], words: &[u32], x: usize) -> usize
+    requires { ⌜ (w .n ≤ mostN) × (w .v ≤ mostV) × (cellStart x + octets ≤ length (now cells)) × (length (now words) ≡ wordsIn (w .v)) ⌝ }
+    requires { ⌜ NamesBy w ⌝ }
+    ensures { λ r. ⌜ r ≡ leaverOf (w .n) (w .v) (w .kind) (now (cells .entry)) (now (words .entry)) x ⌝ }
 {
-    let name = leaf_header::name_at(cells, 53 * x, kind);
-    let u = leaf_header::number_for(v as u16, name) as usize;
+    let head = leaf_header::head_at(cells, 53 * x);
+    let name = leaf_header::name_by(head, w.mask);
+    let u = leaf_header::number_for(w.v as u16, name) as usize;
     if u == 0 {
         return 0;
     }
@@ -52,7 +54,7 @@ fn seen(n: usize, v: usize, kind: u16, cells: &[u8], words: &[u32], x: usize) ->
     if waiting == 0 {
         return 0;
     }
-    if waiting > n as u32 {
+    if waiting > w.n as u32 {
         return 0;
     }
     u
@@ -235,6 +237,7 @@ pub fn off_quiet(
 ) -> Leave
     requires { ⌜ SizedWith (slotRecord w) cells links calendar words bits ⌝ }
     requires { ⌜ endsFit (w .n) (endsOf (w .outhead) (w .outtail)) ≡ true ⌝ }
+    requires { ⌜ NamesBy w ⌝ }
     ensures { λ o. ⌜ (o .ok ≡ true
         → Leaves (slotRecord w) (now (bits .entry)) (entryAt (now (calendar .entry)) (w .turn)) o (OffHereIn w cells links words)) ⌝ }
 {
@@ -248,7 +251,7 @@ pub fn off_quiet(
     if mem_bits::is_free(bits, o.space as u16) {
         return stuck();
     }
-    let u = seen(w.n, w.v, w.kind, cells, words, o.space);
+    let u = seen(w, cells, words, o.space);
     with_vci(o, u)
 }
 
@@ -259,6 +262,7 @@ fn off_now(w: Way, p: Spot, cells: &[u8], links: &[u16], words: &[u32], bits: &[
         × (length (now words) ≡ wordsIn (w .v)) × (length (now bits) ≡ bitWords) ⌝ }
     requires { ⌜ (endsFit (w .n) (endsOf (w .outhead) (w .outtail)) ≡ true) × (endsFit (w .n) (endsOf (p .head) (p .tail)) ≡ true)
         × (p .x < w .n) × (1 ≤ p .vci) × (p .vci < connectionsIn (w .v)) × (isFree (now bits) (p .x) ≡ true) ⌝ }
+    requires { ⌜ NamesBy w ⌝ }
     ensures { λ o. ⌜ (o .ok ≡ true → Leaves (slotRecord w) (taken (now (bits .entry)) (p .x)) (seatEnds (seatAt p)) o (OffThenIn w p cells links words)) ⌝ }
 {
     if w.outhead == 65535 {
@@ -282,7 +286,7 @@ fn off_now(w: Way, p: Spot, cells: &[u8], links: &[u16], words: &[u32], bits: &[
     if !r.ok {
         return stuck();
     }
-    let u = seen(w.n, w.v, w.kind, cells, words, w.outhead);
+    let u = seen(w, cells, words, w.outhead);
     Leave {
         ok: u != 0,
         none: false,
@@ -309,6 +313,7 @@ fn off_later(
     requires { ⌜ SizedWith (slotRecord w) cells links calendar words bits ⌝ }
     requires { ⌜ (endsFit (w .n) (endsOf (w .outhead) (w .outtail)) ≡ true) × (1 ≤ p .vci) × (p .vci < connectionsIn (w .v))
         × (isFree (now bits) (p .x) ≡ true) ⌝ }
+    requires { ⌜ NamesBy w ⌝ }
     ensures { λ o. ⌜ (o .ok ≡ true
         → Leaves (slotRecord w) (taken (now (bits .entry)) (p .x)) (entryAt (now (calendar .entry)) (w .turn)) o (OffThenIn w p cells links words)) ⌝ }
 {
@@ -322,7 +327,7 @@ fn off_later(
     if mem_bits::is_free(bits, o.space as u16) {
         return stuck();
     }
-    let u = seen(w.n, w.v, w.kind, cells, words, o.space);
+    let u = seen(w, cells, words, o.space);
     with_vci(o, u)
 }
 
@@ -340,6 +345,7 @@ pub fn off_accept(
     requires { ⌜ endsFit (w .n) (endsOf (w .outhead) (w .outtail)) ≡ true ⌝ }
     requires { ⌜ Seats (slotRecord w) (now calendar) (now bits) p ⌝ }
     requires { ⌜ (p .d < w .n) × (1 ≤ p .vci) × (p .vci < connectionsIn (w .v)) ⌝ }
+    requires { ⌜ NamesBy w ⌝ }
     ensures { λ o. ⌜ (o .ok ≡ true
         → Leaves (slotRecord w) (taken (now (bits .entry)) (p .x)) (entryThen (slotRecord w) p (now (calendar .entry))) o (OffThenIn w p cells links words)) ⌝ }
 {

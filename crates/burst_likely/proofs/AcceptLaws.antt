@@ -1,7 +1,6 @@
--- An accepted cell on a likely way: what was found and what is written are steps 2 to 5, whether or not a cell departs.
+-- A cell that is let in on a likely way: what was found and what is written are steps 4 and 5 of it, whether or not a cell departs.
 use Prim.Native.Nat.{ℕ, _+_, _-_, _*_, _/_, _≤_, _<_}
 use mathlib.Core.Path.{_≡_, refl, sym, _∙_, ap, subst}
-use mathlib.Core.Logic.{_≢_}
 use mathlib.Core.Bool.{Bool, true, false, not}
 use mathlib.Core.List.{List}
 use native.Mathlib.Omega.{arith}
@@ -11,52 +10,47 @@ use Rattle.meaning.specs.declared.Record.{Record}
 use Rattle.meaning.specs.declared.Answer.{Answer}
 use Rattle.meaning.specs.declared.Served.{Served}
 use Rattle.meaning.specs.Plain.{if_then_else_, _=?_, next, _andThen_}
-use Rattle.meaning.specs.Numbers.{bitWords, connectionsIn, empty, letsIn, fPlace, waitingPlace}
-use Rattle.meaning.specs.Bits.{isFree, spacesFit, lowestFree, taken, given, marked, unmarked}
+use Rattle.meaning.specs.Arrival.{sentAs}
+use Rattle.meaning.specs.Numbers.{bitWords, connectionsIn, empty, waitingPlace}
+use Rattle.meaning.specs.Bits.{isFree, spacesFit, taken, given, marked, unmarked}
 use Rattle.meaning.specs.State.{Ends, writeCell}
 use Rattle.meaning.specs.Lists.{emptyList, endsFit, entryAt, writeEntry}
 use Rattle.meaning.specs.Line.{cellsAllowed}
 use Rattle.meaning.specs.Work.{Work, answerOf}
 use Rattle.meaning.specs.Slot.{step4, step5}
-use Rattle.meaning.proofs.BitsLaws.{lowest-free, taken-length, taken-fits, given-fits}
+use Rattle.meaning.proofs.BitsLaws.{taken-length, taken-fits, given-fits}
+use Rattle.meaning.proofs.TaggedLaws.{sent-length}
 use Rattle.meaning.proofs.MarksLaws.{marked-length, marked-free, marked-fits}
 use Rattle.meaning.proofs.ListsLaws.{fit-head, fit-tail}
 use Rattle.slot_arrive.specs.declared.Fall.{Fall}
 use Rattle.slot_arrive.specs.declared.Judged.{Judged}
-use Rattle.slot_arrive.specs.Arrival.{broughtOf, filled, oneLess}
+use Rattle.slot_arrive.specs.Arrival.{oneLess}
+use Rattle.mem_lists.specs.declared.Off.{Off}
 use Rattle.mem_lists.specs.declared.Seat.{Seat}
 use Rattle.mem_lists.specs.Spaces.{endsOf, linked}
 use Rattle.slot_plan.specs.Plan.{outputEnds, rotated, acceptWork, seatEnds, leftBy}
-use Rattle.slot_plan.specs.Facts.{Seated}
+use Rattle.slot_plan.specs.Facts.{Seated, OffStored}
 use Rattle.slot_plan.proofs.Found.{no}
-use Rattle.slot_plan.proofs.Steps.{arriving-accepted, seating-goes}
 use Rattle.slot_plan.proofs.AcceptCases.{accept-marked-goes, accept-output-goes, accept-shows, seated-marked, seated-output, seated-none}
 use Rattle.slot_plan.proofs.Ends.{accept-served, accept-left}
 use Rattle.burst_out.specs.Handout.{writeAnswer}
-use Rattle.burst_out.proofs.ShowLaws.{shown-cell}
+use Rattle.burst_out.proofs.ShowLaws.{shown-cell, shown-none}
 use Rattle.burst_way.specs.declared.Way.{Way}
 use Rattle.burst_way.specs.Way.{wayWith, slotRecord}
 use Rattle.burst_arrive.specs.declared.Spot.{Spot}
-use Rattle.burst_arrive.specs.Arriving.{judgedAt, seatAt, Spotted}
+use Rattle.burst_arrive.specs.Arriving.{seatAt}
 use Rattle.burst_arrive.proofs.SpotLaws.{entry-below}
 use Rattle.burst_depart.specs.declared.Leave.{Leave}
 use Rattle.burst_depart.specs.Leaving.{Goes, OffThen, offAt}
-use Rattle.burst_likely.specs.Served.{from2, Ready, Done, Silent}
+use Rattle.burst_likely.specs.Served.{Ready, Spotted, Done, wordsFilled}
 use Rattle.burst_likely.proofs.ClearLaws.{clear-length, clear-free, clear-fits}
-use Rattle.burst_likely.proofs.StoreLaws.{stored-long, sent-is}
+use Rattle.burst_likely.proofs.StoreLaws.{stored-long}
 use Rattle.burst_likely.proofs.EitherLaws.{allowed-long, linked-same, ends-with}
 
-module _ (w : Way) (p : Spot) (cell cells links calendar words bits arrived : List ℕ) (ready : Ready w cells links calendar words bits arrived)
-    (brought : broughtOf (w .n) (w .v) (w .t) words (w .rotation) .ok ≡ true)
-    (spot : Spotted (slotRecord w) calendar words bits cell p) where
+module _ (w : Way) (b : Fall) (j : Judged) (p : Spot) (cell cells links calendar words bits arrived : List ℕ) (ready : Ready w cells links calendar words bits arrived)
+    (spot : Spotted (slotRecord w) j calendar words bits cell p) where
   abbrev k : Record
   k = slotRecord w
-
-  abbrev b : Fall
-  b = broughtOf (w .n) (w .v) (w .t) words (w .rotation)
-
-  abbrev j : Judged
-  j = judgedAt words p
 
   abbrev a : Seat
   a = seatAt p
@@ -69,7 +63,7 @@ module _ (w : Way) (p : Spot) (cell cells links calendar words bits arrived : Li
   calendar₃ = writeEntry calendar (p .e) (seatEnds a)
 
   abbrev words₃ : List ℕ
-  words₃ = filled (p .vci) (p .s + getD words (fPlace (p .vci)) 0) 0 (w .t) (getD words (waitingPlace (p .vci)) 0 + 1) (rotated k b words)
+  words₃ = wordsFilled w b j words
 
   abbrev bits₃ : List ℕ
   bits₃ = marked (taken bits (p .x)) (p .e)
@@ -87,23 +81,12 @@ module _ (w : Way) (p : Spot) (cell cells links calendar words bits arrived : Li
   is-seated =
       record {
         x-low = spot .seats .x-low;
-        e-low = entry-below (w .n) (w .turn) (p .d) (p .e) (ready .sized .turn-low) (spot .is-accepted .near) (spot .seats .e-is);
+        e-low = entry-below (w .n) (w .turn) (p .d) (p .e) (ready .sized .turn-low) (let near = spot .is-accepted .near in let same = spot .of-delay in omega (arith, near, same)) (spot .seats .e-is);
         entry-fits = spot .seats .entry-fits;
         spaces-fit = ready .spaces-fit;
         some-free = spot .seats .some-free;
         is-free = spot .seats .is-free;
       }
-
-  some : w .free ≢ 0
-  some q = let one = spot .seats .some-free in omega (arith, one, q)
-
-  steps-3 : from2 k cell cells links calendar words bits arrived ≡ (step4 work andThen step5)
-  unfolding letsIn
-  steps-3 =
-      arriving-accepted k (lowestFree bits) cell cells links calendar words bits arrived b refl j (spot .judged)
-      (let long = ready .sized .words-long in let low = ready .sized .rotation-low in omega (arith, long, low)) brought refl refl
-      ∙ seating-goes k j cell cells links calendar (rotated k b words) bits arrived (ready .sized .turn-low) (spot .is-accepted .near) a
-      (lowestFree bits) (ready .spaces-fit) some (lowest-free (w .n) (w .free) bits (ready .spaces-fit) some) (spot .seats .seat) refl
 
   -- the words of free spaces fit again once the cell's is taken
   taken-fit : spacesFit (w .n) (w .free - 1) bits₃ ≡ true
@@ -115,39 +98,38 @@ module _ (w : Way) (p : Spot) (cell cells links calendar words bits arrived : Li
   taken-long = marked-length (taken bits (p .x)) (p .e) ∙ taken-length bits (p .x) ∙ ready .sized .bits-long
 
   -- the cell memory keeps its length
-  cells-long : (cells′ : List ℕ) → cells′ ≡ writeCell cells (p .x) cell → length cells′ ≡ 53 * w .n
-  cells-long = stored-long (w .n) (p .x) cells cell (ready .sized .cells-long) (spot .seats .x-low) (spot .is-accepted .cell-long)
+  cells-long : (cells′ : List ℕ) → cells′ ≡ writeCell cells (p .x) (sentAs (j .verdict) cell) → length cells′ ≡ 53 * w .n
+  cells-long = stored-long (w .n) (p .x) cells (sentAs (j .verdict) cell) (ready .sized .cells-long) (spot .seats .x-low) (sent-length (j .verdict) cell ∙ spot .is-accepted .cell-long)
 
-  cells-allowed : (cells′ : List ℕ) → cells′ ≡ writeCell cells (p .x) cell → cellsAllowed (length cells′) ≡ true
+  cells-allowed : (cells′ : List ℕ) → cells′ ≡ writeCell cells (p .x) (sentAs (j .verdict) cell) → cellsAllowed (length cells′) ≡ true
   cells-allowed cells′ e = allowed-long (w .n) (length cells′) (ready .sized .n-low) (ready .sized .n-high) (cells-long cells′ e)
 
   module _ (entry-fits : endsFit (w .n) entry ≡ true) where
     -- ---- nothing departs
-    none-goes : entry .head ≡ empty → w .outhead ≡ empty → from2 k cell cells links calendar words bits arrived ≡ next work
+    none-goes : entry .head ≡ empty → w .outhead ≡ empty → (step4 work andThen step5) ≡ next work
     none-goes e o =
-        steps-3
-        ∙ seated-none k b j a cell cells links calendar words bits arrived (entry .head) (entry .tail) refl refl entry-fits (ready .output-fits) e o
+        seated-none k b j a cell cells links calendar words bits arrived (entry .head) (entry .tail) refl refl entry-fits (ready .output-fits) e o
 
     abbrev none-answer : Answer
-    none-answer = answerOf 0 1 (p .vci) (p .d) 65535 0
+    none-answer = answerOf 0 (j .verdict) (j .vci) (j .d) 65535 0
 
-    pub none-done : (w′ : Way) (cells′ links′ calendar′ words′ bits′ arrived′ answers answers′ : List ℕ) (i : ℕ) → entry .head ≡ empty → w .outhead ≡ empty
+    pub none-done : (w′ : Way) (cells′ links′ calendar′ words′ bits′ arrived′ departures answers answers′ : List ℕ) (i : ℕ) → entry .head ≡ empty → w .outhead ≡ empty
         → w′ ≡ wayWith w (w .t) (w .turn) (w .rotation) (w .free - 1) (w .outhead) (w .outtail)
-        → cells′ ≡ writeCell cells (p .x) cell
+        → cells′ ≡ writeCell cells (p .x) (sentAs (j .verdict) cell)
         → links′ ≡ links₃
         → calendar′ ≡ calendar₃
         → words′ ≡ words₃
         → bits′ ≡ bits₃
         → arrived′ ≡ arrived₃
         → answers′ ≡ writeAnswer answers i none-answer
-        → Silent k (from2 k cell cells links calendar words bits arrived) w′ cells′ links′ calendar′ words′ bits′ arrived′ answers answers′ i
-    none-done w′ cells′ links′ calendar′ words′ bits′ arrived′ answers answers′ i e o way c l d f g h told =
+        → 53 * i + 53 ≤ length departures
+        → Done k (step4 work andThen step5) w′ cells′ links′ calendar′ words′ bits′ arrived′ departures departures answers answers′ i
+    none-done w′ cells′ links′ calendar′ words′ bits′ arrived′ departures answers answers′ i e o way c l d f g h told inside =
         record {
           answer = none-answer;
           number = refl;
-          none = refl;
-          allowed = cells-allowed cells′ c;
-          is = none-goes e o ∙ ap next (sym (accept-served k b j a cell cells links calendar words bits arrived served cells′ links′ calendar′ words′ bits′ arrived′ (ends-with w w′ _ _ _ way) refl (c ∙ sent-is cells (p .x) cell) l d f g h));
+          is = none-goes e o ∙ ap next (sym (accept-served k b j a cell cells links calendar words bits arrived served cells′ links′ calendar′ words′ bits′ arrived′ (ends-with w w′ _ _ _ way) refl c l d f g h));
+          shown = sym (shown-none departures i inside cells′ (cells-allowed cells′ c) 65535 refl);
           told = told;
           free = w .free - 1;
           output = outputEnds k;
@@ -161,6 +143,10 @@ module _ (w : Way) (p : Spot) (cell cells links calendar words bits arrived : Li
 
     -- ---- o departs
     module _ (o : Leave) (goes : Goes k (taken bits (p .x)) entry o (OffThen k p cells links words)) where
+      -- the departing cell's connection is the one that step 3 found
+      stored : (joins : Bool) (e : Ends) (x : Off) → OffThen k p cells links words joins e x → OffStored k j a cells links words joins e x
+      stored joins e x is = rw (← spot .of-connection) is
+
       abbrev links₄ : List ℕ
       links₄ = linked (o .follows) (w .outtail) (o .head) links₃
 
@@ -170,31 +156,29 @@ module _ (w : Way) (p : Spot) (cell cells links calendar words bits arrived : Li
       abbrev bits₄ : List ℕ
       bits₄ = if o .marked then unmarked bits₃ (w .turn) else bits₃
 
-      marked-goes : o .marked ≡ true → from2 k cell cells links calendar words bits arrived ≡ next (leftBy work links₄ (writeEntry calendar₃ (w .turn) emptyList) (unmarked bits₃ (w .turn)) (offAt o))
+      marked-goes : o .marked ≡ true → (step4 work andThen step5) ≡ next (leftBy work links₄ (writeEntry calendar₃ (w .turn) emptyList) (unmarked bits₃ (w .turn)) (offAt o))
       marked-goes m =
           let g = goes .marked m in
-          steps-3
-          ∙ seated-marked k b j a cell cells links calendar words bits arrived (entry .head) (entry .tail) refl refl entry-fits (ready .output-fits) (g .0)
-          ∙ accept-marked-goes k b j a cell cells links calendar words bits arrived (ready .sized) (spot .is-accepted) is-seated entry (offAt o) (g .3) refl (goes .not-free)
+          seated-marked k b j a cell cells links calendar words bits arrived (entry .head) (entry .tail) refl refl entry-fits (ready .output-fits) (g .0)
+          ∙ accept-marked-goes k b j a cell cells links calendar words bits arrived (ready .sized) (spot .is-accepted) is-seated entry (offAt o) (stored _ _ _ (g .3)) refl (goes .not-free)
           ∙ ap (λ (l : List ℕ). next (leftBy work l (writeEntry calendar₃ (w .turn) emptyList) (unmarked bits₃ (w .turn)) (offAt o)))
           (linked-same (not (w .outhead =? empty)) (o .follows) (w .outtail) (entry .head) (o .head) links₃ (sym (g .1))
           (λ q. sym (g .2 (g .1 ∙ q))))
 
-      output-goes : o .marked ≡ false → from2 k cell cells links calendar words bits arrived ≡ next (leftBy work links₄ calendar₃ bits₃ (offAt o))
+      output-goes : o .marked ≡ false → (step4 work andThen step5) ≡ next (leftBy work links₄ calendar₃ bits₃ (offAt o))
       output-goes m =
           let g = goes .unmarked m in
-          steps-3
-          ∙ seated-output k b j a cell cells links calendar words bits arrived (entry .head) (entry .tail) refl refl entry-fits (ready .output-fits) (g .0) (g .1)
+          seated-output k b j a cell cells links calendar words bits arrived (entry .head) (entry .tail) refl refl entry-fits (ready .output-fits) (g .0) (g .1)
           ∙ accept-output-goes k b j a cell cells links calendar words bits arrived (ready .sized) (spot .is-accepted) is-seated
-          (fit-head (w .n) (outputEnds k) (ready .output-fits) (g .1)) (offAt o) (g .3) refl (goes .not-free)
+          (fit-head (w .n) (outputEnds k) (ready .output-fits) (g .1)) (offAt o) (stored _ _ _ (g .3)) refl (goes .not-free)
           ∙ ap (λ (l : List ℕ). next (leftBy work l calendar₃ bits₃ (offAt o)))
           (linked-same false (o .follows) (w .outtail) 0 (o .head) links₃ (sym (g .2)) (λ q. no q))
 
-      leave-goes : from2 k cell cells links calendar words bits arrived ≡ next (leftBy work links₄ calendar₄ bits₄ (offAt o))
+      leave-goes : (step4 work andThen step5) ≡ next (leftBy work links₄ calendar₄ bits₄ (offAt o))
       leave-goes = go (o .marked) refl
         where
           go : (m : Bool) → o .marked ≡ m
-              → from2 k cell cells links calendar words bits arrived
+              → (step4 work andThen step5)
               ≡ next (leftBy work links₄ (if m then writeEntry calendar₃ (w .turn) emptyList else calendar₃) (if m then unmarked bits₃ (w .turn) else bits₃) (offAt o))
           go true m = marked-goes m
           go false m = output-goes m
@@ -205,9 +189,9 @@ module _ (w : Way) (p : Spot) (cell cells links calendar words bits arrived : Li
         where
           go : (m : Bool) → o .marked ≡ m → (o .vci < connectionsIn (w .v)) × (1 ≤ getD words₃ (waitingPlace (o .vci)) 0)
           go true m =
-              accept-shows k b j a cell cells links calendar words bits arrived (ready .sized) (spot .is-accepted) is-seated (not (w .outhead =? empty)) entry (offAt o) (goes .marked m .3) refl
+              accept-shows k b j a cell cells links calendar words bits arrived (ready .sized) (spot .is-accepted) is-seated (not (w .outhead =? empty)) entry (offAt o) (stored _ _ _ (goes .marked m .3)) refl
           go false m =
-              accept-shows k b j a cell cells links calendar words bits arrived (ready .sized) (spot .is-accepted) is-seated false (endsOf 0 (w .outtail)) (offAt o) (goes .unmarked m .3) refl
+              accept-shows k b j a cell cells links calendar words bits arrived (ready .sized) (spot .is-accepted) is-seated false (endsOf 0 (w .outtail)) (offAt o) (stored _ _ _ (goes .unmarked m .3)) refl
 
       pub follows-low : o .follows ≡ true → (w .outtail < w .n) × (o .head < w .n)
       follows-low f = go (o .marked) refl
@@ -239,11 +223,11 @@ module _ (w : Way) (p : Spot) (cell cells links calendar words bits arrived : Li
           (clear-fits bits₃ (w .turn) (o .marked) (w .n) (w .free - 1) ∙ taken-fit))
 
       abbrev leave-answer : Answer
-      leave-answer = answerOf 0 1 (p .vci) (p .d) (o .space) (o .vci)
+      leave-answer = answerOf 0 (j .verdict) (j .vci) (j .d) (o .space) (o .vci)
 
       pub leave-done : (w′ : Way) (cells′ links₁ links′ calendar₁ calendar′ words₁ words′ bits₁ bits′ arrived′ departures departures′ answers answers′ : List ℕ) (i : ℕ)
           → w′ ≡ wayWith w (w .t) (w .turn) (w .rotation) (w .free) (o .next) (o .tail)
-          → cells′ ≡ writeCell cells (p .x) cell
+          → cells′ ≡ writeCell cells (p .x) (sentAs (j .verdict) cell)
           → links₁ ≡ links₃
           → links′ ≡ linked (o .follows) (w .outtail) (o .head) links₁
           → calendar₁ ≡ calendar₃
@@ -256,7 +240,7 @@ module _ (w : Way) (p : Spot) (cell cells links calendar words bits arrived : Li
           → departures′ ≡ writeCell departures i (take 53 (drop (53 * o .space) cells′))
           → answers′ ≡ writeAnswer answers i leave-answer
           → 53 * i + 53 ≤ length departures
-          → Done k (from2 k cell cells links calendar words bits arrived) w′ cells′ links′ calendar′ words′ bits′ arrived′ departures departures′ answers answers′ i
+          → Done k (step4 work andThen step5) w′ cells′ links′ calendar′ words′ bits′ arrived′ departures departures′ answers answers′ i
       leave-done w′ cells′ links₁ links′ calendar₁ calendar′ words₁ words′ bits₁ bits′ arrived′ departures departures′ answers answers′ i way c l₁ l d₁ d f₁ f g₁ g h shown told inside =
           record {
             answer = leave-answer;
@@ -266,7 +250,7 @@ module _ (w : Way) (p : Spot) (cell cells links calendar words bits arrived : Li
                 (sym
                 (accept-left k b j a (offAt o) cell cells links calendar words bits arrived served cells′ links₄ links′ calendar₄ calendar′ words₁ words′ bits₄ (if o .marked then unmarked bits₁ (w .turn) else bits₁) bits′ arrived′
                 (spot .seats .some-free)
-                (ends-with w w′ _ _ _ way, refl) (c ∙ sent-is cells (p .x) cell)
+                (ends-with w w′ _ _ _ way, refl) c
                 (l ∙ ap (λ (x : List ℕ). linked (o .follows) (w .outtail) (o .head) x) l₁)
                 (d ∙ ap (λ (x : List ℕ). if o .marked then writeEntry x (w .turn) emptyList else x) d₁) f₁ f
                 (ap (λ (x : List ℕ). if o .marked then unmarked x (w .turn) else x) g₁) g h));

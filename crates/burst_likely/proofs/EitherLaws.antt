@@ -6,7 +6,7 @@ use mathlib.Core.Bool.{Bool, true, false}
 use mathlib.Core.List.{List}
 use native.Mathlib.Omega.{arith}
 use borrow.Author.Tests.{eq-eqb, le-leb}
-use lib.ListN.{length, set, take}
+use lib.ListN.{set, take}
 use Rattle.meaning.specs.declared.Record.{Record}
 use Rattle.meaning.specs.Plain.{if_then_else_, _=?_, Out}
 use Rattle.meaning.specs.Numbers.{empty}
@@ -16,11 +16,10 @@ use Rattle.meaning.specs.Work.{Work}
 use Rattle.mem_lists.specs.Spaces.{endsOf, linked}
 use Rattle.slot_plan.specs.Plan.{withEnds}
 use Rattle.slot_plan.proofs.Found.{no}
-use Rattle.burst_out.proofs.ShowLaws.{shown-none}
 use Rattle.burst_way.specs.declared.Way.{Way}
 use Rattle.burst_way.specs.Way.{wayWith, slotRecord}
 use Rattle.burst_likely.specs.declared.Went.{Went}
-use Rattle.burst_likely.specs.Served.{from2, Done, Silent, Either}
+use Rattle.burst_likely.specs.Served.{from2, Done, Either, wentWay}
 
 -- a cell memory of this length has an allowed N
 pub allowed-long : (N long : ℕ) → 1 ≤ N → N ≤ 1024 → long ≡ 53 * N → cellsAllowed long ≡ true
@@ -42,41 +41,40 @@ pub ends-with : (w w′ : Way) (free outhead outtail : ℕ)
 unfolding withEnds recordWith
 ends-with w w′ free outhead outtail e = ap slotRecord e
 
--- where nothing departs, whatever departures there are stay
-pub silent-done : (k : Record) (target : Out Work) (w′ : Way) (cells′ links′ calendar′ words′ bits′ arrived′ answers answers′ : List ℕ) (i : ℕ)
-    → Silent k target w′ cells′ links′ calendar′ words′ bits′ arrived′ answers answers′ i
-    → (departures : List ℕ)
-    → 53 * i + 53 ≤ length departures
-    → Done k target w′ cells′ links′ calendar′ words′ bits′ arrived′ departures departures answers answers′ i
-silent-done k target w′ cells′ links′ calendar′ words′ bits′ arrived′ answers answers′ i s departures inside =
-    record {
-      answer = s .answer;
-      number = s .number;
-      is = s .is;
-      shown = sym (shown-none departures i inside cells′ (s .allowed) (s .answer .space) (s .none));
-      told = s .told;
-      free = s .free;
-      output = s .output;
-      ends = s .ends;
-      spaces-fit = s .spaces-fit;
-      output-fits = s .output-fits;
-    }
+-- a slot hands its way on by three numbers
+went-way : (w w′ : Way) (free outhead outtail : ℕ) (g : Went)
+    → w′ ≡ wayWith w (w .t) (w .turn) (w .rotation) free outhead outtail
+    → g ≡ record { ok = true; free = w′ .free; outhead = w′ .outhead; outtail = w′ .outtail }
+    → wentWay w g ≡ w′
+went-way w w′ free outhead outtail g e is = rw (is, e)
+
+pub done-way : (w : Way) (target : Out Work) (w′ : Way) (free outhead outtail : ℕ) (g : Went) (cells′ links′ calendar′ words′ bits′ arrived′ departures departures′ answers answers′ : List ℕ) (i : ℕ)
+    → g ≡ record { ok = true; free = w′ .free; outhead = w′ .outhead; outtail = w′ .outtail }
+    → w′ ≡ wayWith w (w .t) (w .turn) (w .rotation) free outhead outtail
+    → Done (slotRecord w) target w′ cells′ links′ calendar′ words′ bits′ arrived′ departures departures′ answers answers′ i
+    → Done (slotRecord w) target (wentWay w g) cells′ links′ calendar′ words′ bits′ arrived′ departures departures′ answers answers′ i
+done-way w target w′ free outhead outtail g cells′ links′ calendar′ words′ bits′ arrived′ departures departures′ answers answers′ i is e d =
+    rw (went-way w w′ free outhead outtail g e is) d
 
 -- ---- what a function gives back
-module _ (k : Record) (target : Out Work) (cells links calendar words bits arrived departures answers : List ℕ) (i : ℕ) (g : Went) where
+module _ (w : Way) (target : Out Work) (cells links calendar words bits arrived departures answers : List ℕ) (i : ℕ) (g : Went) where
   pub either-odd : g .ok ≡ false
-      → Either k target g cells links calendar words bits arrived departures answers cells links calendar words bits arrived departures answers i
+      → Either w target g cells links calendar words bits arrived departures answers cells links calendar words bits arrived departures answers i
   either-odd e = record { went = λ q. no (sym e ∙ q); stayed = λ q. (refl, refl, refl, refl, refl, refl, refl, refl) }
 
-  pub either-gone : (w′ : Way) (cells′ links′ calendar′ words′ bits′ arrived′ departures′ answers′ : List ℕ) → (g .ok ≡ true) × (g .way ≡ w′)
-      → Done k target w′ cells′ links′ calendar′ words′ bits′ arrived′ departures departures′ answers answers′ i
-      → Either k target g cells links calendar words bits arrived departures answers cells′ links′ calendar′ words′ bits′ arrived′ departures′ answers′ i
-  either-gone w′ cells′ links′ calendar′ words′ bits′ arrived′ departures′ answers′ e d =
-      record { went = λ q. rw (e .1) d; stayed = λ q. no (sym q ∙ e .0) }
+  module _ (cells′ links′ calendar′ words′ bits′ arrived′ departures′ answers′ : List ℕ) where
+    pub either-gone : g .ok ≡ true
+        → Done (slotRecord w) target (wentWay w g) cells′ links′ calendar′ words′ bits′ arrived′ departures departures′ answers answers′ i
+        → Either w target g cells links calendar words bits arrived departures answers cells′ links′ calendar′ words′ bits′ arrived′ departures′ answers′ i
+    either-gone e d = record { went = λ q. d; stayed = λ q. no (sym q ∙ e) }
 
--- the cell has so many octets
-pub either-size : (k : Record) (size size′ : ℕ) (octets cells links calendar words bits arrived departures answers cells′ links′ calendar′ words′ bits′ arrived′ departures′ answers′ : List ℕ) (i : ℕ) (g : Went)
-    → size ≡ size′
-    → Either k (from2 k (take size′ octets) cells links calendar words bits arrived) g cells links calendar words bits arrived departures answers cells′ links′ calendar′ words′ bits′ arrived′ departures′ answers′ i
-    → Either k (from2 k (take size octets) cells links calendar words bits arrived) g cells links calendar words bits arrived departures answers cells′ links′ calendar′ words′ bits′ arrived′ departures′ answers′ i
-either-size k size size′ octets cells links calendar words bits arrived departures answers cells′ links′ calendar′ words′ bits′ arrived′ departures′ answers′ i g e h = rw e h
+    -- the same slot, said otherwise
+    pub either-is : (target′ : Out Work) → target′ ≡ target
+        → Either w target g cells links calendar words bits arrived departures answers cells′ links′ calendar′ words′ bits′ arrived′ departures′ answers′ i
+        → Either w target′ g cells links calendar words bits arrived departures answers cells′ links′ calendar′ words′ bits′ arrived′ departures′ answers′ i
+    either-is target′ e h = rw e h
+
+-- the five steps of a cell of so many octets
+pub from-whole : (k : Record) (size : ℕ) (octets cells links calendar words bits arrived : List ℕ) → size ≡ 53
+    → from2 k (take size octets) cells links calendar words bits arrived ≡ from2 k (take 53 octets) cells links calendar words bits arrived
+from-whole k size octets cells links calendar words bits arrived e = rw e

@@ -2,5 +2,6 @@ pub mod WriteLaws
 pub mod EitherLaws
 pub mod StoreLaws
 pub mod ClearLaws
-pub mod BareLaws
+pub mod QuietLaws
 pub mod AcceptLaws
+pub mod NamedLaws

@@ -1,64 +1,44 @@
-// A slot on a likely way: what was found of steps 2 to 5 is written, a case at a time. A test that fails leaves the likely way
-// before anything is written, and the slot is then served as the call has it: nothing here refuses.
+// A slot on a likely way: what was found of steps 2 to 5 is written, a case at a time, whatever the verdict. A test that fails
+// leaves the likely way before anything is written, and the slot is then served as the call has it: nothing here refuses.
 ghost use mathlib.Core.Path.{_≡_};
 ghost use mathlib.Core.Bool.{true, false, not};
 ghost use mathlib.Core.Logic.{_⊎_};
-ghost use mathlib.Core.List.{List, []};
-ghost use Prim.Native.Nat.{ℕ, _+_, _*_, _≤_, _<_};
+ghost use Prim.Native.Nat.{_+_, _-_, _*_, _≤_, _<_};
 ghost use lib.ListN.{length, getD, set, take, drop};
 ghost use Rattle.meaning.specs.Plain.{if_then_else_, _=?_};
-ghost use Rattle.meaning.specs.Numbers.{mostN, empty, fPlace, sPlace, lastPlace, waitingPlace, secondSPlace, octets, cellStart, bitWords};
+ghost use Rattle.meaning.specs.Numbers.{mostN, mostV, connectionsIn, empty, excess, waitingPlace, octets, cellStart, wordsIn, bitWords};
 ghost use Rattle.meaning.specs.Bits.{isFree, taken, given, marked, unmarked};
 ghost use Rattle.meaning.specs.State.{writeCell, HasConnection};
-ghost use Rattle.meaning.specs.Lists.{emptyList, endsFit, entryAt, writeEntry};
+ghost use Rattle.meaning.specs.Header.{headerAt, clpIn};
+ghost use Rattle.meaning.specs.Lists.{emptyList, entryAt, writeEntry};
+ghost use Rattle.meaning.specs.Arrival.{sentAs};
 ghost use Rattle.meaning.specs.Work.{answerOf};
-ghost use Rattle.slot_arrive.specs.Arrival.{filled, oneLess};
+ghost use Rattle.leaf_header.specs.Name.{noName, Reads};
+ghost use Rattle.slot_arrive.specs.Arrival.{oneLess, judgedName};
 ghost use Rattle.mem_lists.specs.Spaces.{endsOf, linked};
 ghost use Rattle.slot_plan.specs.Plan.{seatEnds};
 ghost use Rattle.burst_out.specs.Handout.{writeAnswer};
-ghost use Rattle.burst_way.specs.Way.{slotRecord};
-ghost use Rattle.burst_rotate.specs.Turning.{Turned};
+ghost use Rattle.burst_way.specs.Way.{wayWith, slotRecord, NamesBy};
 ghost use Rattle.burst_arrive.specs.Arriving.{seatAt};
-ghost use Rattle.burst_depart.specs.Leaving.{Leaves, OffHere, OffThen, entryThen};
-ghost use Rattle.burst_likely.specs.Served.{HandedTo, cellBefore, ReadyIn, SpottedIn, ServedBy, ServedSilent, ServedOrLeft, wordsFilled};
+ghost use Rattle.burst_depart.specs.Leaving.{Leaves, OffHere};
+ghost use Rattle.burst_likely.specs.Served.{HandedTo, ReadyIn, SpottedIn, MayLeave, CleanIn, likelyName, cellBefore, wordsFallen, wordsFilled};
+ghost use Rattle.burst_likely.specs.Served.{fromHere, quietFrom, acceptFrom, ServedBy, ServedOrLeft};
 use burst_arrive::Spot;
 use burst_depart::Leave;
-use burst_rotate::Turn;
 use burst_way::Way;
-use meaning::AT_F;
-use meaning::AT_LAST;
-use meaning::AT_S;
 use meaning::AT_WAITING;
 use meaning::Answer;
 use meaning::WORDS_PER_CONNECTION;
+use slot_arrive::Fall;
+use slot_arrive::Judged;
 
-// A slot on a likely way: served, or left as it came.
+// A slot on a likely way: served, or left as it came. Of the policer only these three differ then: handed on as a whole it would
+// be moved field by field in each slot.
 pub struct Went {
     pub ok: bool,
-    pub way: Way,
-}
-
-// Step 2's words.
-fn put_turn(words: &mut [u32], rotation: usize, s: u32, last: u32)
-    requires { ⌜ HasConnection rotation (now words) ⌝ }
-    ensures { λ r. ⌜ now (words .exit) ≡ set (set (now (words .entry)) (sPlace rotation) s) (lastPlace rotation) last ⌝ }
-{
-    let b = WORDS_PER_CONNECTION * rotation;
-    words[b + AT_S] = s;
-    words[b + AT_LAST] = last;
-}
-
-// The words of an accepted cell's connection: S grows by F, and one more waits. It has no second bucket, so that one's S is 0 and stays.
-fn put_fill(words: &mut [u32], vci: usize, s: u32, t: u32)
-    requires { ⌜ (HasConnection vci (now words)) × (s + getD (now words) (fPlace vci) 0 < 4294967296) × (getD (now words) (waitingPlace vci) 0 + 1 < 4294967296)
-        × (getD (now words) (secondSPlace vci) 0 ≡ 0) ⌝ }
-    ensures { λ r. ⌜ now (words .exit)
-        ≡ filled vci (s + getD (now (words .entry)) (fPlace vci) 0) 0 t (getD (now (words .entry)) (waitingPlace vci) 0 + 1) (now (words .entry)) ⌝ }
-{
-    let b = WORDS_PER_CONNECTION * vci;
-    words[b + AT_S] = s + words[b + AT_F];
-    words[b + AT_LAST] = t;
-    words[b + AT_WAITING] = words[b + AT_WAITING] + 1;
+    pub free: usize,
+    pub outhead: usize,
+    pub outtail: usize,
 }
 
 // Waiting of a connection falls by one.
@@ -103,16 +83,14 @@ fn put_entry(calendar: &mut [u16], e: usize, x: usize, head: usize)
     }
 }
 
-// Slot i's cell into its space.
-fn put_cell(cells: &mut [u8], x: usize, arrivals: &[u8], i: usize)
-    requires { ⌜ (cellStart x + octets ≤ length (now cells)) × (cellStart i + octets ≤ length (now arrivals)) ⌝ }
-    ensures { λ r. ⌜ now (cells .exit) ≡ writeCell (now (cells .entry)) x (cellBefore arrivals i) ⌝ }
+// Slot i's cell into its space, as it is sent.
+fn put_cell(verdict: u16, cells: &mut [u8], x: usize, arrivals: &[u8], i: usize)
+    requires { ⌜ (x < mostN) × (cellStart x + octets ≤ length (now cells)) × (cellStart i + octets ≤ length (now arrivals)) ⌝ }
+    ensures { λ r. ⌜ now (cells .exit) ≡ writeCell (now (cells .entry)) x (sentAs verdict (cellBefore arrivals i)) ⌝ }
 {
-    let a = 53 * x;
-    let e = a + 53;
     let from = 53 * i;
     let to = from + 53;
-    mem_cell::copy_cell(&mut cells[a..e], &arrivals[from..to]);
+    slot_store::put_sent(verdict, cells, x as u16, &arrivals[from..to]);
 }
 
 // Its arrival slot beside it.
@@ -139,32 +117,52 @@ fn give_back(bits: &mut [u64], x: usize, on: bool, e: usize)
     mem_bits::release(bits, x as u16, on, e as u16);
 }
 
-fn odd(w: Way) -> Went
-    ensures { λ g. ⌜ (g .ok ≡ false) × (g .way ≡ w) ⌝ }
+fn odd() -> Went
+    ensures { λ g. ⌜ g .ok ≡ false ⌝ }
 {
-    Went { ok: false, way: w }
+    Went {
+        ok: false,
+        free: 0,
+        outhead: 0,
+        outtail: 0,
+    }
 }
 
 fn gone(w: Way) -> Went
-    ensures { λ g. ⌜ (g .ok ≡ true) × (g .way ≡ w) ⌝ }
+    ensures { λ g. ⌜ g ≡ record { ok = true; free = w .free; outhead = w .outhead; outtail = w .outtail } ⌝ }
 {
-    Went { ok: true, way: w }
+    Went {
+        ok: true,
+        free: w.free,
+        outhead: w.outhead,
+        outtail: w.outtail,
+    }
 }
 
-// No cell arrived, and nothing departs.
-fn bare_none(w: Way, r: Turn, words: &mut [u32], answers: &mut [u16], i: usize)
-    requires { ⌜ (HasConnection (w .rotation) (now words)) × (6 * i + 6 ≤ length (now answers)) ⌝ }
-    ensures words { λ u. ⌜ now (words .exit) ≡ set (set (now (words .entry)) (sPlace (w .rotation)) (r .s)) (lastPlace (w .rotation)) (r .last) ⌝ }
-    ensures answers { λ u. ⌜ now (answers .exit) ≡ writeAnswer (now (answers .entry)) i (answerOf 0 0 0 0 65535 0) ⌝ }
+// Steps 2 and 3 in the words where no cell is let in.
+fn words_fall(w: Way, b: Fall, j: Judged, words: &mut [u32])
+    requires { ⌜ (w .rotation < connectionsIn mostV) × (HasConnection (w .rotation) (now words)) × (j .verdict =? excess ≡ true → HasConnection (j .vci) (now words)) ⌝ }
+    ensures { λ r. ⌜ now (words .exit) ≡ wordsFallen w b j (now (words .entry)) ⌝ }
 {
-    put_turn(words, w.rotation, r.s, r.last);
+    slot_arrive::put_fall(words, b.on, w.rotation as u16, b.s, b.second, w.t);
+    slot_arrive::put_fall(words, j.verdict == 2, j.vci, j.s, j.second, w.t);
+}
+
+// No cell is let in, and nothing departs.
+fn quiet_none(w: Way, b: Fall, j: Judged, words: &mut [u32], answers: &mut [u16], i: usize)
+    requires { ⌜ (w .rotation < connectionsIn mostV) × (HasConnection (w .rotation) (now words)) × (j .verdict =? excess ≡ true → HasConnection (j .vci) (now words)) ⌝ }
+    requires { ⌜ 6 * i + 6 ≤ length (now answers) ⌝ }
+    ensures words { λ u. ⌜ now (words .exit) ≡ wordsFallen w b j (now (words .entry)) ⌝ }
+    ensures answers { λ u. ⌜ now (answers .exit) ≡ writeAnswer (now (answers .entry)) i (answerOf 0 (j .verdict) (j .vci) 0 65535 0) ⌝ }
+{
+    words_fall(w, b, j, words);
     burst_out::put_answer(
         answers,
         i,
         Answer {
             number: 0,
-            verdict: 0,
-            vci: 0,
+            verdict: j.verdict,
+            vci: j.vci,
             d: 0,
             space: 65535,
             departing: 0,
@@ -172,10 +170,11 @@ fn bare_none(w: Way, r: Turn, words: &mut [u32], answers: &mut [u16], i: usize)
     );
 }
 
-// No cell arrived, and o departs: all writes.
-fn bare_leave(
+// No cell is let in, and o departs: all writes.
+fn quiet_leave(
     w: Way,
-    r: Turn,
+    b: Fall,
+    j: Judged,
     o: Leave,
     cells: &[u8],
     links: &mut [u16],
@@ -188,12 +187,13 @@ fn bare_leave(
     i: usize,
 ) -> Way
     requires { ⌜ ReadyIn w cells links calendar words bits arrived ⌝ }
-    requires { ⌜ Turned (slotRecord w) (now words) r ⌝ }
+    requires { ⌜ (j .verdict =? excess ≡ true → j .vci < connectionsIn (w .v)) ⌝ }
     requires { ⌜ (o .none ≡ false) × Leaves (slotRecord w) (now bits) (entryAt (now calendar) (w .turn)) o (OffHere (slotRecord w) (now cells) (now links) (now words)) ⌝ }
     requires { ⌜ HandedTo (now departures) (now answers) i ⌝ }
-    ensures { λ s. ⌜ ServedBy w [] s cells links calendar words bits arrived departures answers i ⌝ }
+    ensures way { λ s. ⌜ s ≡ wayWith w (w .t) (w .turn) (w .rotation) (w .free + 1) (o .next) (o .tail) ⌝ }
+    ensures is { λ s. ⌜ ServedBy w (quietFrom w b j cells links calendar words bits arrived) s cells links calendar words bits arrived departures answers i ⌝ }
 {
-    put_turn(words, w.rotation, r.s, r.last);
+    words_fall(w, b, j, words);
     put_less(words, o.vci);
     clear_entry(calendar, o.marked, w.turn);
     put_link(links, o.follows, w.outtail, o.head);
@@ -204,8 +204,8 @@ fn bare_leave(
         i,
         Answer {
             number: 0,
-            verdict: 0,
-            vci: 0,
+            verdict: j.verdict,
+            vci: j.vci,
             d: 0,
             space: o.space as u16,
             departing: o.vci as u16,
@@ -214,10 +214,11 @@ fn bare_leave(
     burst_way::with_ends(w, w.free + 1, o.next, o.tail)
 }
 
-// No cell arrived.
-fn bare(
+// No cell is let in: none arrived, or an idle one, one of no open connection, or one that is excess.
+fn quiet(
     w: Way,
-    r: Turn,
+    b: Fall,
+    j: Judged,
     cells: &[u8],
     links: &mut [u16],
     calendar: &mut [u16],
@@ -229,21 +230,22 @@ fn bare(
     i: usize,
 ) -> Went
     requires { ⌜ ReadyIn w cells links calendar words bits arrived ⌝ }
-    requires { ⌜ Turned (slotRecord w) (now words) r ⌝ }
+    requires { ⌜ (j .verdict =? excess ≡ true → j .vci < connectionsIn (w .v)) ⌝ }
     requires { ⌜ HandedTo (now departures) (now answers) i ⌝ }
-    ensures { λ g. ⌜ ServedOrLeft w [] g cells links calendar words bits arrived departures answers i ⌝ }
+    ensures { λ g. ⌜ ServedOrLeft w (quietFrom w b j cells links calendar words bits arrived) g cells links calendar words bits arrived departures answers i ⌝ }
 {
     let o = burst_depart::off_quiet(w, cells, links, calendar, words, bits);
     if !o.ok {
-        return odd(w);
+        return odd();
     }
     if o.none {
-        bare_none(w, r, words, answers, i);
+        quiet_none(w, b, j, words, answers, i);
         return gone(w);
     }
-    let after = bare_leave(
+    let after = quiet_leave(
         w,
-        r,
+        b,
+        j,
         o,
         cells,
         links,
@@ -258,10 +260,12 @@ fn bare(
     gone(after)
 }
 
-// An accepted cell: what steps 2 and 3 write; its space is free no longer, and its entry is marked.
+// A cell that is let in: what steps 2 and 3 write; its space is free no longer, and its entry is marked. Called once, before it is
+// known whether something departs: called in both cases it would not be laid in place.
 fn store(
     w: Way,
-    r: Turn,
+    b: Fall,
+    j: Judged,
     p: Spot,
     cells: &mut [u8],
     links: &mut [u16],
@@ -273,114 +277,48 @@ fn store(
     i: usize,
 )
     requires { ⌜ ReadyIn w cells links calendar words bits arrived ⌝ }
-    requires { ⌜ Turned (slotRecord w) (now words) r ⌝ }
-    requires { ⌜ SpottedIn w p calendar words bits arrivals i ⌝ }
+    requires { ⌜ SpottedIn w j p calendar words bits arrivals i ⌝ }
     requires { ⌜ cellStart i + octets ≤ length (now arrivals) ⌝ }
-    ensures cells { λ u. ⌜ now (cells .exit) ≡ writeCell (now (cells .entry)) (p .x) (cellBefore arrivals i) ⌝ }
+    ensures cells { λ u. ⌜ now (cells .exit) ≡ writeCell (now (cells .entry)) (p .x) (sentAs (j .verdict) (cellBefore arrivals i)) ⌝ }
     ensures links { λ u. ⌜ now (links .exit) ≡ linked (not (p .head =? empty)) (p .x) (p .head) (now (links .entry)) ⌝ }
     ensures calendar { λ u. ⌜ now (calendar .exit) ≡ writeEntry (now (calendar .entry)) (p .e) (seatEnds (seatAt p)) ⌝ }
-    ensures words { λ u. ⌜ now (words .exit) ≡ wordsFilled w p (now (words .entry)) ⌝ }
+    ensures words { λ u. ⌜ now (words .exit) ≡ wordsFilled w b j (now (words .entry)) ⌝ }
     ensures bits { λ u. ⌜ now (bits .exit) ≡ marked (taken (now (bits .entry)) (p .x)) (p .e) ⌝ }
     ensures arrived { λ u. ⌜ now (arrived .exit) ≡ set (now (arrived .entry)) (p .x) (w .t) ⌝ }
 {
-    put_turn(words, w.rotation, r.s, r.last);
-    put_fill(words, p.vci, p.s, w.t);
-    put_cell(cells, p.x, arrivals, i);
+    slot_arrive::put_fall(words, b.on, w.rotation as u16, b.s, b.second, w.t);
+    slot_arrive::put_fill(words, j.vci, j.s, j.second, w.t, j.waiting);
+    put_cell(j.verdict, cells, p.x, arrivals, i);
     put_arrived(arrived, p.x, w.t);
     put_link(links, p.head != 65535, p.x, p.head);
     put_entry(calendar, p.e, p.x, p.head);
     take_up(bits, p.x, p.e);
 }
 
-// An accepted cell, and nothing departs.
-fn accept_none(
-    w: Way,
-    r: Turn,
-    p: Spot,
-    cells: &mut [u8],
-    links: &mut [u16],
-    calendar: &mut [u16],
-    words: &mut [u32],
-    bits: &mut [u64],
-    arrived: &mut [u32],
-    arrivals: &[u8],
-    answers: &mut [u16],
-    i: usize,
-) -> Way
-    requires { ⌜ ReadyIn w cells links calendar words bits arrived ⌝ }
-    requires { ⌜ Turned (slotRecord w) (now words) r ⌝ }
-    requires { ⌜ SpottedIn w p calendar words bits arrivals i ⌝ }
-    requires { ⌜ (cellStart i + octets ≤ length (now arrivals)) × (6 * i + 6 ≤ length (now answers)) ⌝ }
-    requires { ⌜ (endsFit (w .n) (entryThen (slotRecord w) p (now calendar)) ≡ true)
-        × (entryThen (slotRecord w) p (now calendar) .head ≡ empty) × (w .outhead ≡ empty) ⌝ }
-    ensures { λ s. ⌜ ServedSilent w (cellBefore arrivals i) s cells links calendar words bits arrived answers i ⌝ }
-{
-    store(
-        w,
-        r,
-        p,
-        cells,
-        links,
-        calendar,
-        words,
-        bits,
-        arrived,
-        arrivals,
-        i,
-    );
-    burst_out::put_answer(
-        answers,
-        i,
-        Answer {
-            number: 0,
-            verdict: 1,
-            vci: p.vci as u16,
-            d: p.d as u16,
-            space: 65535,
-            departing: 0,
-        },
-    );
-    burst_way::with_ends(w, w.free - 1, w.outhead, w.outtail)
-}
-
-// An accepted cell, and o departs: one space is taken and one given back, so their number stays.
+// A cell is let in and stored, and o departs: one space is taken and one given back, so their number stays.
 fn accept_leave(
     w: Way,
-    r: Turn,
-    p: Spot,
+    j: Judged,
     o: Leave,
-    cells: &mut [u8],
+    cells: &[u8],
     links: &mut [u16],
     calendar: &mut [u16],
     words: &mut [u32],
     bits: &mut [u64],
-    arrived: &mut [u32],
-    arrivals: &[u8],
     departures: &mut [u8],
     answers: &mut [u16],
     i: usize,
 ) -> Way
-    requires { ⌜ ReadyIn w cells links calendar words bits arrived ⌝ }
-    requires { ⌜ Turned (slotRecord w) (now words) r ⌝ }
-    requires { ⌜ SpottedIn w p calendar words bits arrivals i ⌝ }
-    requires { ⌜ (o .none ≡ false)
-        × Leaves (slotRecord w) (taken (now bits) (p .x)) (entryThen (slotRecord w) p (now calendar)) o (OffThen (slotRecord w) p (now cells) (now links) (now words)) ⌝ }
-    requires { ⌜ (cellStart i + octets ≤ length (now arrivals)) × HandedTo (now departures) (now answers) i ⌝ }
-    ensures { λ s. ⌜ ServedBy w (cellBefore arrivals i) s cells links calendar words bits arrived departures answers i ⌝ }
+    requires { ⌜ MayLeave w o cells links calendar words bits ⌝ }
+    requires { ⌜ HandedTo (now departures) (now answers) i ⌝ }
+    ensures way { λ s. ⌜ s ≡ wayWith w (w .t) (w .turn) (w .rotation) (w .free) (o .next) (o .tail) ⌝ }
+    ensures links { λ s. ⌜ now (links .exit) ≡ linked (o .follows) (w .outtail) (o .head) (now (links .entry)) ⌝ }
+    ensures calendar { λ s. ⌜ now (calendar .exit) ≡ (if o .marked then writeEntry (now (calendar .entry)) (w .turn) emptyList else now (calendar .entry)) ⌝ }
+    ensures words { λ s. ⌜ now (words .exit) ≡ oneLess (o .vci) (now (words .entry)) ⌝ }
+    ensures bits { λ s. ⌜ now (bits .exit) ≡ given (if o .marked then unmarked (now (bits .entry)) (w .turn) else now (bits .entry)) (o .space) ⌝ }
+    ensures shown { λ s. ⌜ now (departures .exit) ≡ writeCell (now (departures .entry)) i (take 53 (drop (53 * o .space) (now (cells .entry)))) ⌝ }
+    ensures told { λ s. ⌜ now (answers .exit) ≡ writeAnswer (now (answers .entry)) i (answerOf 0 (j .verdict) (j .vci) (j .d) (o .space) (o .vci)) ⌝ }
 {
-    store(
-        w,
-        r,
-        p,
-        cells,
-        links,
-        calendar,
-        words,
-        bits,
-        arrived,
-        arrivals,
-        i,
-    );
     put_less(words, o.vci);
     clear_entry(calendar, o.marked, w.turn);
     put_link(links, o.follows, w.outtail, o.head);
@@ -391,9 +329,9 @@ fn accept_leave(
         i,
         Answer {
             number: 0,
-            verdict: 1,
-            vci: p.vci as u16,
-            d: p.d as u16,
+            verdict: j.verdict,
+            vci: j.vci,
+            d: j.d,
             space: o.space as u16,
             departing: o.vci as u16,
         },
@@ -401,10 +339,32 @@ fn accept_leave(
     burst_way::with_ends(w, w.free, o.next, o.tail)
 }
 
-// A cell arrived, and it is accepted.
+// A cell is let in and stored, and nothing departs.
+fn accept_none(w: Way, j: Judged, answers: &mut [u16], i: usize) -> Way
+    requires { ⌜ (1 ≤ w .free) × (6 * i + 6 ≤ length (now answers)) ⌝ }
+    ensures way { λ s. ⌜ s ≡ wayWith w (w .t) (w .turn) (w .rotation) (w .free - 1) (w .outhead) (w .outtail) ⌝ }
+    ensures told { λ s. ⌜ now (answers .exit) ≡ writeAnswer (now (answers .entry)) i (answerOf 0 (j .verdict) (j .vci) (j .d) 65535 0) ⌝ }
+{
+    burst_out::put_answer(
+        answers,
+        i,
+        Answer {
+            number: 0,
+            verdict: j.verdict,
+            vci: j.vci,
+            d: j.d,
+            space: 65535,
+            departing: 0,
+        },
+    );
+    burst_way::with_ends(w, w.free - 1, w.outhead, w.outtail)
+}
+
+// A cell is let in: accepted, or tagged.
 fn accept(
     w: Way,
-    r: Turn,
+    b: Fall,
+    j: Judged,
     p: Spot,
     cells: &mut [u8],
     links: &mut [u16],
@@ -418,37 +378,19 @@ fn accept(
     i: usize,
 ) -> Went
     requires { ⌜ ReadyIn w cells links calendar words bits arrived ⌝ }
-    requires { ⌜ Turned (slotRecord w) (now words) r ⌝ }
-    requires { ⌜ SpottedIn w p calendar words bits arrivals i ⌝ }
+    requires { ⌜ SpottedIn w j p calendar words bits arrivals i ⌝ }
     requires { ⌜ (cellStart i + octets ≤ length (now arrivals)) × HandedTo (now departures) (now answers) i ⌝ }
-    ensures { λ g. ⌜ ServedOrLeft w (cellBefore arrivals i) g cells links calendar words bits arrived departures answers i ⌝ }
+    ensures { λ g. ⌜ ServedOrLeft w (acceptFrom w b j p (cellBefore arrivals i) cells links calendar words bits arrived) g cells links calendar words bits arrived departures answers i ⌝ }
 {
     let o = burst_depart::off_accept(w, p, cells, links, calendar, words, bits);
     if !o.ok {
-        return odd(w);
+        return odd();
     }
-    if o.none {
-        let after = accept_none(
-            w,
-            r,
-            p,
-            cells,
-            links,
-            calendar,
-            words,
-            bits,
-            arrived,
-            arrivals,
-            answers,
-            i,
-        );
-        return gone(after);
-    }
-    let after = accept_leave(
+    store(
         w,
-        r,
+        b,
+        j,
         p,
-        o,
         cells,
         links,
         calendar,
@@ -456,6 +398,21 @@ fn accept(
         bits,
         arrived,
         arrivals,
+        i,
+    );
+    if o.none {
+        let after = accept_none(w, j, answers, i);
+        return gone(after);
+    }
+    let after = accept_leave(
+        w,
+        j,
+        o,
+        cells,
+        links,
+        calendar,
+        words,
+        bits,
         departures,
         answers,
         i,
@@ -463,49 +420,39 @@ fn accept(
     gone(after)
 }
 
-// A cell arrived.
-fn arrive(
-    w: Way,
-    r: Turn,
-    cells: &mut [u8],
-    links: &mut [u16],
-    calendar: &mut [u16],
-    words: &mut [u32],
-    bits: &mut [u64],
-    arrived: &mut [u32],
-    arrivals: &[u8],
-    departures: &mut [u8],
-    answers: &mut [u16],
-    i: usize,
-) -> Went
-    requires { ⌜ ReadyIn w cells links calendar words bits arrived ⌝ }
-    requires { ⌜ Turned (slotRecord w) (now words) r ⌝ }
-    requires { ⌜ (cellStart i + octets ≤ length (now arrivals)) × HandedTo (now departures) (now answers) i ⌝ }
-    ensures { λ g. ⌜ ServedOrLeft w (cellBefore arrivals i) g cells links calendar words bits arrived departures answers i ⌝ }
+// The name of slot i's cell: 0 where there is none, and none that a header has where the likely ways can't take it, since its size is
+// neither 0 nor 53 or, of a raw policer, its header is wrong.
+fn named(w: Way, arrivals: &[u8], size: u8, i: usize) -> u32
+    requires { ⌜ (cellStart i + octets ≤ length (now arrivals)) × NamesBy w ⌝ }
+    ensures is { λ r. ⌜ r ≡ likelyName (w .raw) (w .kind) (now (arrivals .entry)) size i ⌝ }
+    ensures reads { λ r. ⌜ (size ≡ 53 → (r ≡ noName → ⊥) → Reads (w .kind) (headerAt (w .kind) (now (arrivals .entry)) (53 * i)) r) ⌝ }
 {
-    let p = burst_arrive::accepted_spot(w, calendar, words, bits, arrivals, i);
-    if !p.ok {
-        return odd(w);
+    if size == 0 {
+        return 0;
     }
-    accept(
-        w,
-        r,
-        p,
-        cells,
-        links,
-        calendar,
-        words,
-        bits,
-        arrived,
-        arrivals,
-        departures,
-        answers,
-        i,
-    )
+    if size != 53 {
+        return 4294967295;
+    }
+    let head = leaf_header::head_at(arrivals, 53 * i);
+    if w.raw != 0 {
+        if base_hec::check_of(head) != arrivals[53 * i + 4] {
+            return 4294967295;
+        }
+    }
+    leaf_header::name_by(head, w.mask)
 }
 
-// Slot i of a burst on a likely way, its cell having so many octets. Idle cells, cells of no open connection and excess cells
-// are left to the long way, as is a size that is neither 0 nor 53.
+// Step 3 of slot i's cell, by its name.
+fn judged(w: Way, words: &[u32], name: u32, arrivals: &[u8], i: usize) -> Judged
+    requires { ⌜ (w .n ≤ mostN) × (w .v ≤ mostV) × (length (now words) ≡ wordsIn (w .v)) × (cellStart i + octets ≤ length (now arrivals)) ⌝ }
+    ensures { λ r. ⌜ r ≡ judgedName (w .n) (w .v) (w .t) (now (words .entry)) name (clpIn (cellBefore arrivals i)) ⌝ }
+{
+    let at = 53 * i;
+    let to = at + 53;
+    burst_arrive::judge(w.n as u16, w.v as u16, words, name, w.t, &arrivals[at..to])
+}
+
+// Slot i of a burst on a likely way, its cell having so many octets.
 pub fn slot(
     w: Way,
     cells: &mut [u8],
@@ -523,16 +470,23 @@ pub fn slot(
     requires { ⌜ ReadyIn w cells links calendar words bits arrived ⌝ }
     requires { ⌜ (cellStart i + octets ≤ length (now arrivals)) × HandedTo (now departures) (now answers) i ⌝ }
     ensures fits { λ g. ⌜ (g .ok ≡ true → (size ≡ 0) ⊎ (size ≡ 53)) ⌝ }
-    ensures is { λ g. ⌜ ServedOrLeft w (take size (drop (cellStart i) (now (arrivals .entry)))) g cells links calendar words bits arrived departures answers i ⌝ }
+    ensures clean { λ g. ⌜ (g .ok ≡ true → CleanIn w (now (arrivals .entry)) size i) ⌝ }
+    ensures is { λ g. ⌜ ServedOrLeft w (fromHere w (take size (drop (cellStart i) (now (arrivals .entry)))) cells links calendar words bits arrived) g cells links calendar words bits arrived departures answers i ⌝ }
 {
-    let r = burst_rotate::turned(w, words);
-    if !r.ok {
-        return odd(w);
+    let b = burst_rotate::turned(w, words);
+    if !b.ok {
+        return odd();
     }
-    if size == 0 {
-        return bare(
+    let name = named(w, arrivals, size, i);
+    let j = judged(w, words, name, arrivals, i);
+    if !j.ok {
+        return odd();
+    }
+    if !meaning::lets_in(j.verdict) {
+        return quiet(
             w,
-            r,
+            b,
+            j,
             cells,
             links,
             calendar,
@@ -544,12 +498,15 @@ pub fn slot(
             i,
         );
     }
-    if size != 53 {
-        return odd(w);
+    let p = burst_arrive::seat_of(w, j.vci as usize, j.d as usize, calendar, bits);
+    if !p.ok {
+        return odd();
     }
-    arrive(
+    accept(
         w,
-        r,
+        b,
+        j,
+        p,
         cells,
         links,
         calendar,

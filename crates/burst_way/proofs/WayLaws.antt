@@ -112,6 +112,41 @@ way-last w t turn rotation p q r low₁ low₂ low₃ =
     (ap (λ (x : ℕ). oneBack x (w .n)) q ∙ more-back turn (w .n) low₂)
     (ap (λ (x : ℕ). oneBack x (connectionsIn (w .v))) r ∙ more-back rotation (connectionsIn (w .v)) low₃)
 
+-- a record's way, its clock as step 1 moves it, whatever its mask
+abbrev pub wayOf : Record → ℕ → ℕ → ℕ → ℕ → ℕ → Way
+wayOf r n t turn rotation mask =
+    record {
+      n = n;
+      v = r .v;
+      t = t;
+      turn = turn;
+      rotation = rotation;
+      free = r .free;
+      outhead = r .outhead;
+      outtail = r .outtail;
+      raw = r .raw;
+      mode = r .mode;
+      kind = r .kind;
+      mask = mask;
+      splitvci = r .splitvci;
+      splitpath = r .splitpath;
+    }
+
+pub way-records : (r : Record) (n t turn rotation all mask : ℕ) → n ≡ r .n → t ≡ (r .t + 1) % 4294967296 → turn ≡ (r .turn + 1) % n
+    → all ≡ connectionsIn (r .v)
+    → rotation ≡ (r .rotation + 1) % all
+    → r .t < 4294967296
+    → r .turn < r .n
+    → r .rotation < connectionsIn (r .v)
+    → (slotRecord (wayOf r n t turn rotation mask) ≡ clocked r) × (lastRecord (wayOf r n t turn rotation mask) ≡ r)
+unfolding clocked recordWith slotNumbers
+way-records r n t turn rotation all mask n-is t-is turn-is all-is rotation-is low₁ low₂ low₃ = (
+  rw (rotation-is, all-is, turn-is, t-is, n-is),
+  way-last (wayOf r n t turn rotation mask) (r .t) (r .turn) (r .rotation) t-is turn-is
+      (rotation-is ∙ ap (λ (k : ℕ). (r .rotation + 1) % k) all-is) low₁ (omega (arith, n-is, low₂)) low₃
+      ∙ rw n-is,
+)
+
 -- one less on the clock that wraps, as the subtraction gives it
 pub t-back : (r t : ℕ) → r < 4294967296 → (r + 1) % 4294967296 ≡ t → r ≡ (t + 4294967295) % 4294967296
 t-back r t low e = omega (arith, e)

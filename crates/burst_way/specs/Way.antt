@@ -2,10 +2,14 @@
 --
 --   slotRecord w   == the record in the slot to come, its clock moved
 --   lastRecord w   == the record before it: what a burst that ends here gives back
+--   NamesBy w      == its kind is one, and its mask is that kind's: headers can be cut by it
 use Prim.Native.Nat.{ℕ, _+_, _-_, _%_, _≤_}
+use mathlib.Core.Path.{_≡_}
+use mathlib.Core.Bool.{true}
 use Rattle.meaning.specs.declared.Record.{Record}
 use Rattle.meaning.specs.Plain.{if_then_else_, _=?_}
-use Rattle.meaning.specs.Numbers.{mostN, mostV, connectionsIn, slotNumbers, empty}
+use Rattle.meaning.specs.Numbers.{mostN, mostV, connectionsIn, slotNumbers, empty, kindFits}
+use Rattle.leaf_header.specs.Name.{maskFor}
 use Rattle.burst_way.specs.declared.Way.{Way}
 
 abbrev pub wayWith : Way → ℕ → ℕ → ℕ → ℕ → ℕ → ℕ → Way
@@ -22,6 +26,7 @@ wayWith w t turn rotation free outhead outtail =
       raw = w .raw;
       mode = w .mode;
       kind = w .kind;
+      mask = w .mask;
       splitvci = w .splitvci;
       splitpath = w .splitpath;
     }
@@ -75,3 +80,6 @@ pub record Fits (w : Way) : Type 0 where
   pub free-low : w .free ≤ empty
   pub outhead-low : w .outhead ≤ empty
   pub outtail-low : w .outtail ≤ empty
+
+abbrev pub NamesBy : Way → Type 0
+NamesBy w = (kindFits (w .kind) ≡ true) × (w .mask ≡ maskFor (w .kind))

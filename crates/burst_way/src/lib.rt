@@ -4,12 +4,13 @@ ghost use mathlib.Core.Path.{_≡_};
 ghost use Prim.Native.Nat.{_+_, _%_, _≤_, _<_};
 ghost use Rattle.meaning.specs.Plain.{if_then_else_, _=?_};
 ghost use Rattle.meaning.specs.Numbers.{mostN, mostV, connectionsIn};
+ghost use Rattle.leaf_header.specs.Name.{maskFor};
 ghost use Rattle.slot_plan.specs.Plan.{clocked};
 ghost use Rattle.burst_way.specs.Way.{wayWith, oneBack, slotRecord, lastRecord, steppedWay, roundedWay, Fits};
 use meaning::PATHS;
 use meaning::Record;
 
-// t, T and rotation are those of the slot to come.
+// t, T and rotation are those of the slot to come; mask cuts a header to VPI and VCI as the kind asks, so that a burst asks for the kind once.
 pub struct Way {
     pub n: usize,
     pub v: usize,
@@ -22,6 +23,7 @@ pub struct Way {
     pub raw: u16,
     pub mode: u16,
     pub kind: u16,
+    pub mask: u32,
     pub splitvci: u16,
     pub splitpath: u16,
 }
@@ -50,6 +52,7 @@ fn way_with(
         raw: w.raw,
         mode: w.mode,
         kind: w.kind,
+        mask: w.mask,
         splitvci: w.splitvci,
         splitpath: w.splitpath,
     }
@@ -86,6 +89,7 @@ pub fn way_of(r: Record, n: usize) -> Way
     requires { ⌜ (n ≡ r .n) × (r .n ≤ mostN) × (r .v ≤ mostV) × (r .turn < r .n) × (r .rotation < connectionsIn (r .v)) ⌝ }
     ensures slot { λ w. ⌜ slotRecord w ≡ clocked r ⌝ }
     ensures last { λ w. ⌜ lastRecord w ≡ r ⌝ }
+    ensures mask { λ w. ⌜ w .mask ≡ maskFor (w .kind) ⌝ }
 {
     let v = r.v as usize;
     let t = std::num::wrapping_add_u32(r.t, 1);
@@ -104,6 +108,7 @@ pub fn way_of(r: Record, n: usize) -> Way
         raw: r.raw,
         mode: r.mode,
         kind: r.kind,
+        mask: if r.kind == 0 { 16777215 } else { 268435455 },
         splitvci: r.splitvci,
         splitpath: r.splitpath,
     }

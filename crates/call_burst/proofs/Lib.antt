@@ -5,4 +5,5 @@ pub mod Loop
 pub mod Once
 pub mod LengthLaws
 pub mod StopLaws
+pub mod RawLaws
 pub mod LikelyLaws

@@ -1,5 +1,5 @@
--- A slot that a likely way served is a slot of the burst: the five steps from the record before it, of a policer that is not
--- raw.
+-- A slot that a likely way served is a slot of the burst: the five steps from the record before it, of a policer that is not raw,
+-- or is raw in correction and is lent no cell or one whose header is clean.
 use Prim.Native.Nat.{ℕ, _+_, _-_, _*_, _%_, _≤_, _<_}
 use mathlib.Core.Path.{_≡_, refl, sym, _∙_, ap}
 use mathlib.Core.Logic.{_≢_, _⊎_, inl, inr}
@@ -12,13 +12,12 @@ use lib.ListN.{length, getD, drop, length-drop}
 use lib.Seq.{length-take-le}
 use Rattle.meaning.specs.declared.Record.{Record}
 use Rattle.meaning.specs.Plain.{if_then_else_, _<?_, _≤?_, _=?_, Out, next}
-use Rattle.meaning.specs.Numbers.{rangesHold, connectionsIn, unused, slotNumbers, wordsIn, bitWords}
-use Rattle.meaning.specs.Bits.{lowestFree, spacesFit}
+use Rattle.meaning.specs.Numbers.{rangesHold, connectionsIn, unused, kindFits, slotNumbers, wordsIn, bitWords}
+use Rattle.meaning.specs.Bits.{spacesFit}
 use Rattle.meaning.specs.State.{State, Ends, stateOf, recordWith, lengthsHold, wordsLong}
 use Rattle.meaning.specs.Work.{Work, workOf}
 use Rattle.meaning.specs.Slot.{uncheckedSlot, slot, finish}
 use Rattle.meaning.proofs.BitsLaws.{free-most}
-use Rattle.meaning.proofs.CheckedLaws.{not-raw}
 use Rattle.meaning.proofs.NamesLaws.{used-is}
 use Rattle.meaning.specs.Lists.{endsFit}
 use Rattle.slot_plan.proofs.Found.{no}
@@ -26,16 +25,18 @@ use Rattle.slot_plan.specs.Plan.{clocked, withEnds, outputEnds}
 use Rattle.slot_steps.specs.Slot.{shapeOf}
 use Rattle.slot_steps.proofs.EndLaws.{both-true}
 use Rattle.slot_steps.proofs.Whole.{slot-goes, clock-goes}
+use Rattle.leaf_header.specs.Name.{maskFor}
 use Rattle.burst_way.specs.declared.Way.{Way}
-use Rattle.burst_way.specs.Way.{slotRecord, lastRecord, steppedWay, roundedWay, Fits}
+use Rattle.burst_way.specs.Way.{wayWith, slotRecord, lastRecord, steppedWay, roundedWay, Fits}
 use Rattle.burst_way.proofs.WayLaws.{last-clocked, stepped-last, rounded-last}
 use Rattle.burst_likely.specs.Served.{from2, Done}
 use Rattle.call_burst.specs.Burst.{Stretch, stretchOf, sizeFits, cellLent, oneSlot, slots}
 use Rattle.call_burst.specs.declared.Far.{Far}
-use Rattle.call_burst.specs.Way.{Shaped, Tries, Held, Room, wayStretch}
+use Rattle.call_burst.specs.Way.{Shaped, RawFits, Tries, Held, Room, wayStretch}
 use Rattle.call_burst.proofs.TurnLaws.{turn-serves}
 use Rattle.call_burst.proofs.Loop.{turn-on}
 use Rattle.call_burst.proofs.StopLaws.{Fit}
+use Rattle.call_burst.proofs.RawLaws.{Passed, check-passes}
 
 -- a size of 0 or 53 fits
 pub size-is : (size : ℕ) → (size ≡ 0) ⊎ (size ≡ 53) → sizeFits size ≡ true
@@ -87,14 +88,18 @@ module _ (arrivals : List ℕ) (size : ℕ) (w : Way) (cells links calendar word
   abbrev cell : List ℕ
   cell = cellLent arrivals i size
 
-  module _ (z : Shaped (slotRecord w) cells links calendar words bits arrived) (t-low : w .t < 4294967296) (turn : w .turn < w .n) (rotation : w .rotation < connectionsIn (w .v)) (raw : w .raw ≡ 0) (room : 53 * i + 53 ≤ length arrivals) (fits : (size ≡ 0) ⊎ (size ≡ 53)) where
+  module _ (z : Shaped (slotRecord w) cells links calendar words bits arrived) (t-low : w .t < 4294967296) (turn : w .turn < w .n) (rotation : w .rotation < connectionsIn (w .v)) (raw : RawFits (w .raw) (w .mode)) (clean : Passed (w .raw) size cell) (room : 53 * i + 53 ≤ length arrivals) (fits : (size ≡ 0) ⊎ (size ≡ 53)) where
     shaped : Shaped r cells links calendar words bits arrived
     unfolding lastRecord
     shaped = record { n-low = z .n-low; n-high = z .n-high; v-low = z .v-low; v-high = z .v-high; cells-long = z .cells-long; links-long = z .links-long; calendar-long = z .calendar-long; words-long = z .words-long; bits-long = z .bits-long; arrived-long = z .arrived-long }
 
+    sized : (size ≡ 0) ⊎ (size ≡ 53) → length cell ≡ size
+    sized (inl e) = lent-long arrivals i size room (omega (arith, e))
+    sized (inr e) = lent-long arrivals i size room (omega (arith, e))
+
     long : (size ≡ 0) ⊎ (size ≡ 53) → (length cell ≡ 0) ⊎ (length cell ≡ 53)
-    long (inl e) = inl (lent-long arrivals i size room (omega (arith, e)) ∙ e)
-    long (inr e) = inr (lent-long arrivals i size room (omega (arith, e)) ∙ e)
+    long (inl e) = inl (sized (inl e) ∙ e)
+    long (inr e) = inr (sized (inr e) ∙ e)
 
     before-turn : r .turn < r .n
     unfolding lastRecord
@@ -113,11 +118,11 @@ module _ (arrivals : List ℕ) (size : ℕ) (w : Way) (cells links calendar word
         go false e = omega arith
 
     slot-is : (x : Work) → from2 (slotRecord w) cell cells links calendar words bits arrived ≡ next x → x ≡ slot s cell
-    unfolding lastRecord finish slot uncheckedSlot
+    unfolding lastRecord finish
     slot-is x e =
         let five = clock-goes r cell cells links calendar words bits arrived (slotRecord w) (sym (last-clocked w t-low turn rotation)) before-turn before-rotation in
         let u : uncheckedSlot s cell ≡ x = slot-goes r cell cells links calendar words bits arrived 0 (shape-none r cells links calendar words bits arrived cell shaped (long fits)) refl ∙ ap (finish s) (five ∙ e) in
-        sym (not-raw (lowestFree bits) s cell raw ∙ u)
+        sym (check-passes s cell size raw clean fits (sized fits) ∙ u)
 
     pub likely-slot : (w′ : Way) (cells′ links′ calendar′ words′ bits′ arrived′ departures′ answers′ : List ℕ)
         → Done (slotRecord w) (from2 (slotRecord w) cell cells links calendar words bits arrived) w′ cells′ links′ calendar′ words′ bits′ arrived′ departures departures′ answers answers′ i
@@ -127,48 +132,24 @@ module _ (arrivals : List ℕ) (size : ℕ) (w : Way) (cells links calendar word
         turn-serves arrivals size s departures answers i (size-is size fits) _ (slot-is _ (d .is)) (d .number) departures′ answers′ (d .shown) (d .told)
 
 -- ---- the next slot of a run
-module _ (arrivals sizes : List ℕ) (stop i : ℕ) (w : Way) (cells links calendar words bits arrived departures answers : List ℕ) (w′ : Way) (cells′ links′ calendar′ words′ bits′ arrived′ departures′ answers′ : List ℕ)
+module _ (arrivals sizes : List ℕ) (stop i : ℕ) (w : Way) (cells links calendar words bits arrived departures answers : List ℕ) (free outhead outtail : ℕ) (cells′ links′ calendar′ words′ bits′ arrived′ departures′ answers′ : List ℕ)
     (held : Held w cells links calendar words bits arrived) (room : Room w words (stop - i)) (low : i < stop) (most : stop ≤ length sizes) (long : length arrivals ≡ 53 * length sizes)
-    (fits : (getD sizes i 0 ≡ 0) ⊎ (getD sizes i 0 ≡ 53))
-    (d : Done (slotRecord w) (from2 (slotRecord w) (cellLent arrivals i (getD sizes i 0)) cells links calendar words bits arrived) w′ cells′ links′ calendar′ words′ bits′ arrived′ departures departures′ answers answers′ i) where
-  same : (A : Type 0) (f : Record → A) → f (slotRecord w′) ≡ f (withEnds (slotRecord w) (d .free) (d .output))
-  same A f = ap f (d .ends)
+    (fits : (getD sizes i 0 ≡ 0) ⊎ (getD sizes i 0 ≡ 53)) (clean : Passed (w .raw) (getD sizes i 0) (cellLent arrivals i (getD sizes i 0)))
+    (d : Done (slotRecord w) (from2 (slotRecord w) (cellLent arrivals i (getD sizes i 0)) cells links calendar words bits arrived) (wayWith w (w .t) (w .turn) (w .rotation) free outhead outtail) cells′ links′ calendar′ words′ bits′ arrived′ departures departures′ answers answers′ i) where
+  -- the way that the slot leaves
+  abbrev w′ : Way
+  w′ = wayWith w (w .t) (w .turn) (w .rotation) free outhead outtail
 
-  n-same : w′ .n ≡ w .n
+  free-same : free ≡ d .free
   unfolding withEnds recordWith
-  n-same = same ℕ (λ r. r .n)
-
-  v-same : w′ .v ≡ w .v
-  unfolding withEnds recordWith
-  v-same = same ℕ (λ r. r .v)
-
-  t-same : w′ .t ≡ w .t
-  unfolding withEnds recordWith
-  t-same = same ℕ (λ r. r .t)
-
-  turn-same : w′ .turn ≡ w .turn
-  unfolding withEnds recordWith
-  turn-same = same ℕ (λ r. r .turn)
-
-  rotation-same : w′ .rotation ≡ w .rotation
-  unfolding withEnds recordWith
-  rotation-same = same ℕ (λ r. r .rotation)
-
-  raw-same : w′ .raw ≡ w .raw
-  unfolding withEnds recordWith
-  raw-same = same ℕ (λ r. r .raw)
-
-  free-same : w′ .free ≡ d .free
-  unfolding withEnds recordWith
-  free-same = same ℕ (λ r. r .free)
+  free-same = ap (λ (r : Record). r .free) (d .ends)
 
   output-same : outputEnds (slotRecord w′) ≡ d .output
   unfolding withEnds recordWith
-  output-same = same Ends outputEnds
+  output-same = ap outputEnds (d .ends)
 
-  pub before-step : (w′ .turn < w′ .n) × (w′ .rotation < connectionsIn (w′ .v)) × (w′ .n ≤ 1024) × (w′ .v ≤ 1024)
-  before-step =
-      (omega (arith, turn-same, n-same, room .turn-room), omega (arith, rotation-same, v-same, room .rotation-room), omega (arith, n-same, held .shaped .n-high), omega (arith, v-same, held .shaped .v-high))
+  pub before-step : (w .turn < w .n) × (w .rotation < connectionsIn (w .v)) × (w .n ≤ 1024) × (w .v ≤ 1024)
+  before-step = (omega (arith, room .turn-room), omega (arith, room .rotation-room), held .shaped .n-high, held .shaped .v-high)
 
   pub next-held : length cells′ ≡ length cells → length links′ ≡ length links → length calendar′ ≡ length calendar → length words′ ≡ length words → length bits′ ≡ length bits → length arrived′ ≡ length arrived
       → Held (steppedWay w′) cells′ links′ calendar′ words′ bits′ arrived′
@@ -176,38 +157,28 @@ module _ (arrivals sizes : List ℕ) (stop i : ℕ) (w : Way) (cells links calen
   next-held a b e f g h =
       let z = held .shaped in
       record {
-        shaped = record {
-          n-low = omega (arith, n-same, z .n-low);
-          n-high = omega (arith, n-same, z .n-high);
-          v-low = omega (arith, v-same, z .v-low);
-          v-high = omega (arith, v-same, z .v-high);
-          cells-long = omega (arith, a, n-same, z .cells-long);
-          links-long = omega (arith, b, n-same, z .links-long);
-          calendar-long = omega (arith, e, n-same, z .calendar-long);
-          words-long = omega (arith, f, v-same, z .words-long);
-          bits-long = g ∙ z .bits-long;
-          arrived-long = omega (arith, h, n-same, z .arrived-long);
-        };
-        t-low = mod-lt (w′ .t + 1) (omega arith);
-        turn-most = omega (arith, turn-same, n-same, room .turn-room);
-        rotation-most = omega (arith, rotation-same, v-same, room .rotation-room);
-        spaces-fit = rw (n-same, free-same) (d .spaces-fit);
-        output-fits = rw (n-same, output-same) (d .output-fits);
-        not-raw = raw-same ∙ held .not-raw;
+        shaped = record { n-low = z .n-low; n-high = z .n-high; v-low = z .v-low; v-high = z .v-high; cells-long = a ∙ z .cells-long; links-long = b ∙ z .links-long; calendar-long = e ∙ z .calendar-long; words-long = f ∙ z .words-long; bits-long = g ∙ z .bits-long; arrived-long = h ∙ z .arrived-long };
+        t-low = mod-lt (w .t + 1) (omega arith);
+        turn-most = omega (arith, room .turn-room);
+        rotation-most = omega (arith, room .rotation-room);
+        spaces-fit = rw free-same (d .spaces-fit);
+        output-fits = rw output-same (d .output-fits);
+        raw-fits = held .raw-fits;
+        names = held .names;
       }
 
   -- record V is the first of its run, as record 0 is
-  used-next : 0 < stop - (i + 1) → unused (w′ .v) (w′ .rotation + 1) ≡ false
+  used-next : 0 < stop - (i + 1) → unused (w .v) (w .rotation + 1) ≡ false
   used-next k =
-      used-is (w′ .v) (w′ .rotation + 1) (λ e. omega (arith, e))
-      (λ e. let part = room .part-room (omega (arith, e, rotation-same, v-same)) in omega (arith, e, rotation-same, v-same, part, k))
+      used-is (w .v) (w .rotation + 1) (λ e. omega (arith, e))
+      (λ e. let part = room .part-room (omega (arith, e)) in omega (arith, e, part, k))
 
   pub next-room : Room (steppedWay w′) words′ (stop - (i + 1))
   next-room =
       record {
-        turn-room = omega (arith, turn-same, n-same, room .turn-room);
-        rotation-room = omega (arith, rotation-same, v-same, room .rotation-room);
-        part-room = λ low′. let part = room .part-room (omega (arith, low′, rotation-same, v-same)) in omega (arith, rotation-same, v-same, part);
+        turn-room = omega (arith, room .turn-room);
+        rotation-room = omega (arith, room .rotation-room);
+        part-room = λ low′. let part = room .part-room (omega (arith, low′)) in omega (arith, part);
         unused-closed = λ k e. no (sym (used-next k) ∙ e);
       }
 
@@ -215,9 +186,9 @@ module _ (arrivals sizes : List ℕ) (stop i : ℕ) (w : Way) (cells links calen
       ≡ slots arrivals (drop i sizes) (wayStretch w cells links calendar words bits arrived departures answers i)
   unfolding slotNumbers
   next-rest =
-      ap (λ (r : Record). slots arrivals (drop (i + 1) sizes) (stretchOf (stateOf r cells′ links′ calendar′ words′ bits′ arrived′) departures′ answers′ 0 (i + 1))) (stepped-last w′ (omega (arith, t-same, held .t-low)))
+      ap (λ (r : Record). slots arrivals (drop (i + 1) sizes) (stretchOf (stateOf r cells′ links′ calendar′ words′ bits′ arrived′) departures′ answers′ 0 (i + 1))) (stepped-last w′ (held .t-low))
       ∙ turn-on arrivals sizes (wayStretch w cells links calendar words bits arrived departures answers i) (omega arith) (stateOf (slotRecord w′) cells′ links′ calendar′ words′ bits′ arrived′) departures′ answers′ 0 (i + 1)
-      (likely-slot arrivals (getD sizes i 0) w cells links calendar words bits arrived departures answers i (held .shaped) (held .t-low) (omega (arith, room .turn-room)) (omega (arith, room .rotation-room)) (held .not-raw) (omega (arith, long)) fits w′ cells′ links′ calendar′ words′ bits′ arrived′ departures′ answers′ d)
+      (likely-slot arrivals (getD sizes i 0) w cells links calendar words bits arrived departures answers i (held .shaped) (held .t-low) (omega (arith, room .turn-room)) (omega (arith, room .rotation-room)) (held .raw-fits) clean (omega (arith, long)) fits w′ cells′ links′ calendar′ words′ bits′ arrived′ departures′ answers′ d)
       refl
 
 -- ---- a slot that left the likely ways, with everything as it came
@@ -270,7 +241,8 @@ module _ (w : Way) (cells links calendar words bits arrived : List ℕ) (h : Hel
         rotation-most = let l = rounded-low .1 in omega (arith, l);
         spaces-fit = h .spaces-fit;
         output-fits = h .output-fits;
-        not-raw = h .not-raw;
+        raw-fits = h .raw-fits;
+        names = h .names;
       }
 
   pub rounded-rest : (arrivals sizes departures answers : List ℕ) (i : ℕ)
@@ -303,7 +275,7 @@ runs-less true long i i′ stop a b d l ne e = let q = e refl in omega (arith, q
 runs-less false long i i′ stop a b d l ne e = omega arith
 
 -- ---- from a record to its way and back
-module _ (r : Record) (cells links calendar words bits arrived : List ℕ) (z : Shaped r cells links calendar words bits arrived) (t : Tries r bits) (w : Way) (e : slotRecord w ≡ clocked r) where
+module _ (r : Record) (cells links calendar words bits arrived : List ℕ) (z : Shaped r cells links calendar words bits arrived) (t : Tries r bits) (w : Way) (e : slotRecord w ≡ clocked r) (m : w .mask ≡ maskFor (w .kind)) where
   of : (A : Type 0) (f : Record → A) → f (slotRecord w) ≡ f (clocked r)
   of A f = ap f e
 
@@ -324,7 +296,7 @@ module _ (r : Record) (cells links calendar words bits arrived : List ℕ) (z : 
       let n = of ℕ (λ x. x .n) in
       let v = of ℕ (λ x. x .v) in
       let now = of ℕ (λ x. x .t) in
-      let m : (r .t + 1) % 4294967296 < 4294967296 = mod-lt (r .t + 1) (omega arith) in
+      let later : (r .t + 1) % 4294967296 < 4294967296 = mod-lt (r .t + 1) (omega arith) in
       record {
         shaped = record {
           n-low = omega (arith, n, z .n-low);
@@ -338,12 +310,13 @@ module _ (r : Record) (cells links calendar words bits arrived : List ℕ) (z : 
           bits-long = z .bits-long;
           arrived-long = omega (arith, n, z .arrived-long);
         };
-        t-low = omega (arith, now, m);
+        t-low = omega (arith, now, later);
         turn-most = let l = way-low .0 in omega (arith, l);
         rotation-most = let l = way-low .1 in omega (arith, l);
         spaces-fit = of Bool (λ x. spacesFit (x .n) (x .free) bits) ∙ t .spaces-fit;
         output-fits = of Bool (λ x. endsFit (x .n) (outputEnds x)) ∙ t .output-fits;
-        not-raw = of ℕ (λ x. x .raw) ∙ t .not-raw;
+        raw-fits = rw (of ℕ (λ x. x .raw), of ℕ (λ x. x .mode)) (t .raw-fits);
+        names = (of Bool (λ x. kindFits (x .kind)) ∙ t .kind-fits, m);
       }
 
 -- an end that fits is at most 65,535

@@ -1,24 +1,26 @@
 -- A burst on the likely ways: what is known of a policer there, and how far the burst has come.
 --
 --   Shaped r ..       == refusals 1 and 2 are not given
+--   RawFits raw mode  == the policer is not raw, or is raw in correction, where a clean header changes nothing
 --   Tries r bits      == the likely ways may be tried from this record on
 --   Held w ..         == what every slot keeps; T and rotation may stand at N and V + 256, where a run has ended
 --   Room w words k    == a run of k slots: neither T nor rotation steps round before it ends, nor does rotation come from the VCs to
 --                        the paths; and a record that is no connection's, its first at most, is not open
 use Prim.Native.Nat.{ℕ, _+_, _-_, _*_, _≤_, _<_}
 use mathlib.Core.Path.{_≡_}
+use mathlib.Core.Logic.{_⊎_}
 use mathlib.Core.Bool.{true}
 use mathlib.Core.List.{List}
 use lib.ListN.{length, getD, drop}
 use Rattle.meaning.specs.declared.Record.{Record}
-use Rattle.meaning.specs.Numbers.{mostN, leastV, mostV, octets, perEntry, connectionPlace, connectionsIn, unused, wordsIn, bitWords, slotNumbers}
+use Rattle.meaning.specs.Numbers.{mostN, leastV, mostV, octets, perEntry, connectionPlace, connectionsIn, unused, wordsIn, bitWords, kindFits, slotNumbers}
 use Rattle.meaning.specs.Bits.{spacesFit}
 use Rattle.meaning.specs.State.{State, stateOf}
 use Rattle.meaning.specs.Lent.{Slice, Lent}
 use Rattle.meaning.specs.Lists.{endsFit}
 use Rattle.slot_plan.specs.Plan.{outputEnds}
 use Rattle.burst_way.specs.declared.Way.{Way}
-use Rattle.burst_way.specs.Way.{slotRecord, lastRecord}
+use Rattle.burst_way.specs.Way.{slotRecord, lastRecord, NamesBy}
 use Rattle.call_burst.specs.Burst.{Stretch, stretchOf, slots}
 
 pub record Shaped (r : Record) (cells links calendar words bits arrived : List ℕ) : Type 0 where
@@ -33,8 +35,12 @@ pub record Shaped (r : Record) (cells links calendar words bits arrived : List �
   pub bits-long : length bits ≡ bitWords
   pub arrived-long : length arrived ≡ r .n
 
+abbrev pub RawFits : ℕ → ℕ → Type 0
+RawFits raw mode = (raw ≡ 0) ⊎ ((raw ≡ 1) × (mode ≡ 0))
+
 pub record Tries (r : Record) (bits : List ℕ) : Type 0 where
-  pub not-raw : r .raw ≡ 0
+  pub raw-fits : RawFits (r .raw) (r .mode)
+  pub kind-fits : kindFits (r .kind) ≡ true
   pub turn-low : r .turn < r .n
   pub rotation-low : r .rotation < connectionsIn (r .v)
   pub spaces-fit : spacesFit (r .n) (r .free) bits ≡ true
@@ -47,7 +53,8 @@ pub record Held (w : Way) (cells links calendar words bits arrived : List ℕ) :
   pub rotation-most : w .rotation ≤ connectionsIn (w .v)
   pub spaces-fit : spacesFit (w .n) (w .free) bits ≡ true
   pub output-fits : endsFit (w .n) (outputEnds (slotRecord w)) ≡ true
-  pub not-raw : w .raw ≡ 0
+  pub raw-fits : RawFits (w .raw) (w .mode)
+  pub names : NamesBy w
 
 pub record Room (w : Way) (words : List ℕ) (k : ℕ) : Type 0 where
   pub turn-room : w .turn + k ≤ w .n

@@ -190,13 +190,22 @@ fn turn(
     ended(after, 0, done)
 }
 
-// Whether a likely way may be tried: the policer is not raw, T and rotation are in range, so are the Output List's ends, and the
-// words of free spaces fit. Those are judged here alone: each slot of a likely way keeps what it knows of them.
+// Whether a likely way may be tried: the policer is not raw, or is raw in correction, where a clean header changes nothing; the line
+// kind, T and rotation are in range, so are the Output List's ends, and the words of free spaces fit. Those are judged here alone:
+// each slot of a likely way keeps what it knows of them.
 fn may_try(r: Record, bits: &[u64]) -> bool
     requires { ⌜ (r .n ≤ mostN) × (r .v ≤ mostV) × (length (now bits) ≡ bitWords) ⌝ }
     ensures { λ b. ⌜ (b ≡ true → Tries r (now (bits .entry))) ⌝ }
 {
     if r.raw != 0 {
+        if r.raw != 1 {
+            return false;
+        }
+        if r.mode != 0 {
+            return false;
+        }
+    }
+    if r.kind > 1 {
         return false;
     }
     if r.turn >= r.n {
@@ -312,7 +321,7 @@ fn stretch(
                 i: i,
             };
         }
-        w = burst_way::stepped(g.way);
+        w = burst_way::stepped(burst_way::with_ends(w, g.free, g.outhead, g.outtail));
         i += 1;
     }
     Far {

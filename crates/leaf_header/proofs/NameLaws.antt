@@ -1,5 +1,5 @@
 -- VPI and VCI as one number: of four octets it is their 28 bits before PTI, or the 24 after GFC at the UNI; it is 0 exactly where
--- it is no user cell, and the connection that a header names can be told from it.
+-- it is no user cell, and the connection that a header names can be told from it. By the kind's mask it is cut as by the kind itself.
 use Prim.Native.Nat.{ℕ, _+_, _*_, _/_, _%_, _≤_, _<_}
 use mathlib.Core.Path.{_≡_, refl, sym, _∙_, ap}
 use mathlib.Core.Logic.{_≢_}
@@ -7,13 +7,28 @@ use mathlib.Core.Bool.{Bool, true, false, _&&_}
 use mathlib.Core.List.{List}
 use native.Mathlib.Omega.{arith}
 use native.Mathlib.Decide.{decLt, ℕ-discrete}
-use borrow.Author.Tests.{eqb-true, lt-ltb, le-ltb, le-leb, lt-leb, eq-eqb, ne-eqb}
+use native.Mathlib.Nat.{mod-eq-of-lt}
+use borrow.Author.Tests.{eqb-true, leb-true, lt-ltb, le-ltb, le-leb, lt-leb, eq-eqb, ne-eqb}
+use lib.Bits.{bitAnd, and-mask}
 use lib.ListN.{getD}
 use Rattle.meaning.specs.Plain.{if_then_else_, _<?_, _≤?_, _=?_}
 use Rattle.meaning.specs.Numbers.{mostV, paths, kindFits}
 use Rattle.meaning.specs.Header.{Header, vpiHigh, headerOf, headerAt, noUserCell, connection, namesConnection}
 use Rattle.meaning.proofs.NamesLaws.{vc-number, vc-named, path-number, path-named}
-use Rattle.leaf_header.specs.Name.{nameOf, noName, nameAt, Reads, numberFor, numbered}
+use Rattle.leaf_header.specs.Name.{nameOf, noName, nameAt, wordAt, nameIn, maskFor, Reads, numberFor, numbered}
+
+-- ---- the two kinds
+kind-low : (kind : ℕ) → kindFits kind ≡ true → kind ≤ 1
+unfolding kindFits
+kind-low kind k = leb-true kind 1 k
+
+pub in-uni : (kind head : ℕ) → kind ≡ 0 → head / 16 % 16777216 ≡ nameIn kind head
+unfolding nameIn
+in-uni kind head e = rw (eq-eqb kind 0 e)
+
+pub in-nni : (kind head : ℕ) → kind ≢ 0 → head / 16 ≡ nameIn kind head
+unfolding nameIn
+in-nni kind head ne = rw (ne-eqb kind 0 ne)
 
 -- ---- four octets, the first with GFC at the UNI, the last with PTI and CLP
 abbrev word : ℕ → ℕ → ℕ → ℕ → ℕ
@@ -24,7 +39,11 @@ module _ (l : List ℕ) (i a b c d : ℕ)
     (q : (b ≡ getD l (i + 1) 0) × (b < 256))
     (r : (c ≡ getD l (i + 2) 0) × (c < 256))
     (s : (d ≡ getD l (i + 3) 0) × (d < 256)) where
-  pub name-uni : (kind : ℕ) → kind ≡ 0
+  pub word-is : word a b c d ≡ wordAt l i
+  unfolding wordAt
+  word-is = rw (← p .0, ← q .0, ← r .0, ← s .0)
+
+  name-uni : (kind : ℕ) → kind ≡ 0
       → (word a b c d / 16 % 16777216 ≡ nameAt kind l i) × Reads kind (headerAt kind l i) (word a b c d / 16 % 16777216)
   unfolding nameAt kindFits nameOf headerAt headerOf vpiHigh
   name-uni kind e =
@@ -33,7 +52,7 @@ module _ (l : List ℕ) (i a b c d : ℕ)
         λ _. (omega (arith, p .1, q .1, r .1, s .1), omega (arith, p .1, q .1, r .1, s .1)),
       )
 
-  pub name-nni : (kind : ℕ) → kind ≡ 1
+  name-nni : (kind : ℕ) → kind ≡ 1
       → (word a b c d / 16 ≡ nameAt kind l i) × Reads kind (headerAt kind l i) (word a b c d / 16)
   unfolding nameAt kindFits nameOf headerAt headerOf vpiHigh
   name-nni kind e =
@@ -41,6 +60,42 @@ module _ (l : List ℕ) (i a b c d : ℕ)
         omega (arith, p .1, q .1, r .1, s .1),
         λ _. (omega (arith, p .1, q .1, r .1, s .1), omega (arith, p .1, q .1, r .1, s .1)),
       )
+
+  name-both : (kind : ℕ) → kindFits kind ≡ true
+      → (nameIn kind (word a b c d) ≡ nameAt kind l i) × Reads kind (headerAt kind l i) (nameIn kind (word a b c d))
+  name-both kind k = go (ℕ-discrete kind 0)
+    where
+      go : Dec (kind ≡ 0) → (nameIn kind (word a b c d) ≡ nameAt kind l i) × Reads kind (headerAt kind l i) (nameIn kind (word a b c d))
+      go (yes e) = rw (← in-uni kind (word a b c d) e) (name-uni kind e)
+      go (no ne) = rw (← in-nni kind (word a b c d) ne) (name-nni kind (omega (arith, ne, kind-low kind k)))
+
+  pub word-names : (kind : ℕ) → kindFits kind ≡ true → nameIn kind (word a b c d) ≡ nameAt kind l i
+  word-names kind k = name-both kind k .0
+
+  pub word-reads : (kind : ℕ) → Reads kind (headerAt kind l i) (nameIn kind (word a b c d))
+  word-reads kind k = name-both kind k .1 k
+
+-- ---- the name by a mask: at the UNI it cuts GFC, at the NNI it keeps all, as a header's number has 28 bits before PTI and CLP
+pub name-by : (kind mask head : ℕ) → kindFits kind ≡ true → mask ≡ maskFor kind → head < 4294967296
+    → bitAnd (head / 16) mask ≡ nameIn kind head
+unfolding maskFor
+name-by kind mask head k m low = go (ℕ-discrete kind 0)
+  where
+    go : Dec (kind ≡ 0) → bitAnd (head / 16) mask ≡ nameIn kind head
+    go (yes e) =
+        ap (bitAnd (head / 16)) (m ∙ rw (eq-eqb kind 0 e)) ∙ and-mask (head / 16) 24 ∙ in-uni kind head e
+    go (no ne) =
+        ap (bitAnd (head / 16)) (m ∙ rw (ne-eqb kind 0 ne)) ∙ and-mask (head / 16) 28
+        ∙ mod-eq-of-lt {n = head / 16} {m = 268435456} (omega (arith, low)) ∙ in-nni kind head ne
+
+-- ---- by the kind, as tested
+pub kind-uni : (kind : ℕ) → kind ≡ 0 → kindFits kind ≡ true
+unfolding kindFits
+kind-uni kind e = le-leb kind 1 (omega (arith, e))
+
+pub kind-nni : (kind : ℕ) → kind ≡ 1 → kindFits kind ≡ true
+unfolding kindFits
+kind-nni kind e = le-leb kind 1 (omega (arith, e))
 
 kind-none : (kind : ℕ) → kind ≢ 0 → kind ≢ 1 → kindFits kind ≡ false
 unfolding kindFits

@@ -44,7 +44,7 @@ pub struct Judged {
     pub second: u32,
 }
 
-fn no_fall(ok: bool) -> Fall
+pub fn no_fall(ok: bool) -> Fall
     ensures { λ r. ⌜ r ≡ fallOf ok false 0 0 ⌝ }
 {
     Fall {
@@ -56,7 +56,7 @@ fn no_fall(ok: bool) -> Fall
 }
 
 // S of a connection's bucket as it has fallen to slot t.
-fn peak_now(words: &[u32], vci: u16, t: u32) -> u32
+pub fn peak_now(words: &[u32], vci: u16, t: u32) -> u32
     requires { ⌜ (HasConnection vci (now words)) × (connectionAt (now words) vci .bucket .m ≤ 15) ⌝ }
     ensures { λ r. ⌜ r ≡ connectionNow t (connectionAt (now (words .entry)) vci) .bucket .S ⌝ }
 {
@@ -79,7 +79,7 @@ fn second_now(words: &[u32], vci: u16, t: u32) -> u32
 }
 
 // Step 2 of an open connection that has a second bucket.
-fn bring_both(words: &[u32], vci: u16, t: u32, s: u32) -> Fall
+pub fn bring_both(words: &[u32], vci: u16, t: u32, s: u32) -> Fall
     requires { ⌜ HasConnection vci (now words) ⌝ }
     ensures { λ r. ⌜ r ≡ broughtBoth t (connectionAt (now (words .entry)) vci) s ⌝ }
 {
@@ -128,7 +128,7 @@ pub fn bring(n: u16, v: u16, words: &[u32], vci: u16, t: u32) -> Fall
     no_fall(false)
 }
 
-fn out_of_range() -> Judged
+pub fn out_of_range() -> Judged
     ensures { λ r. ⌜ r ≡ outOfRange ⌝ }
 {
     Judged {
@@ -142,7 +142,7 @@ fn out_of_range() -> Judged
     }
 }
 
-fn no_cell() -> Judged
+pub fn no_cell() -> Judged
     ensures { λ r. ⌜ r ≡ judgedAs true nothing 0 0 0 0 0 ⌝ }
 {
     Judged {
@@ -156,7 +156,7 @@ fn no_cell() -> Judged
     }
 }
 
-fn no_connection(vci: u16) -> Judged
+pub fn no_connection(vci: u16) -> Judged
     ensures { λ r. ⌜ r ≡ judgedAs true unknown vci 0 0 0 0 ⌝ }
 {
     Judged {
@@ -209,7 +209,7 @@ fn let_in(n: u16, words: &[u32], vci: u16, verdict: u16, s: u32, second: u32) ->
 }
 
 // Step 3 at an open connection without a second bucket, s being in its bucket.
-fn judge_peak(n: u16, words: &[u32], vci: u16, s: u32) -> Judged
+pub fn judge_peak(n: u16, words: &[u32], vci: u16, s: u32) -> Judged
     requires { ⌜ Peaked n (now words) vci ⌝ }
     ensures { λ r. ⌜ r ≡ judgedPeak n vci (withS (connectionAt (now (words .entry)) vci .bucket) s) (connectionAt (now (words .entry)) vci .waiting) ⌝ }
 {
@@ -239,7 +239,7 @@ fn judge_second(n: u16, words: &[u32], vci: u16, s: u32, second: u32) -> Judged
 }
 
 // Step 3 at an open connection with a second bucket, of a cell with this CLP, s being in its bucket.
-fn judge_both(n: u16, words: &[u32], vci: u16, t: u32, clp: u8, s: u32) -> Judged
+pub fn judge_both(n: u16, words: &[u32], vci: u16, t: u32, clp: u8, s: u32) -> Judged
     requires { ⌜ Peaked n (now words) vci ⌝ }
     ensures { λ r. ⌜ r ≡ judgedBoth n t vci clp s (connectionAt (now (words .entry)) vci) ⌝ }
 {
@@ -258,7 +258,7 @@ fn judge_both(n: u16, words: &[u32], vci: u16, t: u32, clp: u8, s: u32) -> Judge
 }
 
 // CLP of a cell: the low bit of octet 4.
-fn clp_of(cell: &[u8]) -> u8
+pub fn clp_of(cell: &[u8]) -> u8
     requires { ⌜ 4 ≤ length (now cell) ⌝ }
     ensures { λ r. ⌜ r ≡ clpIn (now (cell .entry)) ⌝ }
 {

@@ -6,18 +6,21 @@
 --                              record that came
 --   AllWith r k b j f ..    == the same, only the arrival slots not being lent
 --   KeepsWith k b j ..      == nothing departs: only the words are written
-use Prim.Native.Nat.{ℕ}
+--   MayEnd k o ..           == links and words are there, and the connection of what departs has a cell waiting
+use Prim.Native.Nat.{ℕ, _≤_, _<_}
 use mathlib.Core.Path.{_≡_}
 use mathlib.Core.Bool.{Bool}
 use mathlib.Core.List.{List}
+use lib.ListN.{length, getD}
 use Rattle.meaning.specs.declared.Record.{Record}
 use Rattle.meaning.specs.declared.Served.{Served}
 use Rattle.meaning.specs.Plain.{if_then_else_, Out}
+use Rattle.meaning.specs.Numbers.{connectionsIn, wordsIn, waitingPlace}
 use Rattle.meaning.specs.Bits.{unmarked}
 use Rattle.meaning.specs.State.{stateOf}
 use Rattle.meaning.specs.Work.{Work}
 use Rattle.meaning.specs.Slot.{finish}
-use Rattle.meaning.specs.Lent.{Lent}
+use Rattle.meaning.specs.Lent.{Slice, Lent}
 use Rattle.slot_arrive.specs.declared.Fall.{Fall}
 use Rattle.slot_arrive.specs.declared.Judged.{Judged}
 use Rattle.mem_lists.specs.declared.Off.{Off}
@@ -45,3 +48,8 @@ AllWith arrived r k b j steps s cells links calendar words bits =
 abbrev pub KeepsWith : List ℕ → List ℕ → List ℕ → List ℕ → List ℕ → Record → Fall → Judged → Served → Lent → Type 0
 KeepsWith cells links calendar bits arrived k b j s words =
     servedWork s cells links calendar (words .exit .now) bits arrived ≡ quietOf (stateOf k cells links calendar (words .entry .now) bits arrived) b j
+
+abbrev pub MayEnd : Record → Off → Slice → Slice → Type 0
+MayEnd k o links words =
+    (length (links .now) ≡ k .n) × (length (words .now) ≡ wordsIn (k .v)) × (k .rotation < connectionsIn (k .v)) × (o .vci < connectionsIn (k .v))
+    × (1 ≤ getD (words .now) (waitingPlace (o .vci)) 0)

@@ -3,9 +3,9 @@ ghost use mathlib.Core.Path.{_≡_};
 ghost use mathlib.Core.Bool.{true, false};
 ghost use mathlib.Core.List.{List};
 ghost use Prim.Native.Nat.{ℕ, _+_, _*_, _≤_, _<_};
-ghost use lib.ListN.{length, getD};
+ghost use lib.ListN.{length};
 ghost use Rattle.meaning.specs.Plain.{_=?_};
-ghost use Rattle.meaning.specs.Numbers.{excess, waitingPlace, mostN, mostV, octets, connectionsIn, wordsIn, bitWords};
+ghost use Rattle.meaning.specs.Numbers.{excess, mostN, mostV, octets, connectionsIn, wordsIn, bitWords};
 ghost use Rattle.meaning.specs.Bits.{isFree};
 ghost use Rattle.meaning.specs.State.{HasConnection};
 ghost use Rattle.meaning.specs.Lists.{endsFit};
@@ -14,7 +14,7 @@ ghost use Rattle.mem_lists.specs.Spaces.{endsOf, offOf};
 ghost use Rattle.slot_plan.specs.Plan.{rotated, mayFree, joinedLinks, joinedHead, leavingMarked, leavingOutput, leavingUnmarked};
 ghost use Rattle.slot_plan.specs.Works.{lastSteps};
 ghost use Rattle.slot_plan.specs.Facts.{SizedWith};
-ghost use Rattle.slot_quiet.specs.Quiet.{EndsWith, GivesWith, AllWith, KeepsWith};
+ghost use Rattle.slot_quiet.specs.Quiet.{EndsWith, GivesWith, AllWith, KeepsWith, MayEnd};
 use meaning::Answer;
 use meaning::Record;
 use meaning::Served;
@@ -56,7 +56,7 @@ fn quiet_end(
     words: &mut [u32],
     bits: &mut [u64],
 ) -> Served
-    requires { ⌜ (length (now links) ≡ k .n) × (length (now words) ≡ wordsIn (k .v)) × (k .rotation < connectionsIn (k .v)) × (o .vci < connectionsIn (k .v)) × (1 ≤ getD (now words) (waitingPlace (o .vci)) 0) ⌝ }
+    requires { ⌜ MayEnd k o links words ⌝ }
     requires { ⌜ (j .verdict =? excess ≡ true → j .vci < connectionsIn (k .v)) ⌝ }
     requires { ⌜ (joins ≡ true → k .outtail < k .n) ⌝ }
     requires { ⌜ (k .free ≤ mostN) × (length (now bits) ≡ bitWords) × (o .space < mostN) × (isFree (now bits) (o .space) ≡ false) × (clears ≡ true → k .turn < mostN) ⌝ }

@@ -30,7 +30,7 @@ fn words_fill(k: Record, b: Fall, j: Judged, words: &mut [u32])
 }
 
 // The cell as it is stored: with CLP 1 where it is tagged.
-fn put_sent(verdict: u16, cells: &mut [u8], x: u16, cell: &[u8])
+pub fn put_sent(verdict: u16, cells: &mut [u8], x: u16, cell: &[u8])
     requires { ⌜ (cellStart x + octets ≤ length (now cells)) × (length (now cell) ≡ 53) ⌝ }
     ensures { λ r. ⌜ now (cells .exit) ≡ writeCell (now (cells .entry)) x (sentAs verdict (now (cell .entry))) ⌝ }
 {

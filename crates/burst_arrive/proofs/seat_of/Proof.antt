@@ -1,38 +1,41 @@
 -- `burst_arrive::seat_of` meets its contract: the lowest free space, and one comparison gives the entry.
-use mathlib.Core.Path.{_≡_, refl, sym, _∙_}
+use mathlib.Core.Path.{_≡_, sym, _∙_, ap}
 use mathlib.Core.Logic.{⊎-elim}
 use Prim.Native.Nat.{_+_, _*_, _<_}
 use native.Mathlib.Omega.{arith}
-use borrow.Author.Tests.{not-false}
-use Rattle.slot_plan.proofs.Found.{no}
+use borrow.Author.Tests.{not-true, not-false}
 use Rattle.mem_lists.specs.Spaces.{entryOf}
 use Rattle.mem_lists.proofs.SeatLaws.{entry-near, entry-far}
 use Rattle.burst_way.specs.Way.{slotRecord}
-use Rattle.burst_arrive.proofs.SpotLaws.{entry-below, seats-is}
+use Rattle.burst_arrive.specs.Arriving.{spotOf}
+use Rattle.burst_arrive.proofs.SpotLaws.{entry-below, spot-none, spot-unfit, spot-seated}
 use borrow.Author.Needs.{needs}
 use Rattle.burst_arrive.proofs.seat_of.Statement.{statement}
 use Rattle.burst_arrive.proofs.seat_of.Tie as tie
 
 -- the entry
 abbrev start-of : tie.Joined2 → tie.Start
-start-of c = c .before .before .before .before .before .before .before .before .before
+start-of c = c .before .before .before .before .before .before .before .before
 
-entry-is : (c : tie.Joined2) → c .if2 .e ≡ entryOf (start-of c .args .w .n) (start-of c .args .w .turn) (start-of c .args .a .d)
+entry-is : (c : tie.Joined2) → c .if2 .e ≡ entryOf (start-of c .args .w .n) (start-of c .args .w .turn) (start-of c .args .d)
 entry-is c =
     let a = start-of c .args in
     ⊎-elim
-    (λ q. q .1 ∙ entry-near (a .w .n) (a .w .turn) (a .a .d) (q .0 .taken))
-    (λ q. q .2 ∙ entry-far (a .w .n) (a .w .turn) (a .a .d) (q .0 .left))
+    (λ q. q .1 ∙ entry-near (a .w .n) (a .w .turn) (a .d) (q .0 .taken))
+    (λ q. q .2 ∙ entry-far (a .w .n) (a .w .turn) (a .d) (q .0 .left))
     (c .if2 .came)
 
 entry-low : (c : tie.Joined2) → c .if2 .e < start-of c .args .w .n
 entry-low c =
     let start = start-of c in
     let a = start .args in
-    entry-below (a .w .n) (a .w .turn) (a .a .d) (c .if2 .e) (start .pre .3) (start .pre .4) (entry-is c)
+    entry-below (a .w .n) (a .w .turn) (a .d) (c .if2 .e) (start .pre .3) (start .pre .4) (entry-is c)
 
 returns : tie.Need-returns
-returns c = λ e. no (sym (c .no-spot .ensures) ∙ e)
+returns c =
+    let start = c .before .before .before .before .before in
+    let a = start .args in
+    c .no-spot .ensures ∙ ap (spotOf (a .vci) (a .d)) (spot-none (slotRecord (a .w)) (a .d) (a .calendar .now) (a .bits .now) (start .pre .5) (c .before .if1 .taken))
 
 mul-head : tie.Need-mul-head
 mul-head c = omega (arith, entry-low (c .before), start-of (c .before) .pre .0)
@@ -62,21 +65,24 @@ cast-tail : tie.Need-cast-tail
 cast-tail c = search (needs, c .shared-slice-known4 .given (2 * c .before .before .before .if2 .e + 1))
 
 returns-2 : tie.Need-returns-2
-returns-2 c = λ e. no (sym (c .no-spot2 .ensures) ∙ e)
+returns-2 c =
+    let at2 = c .before .before .before .before .before .before in
+    let start = start-of at2 in
+    let a = start .args in
+    c .no-spot2 .ensures
+    ∙ ap (spotOf (a .vci) (a .d))
+    (spot-unfit (slotRecord (a .w)) (a .d) (a .calendar .now) (a .bits .now) (start .pre .5) (at2 .if2 .e) (entry-is at2)
+    (at2 .before .before .before .before .if1 .left) (sym (c .before .before .fits2 .ensures) ∙ not-true _ (c .before .if3 .taken)))
 
 returns-3 : tie.Need-returns-3
 returns-3 c =
-    λ ok. let at2 = c .before .before .before .before .before in
-    let at-lowest = at2 .before .before .before .before in
-    let at1 = at-lowest .before in
-    let start = at1 .before .before .before .before in
-    let a = start .args in (
-      seats-is (slotRecord (a .w)) (a .calendar .now) (a .bits .now) (at-lowest .lowest .result) (a .a .d) (at2 .if2 .e) (a .a .vci) (a .a .s) (start .pre .5)
-          (at1 .if1 .left) (at-lowest .lowest .ensures) (sym (c .before .fits2 .ensures) ∙ not-false _ (c .if3 .left)) (entry-is at2),
-      refl,
-      refl,
-      refl,
-    )
+    let at2 = c .before .before .before .before .before in
+    let at-lowest = at2 .before .before .before in
+    let start = start-of at2 in
+    let a = start .args in
+    ap (spotOf (a .vci) (a .d))
+    (spot-seated (slotRecord (a .w)) (a .d) (a .calendar .now) (a .bits .now) (start .pre .5) (at2 .if2 .e) (entry-is at2)
+    (at-lowest .before .if1 .left) (at-lowest .lowest .result) (at-lowest .lowest .ensures) (sym (c .before .fits2 .ensures) ∙ not-false _ (c .if3 .left)))
 
 pub seat-of-spec : {M : Type 1} → statement M
 seat-of-spec =

@@ -34,7 +34,7 @@ returns-2 c =
     λ ok.
     subst
     (λ (f : Ends). Leaves k (taken (a .bits .now) (a .p .x)) f (c .off-later .result) (OffThen k (a .p) (a .cells .now) (a .links .now) (a .words .now)))
-    (sym (written-later (a .w .n) (a .w .turn) (a .p .d) (sized .turn-low) (a .calendar .now) (a .p .e) (seatEnds (seatAt (a .p))) (seats .e-is) (from .pre .1 .1 .1 .0) (c .before .if1 .left)))
+    (sym (written-later (a .w .n) (a .w .turn) (a .p .d) (sized .turn-low) (a .calendar .now) (a .p .e) (seatEnds (seatAt (a .p))) (seats .e-is) (from .pre .1 .1 .1 .0 .0) (c .before .if1 .left)))
     (c .off-later .ensures ok)
 
 pub off-accept-spec : {M : Type 1} → statement M

@@ -53,7 +53,7 @@ seen-requires c κs =
     let entry = entryAt (a .calendar .now) (a .w .turn) in
     let o = c .before .before .before .before .before .before .plan .result in
     let low = plan-low k (a .links .now) entry o (c .before .before .before .before .before .before .plan .ensures (not-false _ (c .before .before .before .before .if1 .left))) (c .before .before .before .if2 .left) in
-    (from .pre .0 .1 .n-high, from .pre .0 .1 .v-high, omega (arith, low, from .pre .0 .1 .cells-long), from .pre .0 .1 .words-long)
+    ((from .pre .0 .1 .n-high, from .pre .0 .1 .v-high, omega (arith, low, from .pre .0 .1 .cells-long), from .pre .0 .1 .words-long), from .pre .1 .1)
 
 returns-4 : tie.Need-returns-4
 returns-4 c =

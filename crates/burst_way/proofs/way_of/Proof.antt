@@ -1,28 +1,44 @@
--- `burst_way::way_of` meets its contract: step 1, field by field, and back again.
-use Prim.Native.Nat.{ℕ, _+_, _%_}
-use mathlib.Core.Path.{_∙_, ap}
-use native.Mathlib.Omega.{arith}
-use Rattle.meaning.specs.Numbers.{slotNumbers}
-use Rattle.meaning.specs.State.{recordWith}
+-- `burst_way::way_of` meets its contract: step 1, field by field, and back again; the mask is that of the kind tested.
+use Prim.Native.Nat.{ℕ, _<_}
+use mathlib.Core.Path.{_≡_}
+use Rattle.leaf_header.specs.Name.{maskFor}
 use Rattle.slot_plan.specs.Plan.{clocked}
-use Rattle.burst_way.proofs.WayLaws.{way-last}
+use Rattle.burst_way.specs.declared.Way.{Way}
+use Rattle.burst_way.specs.Way.{slotRecord, lastRecord}
+use Rattle.burst_way.proofs.WayLaws.{wayOf, way-records}
+use borrow.Author.Tests.{eq-eqb, ne-eqb}
 use borrow.Author.Needs.{needs}
 use Rattle.burst_way.proofs.way_of.Statement.{statement}
 use Rattle.burst_way.proofs.way_of.Tie as tie
 
+abbrev start-of : tie.After-after2 → tie.Start
+start-of c = c .before .before .before .before
+
+t-low : (s : tie.Start) → s .args .r .t < 4294967296
+t-low s = let g = s .good in search needs
+
+abbrev way-at : tie.After-after2 → ℕ → Way
+way-at c mask =
+    wayOf (start-of c .args .r) (start-of c .args .n) (c .before .before .before .wrapping-add-u32 .result) (c .before .before .after .result) (c .after2 .result) mask
+
+-- whatever the mask: the record in the slot to come, and the record before it
+records : (c : tie.After-after2) (mask : ℕ)
+    → (slotRecord (way-at c mask) ≡ clocked (start-of c .args .r)) × (lastRecord (way-at c mask) ≡ start-of c .args .r)
+records c mask =
+    let start = start-of c in
+    way-records (start .args .r) (start .args .n) _ _ _ _ mask (start .pre .0) (c .before .before .before .wrapping-add-u32 .ensures) (c .before .before .after .ensures) (c .before .connections .ensures) (c .after2 .ensures) (t-low start) (start .pre .3) (start .pre .4)
+
 returns : tie.Need-returns
-unfolding clocked recordWith slotNumbers
+unfolding maskFor
 returns c =
-    let at-after2 = c .before .before .before in
-    let at-all = at-after2 .before .before in
-    let at-after = at-all .before in
-    let at-add = at-after .before .before in
-    let start = at-add .before .before in
-    let pre = start .pre in (
-      rw (at-after2 .after2 .ensures, at-all .connections .ensures, at-after .after .ensures, at-add .wrapping-add-u32 .ensures, pre .0),
-      way-last _ (start .args .r .t) (start .args .r .turn) (start .args .r .rotation) (at-add .wrapping-add-u32 .ensures) (at-after .after .ensures) (at-after2 .after2 .ensures ∙ ap (λ (k : ℕ). (start .args .r .rotation + 1) % k) (at-all .connections .ensures)) (omega (arith, at-add .before .struct-known .given)) (omega arith) (omega arith)
-          ∙ rw (pre .0),
-    )
+    let both = records (c .before) 16777215 in
+    (both .0, (both .1, rw (eq-eqb _ 0 (c .if1 .taken))))
+
+returns-2 : tie.Need-returns-2
+unfolding maskFor
+returns-2 c =
+    let both = records (c .before) 268435455 in
+    (both .0, (both .1, rw (ne-eqb _ 0 (c .if1 .left))))
 
 pub way-of-spec : {M : Type 1} → statement M
 way-of-spec =
@@ -38,4 +54,5 @@ way-of-spec =
     (λ c. search needs)
     (λ c. search needs)
     (λ c. search needs)
-    returns)
+    returns
+    returns-2)

@@ -38,6 +38,7 @@ slot-requires c κs =
     let lent = pre .0 in (
       record {
         sized = record { n-low = z .n-low; n-high = z .n-high; v-low = z .v-low; v-high = z .v-high; cells-long = z .cells-long; links-long = z .links-long; calendar-long = z .calendar-long; words-long = z .words-long; bits-long = z .bits-long; arrived-long = z .arrived-long; turn-low = omega (arith, inv .room .turn-room); rotation-low = omega (arith, inv .room .rotation-room) };
+        names = h .names;
         spaces-fit = h .spaces-fit;
         output-fits = h .output-fits;
         unused-closed = inv .room .unused-closed (omega arith);
@@ -77,7 +78,7 @@ returns c =
     let at-slot = c .before .before .before .before .before .before .before .before .before .before .before .before .before .before .before .before .before .before in
     let at = c .before .before .before .before .before .before .before .before .before .before .before .before .before .before .before .before .before .before .before .before .before .before .before .before .before .before .before .before .before .loop in
     let a = c .before .before .before .before .before .before .before .before .before .before .before .before .before .before .before .before .before .before .before .before .before .before .before .before .before .before .before .before .before .before .before .before .before .before .before .before .before .before .before .before .args in
-    let stay = at-slot .slot .ensures .1 .stayed (not-true _ (c .if1 .taken)) in (
+    let stay = at-slot .slot .ensures .1 .1 .stayed (not-true _ (c .if1 .taken)) in (
       odd-held (now (a .arrivals)) (now (a .sizes)) (at .i) (at .w) (at .cells) (at .links) (at .calendar) (at .words) (at .bits) (at .arrived) (at .departures) (at .answers) _ _ _ _ _ _ _ _ stay (at .inv .held),
       (
         (at .inv .low, at .inv .most, λ e. no e),
@@ -88,46 +89,49 @@ returns c =
 stepped-requires : tie.Need-stepped-requires Inv-loop μ-loop
 unfolding cellLent
 stepped-requires c κs =
-    let at-slot = c .before .before .before .before .before .before .before .before .before .before .before .before .before .before .before .before .before .before in
-    let at = c .before .before .before .before .before .before .before .before .before .before .before .before .before .before .before .before .before .before .before .before .before .before .before .before .before .before .before .before .before .loop in
-    let start = c .before .before .before .before .before .before .before .before .before .before .before .before .before .before .before .before .before .before .before .before .before .before .before .before .before .before .before .before .before .before .before .before .before .before .before .before .before .before .before .before in
-    let a = start .args in
-    let ok = not-false _ (c .if1 .left) in
-    before-step (now (a .arrivals)) (now (a .sizes)) (a .stop) (at .i) (at .w) (at .cells) (at .links) (at .calendar) (at .words) (at .bits) (at .arrived) (at .departures) (at .answers) _ _ _ _ _ _ _ _ _ (at .inv .held) (at .inv .room) (c .before .before .before .before .before .before .before .before .before .before .before .before .before .before .before .before .before .before .before .before .before .before .before .before .before .before .before .before .loop-test .taken) (start .pre .1 .1 .1) (start .pre .0 .arrivals-long) (at-slot .slot .ensures .0 ok) (at-slot .slot .ensures .1 .went ok)
-
-add-i : tie.Need-add-i Inv-loop μ-loop
-add-i c = omega (arith, c .before .before .before .before .before .before .before .before .before .before .before .before .before .before .before .before .before .before .before .before .before .before .before .before .before .before .before .before .before .loop-test .taken, c .before .before .before .before .before .before .before .before .before .before .before .before .before .before .before .before .before .before .before .before .before .before .before .before .before .before .before .before .before .before .before .before .before .before .before .before .before .before .before .before .before .pre .1 .1 .1, c .before .before .before .before .before .before .before .before .before .before .before .before .before .before .before .before .before .before .before .before .before .before .before .before .before .before .before .before .before .before .before .before .before .before .before .before .before .before .before .before .before .fits)
-
-loop-less : tie.Need-loop-less Inv-loop μ-loop
-loop-less c = omega (arith, c .before .before .before .before .before .before .before .before .before .before .before .before .before .before .before .before .before .before .before .before .before .before .before .before .before .before .before .before .before .loop-test .taken)
-
-loop-again : tie.Need-loop-again Inv-loop μ-loop
-unfolding cellLent
-loop-again c =
     let at-slot = c .before .before .before .before .before .before .before .before .before .before .before .before .before .before .before .before .before .before .before in
     let at = c .before .before .before .before .before .before .before .before .before .before .before .before .before .before .before .before .before .before .before .before .before .before .before .before .before .before .before .before .before .before .loop in
     let start = c .before .before .before .before .before .before .before .before .before .before .before .before .before .before .before .before .before .before .before .before .before .before .before .before .before .before .before .before .before .before .before .before .before .before .before .before .before .before .before .before .before in
     let a = start .args in
     let ok = not-false _ (c .before .if1 .left) in
-    let d = at-slot .slot .ensures .1 .went ok in
+    let went = at-slot .slot .result in
+    rw (c .with-ends .ensures) (before-step (now (a .arrivals)) (now (a .sizes)) (a .stop) (at .i) (at .w) (at .cells) (at .links) (at .calendar) (at .words) (at .bits) (at .arrived) (at .departures) (at .answers) (went .free) (went .outhead) (went .outtail) _ _ _ _ _ _ _ _ (at .inv .held) (at .inv .room) (c .before .before .before .before .before .before .before .before .before .before .before .before .before .before .before .before .before .before .before .before .before .before .before .before .before .before .before .before .before .loop-test .taken) (start .pre .1 .1 .1) (start .pre .0 .arrivals-long) (at-slot .slot .ensures .0 ok) (at-slot .slot .ensures .1 .0 ok) (at-slot .slot .ensures .1 .1 .went ok))
+
+add-i : tie.Need-add-i Inv-loop μ-loop
+add-i c = omega (arith, c .before .before .before .before .before .before .before .before .before .before .before .before .before .before .before .before .before .before .before .before .before .before .before .before .before .before .before .before .before .before .loop-test .taken, c .before .before .before .before .before .before .before .before .before .before .before .before .before .before .before .before .before .before .before .before .before .before .before .before .before .before .before .before .before .before .before .before .before .before .before .before .before .before .before .before .before .before .pre .1 .1 .1, c .before .before .before .before .before .before .before .before .before .before .before .before .before .before .before .before .before .before .before .before .before .before .before .before .before .before .before .before .before .before .before .before .before .before .before .before .before .before .before .before .before .before .fits)
+
+loop-less : tie.Need-loop-less Inv-loop μ-loop
+loop-less c = omega (arith, c .before .before .before .before .before .before .before .before .before .before .before .before .before .before .before .before .before .before .before .before .before .before .before .before .before .before .before .before .before .before .loop-test .taken)
+
+loop-again : tie.Need-loop-again Inv-loop μ-loop
+unfolding cellLent
+loop-again c =
+    let at-slot = c .before .before .before .before .before .before .before .before .before .before .before .before .before .before .before .before .before .before .before .before in
+    let at = c .before .before .before .before .before .before .before .before .before .before .before .before .before .before .before .before .before .before .before .before .before .before .before .before .before .before .before .before .before .before .before .loop in
+    let start = c .before .before .before .before .before .before .before .before .before .before .before .before .before .before .before .before .before .before .before .before .before .before .before .before .before .before .before .before .before .before .before .before .before .before .before .before .before .before .before .before .before .before in
+    let a = start .args in
+    let ok = not-false _ (c .before .before .if1 .left) in
+    let d = at-slot .slot .ensures .1 .1 .went ok in
     let fits = at-slot .slot .ensures .0 ok in
-    let low = c .before .before .before .before .before .before .before .before .before .before .before .before .before .before .before .before .before .before .before .before .before .before .before .before .before .before .before .before .before .loop-test .taken in
+    let clean = at-slot .slot .ensures .1 .0 ok in
+    let went = at-slot .slot .result in
+    let low = c .before .before .before .before .before .before .before .before .before .before .before .before .before .before .before .before .before .before .before .before .before .before .before .before .before .before .before .before .before .before .loop-test .taken in
     let most = start .pre .1 .1 .1 in
     let long = start .pre .0 .arrivals-long in
     record {
       low = omega (arith, at .inv .low);
       most = omega arith;
-      held = rw (c .stepped .ensures) (next-held (now (a .arrivals)) (now (a .sizes)) (a .stop) (at .i) (at .w) (at .cells) (at .links) (at .calendar) (at .words) (at .bits) (at .arrived) (at .departures) (at .answers) _ _ _ _ _ _ _ _ _ (at .inv .held) (at .inv .room) low most long fits d (omega arith) (omega arith) (omega (arith, c .before .before .before .before .before .before .before .before .before .before .before .before .before .before .calendar .given)) (omega (arith, c .before .before .before .before .before .before .before .before .before .before .before .before .words .given)) (omega (arith, c .before .before .before .before .before .before .before .before .before .before .bits .given)) (omega (arith, c .before .before .before .before .before .before .before .before .arrived .given)));
-      room = rw (c .stepped .ensures) (next-room (now (a .arrivals)) (now (a .sizes)) (a .stop) (at .i) (at .w) (at .cells) (at .links) (at .calendar) (at .words) (at .bits) (at .arrived) (at .departures) (at .answers) _ _ _ _ _ _ _ _ _ (at .inv .held) (at .inv .room) low most long fits d);
-      cells-kept = omega (arith, at .inv .cells-kept, c .before .before .before .before .before .before .before .before .before .before .before .before .before .before .before .before .before .before .cells .given);
-      links-kept = omega (arith, at .inv .links-kept, c .before .before .before .before .before .before .before .before .before .before .before .before .before .before .before .before .links .given);
-      calendar-kept = omega (arith, at .inv .calendar-kept, c .before .before .before .before .before .before .before .before .before .before .before .before .before .before .calendar .given);
-      words-kept = omega (arith, at .inv .words-kept, c .before .before .before .before .before .before .before .before .before .before .before .before .words .given);
-      bits-kept = omega (arith, at .inv .bits-kept, c .before .before .before .before .before .before .before .before .before .before .bits .given);
-      arrived-kept = omega (arith, at .inv .arrived-kept, c .before .before .before .before .before .before .before .before .arrived .given);
-      departures-kept = omega (arith, at .inv .departures-kept, c .before .before .before .before .before .before .departures .given);
-      answers-kept = omega (arith, at .inv .answers-kept, c .before .before .before .before .answers .given);
-      rest = rw (c .stepped .ensures) (next-rest (now (a .arrivals)) (now (a .sizes)) (a .stop) (at .i) (at .w) (at .cells) (at .links) (at .calendar) (at .words) (at .bits) (at .arrived) (at .departures) (at .answers) _ _ _ _ _ _ _ _ _ (at .inv .held) (at .inv .room) low most long fits d) ∙ at .inv .rest;
+      held = rw (c .stepped .ensures, c .before .with-ends .ensures) (next-held (now (a .arrivals)) (now (a .sizes)) (a .stop) (at .i) (at .w) (at .cells) (at .links) (at .calendar) (at .words) (at .bits) (at .arrived) (at .departures) (at .answers) (went .free) (went .outhead) (went .outtail) _ _ _ _ _ _ _ _ (at .inv .held) (at .inv .room) low most long fits clean d (omega arith) (omega arith) (omega (arith, c .before .before .before .before .before .before .before .before .before .before .before .before .before .before .before .calendar .given)) (omega (arith, c .before .before .before .before .before .before .before .before .before .before .before .before .before .words .given)) (omega (arith, c .before .before .before .before .before .before .before .before .before .before .before .bits .given)) (omega (arith, c .before .before .before .before .before .before .before .before .before .arrived .given)));
+      room = rw (c .stepped .ensures, c .before .with-ends .ensures) (next-room (now (a .arrivals)) (now (a .sizes)) (a .stop) (at .i) (at .w) (at .cells) (at .links) (at .calendar) (at .words) (at .bits) (at .arrived) (at .departures) (at .answers) (went .free) (went .outhead) (went .outtail) _ _ _ _ _ _ _ _ (at .inv .held) (at .inv .room) low most long fits clean d);
+      cells-kept = omega (arith, at .inv .cells-kept, c .before .before .before .before .before .before .before .before .before .before .before .before .before .before .before .before .before .before .before .cells .given);
+      links-kept = omega (arith, at .inv .links-kept, c .before .before .before .before .before .before .before .before .before .before .before .before .before .before .before .before .before .links .given);
+      calendar-kept = omega (arith, at .inv .calendar-kept, c .before .before .before .before .before .before .before .before .before .before .before .before .before .before .before .calendar .given);
+      words-kept = omega (arith, at .inv .words-kept, c .before .before .before .before .before .before .before .before .before .before .before .before .before .words .given);
+      bits-kept = omega (arith, at .inv .bits-kept, c .before .before .before .before .before .before .before .before .before .before .before .bits .given);
+      arrived-kept = omega (arith, at .inv .arrived-kept, c .before .before .before .before .before .before .before .before .before .arrived .given);
+      departures-kept = omega (arith, at .inv .departures-kept, c .before .before .before .before .before .before .before .departures .given);
+      answers-kept = omega (arith, at .inv .answers-kept, c .before .before .before .before .before .answers .given);
+      rest = rw (c .stepped .ensures, c .before .with-ends .ensures) (next-rest (now (a .arrivals)) (now (a .sizes)) (a .stop) (at .i) (at .w) (at .cells) (at .links) (at .calendar) (at .words) (at .bits) (at .arrived) (at .departures) (at .answers) (went .free) (went .outhead) (went .outtail) _ _ _ _ _ _ _ _ (at .inv .held) (at .inv .room) low most long fits clean d) ∙ at .inv .rest;
     }
 
 same-length-9 : tie.Need-same-length-9 Inv-loop μ-loop
@@ -177,6 +181,7 @@ stretch-spec =
     same-length-7
     same-length-8
     returns
+    (λ c κs. search needs)
     stepped-requires
     add-i
     loop-less

@@ -30,11 +30,13 @@ advance-requires c κs =
     let a = start .args in
     let z = start .pre .1 .0 in
     let t = c .before .before .before .before .before .before .before .before .before .before .before .may-try .ensures (not-false _ (c .before .before .before .before .before .before .before .before .before .before .if1 .left)) in
-    let e = c .before .before .before .before .before .before .before .before .way-of .ensures .0 in
-    let low = way-low (a .ctl) (now (a .cells)) (now (a .links)) (now (a .calendar)) (now (a .words)) (now (a .bits)) (now (a .arrived)) z t _ e in (
+    let at-way-of = c .before .before .before .before .before .before .before .before in
+    let e = at-way-of .way-of .ensures .0 in
+    let m = at-way-of .way-of .ensures .1 .1 in
+    let low = way-low (a .ctl) (now (a .cells)) (now (a .links)) (now (a .calendar)) (now (a .words)) (now (a .bits)) (now (a .arrived)) z t _ e m in (
       start .pre .0,
       (
-        way-held (a .ctl) (now (a .cells)) (now (a .links)) (now (a .calendar)) (now (a .words)) (now (a .bits)) (now (a .arrived)) z t _ e,
+        way-held (a .ctl) (now (a .cells)) (now (a .links)) (now (a .calendar)) (now (a .words)) (now (a .bits)) (now (a .arrived)) z t _ e m,
         (start .pre .1 .1, low .0, low .1),
       ),
     )
@@ -56,7 +58,7 @@ returns-2 c =
         last-shaped _ _ _ _ _ _ _ (at-advance .advance .ensures .0),
         at-advance .advance .ensures .1 .1
             ∙ ap (λ (q : Record). slots (now (a .arrivals)) (drop (a .begin) (now (a .sizes))) (stretchOf (stateOf q (now (a .cells)) (now (a .links)) (now (a .calendar)) (now (a .words)) (now (a .bits)) (now (a .arrived))) (now (a .departures)) (now (a .answers)) 0 (a .begin)))
-            (at-way-of .way-of .ensures .1),
+            (at-way-of .way-of .ensures .1 .0),
       ),
     )
 

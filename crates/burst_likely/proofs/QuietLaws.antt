@@ -1,18 +1,18 @@
--- A slot in which no cell arrives, over plain lists: from what was found of step 2 and of what departs, and from what was
--- written, to what the five steps leave.
+-- A slot in which no cell is let in, over plain lists: from what was found of steps 2 and 3 and of what departs, and from what was
+-- written, to what steps 4 and 5 leave.
 use Prim.Native.Nat.{ℕ, _+_, _*_, _/_, _≤_, _<_}
 use mathlib.Core.Path.{_≡_, refl, sym, _∙_, ap}
 use mathlib.Core.Logic.{_≢_}
 use mathlib.Core.Bool.{Bool, true, false, not}
-use mathlib.Core.List.{List, []}
+use mathlib.Core.List.{List}
 use native.Mathlib.Omega.{arith}
 use borrow.Author.Tests.{ne-eqb, eqb-false, not-true}
-use lib.ListN.{length, getD, set, take, drop}
+use lib.ListN.{length, getD, take, drop}
 use Rattle.meaning.specs.declared.Record.{Record}
 use Rattle.meaning.specs.declared.Served.{Served}
 use Rattle.meaning.specs.Plain.{if_then_else_, _=?_, next, _andThen_}
-use Rattle.meaning.specs.Numbers.{connectionsIn, empty, nothing, excess, letsIn, sPlace, lastPlace, waitingPlace}
-use Rattle.meaning.specs.Bits.{spacesFit, lowestFree, given, unmarked}
+use Rattle.meaning.specs.Numbers.{connectionsIn, empty, waitingPlace}
+use Rattle.meaning.specs.Bits.{spacesFit, given, unmarked}
 use Rattle.meaning.specs.State.{Ends, stateOf, recordWith, writeCell}
 use Rattle.meaning.specs.Lists.{emptyList, endsFit, entryAt, writeEntry}
 use Rattle.meaning.specs.Work.{Work, workOf, answerOf}
@@ -22,12 +22,11 @@ use Rattle.meaning.proofs.BitsLaws.{given-fits}
 use Rattle.meaning.proofs.ListsLaws.{fit-head, fit-tail}
 use Rattle.slot_arrive.specs.declared.Fall.{Fall}
 use Rattle.slot_arrive.specs.declared.Judged.{Judged}
-use Rattle.slot_arrive.specs.Arrival.{broughtOf, judgedAs, judgedOf, fallen, oneLess}
+use Rattle.slot_arrive.specs.Arrival.{oneLess}
 use Rattle.mem_lists.specs.declared.Off.{Off}
 use Rattle.mem_lists.specs.Spaces.{endsOf, linked, offOf}
 use Rattle.slot_plan.specs.Plan.{withEnds, outputEnds, rotated, quietWork, mayFree, joinedLinks, joinedHead}
-use Rattle.slot_plan.proofs.Steps.{arriving-quiet}
-use Rattle.slot_plan.proofs.Cases.{marked, output, none}
+use Rattle.slot_plan.proofs.Cases.{marked, output, none, quiet-kept}
 use Rattle.slot_plan.proofs.QuietCases.{quiet-served, marked-goes, output-goes}
 use Rattle.slot_plan.proofs.Ends.{quiet-left}
 use Rattle.slot_plan.proofs.Off.{off-shows}
@@ -36,13 +35,11 @@ use Rattle.burst_out.specs.Handout.{writeAnswer}
 use Rattle.burst_out.proofs.ShowLaws.{shown-cell, shown-none}
 use Rattle.burst_way.specs.declared.Way.{Way}
 use Rattle.burst_way.specs.Way.{wayWith, slotRecord}
-use Rattle.burst_rotate.specs.declared.Turn.{Turn}
-use Rattle.burst_rotate.specs.Turning.{Turned}
 use Rattle.burst_depart.specs.declared.Leave.{Leave}
 use Rattle.burst_depart.specs.Leaving.{Goes, offAt, OffHere}
-use Rattle.burst_likely.specs.Served.{from2, Ready, HandedTo, Done}
+use Rattle.burst_likely.specs.declared.Went.{Went}
+use Rattle.burst_likely.specs.Served.{Ready, HandedTo, Done, wentWay, wordsFallen}
 use Rattle.burst_likely.proofs.ClearLaws.{clear-length, clear-free, clear-fits}
-use Rattle.burst_likely.proofs.WriteLaws.{waiting-kept}
 use Rattle.burst_likely.proofs.EitherLaws.{allowed-long, linked-same}
 
 -- a departing space is below N
@@ -56,42 +53,19 @@ pub off-facts : (N z kind : ℕ) (cells links words : List ℕ) (x tail : ℕ) (
 off-facts N z kind cells links words x tail o is ok =
     rw is (off-shows N z kind cells links words x tail (ap (λ (y : Off). y .ok) (sym is) ∙ ok))
 
-module _ (w : Way) (r : Turn) (cells links calendar words bits arrived departures answers : List ℕ) (i : ℕ)
-    (ready : Ready w cells links calendar words bits arrived) (turned : Turned (slotRecord w) words r) (lent : HandedTo departures answers i) where
+module _ (w : Way) (b : Fall) (j : Judged) (cells links calendar words bits arrived departures answers : List ℕ) (i : ℕ)
+    (ready : Ready w cells links calendar words bits arrived) (lent : HandedTo departures answers i) where
   abbrev k : Record
   k = slotRecord w
-
-  abbrev b : Fall
-  b = broughtOf (k .n) (k .v) (k .t) words (k .rotation)
-
-  abbrev j : Judged
-  j = judgedAs true nothing 0 0 0 0 0
 
   abbrev entry : Ends
   entry = entryAt calendar (w .turn)
 
-  abbrev turning : List ℕ
-  turning = set (set words (sPlace (w .rotation)) (r .s)) (lastPlace (w .rotation)) (r .last)
+  abbrev falling : List ℕ
+  falling = wordsFallen w b j words
 
   abbrev work : Work
   work = quietWork k j cells links calendar (rotated k b words) bits arrived
-
-  absent : j ≡ judgedOf (k .n) (k .v) (k .kind) (k .t) words []
-  unfolding judgedOf
-  absent = refl
-
-  bare-is : from2 k [] cells links calendar words bits arrived ≡ (step4 work andThen step5)
-  unfolding letsIn
-  bare-is =
-      arriving-quiet k (lowestFree bits) [] cells links calendar words bits arrived b refl j absent
-      (let s = ready .sized in omega (arith, s .words-long, s .rotation-low))
-      (turned .brought)
-      refl
-      refl
-
-  turning-is : turning ≡ fallen (j .verdict =? excess) (j .vci) (j .s) (j .second) (k .t) (rotated k b words)
-  unfolding fallen
-  turning-is = turned .writes
 
   allowed : cellsAllowed (length cells) ≡ true
   allowed = let s = ready .sized in allowed-long (w .n) (length cells) (s .n-low) (s .n-high) (s .cells-long)
@@ -109,17 +83,17 @@ module _ (w : Way) (r : Turn) (cells links calendar words bits arrived departure
   unfolding withEnds recordWith
   same-ends = refl
 
-  pub none-done : (w′ : Way) (words′ answers′ : List ℕ) → endsFit (w .n) entry ≡ true → (entry .head ≡ empty) × (w .outhead ≡ empty)
-      → w′ ≡ w
-      → words′ ≡ turning
-      → answers′ ≡ writeAnswer answers i (answerOf 0 0 0 0 65535 0)
-      → Done k (from2 k [] cells links calendar words bits arrived) w′ cells links calendar words′ bits arrived departures departures answers answers′ i
-  none-done w′ words′ answers′ fits e same written told =
+  pub none-done : (g : Went) (words′ answers′ : List ℕ) → endsFit (w .n) entry ≡ true → (entry .head ≡ empty) × (w .outhead ≡ empty)
+      → g ≡ record { ok = true; free = w .free; outhead = w .outhead; outtail = w .outtail }
+      → words′ ≡ falling
+      → answers′ ≡ writeAnswer answers i (answerOf 0 (j .verdict) (j .vci) 0 65535 0)
+      → Done k (step4 work andThen step5) (wentWay w g) cells links calendar words′ bits arrived departures departures answers answers′ i
+  none-done g words′ answers′ fits e same written told =
       rw same (record {
-        answer = answerOf 0 0 0 0 65535 0;
+        answer = answerOf 0 (j .verdict) (j .vci) 0 65535 0;
         number = refl;
-        is = bare-is ∙ none-is fits (e .0) (e .1)
-            ∙ ap next (sym (quiet-served k b j cells links calendar words bits arrived (record { ctl = k; answer = answerOf 0 0 0 0 65535 0 }) words′ refl refl (written ∙ turning-is)));
+        is = none-is fits (e .0) (e .1)
+            ∙ ap next (sym (quiet-served k b j cells links calendar words bits arrived (record { ctl = k; answer = answerOf 0 (j .verdict) (j .vci) 0 65535 0 }) words′ refl refl written));
         shown = sym (shown-none departures i (lent .departure) cells allowed 65535 refl);
         told = told;
         free = k .free;
@@ -151,8 +125,8 @@ module _ (w : Way) (r : Turn) (cells links calendar words bits arrived departure
         go true e = off-facts (k .n) (k .v) (k .kind) cells _ words _ _ (offAt o) (goes .marked e .3) refl
         go false e = off-facts (k .n) (k .v) (k .kind) cells _ words _ _ (offAt o) (goes .unmarked e .3) refl
 
-    pub less-waits : 1 ≤ getD turning (waitingPlace (o .vci)) 0
-    less-waits = rw (waiting-kept words (w .rotation) (r .s) (r .last) (o .vci)) (off-low .1)
+    pub less-waits : 1 ≤ getD falling (waitingPlace (o .vci)) 0
+    less-waits = rw (quiet-kept k b j cells links calendar words bits arrived .waiting (o .vci)) (off-low .1)
 
     -- the links that are written are there
     pub follow-low : o .follows ≡ true → (w .outtail < w .n) × (o .head < w .n)
@@ -176,11 +150,11 @@ module _ (w : Way) (r : Turn) (cells links calendar words bits arrived departure
     leaves-ends = refl
 
     abbrev leaver : Served
-    leaver = record { ctl = withEnds k (k .free + 1) left; answer = answerOf 0 0 0 0 (o .space) (o .vci) }
+    leaver = record { ctl = withEnds k (k .free + 1) left; answer = answerOf 0 (j .verdict) (j .vci) 0 (o .space) (o .vci) }
 
     -- the work after step 5, from the links, the calendar and the bits as step 4 leaves them
     abbrev gone : List ℕ → List ℕ → List ℕ → Work
-    gone links₁ calendar₁ bits₁ = workOf (stateOf (leaver .ctl) cells links₁ calendar₁ (oneLess (o .vci) turning) (given bits₁ (o .space)) arrived) (leaver .answer)
+    gone links₁ calendar₁ bits₁ = workOf (stateOf (leaver .ctl) cells links₁ calendar₁ (oneLess (o .vci) falling) (given bits₁ (o .space)) arrived) (leaver .answer)
 
     marked-is : entry .head ≢ empty → OffHere k cells links words (not (k .outhead =? empty)) entry (offAt o)
         → (links₁ : List ℕ) → links₁ ≡ linked (not (k .outhead =? empty)) (k .outtail) (entry .head) links
@@ -190,10 +164,10 @@ module _ (w : Way) (r : Turn) (cells links calendar words bits arrived departure
         marked work entry entry-is fits (ready .output-fits) ne
         ∙ marked-goes k b j cells links calendar words bits arrived (entry .head) (entry .tail) (offAt o) is refl may-free
         ∙ ap next
-        (sym (quiet-left k b j (offAt o) cells links calendar words bits arrived leaver _ links₁ (writeEntry calendar (k .turn) emptyList) turning _ _ _
+        (sym (quiet-left k b j (offAt o) cells links calendar words bits arrived leaver _ links₁ (writeEntry calendar (k .turn) emptyList) falling _ _ _
         (refl, refl)
         e
-        turning-is
+        refl
         refl
         refl))
 
@@ -205,10 +179,10 @@ module _ (w : Way) (r : Turn) (cells links calendar words bits arrived departure
         output work entry entry-is fits (ready .output-fits) q ne
         ∙ output-goes k b j cells links calendar words bits arrived (offAt o) (unmarked-off is ne) refl may-free
         ∙ ap next
-        (sym (quiet-left k b j (offAt o) cells links calendar words bits arrived leaver _ links₁ calendar turning _ _ _
+        (sym (quiet-left k b j (offAt o) cells links calendar words bits arrived leaver _ links₁ calendar falling _ _ _
         (refl, refl)
         e
-        turning-is
+        refl
         refl
         refl))
 
@@ -237,16 +211,16 @@ module _ (w : Way) (r : Turn) (cells links calendar words bits arrived departure
         → w′ ≡ wayWith w (w .t) (w .turn) (w .rotation) (w .free + 1) (o .next) (o .tail)
         → links′ ≡ linking
         → calendar′ ≡ (if o .marked then writeEntry calendar (w .turn) emptyList else calendar)
-        → words′ ≡ oneLess (o .vci) turning
+        → words′ ≡ oneLess (o .vci) falling
         → bits′ ≡ given (if o .marked then unmarked bits (w .turn) else bits) (o .space)
         → departures′ ≡ writeCell departures i (take 53 (drop (53 * o .space) cells))
-        → answers′ ≡ writeAnswer answers i (answerOf 0 0 0 0 (o .space) (o .vci))
-        → Done k (from2 k [] cells links calendar words bits arrived) w′ cells links′ calendar′ words′ bits′ arrived departures departures′ answers answers′ i
+        → answers′ ≡ writeAnswer answers i (answerOf 0 (j .verdict) (j .vci) 0 (o .space) (o .vci))
+        → Done k (step4 work andThen step5) w′ cells links′ calendar′ words′ bits′ arrived departures departures′ answers answers′ i
     leave-done w′ links′ calendar′ words′ bits′ departures′ answers′ same l e f g d a =
         rw same (record {
-          answer = answerOf 0 0 0 0 (o .space) (o .vci);
+          answer = answerOf 0 (j .verdict) (j .vci) 0 (o .space) (o .vci);
           number = refl;
-          is = bare-is ∙ leave-is ∙ rw (leaves-ends, l, e, f, g);
+          is = leave-is ∙ rw (leaves-ends, l, e, f, g);
           shown = d ∙ sym (shown-cell departures i (lent .departure) cells allowed (o .space) (below-long (w .n) (length cells) (o .space) (ready .sized .cells-long) (goes .space-low)));
           told = a;
           free = k .free + 1;
