@@ -1,19 +1,21 @@
 // A slot in which a cell is accepted: its seat, then steps 4 and 5, are read and judged, then all is written.
 ghost use mathlib.Core.Path.{_≡_};
 ghost use mathlib.Core.Bool.{true, false};
-ghost use Prim.Native.Nat.{_+_, _*_, _≤_, _<_};
-ghost use lib.ListN.{length, getD};
-ghost use Rattle.meaning.specs.Plain.{_andThen_};
-ghost use Rattle.meaning.specs.Numbers.{waitingPlace, mostN, mostV, octets, perEntry, connectionsIn, wordsIn, bitWords};
-ghost use Rattle.meaning.specs.Bits.{isFree, taken};
+ghost use Prim.Native.Nat.{_+_, _-_, _*_, _≤_, _<_};
+ghost use lib.ListN.{length};
+ghost use Rattle.meaning.specs.Plain.{_andThen_, if_then_else_};
+ghost use Rattle.meaning.specs.Numbers.{mostN, mostV, octets, perEntry, wordsIn, bitWords};
+ghost use Rattle.meaning.specs.Bits.{isFree, taken, given, unmarked};
 ghost use Rattle.meaning.specs.Lists.{emptyList, endsFit, entryAt, writeEntry};
+ghost use Rattle.meaning.specs.Work.{answerOf};
 ghost use Rattle.meaning.specs.Slot.{step4, step5};
-ghost use Rattle.meaning.specs.Lent.{here, before, servedAfter, Gives};
-ghost use Rattle.slot_arrive.specs.Arrival.{filled};
-ghost use Rattle.mem_lists.specs.Spaces.{endsOf};
-ghost use Rattle.slot_plan.specs.Plan.{rotated, seatNow, seatEnds, joinedHead, leavingMarked, leavingOutput};
-ghost use Rattle.slot_plan.specs.Works.{seatingOf, acceptOf, acceptLeft, lastSteps};
+ghost use Rattle.meaning.specs.Lent.{here, before, Gives};
+ghost use Rattle.slot_arrive.specs.Arrival.{oneLess};
+ghost use Rattle.mem_lists.specs.Spaces.{endsOf, linked};
+ghost use Rattle.slot_plan.specs.Plan.{withEnds, seatNow, seatEnds, joinedHead};
+ghost use Rattle.slot_plan.specs.Works.{seatingOf, acceptOf, lastSteps};
 ghost use Rattle.slot_plan.specs.Facts.{Sized, Accepted, Seated, OffStored};
+ghost use Rattle.slot_accept.specs.Going.{MayGo, MayLeave, stuckGoing, goingUnmarked, goingMarked, goingOf};
 use meaning::Answer;
 use meaning::Record;
 use meaning::Served;
@@ -21,52 +23,6 @@ use mem_lists::Off;
 use mem_lists::Seat;
 use slot_arrive::Fall;
 use slot_arrive::Judged;
-
-// An accepted cell, and a departure: all writes. One space is taken and one given back, so their number is as it came.
-fn accept_end(
-    k: Record,
-    b: Fall,
-    j: Judged,
-    a: Seat,
-    o: Off,
-    joins: bool,
-    head: u16,
-    clears: bool,
-    cells: &mut [u8],
-    links: &mut [u16],
-    calendar: &mut [u16],
-    words: &mut [u32],
-    bits: &mut [u64],
-    arrived: &mut [u32],
-    cell: &[u8],
-) -> Served
-    requires { ⌜ Sized (here k cells links calendar words bits arrived) ⌝ }
-    requires { ⌜ Accepted k j (now cell) (now words) ⌝ }
-    requires { ⌜ Seated k a (now bits) ⌝ }
-    requires { ⌜ (joins ≡ true → k .outtail < k .n) ⌝ }
-    requires { ⌜ (o .vci < connectionsIn (k .v)) × (1 ≤ getD (filled (j .vci) (j .s) (j .second) (k .t) (j .waiting) (rotated k b (now words))) (waitingPlace (o .vci)) 0) ⌝ }
-    requires { ⌜ (o .space < mostN) × (isFree (taken (now bits) (a .x)) (o .space) ≡ false) ⌝ }
-    ensures { λ s. ⌜ servedAfter s cells links calendar words bits arrived ≡ acceptLeft (before k cells links calendar words bits arrived) b j a (now (cell .entry)) o joins head clears ⌝ }
-{
-    slot_store::store(
-        k,
-        b,
-        j,
-        a,
-        cells,
-        links,
-        calendar,
-        words,
-        bits,
-        arrived,
-        cell,
-    );
-    slot_arrive::put_less(words, o.vci);
-    slot_depart::clear_entry(calendar, clears, k.turn);
-    mem_lists::put_link(links, joins, k.outtail, head);
-    mem_bits::release(bits, o.space, clears, k.turn);
-    slot_depart::left(k, k.free, j.verdict, j.vci, j.d, o)
-}
 
 // What departs once the cell is stored and, where joins, the chain from head to tail has joined the Output List. Field by
 // field: as a whole the answer would be packed into one word.
@@ -124,148 +80,6 @@ fn free_after(bits: &[u64], x: u16, y: u16) -> bool
     mem_bits::is_free(bits, y)
 }
 
-// An accepted cell, where entry T is then marked, from head to tail.
-fn accept_marked(
-    r: Record,
-    k: Record,
-    b: Fall,
-    j: Judged,
-    a: Seat,
-    head: u16,
-    tail: u16,
-    cells: &mut [u8],
-    links: &mut [u16],
-    calendar: &mut [u16],
-    words: &mut [u32],
-    bits: &mut [u64],
-    arrived: &mut [u32],
-    cell: &[u8],
-) -> Served
-    requires { ⌜ Sized (here k cells links calendar words bits arrived) ⌝ }
-    requires { ⌜ Accepted k j (now cell) (now words) ⌝ }
-    requires { ⌜ Seated k a (now bits) ⌝ }
-    requires { ⌜ (head < k .n) × (endsFit (k .n) (endsOf (k .outhead) (k .outtail)) ≡ true) ⌝ }
-    ensures { λ s. ⌜ Gives r (leavingMarked (acceptOf (before k cells links calendar words bits arrived) b j a (now (cell .entry))) (endsOf head tail)) s cells links calendar words bits arrived ⌝ }
-{
-    let o = off_stored(k, j, a, k.outhead != 65535, head, tail, cells, links, words);
-    if !o.ok {
-        return slot_depart::refuse(r, 3);
-    }
-    if free_after(bits, a.x, o.space) {
-        return slot_depart::refuse(r, 3);
-    }
-    accept_end(
-        k,
-        b,
-        j,
-        a,
-        o,
-        k.outhead != 65535,
-        head,
-        true,
-        cells,
-        links,
-        calendar,
-        words,
-        bits,
-        arrived,
-        cell,
-    )
-}
-
-// An accepted cell, where entry T is not marked and the Output List has a head.
-fn accept_output(
-    r: Record,
-    k: Record,
-    b: Fall,
-    j: Judged,
-    a: Seat,
-    cells: &mut [u8],
-    links: &mut [u16],
-    calendar: &mut [u16],
-    words: &mut [u32],
-    bits: &mut [u64],
-    arrived: &mut [u32],
-    cell: &[u8],
-) -> Served
-    requires { ⌜ Sized (here k cells links calendar words bits arrived) ⌝ }
-    requires { ⌜ Accepted k j (now cell) (now words) ⌝ }
-    requires { ⌜ Seated k a (now bits) ⌝ }
-    requires { ⌜ k .outhead < k .n ⌝ }
-    ensures { λ s. ⌜ Gives r (leavingOutput (acceptOf (before k cells links calendar words bits arrived) b j a (now (cell .entry)))) s cells links calendar words bits arrived ⌝ }
-{
-    let o = off_stored(k, j, a, false, 0, k.outtail, cells, links, words);
-    if !o.ok {
-        return slot_depart::refuse(r, 3);
-    }
-    if free_after(bits, a.x, o.space) {
-        return slot_depart::refuse(r, 3);
-    }
-    accept_end(
-        k,
-        b,
-        j,
-        a,
-        o,
-        false,
-        0,
-        false,
-        cells,
-        links,
-        calendar,
-        words,
-        bits,
-        arrived,
-        cell,
-    )
-}
-
-// An accepted cell, where nothing departs.
-fn accept_none(
-    k: Record,
-    b: Fall,
-    j: Judged,
-    a: Seat,
-    cells: &mut [u8],
-    links: &mut [u16],
-    calendar: &mut [u16],
-    words: &mut [u32],
-    bits: &mut [u64],
-    arrived: &mut [u32],
-    cell: &[u8],
-) -> Served
-    requires { ⌜ Sized (here k cells links calendar words bits arrived) ⌝ }
-    requires { ⌜ Accepted k j (now cell) (now words) ⌝ }
-    requires { ⌜ Seated k a (now bits) ⌝ }
-    ensures { λ s. ⌜ servedAfter s cells links calendar words bits arrived ≡ acceptOf (before k cells links calendar words bits arrived) b j a (now (cell .entry)) ⌝ }
-{
-    slot_store::store(
-        k,
-        b,
-        j,
-        a,
-        cells,
-        links,
-        calendar,
-        words,
-        bits,
-        arrived,
-        cell,
-    );
-    let ctl = slot_store::seated(k);
-    Served {
-        ctl: ctl,
-        answer: Answer {
-            number: 0,
-            verdict: j.verdict,
-            vci: j.vci,
-            d: j.d,
-            space: 65535,
-            departing: 0,
-        },
-    }
-}
-
 // The head of entry T once the cell has joined its own.
 fn head_joined(turn: u16, a: Seat, calendar: &[u16]) -> u16
     requires { ⌜ 2 * turn + 2 ≤ length (now calendar) ⌝ }
@@ -288,61 +102,197 @@ fn tail_joined(turn: u16, a: Seat, calendar: &[u16]) -> u16
     calendar[2 * (turn as usize) + 1]
 }
 
-// An accepted cell, where entry T is not marked.
-fn accept_unmarked(
-    r: Record,
+// What departs once the cell is stored: nothing, or the space and its connection and what is left of the Output List; whether entry T
+// joins that list, from which head, and whether it is emptied. Not ok where the slot is refused.
+pub struct Departing {
+    pub ok: bool,
+    pub none: bool,
+    pub off: Off,
+    pub joins: bool,
+    pub from: u16,
+    pub clears: bool,
+}
+
+fn stuck() -> Departing
+    ensures { λ g. ⌜ g ≡ stuckGoing ⌝ }
+{
+    Departing {
+        ok: false,
+        none: false,
+        off: Off {
+            ok: false,
+            space: 0,
+            vci: 0,
+            head: 0,
+            tail: 0,
+        },
+        joins: false,
+        from: 0,
+        clears: false,
+    }
+}
+
+// Entry T is not marked: the head of the Output List departs, if it has one.
+fn going_unmarked(
     k: Record,
-    b: Fall,
     j: Judged,
     a: Seat,
-    cells: &mut [u8],
+    cells: &[u8],
+    links: &[u16],
+    words: &[u32],
+    bits: &[u64],
+) -> Departing
+    requires { ⌜ MayGo k a cells links words bits ⌝ }
+    ensures { λ g. ⌜ g ≡ goingUnmarked k j a (now (cells .entry)) (now (links .entry)) (now (words .entry)) (now (bits .entry)) ⌝ }
+{
+    if k.outhead == 65535 {
+        return Departing {
+            ok: true,
+            none: true,
+            off: Off {
+                ok: false,
+                space: 0,
+                vci: 0,
+                head: 0,
+                tail: 0,
+            },
+            joins: false,
+            from: 0,
+            clears: false,
+        };
+    }
+    let o = off_stored(k, j, a, false, 0, k.outtail, cells, links, words);
+    if !o.ok {
+        return stuck();
+    }
+    if free_after(bits, a.x, o.space) {
+        return stuck();
+    }
+    Departing {
+        ok: true,
+        none: false,
+        off: o,
+        joins: false,
+        from: 0,
+        clears: false,
+    }
+}
+
+// Entry T is marked, from head to tail: it joins the Output List, whose head departs.
+fn going_marked(
+    k: Record,
+    j: Judged,
+    a: Seat,
+    head: u16,
+    tail: u16,
+    cells: &[u8],
+    links: &[u16],
+    words: &[u32],
+    bits: &[u64],
+) -> Departing
+    requires { ⌜ MayGo k a cells links words bits ⌝ }
+    requires { ⌜ head < k .n ⌝ }
+    ensures { λ g. ⌜ g ≡ goingMarked k j a (endsOf head tail) (now (cells .entry)) (now (links .entry)) (now (words .entry)) (now (bits .entry)) ⌝ }
+{
+    let joins = k.outhead != 65535;
+    let o = off_stored(k, j, a, joins, head, tail, cells, links, words);
+    if !o.ok {
+        return stuck();
+    }
+    if free_after(bits, a.x, o.space) {
+        return stuck();
+    }
+    Departing {
+        ok: true,
+        none: false,
+        off: o,
+        joins: joins,
+        from: head,
+        clears: true,
+    }
+}
+
+// What departs, entry T being read as the cell leaves it. A head and a tail are tested by one comparison after the other: as one truth
+// value a pair is worked out without branches, in twice as many instructions.
+fn going(
+    k: Record,
+    j: Judged,
+    a: Seat,
+    cells: &[u8],
+    links: &[u16],
+    calendar: &[u16],
+    words: &[u32],
+    bits: &[u64],
+) -> Departing
+    requires { ⌜ MayGo k a cells links words bits ⌝ }
+    requires { ⌜ 2 * k .turn + 2 ≤ length (now calendar) ⌝ }
+    ensures { λ g. ⌜ g ≡ goingOf k j a (now (cells .entry)) (now (links .entry)) (now (calendar .entry)) (now (words .entry)) (now (bits .entry)) ⌝ }
+{
+    let x = head_joined(k.turn, a, calendar);
+    let y = tail_joined(k.turn, a, calendar);
+    if x == 65535 {
+        if y != 65535 {
+            return stuck();
+        }
+        return going_unmarked(k, j, a, cells, links, words, bits);
+    }
+    if x >= k.n {
+        return stuck();
+    }
+    if y >= k.n {
+        return stuck();
+    }
+    going_marked(k, j, a, x, y, cells, links, words, bits)
+}
+
+// The departure of o, once the cell is stored: one space is taken and one given back, so their number is as it came.
+fn leave(
+    k: Record,
+    j: Judged,
+    o: Off,
+    joins: bool,
+    from: u16,
+    clears: bool,
     links: &mut [u16],
     calendar: &mut [u16],
     words: &mut [u32],
     bits: &mut [u64],
-    arrived: &mut [u32],
-    cell: &[u8],
 ) -> Served
-    requires { ⌜ Sized (here k cells links calendar words bits arrived) ⌝ }
-    requires { ⌜ Accepted k j (now cell) (now words) ⌝ }
-    requires { ⌜ Seated k a (now bits) ⌝ }
-    requires { ⌜ (endsFit (k .n) (endsOf (k .outhead) (k .outtail)) ≡ true) × (entryAt (writeEntry (now calendar) (a .e) (seatEnds a)) (k .turn) ≡ emptyList) ⌝ }
-    ensures { λ s. ⌜ Gives r (lastSteps (acceptOf (before k cells links calendar words bits arrived) b j a (now (cell .entry)))) s cells links calendar words bits arrived ⌝ }
+    requires { ⌜ MayLeave k o joins clears links calendar words bits ⌝ }
+    ensures links { λ s. ⌜ now (links .exit) ≡ linked joins (k .outtail) from (now (links .entry)) ⌝ }
+    ensures calendar { λ s. ⌜ now (calendar .exit) ≡ (if clears then writeEntry (now (calendar .entry)) (k .turn) emptyList else now (calendar .entry)) ⌝ }
+    ensures words { λ s. ⌜ now (words .exit) ≡ oneLess (o .vci) (now (words .entry)) ⌝ }
+    ensures bits { λ s. ⌜ now (bits .exit) ≡ given (if clears then unmarked (now (bits .entry)) (k .turn) else now (bits .entry)) (o .space) ⌝ }
+    ensures served { λ s. ⌜ (s .ctl ≡ withEnds k (k .free) (endsOf (o .head) (o .tail))) × (s .answer ≡ answerOf 0 (j .verdict) (j .vci) (j .d) (o .space) (o .vci)) ⌝ }
 {
-    if k.outhead != 65535 {
-        return accept_output(
-            r,
-            k,
-            b,
-            j,
-            a,
-            cells,
-            links,
-            calendar,
-            words,
-            bits,
-            arrived,
-            cell,
-        );
-    }
-    accept_none(
-        k,
-        b,
-        j,
-        a,
-        cells,
-        links,
-        calendar,
-        words,
-        bits,
-        arrived,
-        cell,
-    )
+    slot_arrive::put_less(words, o.vci);
+    slot_depart::clear_entry(calendar, clears, k.turn);
+    mem_lists::put_link(links, joins, k.outtail, from);
+    mem_bits::release(bits, o.space, clears, k.turn);
+    slot_depart::left(k, k.free, j.verdict, j.vci, j.d, o)
 }
 
-// An accepted cell that has its seat: entry T, from x to y, is read as the cell leaves it. Here and in accept a head and a
-// tail are tested by one comparison after the other: as one truth value a pair is worked out without branches, in twice as
-// many instructions. Each refusal is 3 and nothing is written before it, so the order of the tests is free.
+// Nothing departs.
+fn stay(k: Record, j: Judged) -> Served
+    requires { ⌜ 1 ≤ k .free ⌝ }
+    ensures { λ s. ⌜ (s .ctl ≡ withEnds k (k .free - 1) (endsOf (k .outhead) (k .outtail))) × (s .answer ≡ answerOf 0 (j .verdict) (j .vci) (j .d) 65535 0) ⌝ }
+{
+    let ctl = slot_store::seated(k);
+    Served {
+        ctl: ctl,
+        answer: Answer {
+            number: 0,
+            verdict: j.verdict,
+            vci: j.vci,
+            d: j.d,
+            space: 65535,
+            departing: 0,
+        },
+    }
+}
+
+// An accepted cell that has its seat: what departs is found first; then the cell is stored, at one place for all cases, so that this is
+// laid in place.
 fn accept_seated(
     r: Record,
     k: Record,
@@ -363,41 +313,15 @@ fn accept_seated(
     requires { ⌜ endsFit (k .n) (endsOf (k .outhead) (k .outtail)) ≡ true ⌝ }
     ensures { λ s. ⌜ Gives r (lastSteps (acceptOf (before k cells links calendar words bits arrived) b j a (now (cell .entry)))) s cells links calendar words bits arrived ⌝ }
 {
-    let x = head_joined(k.turn, a, calendar);
-    let y = tail_joined(k.turn, a, calendar);
-    if x == 65535 {
-        if y != 65535 {
-            return slot_depart::refuse(r, 3);
-        }
-        return accept_unmarked(
-            r,
-            k,
-            b,
-            j,
-            a,
-            cells,
-            links,
-            calendar,
-            words,
-            bits,
-            arrived,
-            cell,
-        );
-    }
-    if x >= k.n {
+    let g = going(k, j, a, cells, links, calendar, words, bits);
+    if !g.ok {
         return slot_depart::refuse(r, 3);
     }
-    if y >= k.n {
-        return slot_depart::refuse(r, 3);
-    }
-    accept_marked(
-        r,
+    slot_store::store(
         k,
         b,
         j,
         a,
-        x,
-        y,
         cells,
         links,
         calendar,
@@ -405,6 +329,21 @@ fn accept_seated(
         bits,
         arrived,
         cell,
+    );
+    if g.none {
+        return stay(k, j);
+    }
+    leave(
+        k,
+        j,
+        g.off,
+        g.joins,
+        g.from,
+        g.clears,
+        links,
+        calendar,
+        words,
+        bits,
     )
 }
 
