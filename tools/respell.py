@@ -1,14 +1,14 @@
 #!/usr/bin/env python3
 """Respells the repository's own definitions and lemmas in snake case: `obeysRules` becomes `obeys_rules`, `rules-facts` `rules_facts`.
 
-usage: respell.py [--check] [FOLDER]      FOLDER is the top of the repository, '.' without it
+usage: respell.py [--check | --list] [FOLDER]      FOLDER is the top of the repository, '.' without it
 
 It was run once, when the repository came to today's Rattle, right after the toolchain's own scripts, and is kept so that the same
 turn of an older state can be made again (docs/PORT.md). A name is turned where it is defined in a file of specs/ or proofs/ (a
 definition, a lemma, a field, a constructor) or bound there, and nothing outside the repository has it. Types, modules, facts and
 the letters of document 01 (F, C, S, N, V, T, D) keep their capitals; names of src/ are in snake case already; names that a check
 makes (those of goals and of the steps of a function) are not ours to turn. Comments are turned inside backticks alone, strings never.
---check writes nothing. It prints each name whose new spelling stands in the same file already: such a name keeps its old one.
+--list writes nothing, and prints each crate with its names, old and new. --check writes nothing. It prints each name whose new spelling stands in the same file already: such a name keeps its old one.
 """
 
 import os
@@ -82,8 +82,9 @@ def turned(text, kind, names):
 
 
 def main(argv):
-    check = "--check" in argv
-    rest = [a for a in argv if a != "--check"]
+    listing = "--list" in argv
+    check = "--check" in argv or listing
+    rest = [a for a in argv if a not in ("--check", "--list")]
     root = rest[0] if rest else "."
     texts = {p: read(p) for p in files(root)}
     crates = sorted(os.listdir(os.path.join(root, "crates")))
@@ -107,6 +108,15 @@ def main(argv):
     # a lemma that would have its function's name gets _lem
     functions = {s for n, s in names.items() if "-" not in n} | {"call_at", "cells_in", "cells_of"}
     names = {n: s + "_lem" if "-" in n and s in functions else s for n, s in names.items()}
+    if listing:
+        for crate in crates:
+            defined = set()
+            for p, t in texts.items():
+                if p.endswith(".antt") and f"/crates/{crate}/" in "/" + p:
+                    defined.update(DEFINED.findall(re.sub(r"--[^\n]*", "", t)))
+            pairs = sorted(n for n in defined if n in names)
+            print(f"{crate}: " + ", ".join(f"{n} -> {names[n]}" for n in pairs) if pairs else f"{crate}: none")
+        return
     # a new spelling that stands in the same file already, for something else that a clause or a proof can take for it
     words = {}
     for p, t in texts.items():
