@@ -1,1 +1,2 @@
 // How many errors deceive the header check, counted over all of them. No code.
+#![tactic(auto)]

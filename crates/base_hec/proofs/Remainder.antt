@@ -1,7 +1,7 @@
 -- The long division of `specs/Check.antt` leaves the remainder, which is linear: so an error changes a syndrome by its own
 -- remainder, whatever the header holds.
 use mathlib.Core.Path.{◌≡◌, refl, sym, ap, ap₂, ◌∙◌, subst}
-use Prim.Native.Nat.{ℕ, zero, suc, ◌+◌, ◌-◌, ◌*◌, ◌/◌, ◌%◌, ◌^◌, ◌<◌}
+use Prim.Native.Nat.{ℕ, zero, suc, ◌+◌, ◌*◌, ◌/◌, ◌%◌, ◌^◌, ◌<◌}
 use native.Mathlib.Omega.{arith}
 use native.Mathlib.Nat.{zero-add, suc-add, zero-mul, one-mul, div-eq_of_lt, div-lt_iff_lt-mul, pow-suc, mod-lt}
 use lib.Dec.{lit<}

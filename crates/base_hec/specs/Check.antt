@@ -3,8 +3,8 @@
 --
 --   head_of l        == the first four octets of l as one number of 32 digits, octet 1 highest
 --   remainder k p   == what long division by the generator leaves of p, where p has at most k + 8 digits
---   hecOf l         == the octet 5 that belongs to the first four octets of l
---   syndromeOf l    == that octet and the fifth of l, added bit by bit: 0 where they are the same
+--   hec_of l         == the octet 5 that belongs to the first four octets of l
+--   syndrome_of l    == that octet and the fifth of l, added bit by bit: 0 where they are the same
 use Rattle.std.specs.Prelude.{ℕ, zero, suc, ◌+◌, ◌*◌, ◌/◌, ◌%◌, ◌^◌, List, get_or}
 use Rattle.std.specs.Int.Bits.{bit_xor}
 

@@ -2,7 +2,7 @@
 --
 --   checked mode cell        == the check of a lent cell in this mode
 --   arriving raw mode cell   == the same for any lent octets, none or 53, of a policer that is raw or not
---   arrivingFits ..          == what `arriving` reads, raw and mode, is in its range
+--   arriving_fits ..          == what `arriving` reads, raw and mode, is in its range
 use Rattle.std.specs.Prelude.{ℕ, ◌<◌, Bool, true, false, cond, ◌&&◌, ◌||◌, List, [], ltb, leb, eqb, length, get_or}
 use Rattle.base_hec.specs.Check.{syndrome_of}
 use Rattle.base_hec.specs.WrongBit.{no_error, wrong_bit, flipped}

@@ -1,8 +1,8 @@
 -- The same check over numbers, as the code has it: the first four octets as one, the fifth as another.
 --
---   checkedWord mode head fifth   == what the check answers, with the header as mended; zeros where it is dropped
---   octetsOf head fifth           == the five octets of a header
---   arrivingOf r cell             == what the check lets through of a lent cell, r being its answer
+--   checked_word mode head fifth   == what the check answers, with the header as mended; zeros where it is dropped
+--   octets_of head fifth           == the five octets of a header
+--   arriving_of r cell             == what the check lets through of a lent cell, r being its answer
 use Rattle.std.specs.Prelude.{ℕ, ◌-◌, ◌/◌, ◌%◌, ◌^◌, Bool, true, false, cond, ◌&&◌, List, [], ◌∷◌, ◌++◌, ltb, eqb, drop}
 use Rattle.std.specs.Int.Bits.{bit_xor}
 use Rattle.base_hec.specs.declared.Checked.{Checked}

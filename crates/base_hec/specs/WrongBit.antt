@@ -1,9 +1,9 @@
 -- What a syndrome says of a header of forty bits. Bit 0 is the highest of octet 1 and is sent first; bit 39 is the lowest
 -- of octet 5.
 --
---   oneBit i        == the syndrome of an error in bit i alone
---   wrongBit s      == the bit whose error alone has syndrome s; `no_error` where s is 0, `several` where no bit has it
---   wrongBits       == the same as a table of 256 entries, one for each syndrome
+--   one_bit i        == the syndrome of an error in bit i alone
+--   wrong_bit s      == the bit whose error alone has syndrome s; `no_error` where s is 0, `several` where no bit has it
+--   wrong_bits       == the same as a table of 256 entries, one for each syndrome
 --   flipped i l     == l with bit i of its header changed
 use Rattle.std.specs.Prelude.{ℕ, zero, suc, ◌-◌, ◌/◌, ◌%◌, ◌^◌, cond, List, [], ◌∷◌, eqb, get_or, set}
 use Rattle.std.specs.Int.Bits.{bit_xor}

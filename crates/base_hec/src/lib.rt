@@ -1,4 +1,6 @@
 // Header error control by ITU-T I.432, on numbers: the first four octets of a header as one, the fifth as another.
+#![tactic(auto)]
+
 ghost use Rattle.std.specs.Prelude.{◌≡◌, ◌≤◌, ◌<◌, length, get_or};
 ghost use Rattle.base_hec.specs.Check.{check_of, head_of};
 ghost use Rattle.base_hec.specs.Modes.{checked};
@@ -7,7 +9,7 @@ ghost use Rattle.base_hec.specs.Word.{mended_word, erred_word, checked_word, arr
 mod syndromes;
 
 // What the check answers: through unless the cell is dropped; the header as mended; the mode from now on.
-#[derive(Drop)]
+#[derive(Clone, Copy)]
 pub struct Checked {
     pub through: bool,
     pub head: u32,

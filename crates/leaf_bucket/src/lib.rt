@@ -1,4 +1,6 @@
 // A VC's buckets, in parts of 1/L slot: products and quotients by L = 2^m are shifts.
+#![tactic(auto)]
+
 ghost use Rattle.std.specs.Prelude.{◌≡◌, ◌+◌, ◌-◌, ◌*◌, ◌/◌, ◌%◌, ◌^◌, ◌≤◌};
 ghost use Rattle.meaning.specs.Bucket.{bucket_of, obeys_rules, elapsed};
 ghost use Rattle.meaning.specs.Words.{second_obeys};

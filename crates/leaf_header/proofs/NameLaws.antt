@@ -11,7 +11,7 @@ use native.Mathlib.Nat.{mod-eq_of_lt}
 use borrow.Author.Tests.{eqb-true, leb-true, lt-ltb, le-ltb, le-leb, lt-leb, eq-eqb, ne_eqb}
 use lib.Bits.{bit_and, and_mask}
 use lib.ListN.{get_or}
-use Rattle.meaning.specs.Plain.{if◌then◌else◌, ◌<?◌, ◌≤?◌, ◌=?◌}
+use Rattle.meaning.specs.Plain.{when◌then◌else◌, ◌<?◌, ◌≤?◌, ◌=?◌}
 use Rattle.meaning.specs.Numbers.{most_v, paths, kind_in_range}
 use Rattle.meaning.specs.Header.{Header, vpi_high, header_of, header_at, no_user_cell, connection, names_connection}
 use Rattle.meaning.proofs.NamesLaws.{vc_number, vc_named, path_number, path_named}
@@ -163,7 +163,7 @@ and_false true = refl
 and_false false = refl
 
 module _ (z : ℕ) (h : Header) (few : z ≤ most_v) (small : h.vci < 65536) where
-  by_vci_lem : h.vpi ≡ 0 → number_for z (name_of h) ≡ (if names_connection z h then connection z h else 0)
+  by_vci_lem : h.vpi ≡ 0 → number_for z (name_of h) ≡ (when names_connection z h then connection z h else 0)
   unfolding name_of
   by_vci_lem e = go (dec_lt h.vci z) (ℕ_discrete h.vci 0)
     where
@@ -171,7 +171,7 @@ module _ (z : ℕ) (h : Header) (few : z ≤ most_v) (small : h.vci < 65536) whe
       name = omega (arith, e)
 
       go : Dec (h.vci < z) → Dec (h.vci ≡ 0)
-          → number_for z (h.vpi * 65536 + h.vci) ≡ (if names_connection z h then connection z h else 0)
+          → number_for z (h.vpi * 65536 + h.vci) ≡ (when names_connection z h then connection z h else 0)
       go (yes low) (yes none) =
           rw (name, vc_named z h e, vc_number z h e) (rw none (sym (number_vc z 0 (omega (arith, low, none)))))
       go (yes low) (no some) =
@@ -181,7 +181,7 @@ module _ (z : ℕ) (h : Header) (few : z ≤ most_v) (small : h.vci < 65536) whe
           rw (name, vc_named z h e, vc_number z h e, le-ltb h.vci z (omega (arith, high)), and_false (1 ≤? h.vci))
           (sym (number_past z h.vci (omega (arith, high)) (omega (arith, small))))
 
-  by_vpi_lem : h.vpi ≢ 0 → number_for z (name_of h) ≡ (if names_connection z h then connection z h else 0)
+  by_vpi_lem : h.vpi ≢ 0 → number_for z (name_of h) ≡ (when names_connection z h then connection z h else 0)
   unfolding name_of
   by_vpi_lem ne = go (dec_lt h.vpi 256)
     where
@@ -195,7 +195,7 @@ module _ (z : ℕ) (h : Header) (few : z ≤ most_v) (small : h.vci < 65536) whe
       past = omega (arith, ne, few)
 
       go : Dec (h.vpi < 256)
-          → number_for z (h.vpi * 65536 + h.vci) ≡ (if names_connection z h then connection z h else 0)
+          → number_for z (h.vpi * 65536 + h.vci) ≡ (when names_connection z h then connection z h else 0)
       go (yes low) =
           rw (path_named z h ne, path_number z h ne, le-leb 1 h.vpi (omega (arith, ne)), lt-ltb h.vpi 256 low)
           (sym (number_path z _ past (λ f. ne (sym vpi_is ∙ f)) (rw vpi_is low)) ∙ ap (λ (k : ℕ). z + k) vpi_is)
@@ -203,10 +203,10 @@ module _ (z : ℕ) (h : Header) (few : z ≤ most_v) (small : h.vci < 65536) whe
           rw (path_named z h ne, le-ltb h.vpi 256 (omega (arith, high)), and_false (1 ≤? h.vpi))
           (sym (number_high z _ past (λ f. ne (sym vpi_is ∙ f)) (rw vpi_is (omega (arith, high)))))
 
-  pub number_named : number_for z (name_of h) ≡ (if names_connection z h then connection z h else 0)
+  pub number_named : number_for z (name_of h) ≡ (when names_connection z h then connection z h else 0)
   number_named = go (ℕ_discrete h.vpi 0)
     where
-      go : Dec (h.vpi ≡ 0) → number_for z (name_of h) ≡ (if names_connection z h then connection z h else 0)
+      go : Dec (h.vpi ≡ 0) → number_for z (name_of h) ≡ (when names_connection z h then connection z h else 0)
       go (yes e) = by_vci_lem e
       go (no ne) = by_vpi_lem ne
 
@@ -231,7 +231,7 @@ module _ (kind z : ℕ) where
   unfolding numbered
   numbered_no h e = rw (e, and_false (kind_in_range kind))
 
-  pub numbered_fits : (h : Header) → kind_in_range kind ≡ true → numbered kind z h ≡ (if names_connection z h then connection z h else 0)
+  pub numbered_fits : (h : Header) → kind_in_range kind ≡ true → numbered kind z h ≡ (when names_connection z h then connection z h else 0)
   unfolding numbered
   numbered_fits h e = rw e
 

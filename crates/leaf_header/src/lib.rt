@@ -1,4 +1,6 @@
 // The header of a cell, read as one number, and the connection that it names.
+#![tactic(auto)]
+
 ghost use Rattle.std.specs.Prelude.{◌≡◌, true, ℕ, ◌+◌, ◌/◌, ◌≤◌, ◌<◌, length};
 ghost use Rattle.std.specs.Int.Bits.{bit_and};
 ghost use Rattle.meaning.specs.Numbers.{most_v, connections_in, kind_in_range};

@@ -3,13 +3,13 @@ use Prim.Native.Nat.{ℕ}
 use mathlib.Core.Path.{◌≡◌, refl}
 use mathlib.Core.Bool.{Bool, true, false}
 use borrow.Author.Tests.{eqb-false}
-use Rattle.meaning.specs.Plain.{if◌then◌else◌, ◌=?◌}
+use Rattle.meaning.specs.Plain.{when◌then◌else◌, ◌=?◌}
 use Rattle.leaf_refusal.specs.Order.{refuse_of, first_of}
 
 -- refusals p and q, given where a and b hold; what is answered with a refusal, and what where none is given
 module _ {A : Type 0} (p q : ℕ) (p-some : (p =? 0) ≡ false) (q-some : (q =? 0) ≡ false) (refusal : ℕ → A) (done : A) where
   abbrev in_order : Bool → Bool → A
-  in_order a b = if a then refusal p else if b then refusal q else done
+  in_order a b = when a then refusal p else when b then refusal q else done
 
   pub two_given : (a b : Bool)
       → (first_of (refuse_of p a) (refuse_of q b) ≡ 0 → ⊥)

@@ -1,4 +1,6 @@
 // Refusal numbers and their order: a call works out each of its refusals, and gives the first.
+#![tactic(auto)]
+
 ghost use Rattle.std.specs.Prelude.{◌≡◌, ◌&&◌, ◌*◌};
 ghost use Rattle.meaning.specs.Plain.{◌=?◌};
 ghost use Rattle.meaning.specs.Numbers.{ranges_hold, kind_in_range, octets, per_entry, words_in, bit_words, splits_hold};

@@ -13,7 +13,7 @@ use lib.ListN.{length, get_or, length-set}
 use Rattle.base_hec.specs.Check.{syndrome_of}
 use Rattle.base_hec.specs.WrongBit.{no_error, wrong_bit, flipped}
 use Rattle.base_hec.specs.Modes.{correction, detection, Arriving, passes, drops, checked, arriving, arriving_fits}
-use Rattle.meaning.specs.Plain.{if◌then◌else◌, ◌=?◌, Out, refused, next, needs, ◌andThen◌}
+use Rattle.meaning.specs.Plain.{when◌then◌else◌, ◌=?◌, Out, refused, next, needs, ◌and_then◌}
 use Rattle.meaning.specs.Numbers.{ranges_hold, octets}
 use Rattle.meaning.specs.State.{State, sizes_hold, with_record, record_in_mode, with_mode}
 use Rattle.meaning.specs.Work.{Work, work_of, bare_answer}

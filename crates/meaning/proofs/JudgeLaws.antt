@@ -6,7 +6,7 @@ use mathlib.Core.Logic.{◌≢◌}
 use mathlib.Core.Bool.{Bool, true, false, ◌&&◌}
 use mathlib.Core.List.{List}
 use native.Mathlib.Omega.{arith}
-use Rattle.meaning.specs.Plain.{if◌then◌else◌, ◌=?◌, next}
+use Rattle.meaning.specs.Plain.{when◌then◌else◌, ◌=?◌, next}
 use Rattle.meaning.specs.Numbers.{accepted, excess, tagged}
 use Rattle.meaning.specs.Header.{clp_in}
 use Rattle.meaning.specs.Bucket.{Bucket, is_excess, fill}
@@ -25,12 +25,12 @@ pub tagged_keeps_second : (clp : ℕ) (b : Bucket) → second_after clp tagged b
 unfolding second_after
 tagged_keeps_second clp b = go (clp =? 0)
   where
-    go : (a : Bool) → (if a && tagged =? accepted then fill b else b) ≡ b
+    go : (a : Bool) → (when a && tagged =? accepted then fill b else b) ≡ b
     go true = refl
     go false = refl
 
 -- the second bucket is "for CLP 0 cells": a CLP 1 cell looks at and fills the peak bucket alone
-pub one_looks_at_the_peak : (conn : Connection) → verdict_on 1 conn ≡ (if is_excess conn.bucket then excess else accepted)
+pub one_looks_at_the_peak : (conn : Connection) → verdict_on 1 conn ≡ (when is_excess conn.bucket then excess else accepted)
 unfolding verdict_on
 one_looks_at_the_peak conn = refl
 

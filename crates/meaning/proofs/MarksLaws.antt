@@ -11,7 +11,7 @@ use native.Mathlib.Omega.{arith}
 use borrow.Author.Tests.{le-ltb}
 use lib.Count.{ones}
 use lib.ListN.{length, get_or}
-use Rattle.meaning.specs.Plain.{if◌then◌else◌, ◌<?◌, ◌=?◌}
+use Rattle.meaning.specs.Plain.{when◌then◌else◌, ◌<?◌, ◌=?◌}
 use Rattle.meaning.specs.Numbers.{most_n, free_words, bit_words, word_bits}
 use Rattle.meaning.specs.Bits.{word_of, bit_of, is_set, is_free_space, entry_bit, is_marked, ones_below, bits_in, none_above, spaces_fit, lowest_from, lowest_free, with_bit, without_bit, taken, given, marked, unmarked, full_word, all_free}
 use Rattle.meaning.proofs.SetLaws.{clear_bit, same_bit, set_in, without_length, without_own, without_other, without_word, with_length, with_own, with_other, with_word}
@@ -60,7 +60,7 @@ module _ (bits : List ℕ) (e : ℕ) where
   unfolding marked
   by_mark P f g = go (is_marked bits e) f g
     where
-      go : (b : Bool) → (b ≡ true → P bits) → (b ≡ false → P (with_bit bits (entry_bit e))) → P (if b then bits else with_bit bits (entry_bit e))
+      go : (b : Bool) → (b ≡ true → P bits) → (b ≡ false → P (with_bit bits (entry_bit e))) → P (when b then bits else with_bit bits (entry_bit e))
       go true f g = f refl
       go false f g = g refl
 
@@ -68,7 +68,7 @@ module _ (bits : List ℕ) (e : ℕ) where
   unfolding unmarked
   by_unmark P f g = go (is_marked bits e) f g
     where
-      go : (b : Bool) → (b ≡ true → P (without_bit bits (entry_bit e))) → (b ≡ false → P bits) → P (if b then without_bit bits (entry_bit e) else bits)
+      go : (b : Bool) → (b ≡ true → P (without_bit bits (entry_bit e))) → (b ≡ false → P bits) → P (when b then without_bit bits (entry_bit e) else bits)
       go true f g = f refl
       go false f g = g refl
 

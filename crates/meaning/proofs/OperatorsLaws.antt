@@ -9,7 +9,7 @@ use native.Mathlib.Decide.{ℕ_discrete}
 use native.Mathlib.Omega.{arith}
 use borrow.Author.Tests.{eqb-true, leb-true, lt-ltb, le-ltb}
 use Rattle.meaning.specs.declared.Record.{Record}
-use Rattle.meaning.specs.Plain.{if◌then◌else◌, ◌<?◌, ◌≤?◌, ◌=?◌}
+use Rattle.meaning.specs.Plain.{when◌then◌else◌, ◌<?◌, ◌≤?◌, ◌=?◌}
 use Rattle.meaning.specs.Numbers.{most_n, least_v, most_v, ranges_hold, splits_hold, paths}
 use Rattle.meaning.specs.State.{words_length}
 use Rattle.meaning.specs.Header.{Name, by_vci, by_vpi, named, number_in}
@@ -52,7 +52,7 @@ alone_owns r (by_vpi vpi) e f is = rw (f, le-ltb vpi 1 (leb-true 1 vpi (both (1 
 
 -- a path is judged by the split path number alone
 pub path_owner : (splitvci splitpath vpi : ℕ)
-    → owner_of splitvci splitpath (by_vpi vpi) ≡ (if vpi <? splitpath then first_operator else second_operator)
+    → owner_of splitvci splitpath (by_vpi vpi) ≡ (when vpi <? splitpath then first_operator else second_operator)
 unfolding owner_of
 path_owner splitvci splitpath vpi = refl
 
@@ -75,7 +75,7 @@ module _ (r : Record) (words : List ℕ) (who : ℕ) (name : Name) (ranges : ran
 -- ── what is written is the caller's ──
 abbrev in_order : Bool → Bool → Bool → Bool → Bool → Bool → ℕ
 in_order a s b d o e =
-    if not a then 1 else if not s then 1 else if not b then 2 else if not d then 4 else if not o then 16 else if not e then 3 else 0
+    when not a then 1 else when not s then 1 else when not b then 2 else when not d then 4 else when not o then 16 else when not e then 3 else 0
 
 owned_by : (a s b d o e : Bool) → in_order a s b d o e ≡ 0 → (d ≡ true) × (o ≡ true)
 owned_by true true true true true e h = (refl, refl)
@@ -110,12 +110,12 @@ module _ (r : Record) (words : List ℕ) (who : ℕ) (name : Name) where
 
     -- refusals leave the words; what is written is elsewhere
     kept : (b : Bool) → shared_refusal r words who name =? 0 ≡ b → (k : ℕ) (rest : Called) → (v ≢ c → Keeps rest)
-        → Keeps (if not b then called_of k words else rest)
+        → Keeps (when not b then called_of k words else rest)
     unfolding Keeps
     kept true e k rest f = f (apart (eqb-true (shared_refusal r words who name) 0 e))
     kept false e k rest f = refl
 
-    choose : (b : Bool) (x y : Called) → Keeps x → Keeps y → Keeps (if b then x else y)
+    choose : (b : Bool) (x y : Called) → Keeps x → Keeps y → Keeps (when b then x else y)
     choose true x y p q = p
     choose false x y p q = q
 

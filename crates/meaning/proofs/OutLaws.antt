@@ -1,13 +1,13 @@
 -- What holds of the outcome of a chain of steps: each test and each step passes it on. Refused steps have no outcome.
 use mathlib.Core.Path.{◌≡◌, refl}
 use mathlib.Core.Bool.{Bool, true, false}
-use Rattle.meaning.specs.Plain.{if◌then◌else◌, Out, refused, next, needs, ◌andThen◌}
+use Rattle.meaning.specs.Plain.{when◌then◌else◌, Out, refused, next, needs, ◌and_then◌}
 
 abbrev pub AllOut : {A : Type 0} → (A → Type 0) → Out A → Type 0
 AllOut P refused = Unit {0}
 AllOut P (next x) = P x
 
-pub if_holds : {A : Type 0} (P : A → Type 0) (b : Bool) (x y : A) → (b ≡ true → P x) → (b ≡ false → P y) → P (if b then x else y)
+pub if_holds : {A : Type 0} (P : A → Type 0) (b : Bool) (x y : A) → (b ≡ true → P x) → (b ≡ false → P y) → P (when b then x else y)
 if_holds P true x y h k = h refl
 if_holds P false x y h k = k refl
 
@@ -16,7 +16,7 @@ needs_all P true x h = h refl
 needs_all P false x h = tt
 
 pub if_all : {A : Type 0} (P : A → Type 0) (b : Bool) (x y : Out A) → (b ≡ true → AllOut P x) → (b ≡ false → AllOut P y)
-    → AllOut P (if b then x else y)
+    → AllOut P (when b then x else y)
 if_all P true x y h k = h refl
 if_all P false x y h k = k refl
 

@@ -6,7 +6,7 @@ use mathlib.Core.Logic.{◌≢◌}
 use mathlib.Core.Bool.{Bool, true, false, not, ◌&&◌}
 use mathlib.Core.List.{List, [], ◌∷◌}
 use Rattle.meaning.specs.declared.Record.{Record}
-use Rattle.meaning.specs.Plain.{if◌then◌else◌, ◌=?◌}
+use Rattle.meaning.specs.Plain.{when◌then◌else◌, ◌=?◌}
 use Rattle.meaning.specs.Header.{Name, number_in}
 use Rattle.meaning.specs.Bucket.{bucket_of, obeys_rules}
 use Rattle.meaning.specs.Words.{Second, connection_at, write_connection, second_obeys, opened_connection, closed_connection, debt}
@@ -15,7 +15,7 @@ use Rattle.meaning.specs.Calls.{Called, called_of, shared_refusal, open_call, cl
 -- refusals in their order, then what is done
 abbrev told : List (ℕ × Bool) → List ℕ → List ℕ → Called
 told [] words after = called_of 0 after
-told (k ∷ ks) words after = if k.1 then called_of k.0 words else told ks words after
+told (k ∷ ks) words after = when k.1 then called_of k.0 words else told ks words after
 
 told_keeps : (ks : List (ℕ × Bool)) (words after : List ℕ) → (told ks words after).number ≢ 0 → (told ks words after).words ≡ words
 told_keeps [] words after h = absurd (h refl)

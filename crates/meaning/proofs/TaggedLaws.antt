@@ -8,7 +8,7 @@ use lib.ListN.{length, get_or, set, length-set}
 use lib.Seq.{get_or-set_same, get_or-set_other}
 use lib.Bits.{bit_xor, xor_self}
 use Rattle.base_hec.specs.Check.{check_of, head_of, hec_of, syndrome_of}
-use Rattle.meaning.specs.Plain.{if◌then◌else◌, ◌=?◌}
+use Rattle.meaning.specs.Plain.{when◌then◌else◌, ◌=?◌}
 use Rattle.meaning.specs.Numbers.{tagged}
 use Rattle.meaning.specs.Header.{header_of, header_at, clp_in, with_clp, tagged_cell, connection, names_connection}
 use Rattle.meaning.proofs.NamesLaws.{same_connection, same_named}
@@ -99,7 +99,7 @@ pub sent_length : (verdict : ℕ) (cell : List ℕ) → length (sent_as verdict 
 unfolding sent_as
 sent_length verdict cell = go (verdict =? tagged)
   where
-    go : (b : Bool) → length (if b then tagged_cell cell else cell) ≡ length cell
+    go : (b : Bool) → length (when b then tagged_cell cell else cell) ≡ length cell
     go true = tagged_length cell
     go false = refl
 
@@ -108,7 +108,7 @@ pub sent_vpi : (kind verdict : ℕ) (cell : List ℕ) → 4 < length cell
 unfolding sent_as
 sent_vpi kind verdict cell long = go (verdict =? tagged)
   where
-    go : (b : Bool) → (header_at kind (if b then tagged_cell cell else cell) 0).vpi ≡ (header_at kind cell 0).vpi
+    go : (b : Bool) → (header_at kind (when b then tagged_cell cell else cell) 0).vpi ≡ (header_at kind cell 0).vpi
     go true = tagged_vpi cell long kind
     go false = refl
 
@@ -117,7 +117,7 @@ pub sent_vci : (kind verdict : ℕ) (cell : List ℕ) → 4 < length cell
 unfolding sent_as
 sent_vci kind verdict cell long = go (verdict =? tagged)
   where
-    go : (b : Bool) → (header_at kind (if b then tagged_cell cell else cell) 0).vci ≡ (header_at kind cell 0).vci
+    go : (b : Bool) → (header_at kind (when b then tagged_cell cell else cell) 0).vci ≡ (header_at kind cell 0).vci
     go true = tagged_vci cell long kind
     go false = refl
 

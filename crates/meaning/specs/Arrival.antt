@@ -1,6 +1,6 @@
 -- Document 01, step 3 of a slot, from the point where the cell's VC is open and up to date. Read from the bottom up.
 use Rattle.std.specs.Prelude.{ℕ, ◌+◌, ◌-◌, ◌%◌, not, ◌&&◌, List, set}
-use Rattle.meaning.specs.Plain.{if◌then◌else◌, ◌<?◌, ◌=?◌, Out, next, needs}
+use Rattle.meaning.specs.Plain.{when◌then◌else◌, ◌<?◌, ◌=?◌, Out, next, needs}
 use Rattle.meaning.specs.Numbers.{accepted, excess, tagged}
 use Rattle.meaning.specs.Bits.{is_free_space, spaces_fit, taken, marked}
 use Rattle.meaning.specs.State.{with_cells, with_links, with_calendar, with_free, with_arrived, write_cell}
@@ -29,17 +29,17 @@ place cell D x w =
 -- the flag is set .. and otherwise excess." Both buckets are judged before either is filled.
 unfoldable pub verdict_on : ℕ → Connection → ℕ
 verdict_on clp conn =
-    if is_excess conn.bucket then excess
-    else if clp =? 0 && is_excess conn.second then (if conn.tag =? 0 then excess else tagged)
+    when is_excess conn.bucket then excess
+    else when clp =? 0 && is_excess conn.second then (when conn.tag =? 0 then excess else tagged)
     else accepted
 
 -- "An excess cell fills neither bucket, a tagged one only the peak bucket": the second bucket after a cell that is let in
 unfoldable pub second_after : ℕ → ℕ → Bucket → Bucket
-second_after clp verdict b = if clp =? 0 && verdict =? accepted then fill b else b
+second_after clp verdict b = when clp =? 0 && verdict =? accepted then fill b else b
 
 -- the octets that are stored, sent and shown
 unfoldable pub sent_as : ℕ → List ℕ → List ℕ
-sent_as verdict cell = if verdict =? tagged then tagged_cell cell else cell
+sent_as verdict cell = when verdict =? tagged then tagged_cell cell else cell
 
 -- 3, not excess: "D = floor(S/L), S grows by F, waiting by one. The head of the Free List is taken.", now space x, which is free;
 -- "waiting .. below N when a cell is accepted". Document 02 (iv): "D from the peak bucket"; (vii): 3 for "a bit at or above N, a
@@ -60,5 +60,5 @@ accept x cell verdict c w conn =
 unfoldable pub judge : ℕ → List ℕ → ℕ → Work → Connection → Out Work
 judge x cell c w conn =
     let verdict = verdict_on (clp_in cell) conn in
-    if verdict =? excess then next (with_arrival (with_connection w c conn) excess c 0)
+    when verdict =? excess then next (with_arrival (with_connection w c conn) excess c 0)
     else accept x cell verdict c w conn

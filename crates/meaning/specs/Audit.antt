@@ -6,10 +6,10 @@
 --   Chain l e xs        == xs are the spaces from head to tail of the list that begins and ends at e
 --   count k xs          == how often k stands in xs
 --   joined queues       == the spaces of all the time slot queues, entry after entry
---   connectionIn kind z cells x  == the number of the connection that the header in space x names
+--   connection_in kind z cells x  == the number of the connection that the header in space x names
 --   AuditHolds s        == the audit's clauses, one a field
 use Rattle.std.specs.Prelude.{ℕ, ◌+◌, ◌<◌, ◌≤◌, ◌≡◌, Bool, true, false, not, ◌&&◌, List, [], ◌∷◌, ◌++◌, map, length, get_or}
-use Rattle.meaning.specs.Plain.{if◌then◌else◌, ◌<?◌, ◌=?◌}
+use Rattle.meaning.specs.Plain.{when◌then◌else◌, ◌<?◌, ◌=?◌}
 use Rattle.meaning.specs.Numbers.{most_n, ranges_hold, connections_in, unused, empty, cell_start, splits_hold}
 use Rattle.meaning.specs.State.{State, Ends, output_list, sizes_hold}
 use Rattle.meaning.specs.Bits.{is_free_space, is_marked, spaces_fit}
@@ -28,7 +28,7 @@ Chain l e (x ∷ xs) = (e.head ≡ x) × Leads l e.tail x xs
 
 abbrev pub count : ℕ → List ℕ → ℕ
 count k [] = 0
-count k (x ∷ xs) = (if k =? x then 1 else 0) + count k xs
+count k (x ∷ xs) = (when k =? x then 1 else 0) + count k xs
 
 abbrev pub joined : List (List ℕ) → List ℕ
 joined [] = []
@@ -64,7 +64,7 @@ pub record AuditHolds (s : State) : Type 0 where
   pub queues_are : (e : ℕ) → e < s.ctl.n → Chain s.links (entry_at s.calendar e) (get_or queues e [])
   -- "each space is in exactly one of the Free List, the Output List and the time slot queues", and nothing else is: a free space
   -- stands in none of them, and every other one in exactly one
-  pub once : (x : ℕ) → x < s.ctl.n → count x (output ++ joined queues) ≡ (if is_free_space s.bits x then 0 else 1)
+  pub once : (x : ℕ) → x < s.ctl.n → count x (output ++ joined queues) ≡ (when is_free_space s.bits x then 0 else 1)
   pub no_other : (x : ℕ) → s.ctl.n ≤ x → count x (output ++ joined queues) ≡ 0
   -- "entry T is empty"
   pub turn_empty : get_or queues s.ctl.turn [] ≡ []

@@ -3,17 +3,17 @@
 -- (ix), a mark for each entry: "Keep one bit for each entry". Both stand in one lent memory of 32 words.
 --
 --   is_set bits k          == bit k of the lent words is set: bit j of word w is 64 w + j
---   isFree bits x         == the bit of space x is set: bit x, in words 0 to 15
---   isMarked bits e       == the bit of entry e is set: bit 1,024 + e, in words 16 to 31
---   onesBelow k bits      == how many bits are set in the first k words
---   spacesFit N free bits == no bit at or above N is set, and the number free is the ones in the words
---   lowestFree bits       == the lowest space whose bit is set
+--   is_free_space bits x         == the bit of space x is set: bit x, in words 0 to 15
+--   is_marked bits e       == the bit of entry e is set: bit 1,024 + e, in words 16 to 31
+--   ones_below k bits      == how many bits are set in the first k words
+--   spaces_fit N free bits == no bit at or above N is set, and the number free is the ones in the words
+--   lowest_free bits       == the lowest space whose bit is set
 --   taken bits x, given bits x  == the words once space x is taken, and once it is given back
 --   marked bits e, unmarked bits e  == the words once a cell has joined entry e, and once entry e is emptied
---   allFree N             == the words in which spaces 0 to N-1 are free, and no other, and no entry is marked
+--   all_free N             == the words in which spaces 0 to N-1 are free, and no other, and no entry is marked
 use Rattle.std.specs.Prelude.{ℕ, zero, suc, ◌+◌, ◌-◌, ◌*◌, ◌/◌, ◌%◌, ◌^◌, min, Bool, true, ◌&&◌, List, [], ◌∷◌, get_or, set}
 use Rattle.std.specs.Int.Count.{ones, count_trailing_zeros}
-use Rattle.meaning.specs.Plain.{if◌then◌else◌, ◌<?◌, ◌=?◌}
+use Rattle.meaning.specs.Plain.{when◌then◌else◌, ◌<?◌, ◌=?◌}
 use Rattle.meaning.specs.Numbers.{most_n, free_words, bit_words, word_bits}
 
 abbrev pub word_of : ℕ → ℕ
@@ -55,7 +55,7 @@ spaces_fit N free bits = none_above N free_words bits && ones_below free_words b
 unfoldable pub lowest_from : ℕ → ℕ → List ℕ → ℕ
 lowest_from zero w bits = word_bits * w
 lowest_from (suc k) w bits =
-    if get_or bits w 0 =? 0 then lowest_from k (w + 1) bits else word_bits * w + count_trailing_zeros word_bits (get_or bits w 0)
+    when get_or bits w 0 =? 0 then lowest_from k (w + 1) bits else word_bits * w + count_trailing_zeros word_bits (get_or bits w 0)
 
 unfoldable pub lowest_free : List ℕ → ℕ
 lowest_free bits = lowest_from free_words 0 bits
@@ -75,10 +75,10 @@ given bits x = with_bit bits x
 
 -- a cell that joins sets its entry's bit, a transfer clears entry T's, also where it was so before: a slot judges no such bit
 unfoldable pub marked : List ℕ → ℕ → List ℕ
-marked bits e = if is_marked bits e then bits else with_bit bits (entry_bit e)
+marked bits e = when is_marked bits e then bits else with_bit bits (entry_bit e)
 
 unfoldable pub unmarked : List ℕ → ℕ → List ℕ
-unmarked bits e = if is_marked bits e then without_bit bits (entry_bit e) else bits
+unmarked bits e = when is_marked bits e then without_bit bits (entry_bit e) else bits
 
 -- word w of them, and k words from w on
 abbrev pub full_word : ℕ → ℕ → ℕ

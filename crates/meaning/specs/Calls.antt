@@ -4,7 +4,7 @@
 use Rattle.std.specs.Prelude.{ℕ, ◌-◌, ◌*◌, ◌≡◌, Bool, true, false, not, ◌&&◌, List, replicate}
 use Rattle.base_hec.specs.Modes.{correction}
 use Rattle.meaning.specs.declared.Record.{Record}
-use Rattle.meaning.specs.Plain.{if◌then◌else◌, ◌<?◌, ◌≤?◌, ◌=?◌}
+use Rattle.meaning.specs.Plain.{when◌then◌else◌, ◌<?◌, ◌≤?◌, ◌=?◌}
 use Rattle.meaning.specs.Numbers.{ranges_hold, splits_hold, octets, per_entry, connections_in, words_in, uni, nni, kind_in_range, empty, slot_numbers}
 use Rattle.meaning.specs.Bits.{all_free}
 use Rattle.meaning.specs.State.{State, words_length, lengths_hold, with_record}
@@ -42,7 +42,7 @@ zeros =
 
 -- document 02 (i): "Raw is a yes or no at setup"; the record holds 1 or 0
 abbrev pub raw_number : Bool → ℕ
-raw_number raw = if raw then 1 else 0
+raw_number raw = when raw then 1 else 0
 
 -- document 02 (vi): "a line kind chosen at setup"; the record holds its number
 pub data Kind : Type 0 where
@@ -53,7 +53,7 @@ kind_number UNI = uni
 kind_number NNI = nni
 
 abbrev pub kind_of : ℕ → Kind
-kind_of kind = if kind =? uni then UNI else NNI
+kind_of kind = when kind =? uni then UNI else NNI
 
 -- what a caller of setup chooses beside N and V, as it is handed over: the line kind and the splits may be any numbers
 pub record Asked : Type 0 where
@@ -133,10 +133,10 @@ fresh_state N z o =
 unfoldable pub setup : ℕ → ℕ → Asked → State → SetUp
 setup N z a lent =
     let as_it_came = with_record lent zeros in
-    if not (ranges_hold N z) then set_up_of 1 as_it_came
-    else if not (splits_hold z a.splitvci a.splitpath) then set_up_of 1 as_it_came
-    else if not (kind_in_range a.kind) then set_up_of 13 as_it_came
-    else if not (lengths_hold N z lent.cells lent.links lent.calendar lent.words lent.bits lent.arrived) then set_up_of 2 as_it_came
+    when not (ranges_hold N z) then set_up_of 1 as_it_came
+    else when not (splits_hold z a.splitvci a.splitpath) then set_up_of 1 as_it_came
+    else when not (kind_in_range a.kind) then set_up_of 13 as_it_came
+    else when not (lengths_hold N z lent.cells lent.links lent.calendar lent.words lent.bits lent.arrived) then set_up_of 2 as_it_came
     else set_up_of 0 (fresh_state N z (chosen a))
 
 -- what open and close give back: the refusal number, and the VC words afterwards. They are lent no other memory,
@@ -152,12 +152,12 @@ called_of number words = record { number = number; words = words }
 -- operator's connection, after 4", so before any word is read; 1 also for a stored split out of its range
 unfoldable pub shared_refusal : Record → List ℕ → ℕ → Name → ℕ
 shared_refusal r words who name =
-    if not (ranges_hold r.n r.v) then 1
-    else if not (splits_hold r.v r.splitvci r.splitpath) then 1
-    else if not (words_length r.v words) then 2
-    else if not (named r.v name) then 4
-    else if not (owns r who name) then 16
-    else if not (connection_fits r.n (connection_at words (number_in r.v name))) then 3
+    when not (ranges_hold r.n r.v) then 1
+    else when not (splits_hold r.v r.splitvci r.splitpath) then 1
+    else when not (words_length r.v words) then 2
+    else when not (named r.v name) then 4
+    else when not (owns r who name) then 16
+    else when not (connection_fits r.n (connection_at words (number_in r.v name))) then 3
     else 0
 
 -- open: then "5 already open", "6 m, F or C against the rules above", and document 02 (iv): "11, second bucket against its
@@ -167,10 +167,10 @@ open_call r words who name m F C x =
     let b = bucket_of m F C 0 in
     let c = number_in r.v name in
     let k = shared_refusal r words who name in
-    if not (k =? 0) then called_of k words
-    else if (connection_at words c).opened =? 1 then called_of 5 words
-    else if not (obeys_rules r.n b) then called_of 6 words
-    else if not (second_obeys (bucket_of x.m x.F x.C 0) x.tag) then called_of 11 words
+    when not (k =? 0) then called_of k words
+    else when (connection_at words c).opened =? 1 then called_of 5 words
+    else when not (obeys_rules r.n b) then called_of 6 words
+    else when not (second_obeys (bucket_of x.m x.F x.C 0) x.tag) then called_of 11 words
     else called_of 0 (write_connection words c (opened_connection r.t b x))
 
 -- close: then "7 not open", and document 02 (ii): "8 is given when waiting or the updated S isn't 0". S is brought up to
@@ -179,7 +179,7 @@ unfoldable pub close_call : Record → List ℕ → ℕ → Name → Called
 close_call r words who name =
     let c = number_in r.v name in
     let k = shared_refusal r words who name in
-    if not (k =? 0) then called_of k words
-    else if (connection_at words c).opened =? 0 then called_of 7 words
-    else if not ((connection_at words c).waiting =? 0 && debt r.t (connection_at words c) =? 0) then called_of 8 words
+    when not (k =? 0) then called_of k words
+    else when (connection_at words c).opened =? 0 then called_of 7 words
+    else when not ((connection_at words c).waiting =? 0 && debt r.t (connection_at words c) =? 0) then called_of 8 words
     else called_of 0 (write_connection words c closed_connection)

@@ -2,14 +2,14 @@
 -- chosen at setup", and "A connection is a VC, as now, or a whole path". "GFC, PTI, CLP and HEC don't matter here": HEC does by
 -- document 02 (i), CLP by (iv), and at the NNI there is no GFC.
 --
---   headerOf kind ..     == what the first four octets of a cell say, on a line of this kind
+--   header_of kind ..     == what the first four octets of a cell say, on a line of this kind
 --   Name                 == how a call or a header names a connection: by VCI or by VPI
 --   named z name         == is there such a connection, V being z; else refusal 4
 --   number_in z name      == its number
---   connection z h, namesConnection z h  == the same of the connection that a header names
+--   connection z h, names_connection z h  == the same of the connection that a header names
 use Rattle.std.specs.Prelude.{ℕ, ◌+◌, ◌*◌, ◌/◌, ◌%◌, Bool, ◌&&◌, List, get_or, set}
 use Rattle.base_hec.specs.Check.{hec_of}
-use Rattle.meaning.specs.Plain.{if◌then◌else◌, ◌<?◌, ◌≤?◌, ◌=?◌}
+use Rattle.meaning.specs.Plain.{when◌then◌else◌, ◌<?◌, ◌≤?◌, ◌=?◌}
 use Rattle.meaning.specs.Numbers.{uni, paths, open_place}
 
 pub record Header : Type 0 where
@@ -20,7 +20,7 @@ pub record Header : Type 0 where
 
 -- "octet 1 GFC (high four bits) and VPI": at the UNI; at the NNI "no GFC, a VPI of twelve bits"
 unfoldable pub vpi_high : ℕ → ℕ → ℕ
-vpi_high kind o1 = if kind =? uni then o1 % 16 else o1
+vpi_high kind o1 = when kind =? uni then o1 % 16 else o1
 
 -- CLP, the last bit of octet 4 on both kinds of line
 abbrev pub clp_of : ℕ → ℕ
@@ -73,7 +73,7 @@ number_in z (by_vpi vpi) = z + vpi
 
 -- "VPI is 0", and the VCI counts; "on VPI 1 to 255 all cells with that VPI share one bucket, whatever their VCI"
 unfoldable pub name_in : Header → Name
-name_in h = if h.vpi =? 0 then by_vci h.vci else by_vpi h.vpi
+name_in h = when h.vpi =? 0 then by_vci h.vci else by_vpi h.vpi
 
 unfoldable pub connection : ℕ → Header → ℕ
 connection z h = number_in z (name_in h)

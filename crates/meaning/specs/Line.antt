@@ -1,7 +1,7 @@
 -- Document 01: "What goes out is shown as a part of the cell memory or, where nothing departs, of the idle cell that
 -- the caller lends; nothing is copied."
 use Rattle.std.specs.Prelude.{ℕ, ◌*◌, ◌/◌, ◌%◌, Bool, not, ◌&&◌, ◌||◌, List, length, take, drop}
-use Rattle.meaning.specs.Plain.{if◌then◌else◌, ◌<?◌, ◌≤?◌, ◌=?◌}
+use Rattle.meaning.specs.Plain.{when◌then◌else◌, ◌<?◌, ◌≤?◌, ◌=?◌}
 use Rattle.meaning.specs.Numbers.{most_n, octets, cell_start, empty}
 
 pub data Slice : Type 0 where
@@ -23,9 +23,9 @@ cells_allowed long = long % octets =? 0 && 1 ≤? long / octets && long / octets
 unfoldable pub line_part : ℕ → ℕ → ℕ → Part
 line_part cells_long idle_long number =
     let N = cells_long / octets in
-    if not (cells_allowed cells_long && idle_long =? octets && (number <? N || number =? empty))
+    when not (cells_allowed cells_long && idle_long =? octets && (number <? N || number =? empty))
     then record { slice = idle_cell; start = 0; long = 0 }
-    else if number <? N then record { slice = cell_memory; start = cell_start number; long = octets }
+    else when number <? N then record { slice = cell_memory; start = cell_start number; long = octets }
     else record { slice = idle_cell; start = 0; long = octets }
 
 abbrev pub slice_of : List ℕ → List ℕ → Slice → List ℕ

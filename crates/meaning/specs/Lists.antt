@@ -1,6 +1,6 @@
 -- Document 01: lists of spaces by head and tail. A link is the number of the space that follows.
 use Rattle.std.specs.Prelude.{ℕ, ◌+◌, ◌*◌, Bool, ◌&&◌, ◌||◌, List, get_or, set}
-use Rattle.meaning.specs.Plain.{if◌then◌else◌, ◌<?◌, ◌=?◌, Out, refused, next, needs}
+use Rattle.meaning.specs.Plain.{when◌then◌else◌, ◌<?◌, ◌=?◌, Out, refused, next, needs}
 use Rattle.meaning.specs.Numbers.{empty, head_place, tail_place}
 use Rattle.meaning.specs.State.{Ends}
 
@@ -32,7 +32,7 @@ pub record Taken : Type 0 where
 unfoldable pub take_head : ℕ → List ℕ → Ends → Out Taken
 take_head N links e =
     let follower = get_or links e.head 0 in
-    if e.head =? e.tail then next (record { space = e.head; left = empty_list })
+    when e.head =? e.tail then next (record { space = e.head; left = empty_list })
     else needs (follower <? N) (next (record { space = e.head; left = record { head = follower; tail = e.tail } }))
 
 -- a list that has grown, and the links that go with it
@@ -43,11 +43,11 @@ pub record Grown : Type 0 where
 -- "at the head: its link names the old head, or, if the entry was empty, it is head and tail"
 unfoldable pub join_head : List ℕ → Ends → ℕ → Grown
 join_head links e x =
-    if is_empty e then record { ends = record { head = x; tail = x }; links = links }
+    when is_empty e then record { ends = record { head = x; tail = x }; links = links }
     else record { ends = record { head = x; tail = e.tail }; links = set links x e.head }
 
 -- "joined to the end of the Output List: head follows the old tail, tail becomes the new tail"
 unfoldable pub join_tail : List ℕ → Ends → Ends → Grown
 join_tail links e more =
-    if is_empty e then record { ends = more; links = links }
+    when is_empty e then record { ends = more; links = links }
     else record { ends = record { head = e.head; tail = more.tail }; links = set links e.tail more.head }

@@ -2,7 +2,7 @@
 -- other number." A step that would read a number outside its range is refused, with 3.
 use Rattle.std.specs.Prelude.{ℕ, ◌+◌, ◌-◌, ◌%◌, Bool, not, ◌&&◌, ◌||◌, List, length}
 use Rattle.base_hec.specs.Modes.{Arriving, arriving, arriving_fits}
-use Rattle.meaning.specs.Plain.{if◌then◌else◌, ◌<?◌, ◌≤?◌, ◌=?◌, Out, refused, next, needs, ◌andThen◌}
+use Rattle.meaning.specs.Plain.{when◌then◌else◌, ◌<?◌, ◌≤?◌, ◌=?◌, Out, refused, next, needs, ◌and_then◌}
 use Rattle.meaning.specs.Numbers.{ranges_hold, octets, cell_start, slot_numbers, connections_in, unused, kind_in_range, unknown, dropped}
 use Rattle.meaning.specs.State.{State, output_list, sizes_hold}
 use Rattle.meaning.specs.State.{with_links, with_calendar, with_clock, with_free, with_bits, with_output_list, with_mode}
@@ -30,9 +30,9 @@ step2 w =
     let s = w.state in
     let c = s.ctl.rotation in
     let conn = connection_at s.words c in
-    if unused s.ctl.v c then next w
+    when unused s.ctl.v c then next w
     else needs (open_word_fits conn)
-    (if conn.opened =? 0 then next w
+    (when conn.opened =? 0 then next w
     else (up_to_date s.ctl.n s.ctl.t conn and_then λ now. next (with_connection w c now)))
 
 -- "3. Arrival at an open VC: it is brought up to date in the same way." "VPI not 0, VCI of V or more, or a VC not
@@ -45,12 +45,12 @@ step3 x cell w =
     let c = connection s.ctl.v h in
     let conn = connection_at s.words c in
     let is_unknown = next (with_arrival w unknown h.vci 0) in
-    if length cell =? 0 then next w
+    when length cell =? 0 then next w
     else needs (kind_in_range s.ctl.kind)
-    (if no_user_cell h then next w
-    else if not (names_connection s.ctl.v h) then is_unknown
+    (when no_user_cell h then next w
+    else when not (names_connection s.ctl.v h) then is_unknown
     else needs (open_word_fits conn)
-    (if conn.opened =? 0 then is_unknown
+    (when conn.opened =? 0 then is_unknown
     else (up_to_date s.ctl.n s.ctl.t conn and_then judge x cell c w)))
 
 -- "4. Entry T, if marked, is joined to the end of the Output List .. The entry is emptied." Steps 4 and 5 read both heads
@@ -67,7 +67,7 @@ step4 w =
     let s2 = with_calendar s1 (write_entry s.calendar T empty_list) in
     let s3 = with_bits s2 (unmarked s.bits T) in
     needs (ends_fit N entry && ends_fit N (output_list s))
-    (if is_empty entry then next w else next (with_state w s3))
+    (when is_empty entry then next w else next (with_state w s3))
 
 -- 5, once the head is taken: "Its VC's waiting falls by one." "the departing header names an open VC"; "waiting at most N .. above
 -- 0 when one departs". Document 02 (vii): its space is free again; 3 for "a bit at or above N, a number other than the ones .. or a
@@ -91,7 +91,7 @@ depart w head =
 unfoldable pub step5 : Work → Out Work
 step5 w =
     let s = w.state in
-    if is_empty (output_list s) then next w
+    when is_empty (output_list s) then next w
     else (take_head s.ctl.n s.links (output_list s) and_then depart w)
 
 unfoldable pub five_steps : ℕ → List ℕ → Work → Out Work
@@ -108,9 +108,9 @@ unfoldable pub unchecked_slot_at : ℕ → State → List ℕ → Work
 unchecked_slot_at x s cell =
     let N = s.ctl.n in
     let z = s.ctl.v in
-    if not (ranges_hold N z) then work_of s (bare_answer 1)
-    else if not (sizes_hold s) then work_of s (bare_answer 2)
-    else if not (length cell =? 0 || length cell =? octets) then work_of s (bare_answer 9)
+    when not (ranges_hold N z) then work_of s (bare_answer 1)
+    else when not (sizes_hold s) then work_of s (bare_answer 2)
+    else when not (length cell =? 0 || length cell =? octets) then work_of s (bare_answer 9)
     else finish s (five_steps x cell (work_of s (bare_answer 0)))
 
 -- document 02 (vii): "take the lowest free space"
@@ -119,7 +119,7 @@ unchecked_slot s cell = unchecked_slot_at (lowest_free s.bits) s cell
 
 -- Document 02 (i): "A dropped cell (verdict 4, H) makes its slot empty for steps 1 to 5; its answer has VCI 0".
 abbrev pub told : Bool → Work → Work
-told drop w = if drop then with_arrival w dropped 0 0 else w
+told drop w = when drop then with_arrival w dropped 0 0 else w
 
 -- Document 02 (i): the header check comes in front of the five steps, which go on with what it lets through. The mode
 -- moves with the slot; "Each leaves everything as it came" covers it too.
@@ -128,9 +128,9 @@ slot_at x s cell =
     let N = s.ctl.n in
     let z = s.ctl.v in
     let a = arriving s.ctl.raw s.ctl.mode cell in
-    if not (ranges_hold N z) then work_of s (bare_answer 1)
-    else if not (sizes_hold s) then work_of s (bare_answer 2)
-    else if not (length cell =? 0 || length cell =? octets) then work_of s (bare_answer 9)
+    when not (ranges_hold N z) then work_of s (bare_answer 1)
+    else when not (sizes_hold s) then work_of s (bare_answer 2)
+    else when not (length cell =? 0 || length cell =? octets) then work_of s (bare_answer 9)
     else finish s (needs (arriving_fits s.ctl.raw s.ctl.mode cell)
     (five_steps x a.cell (work_of (with_mode s a.mode) (bare_answer 0)) and_then λ w. next (told a.dropped w)))
 

@@ -2,7 +2,7 @@
 -- made of its seven words twelve: its two buckets, one `last`, waiting, flag. By (vi) a path has the same twelve: what document
 -- 01 says of a VC's words holds of a connection's.
 use Rattle.std.specs.Prelude.{ℕ, ◌+◌, Bool, true, ◌&&◌, ◌||◌, List, get_or, set}
-use Rattle.meaning.specs.Plain.{if◌then◌else◌, ◌≤?◌, ◌=?◌, Out, refused, next, needs}
+use Rattle.meaning.specs.Plain.{when◌then◌else◌, ◌≤?◌, ◌=?◌, Out, refused, next, needs}
 use Rattle.meaning.specs.Numbers.{open_place, m_place, f_place, c_place, s_place, last_place, waiting_place}
 use Rattle.meaning.specs.Numbers.{second_mplace, second_fplace, second_cplace, second_splace, tag_place}
 use Rattle.meaning.specs.Bucket.{Bucket, bucket_of, obeys_rules, obeys_second, is_none, elapsed, fall}
@@ -137,7 +137,7 @@ buckets_fit N conn = bucket_fits N conn.bucket && second_in_range conn.second co
 -- "Open and close read only that VC's words (of a closed one, only the open word)."
 unfoldable pub connection_fits : ℕ → Connection → Bool
 connection_fits N conn =
-    if conn.opened =? 0 then true
+    when conn.opened =? 0 then true
     else (open_word_fits conn && buckets_fit N conn && conn.waiting ≤? N)
 
 -- both buckets as they have fallen in so many slots, up to slot t: document 02 (iv), "run in lockstep with the peak bucket"

@@ -1,5 +1,7 @@
 // The structs that pass by value, as C sees them too, the builders of a record, the places of a connection's words, and which verdicts let
 // a cell in; what every call does with them stands in specs/.
+#![tactic(auto)]
+
 ghost use Rattle.std.specs.Prelude.{◌≡◌, ◌≤◌};
 ghost use Rattle.meaning.specs.Numbers.{most_v, nni, lets_in};
 ghost use Rattle.meaning.specs.State.{ends_of, record_with, record_in_mode};
@@ -41,7 +43,7 @@ const CORRECTION: u16 = 0;
 // come raw, 0 or 1, and the mode of the header check, 0 correction, 1 detection; the line kind, 0 UNI, 1 NNI; the VCI and the path
 // number from which on connections are the second operator's.
 #[repr(C)]
-#[derive(Drop)]
+#[derive(Clone, Copy)]
 pub struct Record {
     pub n: u16,
     pub v: u16,
@@ -60,7 +62,7 @@ pub struct Record {
 
 // The answer to one slot: number, verdict, VCI, D, departing space, departing VCI.
 #[repr(C)]
-#[derive(Drop)]
+#[derive(Clone, Copy)]
 pub struct Answer {
     pub number: u16,
     pub verdict: u16,
@@ -72,7 +74,7 @@ pub struct Answer {
 
 // What setup gives back: the refusal number and the record.
 #[repr(C)]
-#[derive(Drop)]
+#[derive(Clone, Copy)]
 pub struct Fresh {
     pub number: u16,
     pub ctl: Record,
@@ -80,7 +82,7 @@ pub struct Fresh {
 
 // What a slot gives back: the record and the answer.
 #[repr(C)]
-#[derive(Drop)]
+#[derive(Clone, Copy)]
 pub struct Served {
     pub ctl: Record,
     pub answer: Answer,
@@ -88,7 +90,7 @@ pub struct Served {
 
 // What the call next gives back: the refusal number, and how many slots until a cell leaves; 0 for none.
 #[repr(C)]
-#[derive(Drop)]
+#[derive(Clone, Copy)]
 pub struct Wait {
     pub number: u16,
     pub slots: u16,

@@ -5,10 +5,10 @@
 --                  of the number and the bits of free spaces it knows nothing, nor of the bits of entries, (ix). It writes the
 --                  arrival slot of (x) beside the cell, and reads none
 --   takes, gives   == the head of the Free List is taken; a space goes to its tail
---   slotListed  == the slot; freshListed the state after setup
+--   slot_listed  == the slot; fresh_listed the state after setup
 use Rattle.std.specs.Prelude.{ℕ, zero, suc, ◌+◌, ◌-◌, ◌*◌, ◌%◌, Bool, not, ◌&&◌, ◌||◌, List, [], ◌∷◌, ◌++◌, length, set}
 use Rattle.base_hec.specs.Modes.{arriving, arriving_fits}
-use Rattle.meaning.specs.Plain.{if◌then◌else◌, ◌<?◌, ◌≤?◌, ◌=?◌, Out, refused, next, needs, ◌andThen◌}
+use Rattle.meaning.specs.Plain.{when◌then◌else◌, ◌<?◌, ◌≤?◌, ◌=?◌, Out, refused, next, needs, ◌and_then◌}
 use Rattle.meaning.specs.Numbers.{ranges_hold, octets, per_entry, cell_start, connections_in, words_in, unused, kind_in_range, excess, unknown}
 use Rattle.meaning.specs.State.{State, Ends, ends_of, output_list, with_cells, with_links, with_calendar, with_output_list, with_arrived, with_mode, write_cell}
 use Rattle.meaning.specs.Header.{header_at, clp_in, no_user_cell, connection, names_connection, names_open}
@@ -70,7 +70,7 @@ accept_listed cell verdict c w conn =
 unfoldable pub judge_listed : List ℕ → ℕ → ListedWork → Connection → Out ListedWork
 judge_listed cell c w conn =
     let verdict = verdict_on (clp_in cell) conn in
-    if verdict =? excess then next (work_with (with_arrival (with_connection w.work c conn) excess c 0) w.free)
+    when verdict =? excess then next (work_with (with_arrival (with_connection w.work c conn) excess c 0) w.free)
     else accept_listed cell verdict c w conn
 
 unfoldable pub step3_listed : List ℕ → ListedWork → Out ListedWork
@@ -80,12 +80,12 @@ step3_listed cell w =
     let c = connection s.ctl.v h in
     let conn = connection_at s.words c in
     let is_unknown = next (work_with (with_arrival w.work unknown h.vci 0) w.free) in
-    if length cell =? 0 then next w
+    when length cell =? 0 then next w
     else needs (kind_in_range s.ctl.kind)
-    (if no_user_cell h then next w
-    else if not (names_connection s.ctl.v h) then is_unknown
+    (when no_user_cell h then next w
+    else when not (names_connection s.ctl.v h) then is_unknown
     else needs (open_word_fits conn)
-    (if conn.opened =? 0 then is_unknown
+    (when conn.opened =? 0 then is_unknown
     else (up_to_date s.ctl.n s.ctl.t conn and_then judge_listed cell c w)))
 
 -- 4, which has no bit to clear
@@ -99,7 +99,7 @@ step4_listed w =
     let s1 = with_links (with_output_list s grown.ends) grown.links in
     let s2 = with_calendar s1 (write_entry s.calendar T empty_list) in
     needs (ends_fit N entry && ends_fit N (output_list s))
-    (if is_empty entry then next w else next (work_with (with_state w.work s2) w.free))
+    (when is_empty entry then next w else next (work_with (with_state w.work s2) w.free))
 
 -- 5, once the head is taken: "Its VC's waiting falls by one. Its space goes to the tail of the Free List."
 unfoldable pub depart_listed : ListedWork → Taken → Out ListedWork
@@ -120,7 +120,7 @@ depart_listed w head =
 unfoldable pub step5_listed : ListedWork → Out ListedWork
 step5_listed w =
     let s = w.work.state in
-    if is_empty (output_list s) then next w
+    when is_empty (output_list s) then next w
     else (take_head s.ctl.n s.links (output_list s) and_then depart_listed w)
 
 unfoldable pub five_listed : List ℕ → ListedWork → Out ListedWork
@@ -148,9 +148,9 @@ slot_listed l cell =
     let N = s.ctl.n in
     let z = s.ctl.v in
     let a = arriving s.ctl.raw s.ctl.mode cell in
-    if not (ranges_hold N z) then refuse l 1
-    else if not (four_hold N z s) then refuse l 2
-    else if not (length cell =? 0 || length cell =? octets) then refuse l 9
+    when not (ranges_hold N z) then refuse l 1
+    else when not (four_hold N z s) then refuse l 2
+    else when not (length cell =? 0 || length cell =? octets) then refuse l 9
     else finish_listed l (needs (arriving_fits s.ctl.raw s.ctl.mode cell)
     (five_listed a.cell (work_with (work_of (with_mode s a.mode) (bare_answer 0)) l.free)
     and_then λ w. next (told_listed a.dropped w)))

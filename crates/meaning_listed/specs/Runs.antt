@@ -1,10 +1,10 @@
 -- Runs of the old form, call by call as runs of the new one, and what is the same in both.
 --
---   butSpace e     == an event without the space that a departing cell had: only whether one departed
+--   but_space e     == an event without the space that a departing cell had: only whether one departed
 --   SameAsListed   == from a fresh state, whatever is called, refused calls among it, both forms say the same but for the space
 use Rattle.std.specs.Prelude.{ℕ, ◌≡◌, List, [], ◌∷◌, map}
 use Rattle.meaning.specs.declared.Answer.{Answer}
-use Rattle.meaning.specs.Plain.{if◌then◌else◌, ◌=?◌}
+use Rattle.meaning.specs.Plain.{when◌then◌else◌, ◌=?◌}
 use Rattle.meaning.specs.Numbers.{empty}
 use Rattle.meaning.specs.State.{with_words}
 use Rattle.meaning.specs.Header.{number_in}
@@ -41,7 +41,7 @@ calls_listed r (c ∷ cs) = calls_listed (call_listed r c) cs
 -- number, verdict, VCI, D and departing VCI stay; of the space, whether there is one
 abbrev pub answer_but : Answer → Answer
 answer_but a =
-    answer_of a.number a.verdict a.vci a.d (if a.space =? empty then empty else 0) a.departing
+    answer_of a.number a.verdict a.vci a.d (when a.space =? empty then empty else 0) a.departing
 
 abbrev pub but_space : Event → Event
 but_space (opened who c m F C x number) = opened who c m F C x number

@@ -7,7 +7,7 @@ use mathlib.Core.Bool.{Bool, true, false, not, ◌&&◌, ◌||◌}
 use mathlib.Core.List.{List}
 use borrow.Author.Tests.{ne_eqb}
 use lib.ListN.{length}
-use Rattle.meaning.specs.Plain.{if◌then◌else◌, ◌<?◌, ◌=?◌}
+use Rattle.meaning.specs.Plain.{when◌then◌else◌, ◌<?◌, ◌=?◌}
 use Rattle.meaning.specs.Numbers.{octets, cell_start, empty}
 use Rattle.meaning.specs.Work.{Work}
 use Rattle.meaning.specs.Line.{Part, cell_memory, idle_cell, cells_allowed, line_part, octets_of, line_cell}
@@ -16,8 +16,8 @@ use Rattle.meaning_runs.specs.Run.{idle, shown}
 -- the part that is shown, by its tests, where the number is not 65,535
 abbrev part : ℕ → Bool → Bool → Bool → Part
 part x a b c =
-    if not (a && b && (c || false)) then record { slice = idle_cell; start = 0; long = 0 }
-    else if c then record { slice = cell_memory; start = cell_start x; long = octets }
+    when not (a && b && (c || false)) then record { slice = idle_cell; start = 0; long = 0 }
+    else when c then record { slice = cell_memory; start = cell_start x; long = octets }
     else record { slice = idle_cell; start = 0; long = octets }
 
 part_any : (cells mine yours : List ℕ) (x : ℕ) (a b c : Bool)

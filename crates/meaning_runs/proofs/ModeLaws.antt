@@ -10,7 +10,7 @@ use native.Mathlib.Omega.{arith}
 use lib.ListN.{length}
 use Rattle.base_hec.specs.Modes.{arriving_fits}
 use Rattle.meaning.specs.declared.Record.{Record}
-use Rattle.meaning.specs.Plain.{◌<?◌, ◌≤?◌, ◌=?◌, Out, refused, next, ◌andThen◌}
+use Rattle.meaning.specs.Plain.{◌<?◌, ◌≤?◌, ◌=?◌, Out, refused, next, ◌and_then◌}
 use Rattle.meaning.specs.Numbers.{ranges_hold, octets, cell_start, connections_in, unused, kind_in_range, excess}
 use Rattle.meaning.specs.State.{State, sizes_hold, output_list, with_record, with_cells, with_links, with_calendar, with_words, with_bits, with_arrived}
 use Rattle.meaning.specs.State.{record_with, with_clock, with_free, with_output_list, record_in_mode, with_mode}

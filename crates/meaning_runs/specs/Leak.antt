@@ -7,16 +7,16 @@
 --
 --   Opening          == the m, F and C that a connection was opened with, and its last accepted cell's due time, if it has one; the
 --                       second bucket that it was opened with, and by its rule the due time of the last cell that filled it
---   dueTime o t      == the due time of a cell that arrives in slot t
---   dueSlot o t      == its due slot
---   leakAccepts o t  == the leak rule's verdict on a cell that arrives in slot t
+--   due_time o t      == the due time of a cell that arrives in slot t
+--   due_slot o t      == its due slot
+--   leak_accepts o t  == the leak rule's verdict on a cell that arrives in slot t
 --   sustains o t     == the second bucket's
---   verdictBy o clp t  == both together: accepted, excess or tagged
---   openingOf c h    == the opening of the connection c after the events h, if it is open
+--   verdict_by o clp t  == both together: accepted, excess or tagged
+--   opening_of c h    == the opening of the connection c after the events h, if it is open
 use Rattle.std.specs.Prelude.{ℕ, ◌+◌, ◌-◌, ◌*◌, ◌/◌, ◌^◌, max, Bool, true, not, ◌&&◌, List, [], ◌∷◌}
 use Rattle.std.proofs.Math.Option.{Option, none, some}
 use Rattle.meaning.specs.declared.Answer.{Answer}
-use Rattle.meaning.specs.Plain.{if◌then◌else◌, ◌≤?◌, ◌=?◌}
+use Rattle.meaning.specs.Plain.{when◌then◌else◌, ◌≤?◌, ◌=?◌}
 use Rattle.meaning.specs.Numbers.{accepted, excess, tagged, lets_in}
 use Rattle.meaning.specs.Header.{clp_in}
 use Rattle.meaning.specs.Words.{Second}
@@ -68,8 +68,8 @@ sustains o t = let x = o.second in leak_after (2 ^ x.m) x.F x.C t o.sustained
 -- .. and otherwise excess."
 unfoldable pub verdict_by : Opening → ℕ → ℕ → ℕ
 verdict_by o clp t =
-    if not (leak_accepts o t) then excess
-    else if clp =? 0 && not (sustains o t) then (if o.second.tag =? 0 then excess else tagged)
+    when not (leak_accepts o t) then excess
+    else when clp =? 0 && not (sustains o t) then (when o.second.tag =? 0 then excess else tagged)
     else accepted
 
 -- did this answer let in a cell of the connection c: accepted, or tagged
@@ -81,7 +81,7 @@ accepts c a = lets_in a.verdict && a.vci =? c
 abbrev pub sustained_after : ℕ → ℕ → ℕ → Opening → Option ℕ
 sustained_after t clp verdict o =
     let x = o.second in
-    if clp =? 0 && verdict =? accepted then some (due_after (2 ^ x.m) x.F t o.sustained) else o.sustained
+    when clp =? 0 && verdict =? accepted then some (due_after (2 ^ x.m) x.F t o.sustained) else o.sustained
 
 -- the opening once a cell is let in, in slot t: later ones are reckoned from its due time
 abbrev pub after_cell : ℕ → ℕ → ℕ → Option Opening → Option Opening
@@ -92,7 +92,7 @@ after_cell t clp verdict (some o) =
 -- an open or close that answered 0 begins and ends it; a cell that is let in moves it on, any other cell does not
 unfoldable pub opening_of : ℕ → List Event → Option Opening
 opening_of c [] = none
-opening_of c (opened who k m F C x number ∷ h) = if number =? 0 && k =? c then some (new_opening m F C x) else opening_of c h
-opening_of c (closed who k number ∷ h) = if number =? 0 && k =? c then none else opening_of c h
+opening_of c (opened who k m F C x number ∷ h) = when number =? 0 && k =? c then some (new_opening m F C x) else opening_of c h
+opening_of c (closed who k number ∷ h) = when number =? 0 && k =? c then none else opening_of c h
 opening_of c (ran cell a out ∷ h) =
-    if accepts c a then after_cell (served h) (clp_in cell) a.verdict (opening_of c h) else opening_of c h
+    when accepts c a then after_cell (served h) (clp_in cell) a.verdict (opening_of c h) else opening_of c h

@@ -7,14 +7,14 @@
 --   call r c      == the run r, and then the call c
 --   call_at x r c  == the same where a slot's cell, if it is let in, takes space x: the lowest free one, in a call
 --   calls r cs    == the run r, and then the calls cs, in this order
---   letIn s cell  == what the header check of request (i) lets through in the state s: of a policer that is not raw, all
---   freshRun N z o  == after a setup that answered 0, with N, V and the options o, before any other call
+--   let_in s cell  == what the header check of request (i) lets through in the state s: of a policer that is not raw, all
+--   fresh_run N z o  == after a setup that answered 0, with N, V and the options o, before any other call
 --   number_of e    == the number that a call answered
 --   served h      == how many slots the events h served: the number of the next slot, which never wraps
 use Rattle.std.specs.Prelude.{ℕ, ◌+◌, List, [], ◌∷◌, replicate}
 use Rattle.base_hec.specs.Modes.{Arriving, arriving}
 use Rattle.meaning.specs.declared.Answer.{Answer}
-use Rattle.meaning.specs.Plain.{if◌then◌else◌, ◌=?◌}
+use Rattle.meaning.specs.Plain.{when◌then◌else◌, ◌=?◌}
 use Rattle.meaning.specs.Numbers.{octets, empty}
 use Rattle.meaning.specs.State.{State, with_words}
 use Rattle.meaning.specs.Header.{Name, by_vci, number_in}
@@ -64,7 +64,7 @@ abbrev pub idle : List ℕ
 idle = replicate octets 0
 
 unfoldable pub shown : Work → List ℕ
-shown w = if w.answer.space =? empty then [] else line_cell w.state.cells idle w.answer.space
+shown w = when w.answer.space =? empty then [] else line_cell w.state.cells idle w.answer.space
 
 -- Document 02 (i): what is judged, stored and sent is the mended cell, so that is what an event notes: "octets unchanged"
 -- and due times speak of it. Of a dropped cell nothing is noted.
@@ -100,4 +100,4 @@ unfoldable pub served : List Event → ℕ
 served [] = 0
 served (opened who c m F C x number ∷ h) = served h
 served (closed who c number ∷ h) = served h
-served (ran cell a out ∷ h) = (if a.number =? 0 then 1 else 0) + served h
+served (ran cell a out ∷ h) = (when a.number =? 0 then 1 else 0) + served h

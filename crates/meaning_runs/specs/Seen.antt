@@ -4,14 +4,14 @@
 --                      ones count as accepted, and their octets are those with CLP 1
 --   Departure       == slot, VCI answered, and the octets of the line cell
 --   cells_in h       == the accepted cells of the events h, in order of arrival
---   departuresIn h  == the departures, in order
---   cells_of v h, departuresOf v h  == those of the connection v
---   cell_at v k h, departureAt v k h  == the k-th of these, from 0; past the end one of zeros, of which nothing is said
+--   departures_in h  == the departures, in order
+--   cells_of v h, departures_of v h  == those of the connection v
+--   cell_at v k h, departure_at v k h  == the k-th of these, from 0; past the end one of zeros, of which nothing is said
 -- Slots are counted from the first after setup, without wrapping.
 use Rattle.std.specs.Prelude.{ℕ, List, [], ◌∷◌, ◌++◌, get_or}
 use Rattle.std.proofs.Math.Option.{Option, none, some}
 use Rattle.meaning.specs.declared.Answer.{Answer}
-use Rattle.meaning.specs.Plain.{if◌then◌else◌, ◌=?◌}
+use Rattle.meaning.specs.Plain.{when◌then◌else◌, ◌=?◌}
 use Rattle.meaning.specs.Numbers.{empty, lets_in}
 use Rattle.meaning.specs.Arrival.{sent_as}
 use Rattle.meaning_runs.specs.Run.{Event, opened, closed, ran, served}
@@ -44,7 +44,7 @@ cells_in [] = []
 cells_in (opened who c m F C x number ∷ h) = cells_in h
 cells_in (closed who c number ∷ h) = cells_in h
 cells_in (ran octets a out ∷ h) =
-    if lets_in a.verdict then cells_in h ++ (cell_under (served h) a (sent_as a.verdict octets) (opening_of a.vci h) ∷ [])
+    when lets_in a.verdict then cells_in h ++ (cell_under (served h) a (sent_as a.verdict octets) (opening_of a.vci h) ∷ [])
     else cells_in h
 
 -- "departing space (65,535 for none)"
@@ -53,13 +53,13 @@ departures_in [] = []
 departures_in (opened who c m F C x number ∷ h) = departures_in h
 departures_in (closed who c number ∷ h) = departures_in h
 departures_in (ran octets a out ∷ h) =
-    if a.space =? empty then departures_in h
+    when a.space =? empty then departures_in h
     else departures_in h ++ (record { slot = served h; vci = a.departing; octets = out } ∷ [])
 
 -- those whose VCI, in answers the number of the connection, is v, in the same order
 abbrev pub of_connection : {A : Type 0} → (A → ℕ) → ℕ → List A → List A
 of_connection vci_of v [] = []
-of_connection vci_of v (x ∷ xs) = if vci_of x =? v then x ∷ of_connection vci_of v xs else of_connection vci_of v xs
+of_connection vci_of v (x ∷ xs) = when vci_of x =? v then x ∷ of_connection vci_of v xs else of_connection vci_of v xs
 
 unfoldable pub cells_of : ℕ → List Event → List Cell
 cells_of v h = of_connection (λ c. c.vci) v (cells_in h)

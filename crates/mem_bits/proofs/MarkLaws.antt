@@ -8,7 +8,7 @@ use native.Mathlib.Omega.{arith}
 use lib.Bits.{bit_or}
 use lib.ListN.{get_or, set}
 use lib.Seq.{set-get_or}
-use Rattle.meaning.specs.Plain.{if◌then◌else◌}
+use Rattle.meaning.specs.Plain.{when◌then◌else◌}
 use Rattle.meaning.specs.Bits.{word_of, bit_of, is_set, is_marked, entry_bit, with_bit, without_bit, marked, unmarked}
 use Rattle.meaning.proofs.SetLaws.{bit_set, bit_clear}
 use Rattle.mem_bits.proofs.OrLaws.{or_set, or_clear}
@@ -27,7 +27,7 @@ module _ (bits : List ℕ) (e : ℕ) where
   unfolding marked is_marked with_bit
   marked_by = go (is_set bits (entry_bit e)) refl
     where
-      go : (b : Bool) → is_set bits (entry_bit e) ≡ b → word_as (bit_or word bit) ≡ (if b then bits else with_bit bits (entry_bit e))
+      go : (b : Bool) → is_set bits (entry_bit e) ≡ b → word_as (bit_or word bit) ≡ (when b then bits else with_bit bits (entry_bit e))
       go true h = ap word_as (or_set word (bit_of (entry_bit e)) (bit_set bits (entry_bit e) h)) ∙ set-get_or bits (word_of (entry_bit e)) 0
       go false h = ap word_as (or_clear word (bit_of (entry_bit e)) (bit_clear bits (entry_bit e) h))
 
@@ -35,7 +35,7 @@ module _ (bits : List ℕ) (e : ℕ) where
   unfolding unmarked is_marked without_bit
   unmarked_by = go (is_set bits (entry_bit e)) refl
     where
-      go : (b : Bool) → is_set bits (entry_bit e) ≡ b → word_as (bit_or word bit - bit) ≡ (if b then without_bit bits (entry_bit e) else bits)
+      go : (b : Bool) → is_set bits (entry_bit e) ≡ b → word_as (bit_or word bit - bit) ≡ (when b then without_bit bits (entry_bit e) else bits)
       go true h = ap (λ (v : ℕ). word_as (v - bit)) (or_set word (bit_of (entry_bit e)) (bit_set bits (entry_bit e) h))
       go false h =
           let back : word + bit - bit ≡ word = omega arith in

@@ -1,7 +1,9 @@
 // The sixteen words of free spaces: whether they fit, the lowest free space, and one space taken or given back; and the mark of an
 // entry set or cleared, in the sixteen words behind them.
+#![tactic(auto)]
+
 ghost use Rattle.std.specs.Prelude.{◌≡◌, true, false, ◌/◌, ◌%◌, ◌^◌, ◌≤◌, ◌<◌, length};
-ghost use Rattle.meaning.specs.Plain.{if◌then◌else◌, ◌=?◌};
+ghost use Rattle.meaning.specs.Plain.{when◌then◌else◌, ◌=?◌};
 ghost use Rattle.meaning.specs.Numbers.{most_n, free_words, bit_words};
 ghost use Rattle.meaning.specs.Bits.{is_free_space, ones_below, spaces_fit, lowest_free, taken, given, marked, unmarked};
 ghost use Rattle.mem_bits.specs.Rest.{Nothing};
@@ -166,7 +168,7 @@ pub fn occupy(bits: &mut [u64], x: u16, e: u16)
 // A cell leaves space x, which is not free; where on, entry e was emptied before.
 pub fn release(bits: &mut [u64], x: u16, on: bool, e: u16)
     requires { (x < most_n) × (length bits.old ≡ bit_words) × (is_free_space bits.old x ≡ false) × (on ≡ true → e < most_n) }
-    ensures { bits.new ≡ given (if on then unmarked bits.old e else bits.old) x }
+    ensures { bits.new ≡ given (when on then unmarked bits.old e else bits.old) x }
 {
     if on {
         unmark(bits, e);

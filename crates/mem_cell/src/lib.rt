@@ -1,4 +1,6 @@
 // "The cell is written into its own 53 octets of the cell memory, and every other octet keeps its value."
+#![tactic(auto)]
+
 ghost use Rattle.std.specs.Prelude.{◌≡◌, ◌+◌, ◌*◌, ◌/◌, ◌≤◌, length};
 ghost use Rattle.meaning.specs.Numbers.{cell_start, octets};
 ghost use Rattle.meaning.specs.State.{write_cell};

@@ -8,7 +8,7 @@ use mathlib.Core.List.{List}
 use native.Mathlib.Omega.{arith}
 use lib.ListN.{length, get_or, set, length-set}
 use lib.Seq.{get_or-set_same, get_or-set_other}
-use Rattle.meaning.specs.Plain.{if◌then◌else◌}
+use Rattle.meaning.specs.Plain.{when◌then◌else◌}
 use Rattle.meaning.specs.Numbers.{open_place, s_place, last_place, second_splace, waiting_place, words_per_connection, connection_place}
 use Rattle.meaning.specs.State.{write_cell}
 use Rattle.meaning.specs.Header.{header_at}
@@ -60,7 +60,7 @@ kept_second r S words = kept_set words (second_splace r) S (λ u e. omega arith)
 
 -- S and last of a connection written, where on
 pub kept_fall : (on : Bool) (r S S₂ t : ℕ) (words : List ℕ)
-    → Kept words (if on then set (set (set words (s_place r) S) (last_place r) t) (second_splace r) S₂ else words)
+    → Kept words (when on then set (set (set words (s_place r) S) (last_place r) t) (second_splace r) S₂ else words)
 kept_fall false r S S₂ t words = record { long = refl; opened = λ u. refl; waiting = λ u. refl }
 kept_fall true r S S₂ t words = then_kept _ _ _ (kept_both r S t words) (kept_second r S₂ _)
 

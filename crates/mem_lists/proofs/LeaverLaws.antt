@@ -8,7 +8,7 @@ use mathlib.Core.List.{List}
 use native.Mathlib.Omega.{arith}
 use borrow.Author.Tests.{eqb-true, eqb-false, le-leb, eq-eqb, ne_eqb}
 use lib.ListN.{get_or}
-use Rattle.meaning.specs.Plain.{if◌then◌else◌, ◌≤?◌, ◌=?◌}
+use Rattle.meaning.specs.Plain.{when◌then◌else◌, ◌≤?◌, ◌=?◌}
 use Rattle.meaning.specs.Numbers.{cell_start, open_place, waiting_place, words_per_connection, kind_in_range}
 use Rattle.meaning.specs.Header.{Header, header_at, connection, names_connection, names_open}
 use Rattle.meaning.specs.Words.{connection_at}
@@ -40,7 +40,7 @@ module _ (N : ℕ) (words : List ℕ) (u : ℕ) where
   go_closed ne = simp (ne_eqb (connection_at words u).opened 1 (λ e. ne (sym (opened_at words u) ∙ e)))
 
 -- ---- the header names a connection, or none
-goes_in : (N : ℕ) (words : List ℕ) (c : ℕ) → c ≢ 0 → goes_as N words c ≡ (if may_go N words c then c else 0)
+goes_in : (N : ℕ) (words : List ℕ) (c : ℕ) → c ≢ 0 → goes_as N words c ≡ (when may_go N words c then c else 0)
 unfolding goes_as
 goes_in N words c some = rw (ne_eqb c 0 some)
 
@@ -72,7 +72,7 @@ module _ (N z kind : ℕ) (cells words : List ℕ) (x : ℕ) where
   leaver_is = go (kind_in_range kind) (names_connection z h) refl refl
     where
       go : (a b : Bool) → kind_in_range kind ≡ a → names_connection z h ≡ b
-          → goes_as N words (numbered kind z h) ≡ (if may_leave N z kind cells words x then connection z h else 0)
+          → goes_as N words (numbered kind z h) ≡ (when may_leave N z kind cells words x then connection z h else 0)
       go true true p q =
           rw (numbered_yes kind z h p q, leave_go p q) (goes_in N words (connection z h) (names_not_0 z h q))
       go true false p q = rw (numbered_no kind z h q, leave_none (rw (p, q))) (goes_0 N words)

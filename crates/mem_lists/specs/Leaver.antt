@@ -1,12 +1,12 @@
 -- What departs, decided one number after the other.
 --
---   mayGo N words c   == the connection c is open and has 1 to N cells waiting
---   goesAs N words c  == c, if a cell of it may depart, else 0; 0 is no connection
---   leaverOf          == the connection whose cell is in space x, if that cell may depart, else 0
---   offFrom           == what departs with a cell of the connection c (0: none) in space x, before a follower unless x is the tail
---   leaverAfter, offAfter  == who and what departs once a cell of the connection own has been accepted into space s
+--   may_go N words c   == the connection c is open and has 1 to N cells waiting
+--   goes_as N words c  == c, if a cell of it may depart, else 0; 0 is no connection
+--   leaver_of          == the connection whose cell is in space x, if that cell may depart, else 0
+--   off_from           == what departs with a cell of the connection c (0: none) in space x, before a follower unless x is the tail
+--   leaver_after, off_after  == who and what departs once a cell of the connection own has been accepted into space s
 use Rattle.std.specs.Prelude.{ℕ, Bool, true, ◌&&◌, List, get_or}
-use Rattle.meaning.specs.Plain.{if◌then◌else◌, ◌<?◌, ◌≤?◌, ◌=?◌}
+use Rattle.meaning.specs.Plain.{when◌then◌else◌, ◌<?◌, ◌≤?◌, ◌=?◌}
 use Rattle.meaning.specs.Numbers.{empty, cell_start}
 use Rattle.meaning.specs.Header.{header_at, connection}
 use Rattle.meaning.specs.Words.{connection_at}
@@ -21,27 +21,27 @@ may_go N words c =
 
 unfoldable pub goes_as : ℕ → List ℕ → ℕ → ℕ
 goes_as N words c =
-    if c =? 0 then 0
-    else if may_go N words c then c
+    when c =? 0 then 0
+    else when may_go N words c then c
     else 0
 
 unfoldable pub leaver_of : ℕ → ℕ → ℕ → List ℕ → List ℕ → ℕ → ℕ
 leaver_of N z kind cells words x =
-    if may_leave N z kind cells words x then connection z (header_at kind cells (cell_start x)) else 0
+    when may_leave N z kind cells words x then connection z (header_at kind cells (cell_start x)) else 0
 
 unfoldable pub off_from : ℕ → ℕ → ℕ → ℕ → ℕ → Off
 off_from N c x follower tail =
-    if c =? 0 then none_off
-    else if x =? tail then off_as true x c (ends_of empty empty)
-    else if follower <? N then off_as true x c (ends_of follower tail)
+    when c =? 0 then none_off
+    else when x =? tail then off_as true x c (ends_of empty empty)
+    else when follower <? N then off_as true x c (ends_of follower tail)
     else none_off
 
 -- own's words need no reading, and neither does the header in space s
 unfoldable pub leaver_after : ℕ → ℕ → ℕ → List ℕ → List ℕ → ℕ → ℕ → ℕ → ℕ
 leaver_after N z kind cells words own s x =
     let c = numbered kind z (header_at kind cells (cell_start x)) in
-    if x =? s then own
-    else if c =? own then own
+    when x =? s then own
+    else when c =? own then own
     else goes_as N words c
 
 -- links are as the cell and the join leave them; cells and words as they came

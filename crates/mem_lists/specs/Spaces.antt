@@ -1,10 +1,10 @@
 -- What steps 3, 4 and 5 of a slot find in heads, tails, links and headers, as numbers: nothing is written yet.
 --
 --   linked on i x l   == the links l, with link i naming x where on
---   seatOf            == where an accepted cell goes: its space, its entry and that entry's ends
+--   seat_of            == where an accepted cell goes: its space, its entry and that entry's ends
 --   off_of             == what departs from a list of spaces: space, connection, and what is left of the list
 use Rattle.std.specs.Prelude.{ℕ, ◌+◌, ◌-◌, ◌≤◌, ◌≡◌, ◌≢◌, Bool, true, false, ◌&&◌, List, get_or, set}
-use Rattle.meaning.specs.Plain.{if◌then◌else◌, ◌<?◌, ◌≤?◌, ◌=?◌}
+use Rattle.meaning.specs.Plain.{when◌then◌else◌, ◌<?◌, ◌≤?◌, ◌=?◌}
 use Rattle.meaning.specs.Numbers.{empty, cell_start, kind_in_range}
 use Rattle.meaning.specs.State.{Ends}
 pub use Rattle.meaning.specs.State.{ends_of}
@@ -16,7 +16,7 @@ use Rattle.mem_lists.specs.declared.Seat.{Seat}
 use Rattle.mem_lists.specs.declared.Off.{Off}
 
 unfoldable pub linked : Bool → ℕ → ℕ → List ℕ → List ℕ
-linked on i x l = if on then set l i x else l
+linked on i x l = when on then set l i x else l
 
 abbrev pub seat_as : Bool → ℕ → ℕ → Ends → Seat
 seat_as ok x e entry = record { ok = ok; x = x; e = e; head = entry.head; tail = entry.tail }
@@ -28,11 +28,11 @@ no_seat = seat_as false 0 0 (ends_of 0 0)
 unfoldable pub seat_at : ℕ → List ℕ → ℕ → ℕ → Seat
 seat_at N calendar e x =
     let entry = entry_at calendar e in
-    if ends_fit N entry then seat_as true x e entry else no_seat
+    when ends_fit N entry then seat_as true x e entry else no_seat
 
 -- (T + D) modulo N, where both are below N
 unfoldable pub entry_of : ℕ → ℕ → ℕ → ℕ
-entry_of N T D = if T + D <? N then T + D else T + D - N
+entry_of N T D = when T + D <? N then T + D else T + D - N
 
 unfoldable pub seat_of : ℕ → List ℕ → ℕ → ℕ → ℕ → Seat
 seat_of N calendar T D x = seat_at N calendar (entry_of N T D) x
@@ -56,9 +56,9 @@ unfoldable pub off_of : ℕ → ℕ → ℕ → List ℕ → List ℕ → List �
 off_of N z kind cells links words x tail =
     let c = connection z (header_at kind cells (cell_start x)) in
     let follower = get_or links x 0 in
-    if may_leave N z kind cells words x
-    then (if x =? tail then off_as true x c (ends_of empty empty)
-    else if follower <? N then off_as true x c (ends_of follower tail)
+    when may_leave N z kind cells words x
+    then (when x =? tail then off_as true x c (ends_of empty empty)
+    else when follower <? N then off_as true x c (ends_of follower tail)
     else none_off)
     else none_off
 

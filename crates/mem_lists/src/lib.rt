@@ -1,4 +1,6 @@
 // Lists of spaces by head, tail and links: what a slot reads of them, and the few words that it writes.
+#![tactic(auto)]
+
 ghost use Rattle.std.specs.Prelude.{◌≡◌, true, ◌+◌, ◌*◌, ◌≤◌, ◌<◌, length, get_or, set};
 ghost use Rattle.meaning.specs.Numbers.{most_n, most_v, octets, cell_start, per_entry, connections_in, words_in};
 ghost use Rattle.meaning.specs.State.{HasConnection};
@@ -11,7 +13,7 @@ ghost use Rattle.mem_lists.specs.Leaver.{may_go, goes_as, leaver_of, off_from, l
 use meaning::{AT_WAITING, WORDS_PER_CONNECTION};
 
 // Where an accepted cell goes: its space x, its entry e and that entry's head and tail.
-#[derive(Drop)]
+#[derive(Clone, Copy)]
 pub struct Seat {
     pub ok: bool,
     pub x: u16,
@@ -21,7 +23,7 @@ pub struct Seat {
 }
 
 // What departs: the space, its connection, and what is left of the Output List.
-#[derive(Drop)]
+#[derive(Clone, Copy)]
 pub struct Off {
     pub ok: bool,
     pub space: u16,

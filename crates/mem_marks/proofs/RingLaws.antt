@@ -6,7 +6,7 @@ use mathlib.Core.List.{List}
 use native.Mathlib.Nat.{mod-eq_of_lt, mod-eq-sub-mod}
 use native.Mathlib.Decide.{dec_lt, ℕ_discrete}
 use native.Mathlib.Omega.{arith}
-use Rattle.meaning.specs.Plain.{if◌then◌else◌}
+use Rattle.meaning.specs.Plain.{when◌then◌else◌}
 use Rattle.meaning.specs.Bits.{is_marked}
 use Rattle.meaning.specs.Next.{first_in, next_mark}
 use Rattle.mem_marks.specs.First.{NoMark, First}
@@ -16,7 +16,7 @@ unfolding first_in
 first_at p zero d x l h o f = absurd (omega arith)
 first_at p (suc k) d x l h o f = go (λ m. first_at p k (d + 1) x m (omega arith) o (λ y a b. f y (omega arith) b)) (ℕ_discrete d x)
   where
-    go : (d + 1 ≤ x → first_in p k (d + 1) ≡ x) → Dec (d ≡ x) → (if p d then d else first_in p k (d + 1)) ≡ x
+    go : (d + 1 ≤ x → first_in p k (d + 1) ≡ x) → Dec (d ≡ x) → (when p d then d else first_in p k (d + 1)) ≡ x
     go rest (yes e) = let t : p d ≡ true = ap p e ∙ o in rw t e
     go rest (no e) = let t : p d ≡ false = f d (omega arith) (omega arith) in rw t (rest (omega arith))
 

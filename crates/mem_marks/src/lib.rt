@@ -1,5 +1,7 @@
 // The marks of the calendar entries, in words 16 to 31 of the lent bits: the first one of a stretch of entries, and the nearest one after
 // entry T. Whole words are looked at, no entry by itself.
+#![tactic(auto)]
+
 ghost use Rattle.std.specs.Prelude.{◌≡◌, ℕ, ◌+◌, ◌≤◌, ◌<◌, length, get_or};
 ghost use Rattle.meaning.specs.Numbers.{most_n, bit_words};
 ghost use Rattle.meaning.specs.Bits.{is_marked};

@@ -9,14 +9,14 @@ use native.Mathlib.Omega.{arith}
 use lib.ListN.{length, get_or, set, replicate, get_or-eq_default}
 use lib.Seq.{get_or-set_same, get_or-set_other, set-get_or}
 use borrow.Author.Tests.{lt-ltb, le-ltb, eq-eqb, ne_eqb}
-use Rattle.meaning.specs.Plain.{if◌then◌else◌, ◌<?◌, ◌=?◌}
+use Rattle.meaning.specs.Plain.{when◌then◌else◌, ◌<?◌, ◌=?◌}
 use Rattle.meaning.specs.Audit.{count, joined}
 use Rattle.mem_walks.specs.Budget.{spent, spend_all, Covers, Gone, sum}
 
 -- Counts: 1 at k, 0 at any other number
 
 abbrev pub is : ℕ → ℕ → ℕ
-is k x = if k =? x then 1 else 0
+is k x = when k =? x then 1 else 0
 
 pub is_no : (k x : ℕ) → (x ≡ k → ⊥) → is k x ≡ 0
 is_no k x h = rw (ne_eqb k x (λ e. h (sym e)))

@@ -3,10 +3,10 @@ use Prim.Native.Nat.{ℕ}
 use mathlib.Core.Path.{◌≡◌, refl}
 use mathlib.Core.Bool.{Bool, true, false, ◌&&◌}
 use native.Mathlib.Omega.{arith}
-use Rattle.meaning.specs.Plain.{if◌then◌else◌}
+use Rattle.meaning.specs.Plain.{when◌then◌else◌}
 
 pub if_elim : {A : Type 0} (P : A → Type 0) (b : Bool) (x y : A) → (b ≡ true → P x) → (b ≡ false → P y)
-    → P (if b then x else y)
+    → P (when b then x else y)
 if_elim P true x y f g = f refl
 if_elim P false x y f g = g refl
 

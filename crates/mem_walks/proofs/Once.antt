@@ -3,10 +3,10 @@
 use mathlib.Core.Path.{◌≡◌, refl, sym}
 use mathlib.Core.Bool.{Bool, true, false}
 use Rattle.meaning.specs.declared.Record.{Record}
-use Rattle.meaning.specs.Lent.{Lent}
+use Rattle.meaning.specs.Lent.{Lent, LentMut}
 use Rattle.mem_walks.specs.Stored.{StoredIn}
 
-pub stored_once : (r : Record) (cells links calendar spaces waits : Lent) (a b : Bool)
+pub stored_once : (r : Record) (cells links calendar : Lent) (spaces waits : LentMut) (a b : Bool)
     → (a ≡ true → StoredIn r cells links calendar spaces waits)
     → (StoredIn r cells links calendar spaces waits → a ≡ true)
     → (b ≡ true → StoredIn r cells links calendar spaces waits)

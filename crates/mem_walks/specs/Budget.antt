@@ -2,7 +2,7 @@
 -- it meets, and one for each cell of a queue. The audit's promise names no budget.
 --
 --   spent b x       == the budget after one x is taken; what is 0 stays 0
---   spendAll b xs   == after all of xs, one after the other
+--   spend_all b xs   == after all of xs, one after the other
 --   Covers b xs     == at each of these takings there is one left
 --   Gone b          == nothing is left
 --   sum b           == all that is left: it falls with each taking

@@ -2,7 +2,7 @@
 -- and each number stands in them exactly as often as its budget says.
 use Rattle.std.specs.Prelude.{ℕ, suc, ◌≡◌, List, [], ◌∷◌, ◌++◌, map, length, get_or}
 use Rattle.meaning.specs.declared.Record.{Record}
-use Rattle.meaning.specs.Lent.{Lent}
+use Rattle.meaning.specs.Lent.{Lent, LentMut}
 use Rattle.meaning.specs.State.{Ends, ends_of}
 use Rattle.mem_walks.specs.Walk.{name_in}
 use Rattle.meaning.specs.Numbers.{empty}
@@ -28,7 +28,7 @@ pub record Stored (l calendar : List ℕ) (nm : ℕ → ℕ) (N : ℕ) (output-e
   pub cells : (k : ℕ) → count k (map nm (output ++ joined queues)) ≡ get_or w k 0
 
 -- the same of a record r and of what is lent, for contracts
-abbrev pub StoredIn : Record → Lent → Lent → Lent → Lent → Lent → Type 0
+abbrev pub StoredIn : Record → Lent → Lent → Lent → LentMut → LentMut → Type 0
 StoredIn r cells links calendar spaces waits =
     Stored links.entry.now calendar.entry.now (name_in r.kind r.v cells) r.n
     (ends_of r.outhead r.outtail) spaces.entry.now waits.entry.now

@@ -1,6 +1,8 @@
 // Lists of spaces walked under two budgets, which say how often each space, and each connection, may still be met. The walk takes
 // one off for each space and each queued cell and fails at 0; at the end nothing may be left. So no count can overflow,
 // and a head, link or header out of range fails by itself.
+#![tactic(auto)]
+
 ghost use Rattle.std.specs.Prelude.{◌≡◌, true, ℕ, ◌<◌, get_or};
 ghost use Rattle.meaning.specs.Plain.{◌<?◌};
 ghost use Rattle.mem_walks.specs.Budget.{spent, Gone};

@@ -1,0 +1,9 @@
+-- `base_hec::syndromes::wrong_bit` meets its contract: its table is that of `specs/WrongBit.antt`, whose rule is proved.
+use borrow.Author.Rules.{rules}
+use Rattle.base_hec.specs.WrongBit.{wrong_bits}
+use Rattle.base_hec.proofs.TableRule.{table_rule}
+use Rattle.base_hec.proofs.syndromes.wrong_bit.Goals as goal
+
+pub returns : goal.returns
+unfolding wrong_bits
+returns c = table_rule c.args.syndrome (search rules)
