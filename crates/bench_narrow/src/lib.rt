@@ -1,5 +1,7 @@
 // The update of a bucket as a function of numbers alone, so that its machine code can be looked at (bench/update). An export
 // takes every m: above 15 it is taken modulo 16.
+#![tactic(auto)]
+
 ghost use Rattle.std.specs.Prelude.{◌≡◌, ◌-◌, ◌*◌, ◌%◌, ◌^◌};
 ghost use Rattle.meaning.specs.Bucket.{elapsed};
 

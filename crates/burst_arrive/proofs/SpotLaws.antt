@@ -9,7 +9,7 @@ use native.Mathlib.Omega.{arith}
 use borrow.Author.Tests.{ltb-true, eqb-false, eq-eqb, ne_eqb}
 use lib.ListN.{get_or}
 use Rattle.meaning.specs.declared.Record.{Record}
-use Rattle.meaning.specs.Plain.{if◌then◌else◌, ◌<?◌, ◌=?◌}
+use Rattle.meaning.specs.Plain.{when◌then◌else◌, ◌<?◌, ◌=?◌}
 use Rattle.meaning.specs.Bits.{spaces_fit, lowest_free}
 use Rattle.meaning.specs.State.{Ends}
 use Rattle.meaning.specs.Lists.{ends_fit, entry_at}
@@ -27,7 +27,7 @@ pub entry_below : (N T D e : ℕ) → T < N → D < N → e ≡ entry_of N T D �
 unfolding entry_of
 entry_below N T D e t d is = rw is (go (T + D <? N) refl)
   where
-    go : (b : Bool) → T + D <? N ≡ b → (if b then T + D else T + D - N) < N
+    go : (b : Bool) → T + D <? N ≡ b → (when b then T + D else T + D - N) < N
     go true q = ltb-true (T + D) N q
     go false q = omega arith
 
@@ -41,7 +41,7 @@ module _ (k : Record) (D : ℕ) (calendar bits : List ℕ) (spaces_fit_lem : spa
 
   -- the tests one after the other: whether no space is free, and whether the entry's ends fit
   by_tests : (z f : Bool) → k.free =? 0 ≡ z → ends_fit k.n (entry_at calendar entry_now) ≡ f
-      → (if z then no_seat else if f then seat_as true (lowest_free bits) entry_now (entry_at calendar entry_now) else no_seat) ≡ seat_now k D calendar bits
+      → (when z then no_seat else when f then seat_as true (lowest_free bits) entry_now (entry_at calendar entry_now) else no_seat) ≡ seat_now k D calendar bits
   unfolding seat_now spaces.seat_of spaces.seat_at
   by_tests true f ez ef = rw (spaces_fit_lem, ez)
   by_tests false true ez ef = rw (spaces_fit_lem, ez, ef)

@@ -1,6 +1,6 @@
 -- Where step 3 seats a cell on a likely way. k is the record in the slot, its clock moved.
 --
---   spot_of vci D a   == seat a of a cell of this connection, with this D; seatAt p is a again
+--   spot_of vci D a   == seat a of a cell of this connection, with this D; seat_at p is a again
 --   Seats k .. p     == the cell has its space, the lowest free one, and its entry
 --   MaySeat w ..     == what is asked of the policer in the slot to come, and of lent memories
 use Rattle.std.specs.Prelude.{ℕ, ◌*◌, ◌≤◌, ◌<◌, ◌≡◌, true, List, length}

@@ -1,6 +1,8 @@
 // Step 3 on a likely way: `slot_arrive::judge` again, laid into the burst's loop, and the seat of a cell that is let in. What is
 // out of range leaves the likely way with everything as it came, and the slot is then served as the call has it: so nothing here
 // refuses.
+#![tactic(auto)]
+
 ghost use Rattle.std.specs.Prelude.{◌≡◌, true, false, ◌%◌, ◌≤◌, length};
 ghost use Rattle.meaning.specs.Numbers.{most_v, words_in};
 ghost use Rattle.meaning.specs.State.{HasConnection};
@@ -17,7 +19,7 @@ use meaning::WORDS_PER_CONNECTION;
 use slot_arrive::Judged;
 
 // Where a cell that is let in goes: its space x; D and its connection; its entry e and that entry's head and tail.
-#[derive(Drop)]
+#[derive(Clone, Copy)]
 pub struct Spot {
     pub ok: bool,
     pub x: usize,

@@ -9,7 +9,7 @@ use native.Mathlib.Decide.{ℕ_discrete}
 use borrow.Author.Tests.{lt-ltb, eqb-true, eqb-false, eq-eqb, ne_eqb, not-true}
 use lib.ListN.{length, get_or}
 use Rattle.meaning.specs.declared.Record.{Record}
-use Rattle.meaning.specs.Plain.{if◌then◌else◌, ◌=?◌}
+use Rattle.meaning.specs.Plain.{when◌then◌else◌, ◌=?◌}
 use Rattle.meaning.specs.Numbers.{empty, cell_start}
 use Rattle.meaning.specs.Bits.{is_free_space, taken}
 use Rattle.meaning.specs.State.{Ends}
@@ -71,7 +71,7 @@ goes_is : (N : ℕ) (words : List ℕ) (c : ℕ) → goes_as N words c ≢ 0 →
 unfolding goes_as
 goes_is N words c = go (c =? 0) (may_go N words c)
   where
-    go : (a b : Bool) → (if a then 0 else if b then c else 0) ≢ 0 → (if a then 0 else if b then c else 0) ≡ c
+    go : (a b : Bool) → (when a then 0 else when b then c else 0) ≢ 0 → (when a then 0 else when b then c else 0) ≡ c
     go true b ne = absurd (ne refl)
     go false true ne = refl
     go false false ne = absurd (ne refl)

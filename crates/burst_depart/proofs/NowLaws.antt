@@ -10,7 +10,7 @@ use native.Mathlib.Decide.{ℕ_discrete}
 use borrow.Author.Tests.{ltb-false, lt-ltb, eqb-true, eqb-false, eq-eqb, ne_eqb, not-true}
 use lib.ListN.{length, set}
 use Rattle.meaning.specs.declared.Record.{Record}
-use Rattle.meaning.specs.Plain.{if◌then◌else◌, ◌<?◌, ◌=?◌}
+use Rattle.meaning.specs.Plain.{when◌then◌else◌, ◌<?◌, ◌=?◌}
 use Rattle.meaning.specs.Numbers.{empty}
 use Rattle.meaning.specs.Bits.{is_free_space, taken}
 use Rattle.meaning.specs.State.{Ends}
@@ -192,7 +192,7 @@ module _ (N T D : ℕ) (low : T < N) where
   unfolding entry_of
   entry_later near ne = go (T + D <? N) refl
     where
-      go : (b : Bool) → T + D <? N ≡ b → (if b then T + D else T + D - N) ≢ T
+      go : (b : Bool) → T + D <? N ≡ b → (when b then T + D else T + D - N) ≢ T
       go true e q = ne (omega arith)
       go false e q = omega (arith, ltb-false (T + D) N e)
 

@@ -1,6 +1,8 @@
 // Steps 4 and 5 on a likely way: what departs, in memory as it is or once a cell is accepted. A test that fails leaves the
 // likely way with everything as it came, and the slot is then served as the call has it: so the order of the tests is free,
 // and nothing here refuses.
+#![tactic(auto)]
+
 ghost use Rattle.std.specs.Prelude.{◌≡◌, true, false, ◌+◌, ◌*◌, ◌≤◌, ◌<◌, length, set};
 ghost use Rattle.meaning.specs.Numbers.{most_n, most_v, octets, cell_start, per_entry, connections_in, words_in, bit_words};
 ghost use Rattle.meaning.specs.Bits.{is_free_space, taken};
@@ -19,7 +21,7 @@ use meaning::{AT_WAITING, WORDS_PER_CONNECTION};
 
 // What departs: nothing, or the space and its connection, and what is left of the Output List; whether entry T is marked, whether its
 // chain follows the old tail, and the chain's head then.
-#[derive(Drop)]
+#[derive(Clone, Copy)]
 pub struct Leave {
     pub ok: bool,
     pub none: bool,
@@ -59,7 +61,7 @@ fn seen(w: Way, cells: &[u8], words: &[u32], x: usize) -> usize
 }
 
 // What is left of a list from x to tail once x has gone.
-#[derive(Drop)]
+#[derive(Clone, Copy)]
 pub struct Rest {
     pub ok: bool,
     pub next: usize,
@@ -234,7 +236,7 @@ pub fn off_quiet(
     words: &[u32],
     bits: &[u64],
 ) -> Leave
-    requires sized_with { SizedWith (slot_record w) cells links calendar words bits }
+    requires sized_with { SizedWith (slot_record w) cells.now links.now calendar.now words.now bits.now }
     requires outtail_value { ends_fit w.n (ends_of w.outhead w.outtail) ≡ true }
     requires names_by { NamesBy w }
     ensures { result.ok ≡ true
@@ -309,7 +311,7 @@ fn off_later(
     words: &[u32],
     bits: &[u64],
 ) -> Leave
-    requires sized_with { SizedWith (slot_record w) cells links calendar words bits }
+    requires sized_with { SizedWith (slot_record w) cells.now links.now calendar.now words.now bits.now }
     requires outtail_value { (ends_fit w.n (ends_of w.outhead w.outtail) ≡ true) × (1 ≤ p.vci) × (p.vci < connections_in w.v)
         × (is_free_space bits.now p.x ≡ true) }
     requires names_by { NamesBy w }
@@ -340,7 +342,7 @@ pub fn off_accept(
     words: &[u32],
     bits: &[u64],
 ) -> Leave
-    requires sized_with { SizedWith (slot_record w) cells links calendar words bits }
+    requires sized_with { SizedWith (slot_record w) cells.now links.now calendar.now words.now bits.now }
     requires outtail_value { ends_fit w.n (ends_of w.outhead w.outtail) ≡ true }
     requires seats { Seats (slot_record w) calendar.now bits.now p }
     requires d_lt_n { (p.d < w.n) × (1 ≤ p.vci) × (p.vci < connections_in w.v) }

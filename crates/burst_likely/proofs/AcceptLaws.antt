@@ -9,7 +9,7 @@ use lib.ListN.{length, get_or, set, take, drop}
 use Rattle.meaning.specs.declared.Record.{Record}
 use Rattle.meaning.specs.declared.Answer.{Answer}
 use Rattle.meaning.specs.declared.Served.{Served}
-use Rattle.meaning.specs.Plain.{if◌then◌else◌, ◌=?◌, next, ◌andThen◌}
+use Rattle.meaning.specs.Plain.{when◌then◌else◌, ◌=?◌, next, ◌and_then◌}
 use Rattle.meaning.specs.Arrival.{sent_as}
 use Rattle.meaning.specs.Numbers.{bit_words, connections_in, empty, waiting_place}
 use Rattle.meaning.specs.Bits.{is_free_space, spaces_fit, taken, given, marked, unmarked}
@@ -151,10 +151,10 @@ module _ (w : Way) (b : Fall) (j : Judged) (p : Spot) (cell cells links calendar
       links₄ = linked o.follows w.outtail o.head links₃
 
       abbrev calendar₄ : List ℕ
-      calendar₄ = if o.marked then write_entry calendar₃ w.turn empty_list else calendar₃
+      calendar₄ = when o.marked then write_entry calendar₃ w.turn empty_list else calendar₃
 
       abbrev bits₄ : List ℕ
-      bits₄ = if o.marked then unmarked bits₃ w.turn else bits₃
+      bits₄ = when o.marked then unmarked bits₃ w.turn else bits₃
 
       marked_goes : o.marked ≡ true → (step4 work and_then step5) ≡ next (left_by work links₄ (write_entry calendar₃ w.turn empty_list) (unmarked bits₃ w.turn) (off_at o))
       marked_goes m =
@@ -179,7 +179,7 @@ module _ (w : Way) (b : Fall) (j : Judged) (p : Spot) (cell cells links calendar
         where
           go : (m : Bool) → o.marked ≡ m
               → (step4 work and_then step5)
-              ≡ next (left_by work links₄ (if m then write_entry calendar₃ w.turn empty_list else calendar₃) (if m then unmarked bits₃ w.turn else bits₃) (off_at o))
+              ≡ next (left_by work links₄ (when m then write_entry calendar₃ w.turn empty_list else calendar₃) (when m then unmarked bits₃ w.turn else bits₃) (off_at o))
           go true m = marked_goes m
           go false m = output_goes m
 
@@ -231,11 +231,11 @@ module _ (w : Way) (b : Fall) (j : Judged) (p : Spot) (cell cells links calendar
           → links₁ ≡ links₃
           → links' ≡ linked o.follows w.outtail o.head links₁
           → calendar₁ ≡ calendar₃
-          → calendar' ≡ (if o.marked then write_entry calendar₁ w.turn empty_list else calendar₁)
+          → calendar' ≡ (when o.marked then write_entry calendar₁ w.turn empty_list else calendar₁)
           → words₁ ≡ words₃
           → words' ≡ one_less o.vci words₁
           → bits₁ ≡ bits₃
-          → bits' ≡ given (if o.marked then unmarked bits₁ w.turn else bits₁) o.space
+          → bits' ≡ given (when o.marked then unmarked bits₁ w.turn else bits₁) o.space
           → arrived' ≡ arrived₃
           → departures' ≡ write_cell departures i (take 53 (drop (53 * o.space) cells'))
           → answers' ≡ write_answer answers i leave_answer
@@ -248,12 +248,12 @@ module _ (w : Way) (b : Fall) (j : Judged) (p : Spot) (cell cells links calendar
             is = leave_goes
                 ∙ ap next
                 (sym
-                (accept_left_lem k b j a (off_at o) cell cells links calendar words bits arrived served cells' links₄ links' calendar₄ calendar' words₁ words' bits₄ (if o.marked then unmarked bits₁ w.turn else bits₁) bits' arrived'
+                (accept_left_lem k b j a (off_at o) cell cells links calendar words bits arrived served cells' links₄ links' calendar₄ calendar' words₁ words' bits₄ (when o.marked then unmarked bits₁ w.turn else bits₁) bits' arrived'
                 spot.seats.some_free
                 (ends_with w w' _ _ _ way, refl) c
                 (l ∙ ap (λ (x : List ℕ). linked o.follows w.outtail o.head x) l₁)
-                (d ∙ ap (λ (x : List ℕ). if o.marked then write_entry x w.turn empty_list else x) d₁) f₁ f
-                (ap (λ (x : List ℕ). if o.marked then unmarked x w.turn else x) g₁) g h));
+                (d ∙ ap (λ (x : List ℕ). when o.marked then write_entry x w.turn empty_list else x) d₁) f₁ f
+                (ap (λ (x : List ℕ). when o.marked then unmarked x w.turn else x) g₁) g h));
             shown = shown ∙ sym (shown_cell departures i inside cells' (cells_allowed_lem cells' c) o.space low);
             told = told;
             free = w.free;

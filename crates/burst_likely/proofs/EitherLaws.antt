@@ -8,7 +8,7 @@ use native.Mathlib.Omega.{arith}
 use borrow.Author.Tests.{eq-eqb, le-leb}
 use lib.ListN.{set, take}
 use Rattle.meaning.specs.declared.Record.{Record}
-use Rattle.meaning.specs.Plain.{if◌then◌else◌, ◌=?◌, Out}
+use Rattle.meaning.specs.Plain.{when◌then◌else◌, ◌=?◌, Out}
 use Rattle.meaning.specs.Numbers.{empty}
 use Rattle.meaning.specs.State.{record_with}
 use Rattle.meaning.specs.Line.{cells_allowed}

@@ -10,7 +10,7 @@ use native.Mathlib.Nat.{add-zero}
 use borrow.Author.Tests.{eq-eqb, ne_eqb, eqb-true, eqb-false}
 use lib.ListN.{length, get_or, take, drop}
 use Rattle.base_hec.specs.Check.{check_of, head_of}
-use Rattle.meaning.specs.Plain.{if◌then◌else◌, ◌=?◌}
+use Rattle.meaning.specs.Plain.{when◌then◌else◌, ◌=?◌}
 use Rattle.meaning.specs.Numbers.{most_v, lets_in}
 use Rattle.meaning.specs.Header.{header_at, clp_in}
 use Rattle.leaf_header.specs.Name.{no_name, name_at, word_at, number_for, Reads}
@@ -51,13 +51,13 @@ module _ (raw kind : ℕ) (arrivals : List ℕ) (i : ℕ) (inside : 53 * i + 53 
     pub named : size ≡ 53 → name ≡ name_at kind arrivals (53 * i)
 
   takes_whole : (size : ℕ) → size ≡ 53
-      → (name : ℕ) → name ≡ (if raw =? 0 then name_at kind arrivals (53 * i) else if check_of (word_at arrivals (53 * i)) =? get_or arrivals (53 * i + 4) 0 then name_at kind arrivals (53 * i) else no_name)
+      → (name : ℕ) → name ≡ (when raw =? 0 then name_at kind arrivals (53 * i) else when check_of (word_at arrivals (53 * i)) =? get_or arrivals (53 * i + 4) 0 then name_at kind arrivals (53 * i) else no_name)
       → name ≢ no_name
       → Takes size name
   takes_whole size e name is some = go (raw =? 0) (check_of (word_at arrivals (53 * i)) =? get_or arrivals (53 * i + 4) 0) refl refl is
     where
       go : (r d : Bool) → raw =? 0 ≡ r → check_of (word_at arrivals (53 * i)) =? get_or arrivals (53 * i + 4) 0 ≡ d
-          → name ≡ (if r then name_at kind arrivals (53 * i) else if d then name_at kind arrivals (53 * i) else no_name)
+          → name ≡ (when r then name_at kind arrivals (53 * i) else when d then name_at kind arrivals (53 * i) else no_name)
           → Takes size name
       go true d er ed q = record { fits = inr e; clean = inl (eqb-true raw 0 er); empty = λ z. absurd (omega (arith, z, e)); named = λ z. q }
       go false true er ed q =
@@ -75,8 +75,8 @@ module _ (raw kind : ℕ) (arrivals : List ℕ) (i : ℕ) (inside : 53 * i + 53 
     where
       go : (a b : Bool) → size =? 0 ≡ a → size =? 53 ≡ b
           → name
-          ≡ (if a then 0
-          else if b then (if raw =? 0 then name_at kind arrivals (53 * i) else if check_of (word_at arrivals (53 * i)) =? get_or arrivals (53 * i + 4) 0 then name_at kind arrivals (53 * i) else no_name)
+          ≡ (when a then 0
+          else when b then (when raw =? 0 then name_at kind arrivals (53 * i) else when check_of (word_at arrivals (53 * i)) =? get_or arrivals (53 * i + 4) 0 then name_at kind arrivals (53 * i) else no_name)
           else no_name)
           → Takes size name
       go true b ea eb q =
@@ -105,7 +105,7 @@ module _ (raw kind : ℕ) (arrivals : List ℕ) (size i : ℕ) where
   likely_read e (inl r) = rw (e, r)
   likely_read e (inr same) = rw e (go (raw =? 0))
     where
-      go : (b : Bool) → name_at kind arrivals (53 * i) ≡ (if b then name_at kind arrivals (53 * i) else if check_of (word_at arrivals (53 * i)) =? get_or arrivals (53 * i + 4) 0 then name_at kind arrivals (53 * i) else no_name)
+      go : (b : Bool) → name_at kind arrivals (53 * i) ≡ (when b then name_at kind arrivals (53 * i) else when check_of (word_at arrivals (53 * i)) =? get_or arrivals (53 * i + 4) 0 then name_at kind arrivals (53 * i) else no_name)
       go true = refl
       go false = simp (eq-eqb _ _ same)
 

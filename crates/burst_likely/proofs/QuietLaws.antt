@@ -10,7 +10,7 @@ use borrow.Author.Tests.{ne_eqb, eqb-false, not-true}
 use lib.ListN.{length, get_or, take, drop}
 use Rattle.meaning.specs.declared.Record.{Record}
 use Rattle.meaning.specs.declared.Served.{Served}
-use Rattle.meaning.specs.Plain.{if◌then◌else◌, ◌=?◌, next, ◌andThen◌}
+use Rattle.meaning.specs.Plain.{when◌then◌else◌, ◌=?◌, next, ◌and_then◌}
 use Rattle.meaning.specs.Numbers.{connections_in, empty, waiting_place}
 use Rattle.meaning.specs.Bits.{spaces_fit, given, unmarked}
 use Rattle.meaning.specs.State.{Ends, state_of, record_with, write_cell}
@@ -186,11 +186,11 @@ module _ (w : Way) (b : Fall) (j : Judged) (cells links calendar words bits arri
         refl
         refl))
 
-    leave_is : (step4 work and_then step5) ≡ next (gone linking (if o.marked then write_entry calendar k.turn empty_list else calendar) (if o.marked then unmarked bits k.turn else bits))
+    leave_is : (step4 work and_then step5) ≡ next (gone linking (when o.marked then write_entry calendar k.turn empty_list else calendar) (when o.marked then unmarked bits k.turn else bits))
     leave_is = go o.marked refl
       where
         go : (m : Bool) → o.marked ≡ m
-            → (step4 work and_then step5) ≡ next (gone linking (if m then write_entry calendar k.turn empty_list else calendar) (if m then unmarked bits k.turn else bits))
+            → (step4 work and_then step5) ≡ next (gone linking (when m then write_entry calendar k.turn empty_list else calendar) (when m then unmarked bits k.turn else bits))
         go true e =
             let g = goes.marked e in
             marked_is g.0 g.3 linking (linked_same o.follows (not (k.outhead =? empty)) k.outtail o.head entry.head links g.1 g.2)
@@ -198,11 +198,11 @@ module _ (w : Way) (b : Fall) (j : Judged) (cells links calendar words bits arri
             let g = goes.unmarked e in
             output_is g.0 g.1 g.3 linking (linked_same o.follows false k.outtail o.head 0 links g.2 (λ f. no (sym g.2 ∙ f)))
 
-    given_fit : spaces_fit w.n (w.free + 1) (given (if o.marked then unmarked bits w.turn else bits) o.space) ≡ true
+    given_fit : spaces_fit w.n (w.free + 1) (given (when o.marked then unmarked bits w.turn else bits) o.space) ≡ true
     given_fit =
         let low = goes.space_low in
         let most = ready.sized.n_high in
-        given_fits (if o.marked then unmarked bits w.turn else bits) o.space (omega (arith, low, most))
+        given_fits (when o.marked then unmarked bits w.turn else bits) o.space (omega (arith, low, most))
         (clear_length bits w.turn o.marked ∙ ready.sized.bits_long)
         (clear_free bits w.turn o.marked o.space ∙ goes.not_free) w.n w.free goes.space_low
         (clear_fits bits w.turn o.marked w.n w.free ∙ ready.spaces_fit_lem)
@@ -210,9 +210,9 @@ module _ (w : Way) (b : Fall) (j : Judged) (cells links calendar words bits arri
     pub leave_done : (w' : Way) (links' calendar' words' bits' departures' answers' : List ℕ)
         → w' ≡ way_with w w.t w.turn w.rotation (w.free + 1) o.next o.tail
         → links' ≡ linking
-        → calendar' ≡ (if o.marked then write_entry calendar w.turn empty_list else calendar)
+        → calendar' ≡ (when o.marked then write_entry calendar w.turn empty_list else calendar)
         → words' ≡ one_less o.vci falling
-        → bits' ≡ given (if o.marked then unmarked bits w.turn else bits) o.space
+        → bits' ≡ given (when o.marked then unmarked bits w.turn else bits) o.space
         → departures' ≡ write_cell departures i (take 53 (drop (53 * o.space) cells))
         → answers' ≡ write_answer answers i (answer_of 0 j.verdict j.vci 0 o.space o.vci)
         → Done k (step4 work and_then step5) w' cells links' calendar' words' bits' arrived departures departures' answers answers' i

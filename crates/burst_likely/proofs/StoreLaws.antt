@@ -7,7 +7,7 @@ use mathlib.Core.List.{List}
 use native.Mathlib.Omega.{arith}
 use lib.ListN.{length, get_or}
 use Rattle.meaning.specs.declared.Record.{Record}
-use Rattle.meaning.specs.Plain.{if◌then◌else◌, ◌=?◌}
+use Rattle.meaning.specs.Plain.{when◌then◌else◌, ◌=?◌}
 use Rattle.meaning.specs.Numbers.{empty}
 use Rattle.meaning.specs.Bits.{lowest_free}
 use Rattle.meaning.specs.State.{write_cell}
@@ -41,7 +41,7 @@ module _ (N : ℕ) (calendar : List ℕ) (T D x : ℕ) where
   entry_reads = go (ends_fit N (entry_at calendar e))
     where
       go : (f : Bool)
-          → (let s = if f then seat_as true x e (entry_at calendar e) else no_seat in
+          → (let s = when f then seat_as true x e (entry_at calendar e) else no_seat in
           s.ok ≡ true → (s.head ≡ get_or calendar (2 * s.e) 0) × (s.tail ≡ get_or calendar (2 * s.e + 1) 0))
       go true = λ ok. (refl, refl)
       go false = λ ok. no ok
@@ -67,8 +67,8 @@ module _ (k : Record) (j : Judged) (calendar words bits cell : List ℕ) (p : Sp
   head_low ne = fit_head k.n (ends_of p.head p.tail) spotted.seats.entry_fits ne
 
   pub entry_writes : (calendar' : List ℕ)
-      → calendar' ≡ write_entry calendar p.e (ends_of p.x (if p.head =? empty then p.x else get_or calendar (2 * p.e + 1) 0))
+      → calendar' ≡ write_entry calendar p.e (ends_of p.x (when p.head =? empty then p.x else get_or calendar (2 * p.e + 1) 0))
       → calendar' ≡ write_entry calendar p.e (seat_ends (at_place p))
   unfolding seat_ends
   entry_writes calendar' is =
-      is ∙ ap (λ (t : ℕ). write_entry calendar p.e (ends_of p.x (if p.head =? empty then p.x else t))) (sym reads.1)
+      is ∙ ap (λ (t : ℕ). write_entry calendar p.e (ends_of p.x (when p.head =? empty then p.x else t))) (sym reads.1)

@@ -7,7 +7,7 @@ use native.Mathlib.Omega.{arith}
 use borrow.Author.Tests.{eq-eqb, ne_eqb}
 use lib.ListN.{get_or, set}
 use lib.Seq.{get_or-set_other, set-get_or}
-use Rattle.meaning.specs.Plain.{if◌then◌else◌, ◌=?◌}
+use Rattle.meaning.specs.Plain.{when◌then◌else◌, ◌=?◌}
 use Rattle.meaning.specs.Numbers.{empty}
 use Rattle.meaning.specs.Lists.{write_entry}
 use Rattle.mem_lists.specs.Spaces.{ends_of}
@@ -16,7 +16,7 @@ use Rattle.mem_lists.specs.Spaces.{ends_of}
 module _ (calendar : List ℕ) (e x head : ℕ) where
   pub entry_empty : head ≡ 65535
       → set (set calendar (2 * e) x) (2 * e + 1) x
-      ≡ write_entry calendar e (ends_of x (if head =? empty then x else get_or calendar (2 * e + 1) 0))
+      ≡ write_entry calendar e (ends_of x (when head =? empty then x else get_or calendar (2 * e + 1) 0))
   unfolding write_entry
   entry_empty q = simp (eq-eqb head 65535 q)
 
@@ -25,7 +25,7 @@ module _ (calendar : List ℕ) (e x head : ℕ) where
 
   pub entry_marked : head ≢ 65535
       → set calendar (2 * e) x
-      ≡ write_entry calendar e (ends_of x (if head =? empty then x else get_or calendar (2 * e + 1) 0))
+      ≡ write_entry calendar e (ends_of x (when head =? empty then x else get_or calendar (2 * e + 1) 0))
   unfolding write_entry
   entry_marked ne =
       simp (ne_eqb head 65535 ne)

@@ -3,23 +3,23 @@
 --   from2 k cell ..     == steps 2 to 5, the clock having moved to k
 --   Ready w ..          == what is known where a slot of a run begins
 --   Spotted k j .. p    == of a cell that is let in: what it was judged, and that it has its seat
---   wentWay w g         == the policer after a slot that was served
+--   went_way w g         == the policer after a slot that was served
 --   Done ..             == the slot is served: its answer, the memories, the departing cell and the six numbers
 --   Either ..           == that, or everything as it came
---   likelyName ..       == the name of slot i's cell, or none that a header has where the likely ways can't take it
+--   likely_name ..       == the name of slot i's cell, or none that a header has where the likely ways can't take it
 --   Clean ..            == of a raw policer's cell: its octet 5 is the right one
 use Rattle.std.specs.Prelude.{ℕ, ◌+◌, ◌-◌, ◌*◌, ◌≤◌, ◌<◌, ◌≡◌, ◌⊎◌, true, false, List, length, get_or, take, drop}
 use Rattle.base_hec.specs.Check.{check_of, head_of}
 use Rattle.meaning.specs.declared.Record.{Record}
 use Rattle.meaning.specs.declared.Answer.{Answer}
-use Rattle.meaning.specs.Plain.{if◌then◌else◌, ◌=?◌, Out, next, ◌andThen◌}
+use Rattle.meaning.specs.Plain.{when◌then◌else◌, ◌=?◌, Out, next, ◌and_then◌}
 use Rattle.meaning.specs.Numbers.{most_n, octets, cell_start, unused, connection_place, connections_in, most_v, empty, excess, waiting_place, bit_words}
 use Rattle.meaning.specs.Bits.{is_free_space, spaces_fit, lowest_free}
 use Rattle.meaning.specs.State.{Ends, state_of, HasConnection}
 use Rattle.meaning.specs.Lists.{ends_fit}
 use Rattle.meaning.specs.Work.{Work, work_of, bare_answer}
 use Rattle.meaning.specs.Slot.{step2, step3, step4, step5}
-use Rattle.meaning.specs.Lent.{Slice, Lent}
+use Rattle.meaning.specs.Lent.{Slice, SliceMut, Lent, LentMut}
 use Rattle.leaf_header.specs.Name.{no_name, name_at, word_at}
 use Rattle.slot_arrive.specs.declared.Fall.{Fall}
 use Rattle.slot_arrive.specs.declared.Judged.{Judged}
@@ -82,9 +82,9 @@ pub record Either (w : Way) (target : Out Work) (g : Went) (cells links calendar
 -- ---- slot i's cell
 unfoldable pub likely_name : ℕ → ℕ → List ℕ → ℕ → ℕ → ℕ
 likely_name raw kind arrivals size i =
-    if size =? 0 then 0
-    else if size =? 53
-    then (if raw =? 0 then name_at kind arrivals (53 * i) else if check_of (word_at arrivals (53 * i)) =? get_or arrivals (53 * i + 4) 0 then name_at kind arrivals (53 * i) else no_name)
+    when size =? 0 then 0
+    else when size =? 53
+    then (when raw =? 0 then name_at kind arrivals (53 * i) else when check_of (word_at arrivals (53 * i)) =? get_or arrivals (53 * i + 4) 0 then name_at kind arrivals (53 * i) else no_name)
     else no_name
 
 abbrev pub Clean : List ℕ → Type 0
@@ -97,15 +97,15 @@ CleanIn w arrivals size i = (w.raw ≡ 0) ⊎ ((size ≡ 0) ⊎ Clean (take size
 abbrev pub cell_before : Lent → ℕ → List ℕ
 cell_before arrivals i = take octets (drop (cell_start i) arrivals.entry.now)
 
-abbrev pub ReadyIn : Way → Slice → Slice → Slice → Slice → Slice → Slice → Type 0
-ReadyIn w cells links calendar words bits arrived = Ready w cells.now links.now calendar.now words.now bits.now arrived.now
+abbrev pub ReadyIn : Way → List ℕ → List ℕ → List ℕ → List ℕ → List ℕ → List ℕ → Type 0
+ReadyIn w cells links calendar words bits arrived = Ready w cells links calendar words bits arrived
 
-abbrev pub SpottedIn : Way → Judged → Spot → Slice → Slice → Slice → Slice → ℕ → Type 0
+abbrev pub SpottedIn : Way → Judged → Spot → SliceMut → SliceMut → SliceMut → Slice → ℕ → Type 0
 SpottedIn w j p calendar words bits arrivals i =
     Spotted (slot_record w) j calendar.now words.now bits.now (take octets (drop (cell_start i) arrivals.now)) p
 
 -- what the writes of a departure ask for, once the cell is stored
-abbrev pub MayLeave : Way → Leave → Slice → Slice → Slice → Slice → Slice → Type 0
+abbrev pub MayLeave : Way → Leave → Slice → SliceMut → SliceMut → SliceMut → SliceMut → Type 0
 MayLeave w o cells links calendar words bits =
     (HasConnection o.vci words.now) × (o.vci < connections_in most_v) × (1 ≤ get_or words.now (waiting_place o.vci) 0)
     × (w.turn < most_n) × (2 * w.turn + 2 ≤ length calendar.now)
@@ -113,28 +113,35 @@ MayLeave w o cells links calendar words bits =
     × (o.space < most_n) × (length bits.now ≡ bit_words) × (is_free_space bits.now o.space ≡ false) × (cell_start o.space + octets ≤ length cells.now)
 
 -- steps 2 to 5 of the memories as they came
-abbrev pub from_here : Way → List ℕ → Lent → Lent → Lent → Lent → Lent → Lent → Out Work
+abbrev pub from_here : Way → List ℕ → LentMut → LentMut → LentMut → LentMut → LentMut → LentMut → Out Work
 from_here w cell cells links calendar words bits arrived =
     from2 (slot_record w) cell cells.entry.now links.entry.now calendar.entry.now words.entry.now bits.entry.now arrived.entry.now
 
 -- steps 4 and 5 once b and j were found: where no cell is let in, and where one is, with its seat
-abbrev pub quiet_from : Way → Fall → Judged → Lent → Lent → Lent → Lent → Lent → Lent → Out Work
+abbrev pub quiet_from : Way → Fall → Judged → Lent → LentMut → LentMut → LentMut → LentMut → LentMut → Out Work
 quiet_from w b j cells links calendar words bits arrived =
     last_steps (quiet_of (state_of (slot_record w) cells.entry.now links.entry.now calendar.entry.now words.entry.now bits.entry.now arrived.entry.now) b j)
 
-abbrev pub accept_from : Way → Fall → Judged → Spot → List ℕ → Lent → Lent → Lent → Lent → Lent → Lent → Out Work
+abbrev pub accept_from : Way → Fall → Judged → Spot → List ℕ → LentMut → LentMut → LentMut → LentMut → LentMut → LentMut → Out Work
 accept_from w b j p cell cells links calendar words bits arrived =
     last_steps (accept_of (state_of (slot_record w) cells.entry.now links.entry.now calendar.entry.now words.entry.now bits.entry.now arrived.entry.now) b j (seat_at p) cell)
 
 -- served: s is the way that follows
-abbrev pub ServedBy : Way → Out Work → Way → Lent → Lent → Lent → Lent → Lent → Lent → Lent → Lent → ℕ → Type 0
+abbrev pub ServedBy : Way → Out Work → Way → Lent → LentMut → LentMut → LentMut → LentMut → LentMut → LentMut → LentMut → ℕ → Type 0
 ServedBy w target s cells links calendar words bits arrived departures answers i =
     Done (slot_record w) target s
     cells.exit.now links.exit.now calendar.exit.now words.exit.now bits.exit.now arrived.exit.now
     departures.entry.now departures.exit.now answers.entry.now answers.exit.now i
 
-abbrev pub ServedOrLeft : Way → Out Work → Went → Lent → Lent → Lent → Lent → Lent → Lent → Lent → Lent → ℕ → Type 0
+abbrev pub ServedOrLeft : Way → Out Work → Went → LentMut → LentMut → LentMut → LentMut → LentMut → LentMut → LentMut → LentMut → ℕ → Type 0
 ServedOrLeft w target g cells links calendar words bits arrived departures answers i =
+    Either w target g
+    cells.entry.now links.entry.now calendar.entry.now words.entry.now bits.entry.now arrived.entry.now departures.entry.now answers.entry.now
+    cells.exit.now links.exit.now calendar.exit.now words.exit.now bits.exit.now arrived.exit.now departures.exit.now answers.exit.now i
+
+-- the same where no cell is accepted, so that the cells are only read
+abbrev pub QuietServedOrLeft : Way → Out Work → Went → Lent → LentMut → LentMut → LentMut → LentMut → LentMut → LentMut → LentMut → ℕ → Type 0
+QuietServedOrLeft w target g cells links calendar words bits arrived departures answers i =
     Either w target g
     cells.entry.now links.entry.now calendar.entry.now words.entry.now bits.entry.now arrived.entry.now departures.entry.now answers.entry.now
     cells.exit.now links.exit.now calendar.exit.now words.exit.now bits.exit.now arrived.exit.now departures.exit.now answers.exit.now i

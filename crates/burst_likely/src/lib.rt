@@ -1,7 +1,9 @@
 // A slot on a likely way: what was found of steps 2 to 5 is written, a case at a time, whatever the verdict. A test that fails
 // leaves the likely way before anything is written, and the slot is then served as the call has it: nothing here refuses.
+#![tactic(auto)]
+
 ghost use Rattle.std.specs.Prelude.{◌≡◌, true, false, not, ◌⊎◌, ◌+◌, ◌-◌, ◌*◌, ◌≤◌, ◌<◌, length, get_or, set, take, drop};
-ghost use Rattle.meaning.specs.Plain.{if◌then◌else◌, ◌=?◌};
+ghost use Rattle.meaning.specs.Plain.{when◌then◌else◌, ◌=?◌};
 ghost use Rattle.meaning.specs.Numbers.{most_n, most_v, connections_in, empty, excess, waiting_place, octets, cell_start, words_in, bit_words};
 ghost use Rattle.meaning.specs.Bits.{is_free_space, taken, given, marked, unmarked};
 ghost use Rattle.meaning.specs.State.{write_cell, HasConnection};
@@ -18,7 +20,7 @@ ghost use Rattle.burst_way.specs.Way.{way_with, slot_record, NamesBy};
 ghost use Rattle.burst_arrive.specs.Arriving.{seat_at};
 ghost use Rattle.burst_depart.specs.Leaving.{Leaves, OffHere};
 ghost use Rattle.burst_likely.specs.Served.{HandedTo, ReadyIn, SpottedIn, MayLeave, CleanIn, likely_name, cell_before, words_fallen, words_filled};
-ghost use Rattle.burst_likely.specs.Served.{from_here, quiet_from, accept_from, ServedBy, ServedOrLeft};
+ghost use Rattle.burst_likely.specs.Served.{from_here, quiet_from, accept_from, ServedBy, ServedOrLeft, QuietServedOrLeft};
 
 use burst_arrive::Spot;
 use burst_depart::Leave;
@@ -28,7 +30,7 @@ use slot_arrive::{Fall, Judged};
 
 // A slot on a likely way: served, or left as it came. Of the policer only these three differ then: handed on as a whole it would
 // be moved field by field in each slot.
-#[derive(Drop)]
+#[derive(Clone, Copy)]
 pub struct Went {
     pub ok: bool,
     pub free: usize,
@@ -48,7 +50,7 @@ fn put_less(words: &mut [u32], vci: usize)
 // An entry emptied, where on.
 fn clear_entry(calendar: &mut [u16], on: bool, e: usize)
     requires { 2 * e + 2 ≤ length calendar.old }
-    ensures { calendar.new ≡ (if on then write_entry calendar.old e empty_list else calendar.old) }
+    ensures { calendar.new ≡ (when on then write_entry calendar.old e empty_list else calendar.old) }
 {
     if on {
         calendar[2 * e] = 65535;
@@ -70,7 +72,7 @@ fn put_link(links: &mut [u16], on: bool, i: usize, x: usize)
 fn put_entry(calendar: &mut [u16], e: usize, x: usize, head: usize)
     requires { (2 * e + 2 ≤ length calendar.old) × (x ≤ 65535) × (head ≡ get_or calendar.old (2 * e) 0) }
     ensures { calendar.new
-        ≡ write_entry calendar.old e (ends_of x (if head =? empty then x else get_or calendar.old (2 * e + 1) 0)) }
+        ≡ write_entry calendar.old e (ends_of x (when head =? empty then x else get_or calendar.old (2 * e + 1) 0)) }
 {
     calendar[2 * e] = x as u16;
     if head == 65535 {
@@ -107,7 +109,7 @@ fn take_up(bits: &mut [u64], x: usize, e: usize)
 // A cell leaves space x; where on, entry e was emptied before.
 fn give_back(bits: &mut [u64], x: usize, on: bool, e: usize)
     requires { (x < most_n) × (length bits.old ≡ bit_words) × (is_free_space bits.old x ≡ false) × (e < most_n) }
-    ensures { bits.new ≡ given (if on then unmarked bits.old e else bits.old) x }
+    ensures { bits.new ≡ given (when on then unmarked bits.old e else bits.old) x }
 {
     mem_bits::release(bits, x as u16, on, e as u16);
 }
@@ -181,7 +183,7 @@ fn quiet_leave(
     answers: &mut [u16],
     i: usize,
 ) -> Way
-    requires ready_in { ReadyIn w cells links calendar words bits arrived }
+    requires ready_in { ReadyIn w cells.now links.old calendar.old words.old bits.old arrived.old }
     requires vci_bound { j.verdict =? excess ≡ true → j.vci < connections_in w.v }
     requires none_value { (o.none ≡ false) × Leaves (slot_record w) bits.old (entry_at calendar.old w.turn) o (OffHere (slot_record w) cells.now links.old words.old) }
     requires handed_to { HandedTo departures.old answers.old i }
@@ -224,10 +226,10 @@ fn quiet(
     answers: &mut [u16],
     i: usize,
 ) -> Went
-    requires ready_in { ReadyIn w cells links calendar words bits arrived }
+    requires ready_in { ReadyIn w cells.now links.old calendar.old words.old bits.old arrived.old }
     requires vci_bound { j.verdict =? excess ≡ true → j.vci < connections_in w.v }
     requires handed_to { HandedTo departures.old answers.old i }
-    ensures { ServedOrLeft w (quiet_from w b j cells links calendar words bits arrived) result cells links calendar words bits arrived departures answers i }
+    ensures { QuietServedOrLeft w (quiet_from w b j cells links calendar words bits arrived) result cells links calendar words bits arrived departures answers i }
 {
     let o = burst_depart::off_quiet(w, cells, links, calendar, words, bits);
     if !o.ok {
@@ -259,7 +261,7 @@ fn store(
     arrivals: &[u8],
     i: usize,
 )
-    requires ready_in { ReadyIn w cells links calendar words bits arrived }
+    requires ready_in { ReadyIn w cells.old links.old calendar.old words.old bits.old arrived.old }
     requires spotted_in { SpottedIn w j p calendar words bits arrivals i }
     requires octets_in_bounds { cell_start i + octets ≤ length arrivals.now }
     ensures cells { cells.new ≡ write_cell cells.old p.x (sent_as j.verdict (cell_before arrivals i)) }
@@ -296,9 +298,9 @@ fn accept_leave(
     requires handed_to { HandedTo departures.old answers.old i }
     ensures way { result ≡ way_with w w.t w.turn w.rotation w.free o.next o.tail }
     ensures links { links.new ≡ linked o.follows w.outtail o.head links.old }
-    ensures calendar { calendar.new ≡ (if o.marked then write_entry calendar.old w.turn empty_list else calendar.old) }
+    ensures calendar { calendar.new ≡ (when o.marked then write_entry calendar.old w.turn empty_list else calendar.old) }
     ensures words { words.new ≡ one_less o.vci words.old }
-    ensures bits { bits.new ≡ given (if o.marked then unmarked bits.old w.turn else bits.old) o.space }
+    ensures bits { bits.new ≡ given (when o.marked then unmarked bits.old w.turn else bits.old) o.space }
     ensures shown { departures.new ≡ write_cell departures.old i (take 53 (drop (53 * o.space) cells.now)) }
     ensures told { answers.new ≡ write_answer answers.old i (answer_of 0 j.verdict j.vci j.d o.space o.vci) }
 {
@@ -360,7 +362,7 @@ fn accept(
     answers: &mut [u16],
     i: usize,
 ) -> Went
-    requires ready_in { ReadyIn w cells links calendar words bits arrived }
+    requires ready_in { ReadyIn w cells.old links.old calendar.old words.old bits.old arrived.old }
     requires spotted_in { SpottedIn w j p calendar words bits arrivals i }
     requires octets_in_bounds { (cell_start i + octets ≤ length arrivals.now) × HandedTo departures.old answers.old i }
     ensures { ServedOrLeft w (accept_from w b j p (cell_before arrivals i) cells links calendar words bits arrived) result cells links calendar words bits arrived departures answers i }
@@ -429,7 +431,7 @@ pub fn slot(
     answers: &mut [u16],
     i: usize,
 ) -> Went
-    requires ready_in { ReadyIn w cells links calendar words bits arrived }
+    requires ready_in { ReadyIn w cells.old links.old calendar.old words.old bits.old arrived.old }
     requires octets_in_bounds { (cell_start i + octets ≤ length arrivals.now) × HandedTo departures.old answers.old i }
     ensures fits { result.ok ≡ true → (size ≡ 0) ⊎ (size ≡ 53) }
     ensures clean { result.ok ≡ true → CleanIn w arrivals.now size i }

@@ -1,5 +1,7 @@
 // What a slot of a burst hands out: its departing cell, copied into the slot's own 53 octets, since its space may be taken
 // again within the burst, and its answer as six numbers.
+#![tactic(auto)]
+
 ghost use Rattle.std.specs.Prelude.{◌≡◌, ◌+◌, ◌*◌, ◌≤◌, length, take, drop};
 ghost use Rattle.meaning.specs.Numbers.{octets, cell_start};
 ghost use Rattle.meaning.specs.State.{write_cell};

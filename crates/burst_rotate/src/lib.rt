@@ -1,5 +1,7 @@
 // Step 2 on a likely way: `slot_arrive::bring` again, without its tests for numbers 0 and V, over wide numbers, and laid into the
 // burst's loop. What is out of range leaves the likely way with everything as it came, and the slot is then served as the call has it.
+#![tactic(auto)]
+
 ghost use Rattle.std.specs.Prelude.{◌≡◌, true, false, ◌≤◌, ◌<◌, get_or};
 ghost use Rattle.meaning.specs.Numbers.{most_n, most_v, connections_in, connection_place, unused};
 ghost use Rattle.meaning.specs.State.{HasConnection};

@@ -4,7 +4,7 @@ use Rattle.std.proofs.Common.{◌≡◌, ℕ, ◌+◌, ◌-◌, ◌%◌, ◌<◌
 use native.Mathlib.Nat.{mod_self}
 use borrow.Author.Tests.{eqb-false}
 use Rattle.meaning.specs.declared.Record.{Record}
-use Rattle.meaning.specs.Plain.{if◌then◌else◌, ◌=?◌}
+use Rattle.meaning.specs.Plain.{when◌then◌else◌, ◌=?◌}
 use Rattle.meaning.specs.Numbers.{connections_in, slot_numbers}
 use Rattle.slot_plan.specs.Plan.{clocked}
 use Rattle.meaning.specs.State.{record_with}
@@ -15,7 +15,7 @@ use Rattle.burst_way.specs.Way.{slot_record, last_record, one_back, stepped_way,
 back_more : (x n : ℕ) → x < n → (one_back x n + 1) % n ≡ x
 back_more x n low = go (x =? 0) refl
   where
-    go : (b : Bool) → (x =? 0) ≡ b → ((if b then n - 1 else x - 1) + 1) % n ≡ x
+    go : (b : Bool) → (x =? 0) ≡ b → ((when b then n - 1 else x - 1) + 1) % n ≡ x
     go true e =
         let z : n - 1 + 1 ≡ n = omega arith in
         ap (λ (y : ℕ). y % n) z ∙ mod_self n ∙ sym (eqb-true x 0 e)
@@ -83,10 +83,10 @@ stepped_last w t =
     same_clock w _ _ _ _ _ _ (t_more_back w.t t) (next_back w.turn w.n) (next_back w.rotation (connections_in w.v))
 
 -- stepping round
-round_back : (x n : ℕ) → 1 ≤ n → one_back (if x =? n then 0 else x) n ≡ one_back x n
+round_back : (x n : ℕ) → 1 ≤ n → one_back (when x =? n then 0 else x) n ≡ one_back x n
 round_back x n low = go (x =? n) refl
   where
-    go : (b : Bool) → (x =? n) ≡ b → one_back (if b then 0 else x) n ≡ one_back x n
+    go : (b : Bool) → (x =? n) ≡ b → one_back (when b then 0 else x) n ≡ one_back x n
     go true e =
         let z = eqb-true x n e in
         sym (simp (ne_eqb x 0 (λ q. omega (arith, z))) (omega (arith, z)))

@@ -1,11 +1,11 @@
 -- A policer on its way through a burst, and the records that it stands for.
 --
---   slotRecord w   == the record in the slot to come, its clock moved
---   lastRecord w   == the record before it: what a burst that ends here gives back
+--   slot_record w   == the record in the slot to come, its clock moved
+--   last_record w   == the record before it: what a burst that ends here gives back
 --   NamesBy w      == its kind is one, and its mask is that kind's: headers can be cut by it
 use Rattle.std.specs.Prelude.{◌≡◌, ℕ, ◌+◌, ◌-◌, ◌%◌, ◌≤◌, true}
 use Rattle.meaning.specs.declared.Record.{Record}
-use Rattle.meaning.specs.Plain.{if◌then◌else◌, ◌=?◌}
+use Rattle.meaning.specs.Plain.{when◌then◌else◌, ◌=?◌}
 use Rattle.meaning.specs.Numbers.{most_n, most_v, connections_in, slot_numbers, empty, kind_in_range}
 use Rattle.leaf_header.specs.Name.{mask_for}
 use Rattle.burst_way.specs.declared.Way.{Way}
@@ -52,7 +52,7 @@ slot_record w = record_at w w.t w.turn w.rotation
 
 -- one less, modulo n
 abbrev pub one_back : ℕ → ℕ → ℕ
-one_back x n = if x =? 0 then n - 1 else x - 1
+one_back x n = when x =? 0 then n - 1 else x - 1
 
 unfoldable pub last_record : Way → Record
 last_record w =
@@ -66,7 +66,7 @@ stepped_way w =
 -- T and rotation step round
 abbrev pub rounded_way : Way → Way
 rounded_way w =
-    way_with w w.t (if w.turn =? w.n then 0 else w.turn) (if w.rotation =? connections_in w.v then 0 else w.rotation) w.free w.outhead w.outtail
+    way_with w w.t (when w.turn =? w.n then 0 else w.turn) (when w.rotation =? connections_in w.v then 0 else w.rotation) w.free w.outhead w.outtail
 
 -- what fits into a record's narrower numbers
 pub record Fits (w : Way) : Type 0 where

@@ -1,7 +1,9 @@
 // A policer on its way through a burst: its record in wide numbers, which index without being widened, and already in the
 // slot to come, so that the slots of a run differ by one addition.
+#![tactic(auto)]
+
 ghost use Rattle.std.specs.Prelude.{◌≡◌, ◌+◌, ◌%◌, ◌<◌, ◌≤◌};
-ghost use Rattle.meaning.specs.Plain.{if◌then◌else◌, ◌=?◌};
+ghost use Rattle.meaning.specs.Plain.{when◌then◌else◌, ◌=?◌};
 ghost use Rattle.meaning.specs.Numbers.{most_n, most_v, connections_in};
 ghost use Rattle.leaf_header.specs.Name.{mask_for};
 ghost use Rattle.slot_plan.specs.Plan.{clocked};
@@ -10,7 +12,7 @@ ghost use Rattle.burst_way.specs.Way.{way_with, one_back, slot_record, last_reco
 use meaning::{PATHS, Record};
 
 // t, T and rotation are those of the slot to come; mask cuts a header to VPI and VCI as the kind asks, so that a burst asks for the kind once.
-#[derive(Drop)]
+#[derive(Clone, Copy)]
 pub struct Way {
     pub n: usize,
     pub v: usize,
@@ -153,7 +155,7 @@ pub fn stepped(w: Way) -> Way
 
 // 0 for n.
 fn round(x: usize, n: usize) -> usize
-    ensures { result ≡ (if x =? n then 0 else x) }
+    ensures { result ≡ (when x =? n then 0 else x) }
 {
     if x == n { 0 } else { x }
 }

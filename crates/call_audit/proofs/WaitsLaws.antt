@@ -9,7 +9,7 @@ use native.Mathlib.Decide.{ℕ_discrete, dec_lt}
 use lib.ListN.{length, get_or, set}
 use lib.Seq.{get_or-set_same, get_or-set_other}
 use borrow.Author.Tests.{lt-ltb, le-ltb, le-leb, lt-leb, eq-eqb, ne_eqb, eqb-true, ltb-true, not-true}
-use Rattle.meaning.specs.Plain.{if◌then◌else◌, ◌<?◌, ◌≤?◌, ◌=?◌}
+use Rattle.meaning.specs.Plain.{when◌then◌else◌, ◌<?◌, ◌≤?◌, ◌=?◌}
 use Rattle.meaning.specs.Numbers.{paths, connections_in, unused, words_per_connection}
 use Rattle.meaning.specs.Bits.{is_free_space}
 use Rattle.meaning.specs.Words.{connection_at, connection_fits}
@@ -80,7 +80,7 @@ module _ (words : List ℕ) where
     unfolding filled_at
     filled_past to k h = rw (le-ltb k to h) (none (from ≤? k))
       where
-        none : (a : Bool) → (if a && false then waits_on k else get_or w k 0) ≡ get_or w k 0
+        none : (a : Bool) → (when a && false then waits_on k else get_or w k 0) ≡ get_or w k 0
         none true = refl
         none false = refl
 

@@ -1,7 +1,7 @@
 -- The clauses that need no walk: "lengths and ranges hold" but for the connections' words, as one test of the state.
 --
---   recordFits r    == T, rotation, raw, mode, the line kind and the splits are in their ranges
---   shapeHolds s    == they are, and so are N, V and the six lengths
+--   record_fits r    == T, rotation, raw, mode, the line kind and the splits are in their ranges
+--   shape_holds s    == they are, and so are N, V and the six lengths
 use Rattle.std.specs.Prelude.{Bool, ◌&&◌}
 use Rattle.meaning.specs.declared.Record.{Record}
 use Rattle.meaning.specs.Plain.{◌<?◌, ◌≤?◌}

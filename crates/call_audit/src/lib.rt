@@ -1,12 +1,14 @@
 // The audit of a policer's state: the clauses that need no walk, then a budget of 1 for each space that is not free and of
 // waiting for each open connection, which the lists must use up.
+#![tactic(auto)]
+
 ghost use Rattle.std.specs.Prelude.{◌≡◌, true, ℕ, ◌+◌, ◌*◌, ◌≤◌, ◌<◌, length, get_or};
 ghost use Rattle.meaning.specs.Numbers.{most_n, most_v, connections_in, connection_place, words_in, per_entry, bit_words};
 ghost use Rattle.meaning.specs.Bits.{is_marked, spaces_fit};
 ghost use Rattle.meaning.specs.State.{HasConnection};
 ghost use Rattle.meaning.specs.Words.{connection_at};
 ghost use Rattle.meaning.specs.Promises.{AuditPromise};
-ghost use Rattle.meaning.specs.Lent.{before};
+ghost use Rattle.meaning.specs.Lent.{seen};
 ghost use Rattle.mem_walks.specs.Budget.{Gone};
 ghost use Rattle.call_audit.specs.Budgets.{uses_of, inside, waits_of, FitFrom, filled_at, waits_at, AllFit};
 ghost use Rattle.call_audit.specs.Marks.{has_cell, agrees, MarksAre};
@@ -156,7 +158,7 @@ fn shaped(
     bits: &[u64],
     arrived: &[u32],
 ) -> bool
-    ensures { result ≡ shape_holds (before r cells links calendar words bits arrived) }
+    ensures { result ≡ shape_holds (seen r cells links calendar words bits arrived) }
 {
     if !ranges_hold(r.n, r.v) {
         return false;
@@ -186,7 +188,7 @@ pub fn audit(
     bits: &[u64],
     arrived: &[u32],
 ) -> bool
-    ensures { AuditPromise (before r cells links calendar words bits arrived) result }
+    ensures { AuditPromise (seen r cells links calendar words bits arrived) result }
 {
     if shaped(r, cells, links, calendar, words, bits, arrived) {
         if bits_fit(r.n, r.free, calendar, bits) {

@@ -7,7 +7,7 @@ use mathlib.Core.List.{List}
 use native.Mathlib.Omega.{arith}
 use borrow.Author.Tests.{eqb-false}
 use lib.ListN.{length, set, length-set}
-use Rattle.meaning.specs.Plain.{if◌then◌else◌, ◌<?◌, ◌≤?◌, ◌=?◌, refused, ◌andThen◌}
+use Rattle.meaning.specs.Plain.{when◌then◌else◌, ◌<?◌, ◌≤?◌, ◌=?◌, refused, ◌and_then◌}
 use Rattle.meaning.specs.Numbers.{cell_start, connections_in, unused, kind_in_range, excess, unknown, words_in, bit_words}
 use Rattle.meaning.specs.Bits.{is_free_space, spaces_fit, taken}
 use Rattle.meaning.specs.State.{Ends, output_list, with_record, with_cells, with_links, with_calendar, with_words, with_bits, with_arrived}
@@ -34,7 +34,7 @@ head_links links e x = go (is_empty e)
   where
     grown : Bool → Grown
     grown b =
-        if b then record { ends = record { head = x; tail = x }; links = links }
+        when b then record { ends = record { head = x; tail = x }; links = links }
         else record { ends = record { head = x; tail = e.tail }; links = set links x e.head }
 
     go : (b : Bool) → length (grown b).links ≡ length links
@@ -47,7 +47,7 @@ tail_links links e more = go (is_empty e)
   where
     grown : Bool → Grown
     grown b =
-        if b then record { ends = more; links = links }
+        when b then record { ends = more; links = links }
         else record { ends = record { head = e.head; tail = more.tail }; links = set links e.tail more.head }
 
     go : (b : Bool) → length (grown b).links ≡ length links

@@ -11,7 +11,7 @@ use native.Mathlib.Nat.{mod-lt}
 use lib.ListN.{length, get_or, drop, length-drop}
 use lib.Seq.{length-take-le}
 use Rattle.meaning.specs.declared.Record.{Record}
-use Rattle.meaning.specs.Plain.{if◌then◌else◌, ◌<?◌, ◌≤?◌, ◌=?◌, Out, next}
+use Rattle.meaning.specs.Plain.{when◌then◌else◌, ◌<?◌, ◌≤?◌, ◌=?◌, Out, next}
 use Rattle.meaning.specs.Numbers.{ranges_hold, connections_in, unused, kind_in_range, slot_numbers, words_in, bit_words}
 use Rattle.meaning.specs.Bits.{spaces_fit}
 use Rattle.meaning.specs.State.{State, Ends, state_of, record_with, lengths_hold, words_length}
@@ -105,7 +105,7 @@ module _ (arrivals : List ℕ) (size : ℕ) (w : Way) (cells links calendar word
     unfolding last_record
     before_turn = go (w.turn =? 0) refl
       where
-        go : (b : Bool) → (w.turn =? 0) ≡ b → (if b then w.n - 1 else w.turn - 1) < w.n
+        go : (b : Bool) → (w.turn =? 0) ≡ b → (when b then w.n - 1 else w.turn - 1) < w.n
         go true e = omega arith
         go false e = omega arith
 
@@ -113,7 +113,7 @@ module _ (arrivals : List ℕ) (size : ℕ) (w : Way) (cells links calendar word
     unfolding last_record
     before_rotation = go (w.rotation =? 0) refl
       where
-        go : (b : Bool) → (w.rotation =? 0) ≡ b → (if b then connections_in w.v - 1 else w.rotation - 1) < connections_in w.v
+        go : (b : Bool) → (w.rotation =? 0) ≡ b → (when b then connections_in w.v - 1 else w.rotation - 1) < connections_in w.v
         go true e = omega arith
         go false e = omega arith
 
@@ -219,10 +219,10 @@ pub record Running (arrivals sizes : List ℕ) (begin stop : ℕ) (cells₀ link
       ≡ slots arrivals (drop begin sizes) (way_stretch w₀ cells₀ links₀ calendar₀ words₀ bits₀ arrived₀ departures₀ answers₀ begin)
 
 -- ---- from one run to the next
-round_low : (x n : ℕ) → x ≤ n → 1 ≤ n → (if x =? n then 0 else x) < n
+round_low : (x n : ℕ) → x ≤ n → 1 ≤ n → (when x =? n then 0 else x) < n
 round_low x n most low = go (x =? n) refl
   where
-    go : (b : Bool) → (x =? n) ≡ b → (if b then 0 else x) < n
+    go : (b : Bool) → (x =? n) ≡ b → (when b then 0 else x) < n
     go true e = omega arith
     go false e = let ne = eqb-false x n e in omega (arith, ne)
 
@@ -270,7 +270,7 @@ pub record Going (arrivals sizes : List ℕ) (begin : ℕ) (cells₀ links₀ ca
 
 -- a run that came to its end has served slots, and one that did not is the last
 pub runs_less : (b : Bool) (long i i' stop : ℕ) → i ≤ i' → i' ≤ stop → stop ≤ long → i ≤ stop → stop ≢ i → (b ≡ true → i' ≡ stop)
-    → long - i' + (if b then 1 else 0) < long - i + 1
+    → long - i' + (when b then 1 else 0) < long - i + 1
 runs_less true long i i' stop a b d l ne e = let q = e refl in omega (arith, q, ne)
 runs_less false long i i' stop a b d l ne e = omega arith
 

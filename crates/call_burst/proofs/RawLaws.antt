@@ -10,7 +10,7 @@ use Rattle.base_hec.specs.Check.{hec_of}
 use Rattle.base_hec.specs.WrongBit.{wrong_bit}
 use Rattle.base_hec.specs.Modes.{passes, checked, arriving}
 use Rattle.base_hec.proofs.Syndrome.{clean_zero}
-use Rattle.meaning.specs.Plain.{Out, refused, next, ◌andThen◌}
+use Rattle.meaning.specs.Plain.{Out, refused, next, ◌and_then◌}
 use Rattle.meaning.specs.Bits.{lowest_free}
 use Rattle.meaning.specs.State.{State, with_record, record_in_mode, with_mode}
 use Rattle.meaning.specs.Work.{work_of, bare_answer}

@@ -9,7 +9,7 @@ use native.Mathlib.Nat.{div-add-mod, mul-mod_right, mul-div_cancel_left}
 use native.Mathlib.Decide.{ℕ_discrete}
 use borrow.Author.Tests.{eq-eqb, ne_eqb, eqb-true}
 use lib.ListN.{length}
-use Rattle.meaning.specs.Plain.{if◌then◌else◌, ◌=?◌}
+use Rattle.meaning.specs.Plain.{when◌then◌else◌, ◌=?◌}
 use Rattle.meaning.specs.Numbers.{ranges_hold, octets, per_entry, words_in, bit_words}
 use Rattle.meaning.specs.State.{State}
 use Rattle.leaf_refusal.specs.Order.{refuse_of, first_of}

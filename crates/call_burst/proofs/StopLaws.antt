@@ -8,7 +8,7 @@ use mathlib.Core.List.{List, [], ◌∷◌}
 use native.Mathlib.Omega.{arith}
 use borrow.Author.Tests.{eq-eqb, ne_eqb, eqb-true}
 use lib.ListN.{length, length-take, length-drop}
-use Rattle.meaning.specs.Plain.{if◌then◌else◌, ◌=?◌, Out, refused, next}
+use Rattle.meaning.specs.Plain.{when◌then◌else◌, ◌=?◌, Out, refused, next}
 use Rattle.meaning.specs.Numbers.{ranges_hold, octets, words_in, bit_words}
 use Rattle.meaning.specs.Bits.{lowest_free}
 use Rattle.meaning.specs.State.{State, words_length, lengths_hold, with_record, record_in_mode, with_mode}
@@ -164,7 +164,7 @@ unfolding one_slot stopped
 one_slot_lem arrivals size b f room = go (size_fits size) refl
   where
     go : (x : Bool) → size_fits size ≡ x
-        → (let r = if not x then stopped b 9 else slot_done b (slot b.state (cell_lent arrivals b.done size)) in Serves b r ⊎ Stops r.number)
+        → (let r = when not x then stopped b 9 else slot_done b (slot b.state (cell_lent arrivals b.done size)) in Serves b r ⊎ Stops r.number)
     go true e = slot_done_lem b _ (slot_or_3 b.state (cell_lent arrivals b.done size) f (lent_fits arrivals b.done size room e))
     go false e = inr (inl refl)
 
@@ -181,7 +181,7 @@ slots_stop arrivals (size ∷ sizes) b z f e =
 
     go : Serves b after ⊎ Stops after.number
         → (after.number ≡ 0 → Fit after.state → 53 * (after.done + length sizes) ≡ length arrivals → ((slots arrivals sizes after).number ≡ 0) ⊎ Stops (slots arrivals sizes after).number)
-        → ((if after.number =? 0 then slots arrivals sizes after else after).number ≡ 0) ⊎ Stops (if after.number =? 0 then slots arrivals sizes after else after).number
+        → ((when after.number =? 0 then slots arrivals sizes after else after).number ≡ 0) ⊎ Stops (when after.number =? 0 then slots arrivals sizes after else after).number
     go (inl s) rest = rw (eq-eqb after.number 0 s.number) (rest s.number s.fit (omega (arith, s.done)))
     go (inr (inl e9)) rest = rw (ne_eqb after.number 0 (λ q. omega (arith, e9))) (inr (inl e9))
     go (inr (inr e3)) rest = rw (ne_eqb after.number 0 (λ q. omega (arith, e3))) (inr (inr e3))
@@ -209,7 +209,7 @@ later_stops s arrivals sizes departures answers = go (ranges_hold s.ctl.n s.ctl.
     begun = stretch_of s departures answers 0 0
 
     ends : Bool → Bool → Stretch
-    ends a b = if not a then stopped begun 1 else if not b then stopped begun 2 else slots arrivals sizes begun
+    ends a b = when not a then stopped begun 1 else when not b then stopped begun 2 else slots arrivals sizes begun
 
     go : (a b : Bool) → ranges_hold s.ctl.n s.ctl.v ≡ a
         → lengths_fit s.ctl.n s.ctl.v (length s.cells) (length s.links) (length s.calendar) (length s.words) (length s.bits) (length s.arrived) (length arrivals) (length sizes) (length departures) (length answers) ≡ b

@@ -9,7 +9,7 @@ use native.Mathlib.Numerals.{add-one}
 use borrow.Author.Tests.{eq-eqb, ne_eqb, eqb-true, eqb-false, not-true}
 use lib.ListN.{length, get_or, drop}
 use lib.Seq.{drop-cons}
-use Rattle.meaning.specs.Plain.{if◌then◌else◌, ◌=?◌}
+use Rattle.meaning.specs.Plain.{when◌then◌else◌, ◌=?◌}
 use Rattle.meaning.specs.State.{State}
 use Rattle.meaning.specs.Work.{Work}
 use Rattle.meaning.specs.Slot.{slot}
@@ -56,8 +56,8 @@ module _ (arrivals : List ℕ) (size : ℕ) (s : State) (departures answers : Li
 
 -- a slot that was not stopped was served
 counted : (b : Stretch) (w : Work) (t : Bool) → (w.answer.number =? 0) ≡ t
-    → (if not t then stopped b w.answer.number else served b w).number ≡ 0
-    → (if not t then stopped b w.answer.number else served b w).done ≡ b.done + 1
+    → (when not t then stopped b w.answer.number else served b w).number ≡ 0
+    → (when not t then stopped b w.answer.number else served b w).done ≡ b.done + 1
 unfolding stopped served
 counted b w true e h = refl
 counted b w false e h = absurd (eqb-false w.answer.number 0 e h)
@@ -70,15 +70,15 @@ slot_counted arrivals size b = go (size_fits size)
     w : Work
     w = slot b.state (cell_lent arrivals b.done size)
 
-    go : (t : Bool) → (if not t then stopped b 9 else slot_done b w).number ≡ 0
-        → (if not t then stopped b 9 else slot_done b w).done ≡ b.done + 1
+    go : (t : Bool) → (when not t then stopped b 9 else slot_done b w).number ≡ 0
+        → (when not t then stopped b 9 else slot_done b w).done ≡ b.done + 1
     go true h = counted b w (w.answer.number =? 0) refl h
     go false h = absurd (omega arith)
 
 -- and keeps N and V
 kept : (b : Stretch) (w : Work) (t : Bool) → (w.state.ctl.n ≡ b.state.ctl.n) × (w.state.ctl.v ≡ b.state.ctl.v)
-    → ((if not t then stopped b w.answer.number else served b w).state.ctl.n ≡ b.state.ctl.n)
-    × ((if not t then stopped b w.answer.number else served b w).state.ctl.v ≡ b.state.ctl.v)
+    → ((when not t then stopped b w.answer.number else served b w).state.ctl.n ≡ b.state.ctl.n)
+    × ((when not t then stopped b w.answer.number else served b w).state.ctl.v ≡ b.state.ctl.v)
 unfolding stopped served
 kept b w true e = e
 kept b w false e = (refl, refl)
@@ -91,7 +91,7 @@ slot_kept arrivals size b = go (size_fits size)
     w : Work
     w = slot b.state (cell_lent arrivals b.done size)
 
-    go : (t : Bool) → ((if not t then stopped b 9 else slot_done b w).state.ctl.n ≡ b.state.ctl.n) × ((if not t then stopped b 9 else slot_done b w).state.ctl.v ≡ b.state.ctl.v)
+    go : (t : Bool) → ((when not t then stopped b 9 else slot_done b w).state.ctl.n ≡ b.state.ctl.n) × ((when not t then stopped b 9 else slot_done b w).state.ctl.v ≡ b.state.ctl.v)
     go true =
         let h = slot_answered b.state (cell_lent arrivals b.done size) in
         kept b w (w.answer.number =? 0) (h.n_is, h.v_is)
@@ -100,7 +100,7 @@ slot_kept arrivals size b = go (size_fits size)
 -- the sizes from the i-th on
 module _ (arrivals sizes : List ℕ) (i : ℕ) (low : i < length sizes) (b after : Stretch) (e : after ≡ one_slot arrivals (get_or sizes i 0) b) where
   abbrev rest : Stretch → Stretch
-  rest x = if x.number =? 0 then slots arrivals (drop (suc i) sizes) x else x
+  rest x = when x.number =? 0 then slots arrivals (drop (suc i) sizes) x else x
 
   slots_rest : slots arrivals (drop i sizes) b ≡ rest after
   unfolding slots

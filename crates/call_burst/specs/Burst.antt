@@ -1,7 +1,7 @@
 -- A burst: slots one after the other, each followed by showing its line cell. "Since a space that was given back may be
 -- taken again within the burst, each slot's departing cell is copied into its own 53 octets of departures."
 use Rattle.std.specs.Prelude.{ℕ, ◌+◌, ◌*◌, Bool, not, ◌&&◌, ◌||◌, List, [], ◌∷◌, length, get_or, take, drop}
-use Rattle.meaning.specs.Plain.{if◌then◌else◌, ◌=?◌}
+use Rattle.meaning.specs.Plain.{when◌then◌else◌, ◌=?◌}
 use Rattle.meaning.specs.Numbers.{ranges_hold, octets, per_entry, words_in, bit_words, cell_start}
 use Rattle.meaning.specs.State.{State}
 use Rattle.meaning.specs.Work.{Work}
@@ -41,12 +41,12 @@ stopped b number = stretch_of b.state b.departures b.answers number b.done
 -- "the only later stops with a number are 9 (a size neither 0 nor 53) and 3"
 unfoldable pub slot_done : Stretch → Work → Stretch
 slot_done b w =
-    if not (w.answer.number =? 0) then stopped b w.answer.number
+    when not (w.answer.number =? 0) then stopped b w.answer.number
     else served b w
 
 unfoldable pub one_slot : List ℕ → ℕ → Stretch → Stretch
 one_slot arrivals size b =
-    if not (size_fits size) then stopped b 9
+    when not (size_fits size) then stopped b 9
     else slot_done b (slot b.state (cell_lent arrivals b.done size))
 
 -- slot after slot, as long as there are sizes and none is stopped
@@ -54,7 +54,7 @@ unfoldable pub slots : List ℕ → List ℕ → Stretch → Stretch
 slots arrivals [] b = b
 slots arrivals (size ∷ sizes) b =
     let after = one_slot arrivals size b in
-    if after.number =? 0 then slots arrivals sizes after else after
+    when after.number =? 0 then slots arrivals sizes after else after
 
 -- buffers of these lengths, for N, V and so many sizes: the six memories, arrivals, departures and answers
 unfoldable pub lengths_fit : ℕ → ℕ → ℕ → ℕ → ℕ → ℕ → ℕ → ℕ → ℕ → ℕ → ℕ → ℕ → Bool
@@ -70,7 +70,7 @@ burst s arrivals sizes departures answers =
     let N = s.ctl.n in
     let z = s.ctl.v in
     let begun = stretch_of s departures answers 0 0 in
-    if not (ranges_hold N z) then stopped begun 1
-    else if not (lengths_fit N z (length s.cells) (length s.links) (length s.calendar) (length s.words) (length s.bits) (length s.arrived) (length arrivals) (length sizes) (length departures) (length answers))
+    when not (ranges_hold N z) then stopped begun 1
+    else when not (lengths_fit N z (length s.cells) (length s.links) (length s.calendar) (length s.words) (length s.bits) (length s.arrived) (length arrivals) (length sizes) (length departures) (length answers))
     then stopped begun 2
     else slots arrivals sizes begun

@@ -2,14 +2,14 @@
 use Rattle.std.specs.Prelude.{ℕ, ◌+◌, ◌*◌, ◌/◌, ◌≤◌, ◌<◌, ◌≡◌, ◌≢◌, true, List, length}
 use Rattle.meaning.specs.Numbers.{octets, cell_start, empty}
 use Rattle.meaning.specs.State.{State}
-use Rattle.meaning.specs.Lent.{Lent}
+use Rattle.meaning.specs.Lent.{Lent, LentMut}
 use Rattle.meaning.specs.Line.{cells_allowed}
 use Rattle.burst_out.specs.Handout.{answer_long}
 use Rattle.call_burst.specs.Burst.{Stretch, stretch_of, burst}
 use Rattle.call_burst.specs.declared.BurstEnd.{BurstEnd}
 
 -- s' is the state afterwards
-abbrev pub burst_promise : State → Lent → Lent → Lent → Lent → BurstEnd → State → Type 0
+abbrev pub burst_promise : State → Lent → Lent → LentMut → LentMut → BurstEnd → State → Type 0
 burst_promise s arrivals sizes departures answers r s' =
     stretch_of s' departures.exit.now answers.exit.now r.number r.done
     ≡ burst s arrivals.entry.now sizes.entry.now departures.entry.now answers.entry.now

@@ -11,7 +11,7 @@ use Rattle.meaning.specs.declared.Record.{Record}
 use Rattle.meaning.specs.Numbers.{most_n, least_v, most_v, octets, per_entry, connection_place, connections_in, unused, words_in, bit_words, kind_in_range, slot_numbers}
 use Rattle.meaning.specs.Bits.{spaces_fit}
 use Rattle.meaning.specs.State.{State, state_of}
-use Rattle.meaning.specs.Lent.{Slice, Lent}
+use Rattle.meaning.specs.Lent.{SliceMut, Lent, LentMut}
 use Rattle.meaning.specs.Lists.{ends_fit}
 use Rattle.slot_plan.specs.Plan.{output_ends}
 use Rattle.burst_way.specs.declared.Way.{Way}
@@ -63,18 +63,18 @@ way_stretch w cells links calendar words bits arrived departures answers i =
     stretch_of (state_of (last_record w) cells links calendar words bits arrived) departures answers 0 i
 
 -- ---- the same of lent memories and buffers, for contracts
-abbrev pub HeldIn : Way → Slice → Slice → Slice → Slice → Slice → Slice → Type 0
+abbrev pub HeldIn : Way → SliceMut → SliceMut → SliceMut → SliceMut → SliceMut → SliceMut → Type 0
 HeldIn w cells links calendar words bits arrived = Held w cells.now links.now calendar.now words.now bits.now arrived.now
 
-abbrev pub HeldAfter : Way → Lent → Lent → Lent → Lent → Lent → Lent → Type 0
+abbrev pub HeldAfter : Way → LentMut → LentMut → LentMut → LentMut → LentMut → LentMut → Type 0
 HeldAfter w cells links calendar words bits arrived =
     Held w cells.exit.now links.exit.now calendar.exit.now words.exit.now bits.exit.now arrived.exit.now
 
 -- how far a burst has come before slot i, s being its policer: as a function is handed it, and as it leaves it
-abbrev pub stretch_before : State → Lent → Lent → ℕ → Stretch
+abbrev pub stretch_before : State → LentMut → LentMut → ℕ → Stretch
 stretch_before s departures answers i = stretch_of s departures.entry.now answers.entry.now 0 i
 
-abbrev pub stretch_after : State → Lent → Lent → ℕ → ℕ → Stretch
+abbrev pub stretch_after : State → LentMut → LentMut → ℕ → ℕ → Stretch
 stretch_after s departures answers number i = stretch_of s departures.exit.now answers.exit.now number i
 
 -- the slots from slot i on

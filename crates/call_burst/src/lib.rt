@@ -1,5 +1,7 @@
 // Slot after slot in one call, as cards poll: each slot's departing cell is copied out, since its space may be taken
 // again within the burst, and its answer is written as six numbers.
+#![tactic(auto)]
+
 ghost use Rattle.std.specs.Prelude.{◌≡◌, true, ◌+◌, ◌-◌, ◌*◌, ◌≤◌, ◌<◌, length, drop};
 ghost use Rattle.meaning.specs.Plain.{◌=?◌};
 ghost use Rattle.meaning.specs.Numbers.{most_n, most_v, connections_in, unused, words_in, bit_words};
@@ -17,7 +19,7 @@ use mem_lists::pair;
 
 // What a burst gives back: the record, the number that ended it (0 for none), and how many slots were served.
 #[repr(C)]
-#[derive(Drop)]
+#[derive(Clone, Copy)]
 pub struct BurstEnd {
     pub ctl: Record,
     pub number: u16,
@@ -258,7 +260,7 @@ fn run_end(w: Way, words: &[u32], i: usize, long: usize) -> usize
 }
 
 // How far a run has come: ok where it came to its end.
-#[derive(Drop)]
+#[derive(Clone, Copy)]
 pub struct Far {
     pub ok: bool,
     pub way: Way,

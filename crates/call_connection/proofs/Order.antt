@@ -8,7 +8,7 @@ use native.Mathlib.Omega.{arith}
 use borrow.Author.Tests.{eqb-true, ne_eqb}
 use lib.ListN.{length}
 use Rattle.meaning.specs.declared.Record.{Record}
-use Rattle.meaning.specs.Plain.{if◌then◌else◌, ◌≤?◌}
+use Rattle.meaning.specs.Plain.{when◌then◌else◌, ◌≤?◌}
 use Rattle.meaning.specs.Numbers.{ranges_hold, splits_hold, most_v, words_in}
 use Rattle.meaning.specs.State.{words_length, HasConnection}
 use Rattle.meaning.specs.Header.{Name, named, number_in}
@@ -30,7 +30,7 @@ early a s b d o =
 -- "1, 2, 4, 16, 3"
 abbrev in_order : Bool → Bool → Bool → Bool → Bool → Bool → ℕ
 in_order a s b d o e =
-    if not a then 1 else if not s then 1 else if not b then 2 else if not d then 4 else if not o then 16 else if not e then 3 else 0
+    when not a then 1 else when not s then 1 else when not b then 2 else when not d then 4 else when not o then 16 else when not e then 3 else 0
 
 order_early : (a s b d o e : Bool) → (early a s b d o ≡ 0 → ⊥) → early a s b d o ≡ in_order a s b d o e
 order_early true true true true true e h = absurd (h refl)

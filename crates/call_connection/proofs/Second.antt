@@ -6,7 +6,7 @@ use mathlib.Core.List.{List}
 use native.Mathlib.Omega.{arith}
 use borrow.Author.Tests.{eq-eqb, ne_eqb}
 use Rattle.meaning.specs.declared.Record.{Record}
-use Rattle.meaning.specs.Plain.{if◌then◌else◌, ◌=?◌}
+use Rattle.meaning.specs.Plain.{when◌then◌else◌, ◌=?◌}
 use Rattle.meaning.specs.Header.{Name, number_in}
 use Rattle.meaning.specs.Bucket.{bucket_of, obeys_rules}
 use Rattle.meaning.specs.Words.{Connection, Second, connection_at, write_connection, second_obeys, opened_connection, closed_connection, debt}
@@ -46,7 +46,7 @@ module _ (r : Record) (words : List ℕ) (who : ℕ) (name : Name) (c : ℕ) (is
   -- "Each leaves everything as it came."
   abbrev told : Bool → Bool → Bool → Called
   told a b d =
-      if a then called_of 5 words else if b then called_of 6 words else if d then called_of 11 words
+      when a then called_of 5 words else when b then called_of 6 words else when d then called_of 11 words
       else called_of 0 (write_connection words c (opened_connection r.t (bucket_of m F C 0) x))
 
   three_given : (a b d : Bool) → (first_of (first_of (refuse_of 5 a) (refuse_of 6 b)) (refuse_of 11 d) ≡ 0 → ⊥)

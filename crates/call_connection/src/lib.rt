@@ -1,5 +1,7 @@
 // Opening and closing a connection: a VC by its VCI, or a path by its VPI. One way for both; only the name differs. Each call is
 // made as one of the two operators, `owner`: 0 the first, 1 the second.
+#![tactic(auto)]
+
 ghost use Rattle.std.specs.Prelude.{◌≡◌, true, ◌≤◌};
 ghost use Rattle.meaning.specs.Numbers.{most_v};
 ghost use Rattle.meaning.specs.Header.{by_vci, by_vpi, named, number_in};

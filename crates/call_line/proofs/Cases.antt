@@ -4,7 +4,7 @@ use mathlib.Core.Path.{◌≡◌, refl}
 use mathlib.Core.Bool.{Bool, true, false, not, ◌&&◌, ◌||◌}
 use native.Mathlib.Omega.{arith}
 use borrow.Author.Tests.{ne_eqb, eq-eqb, le-leb, lt-leb, le-ltb, lt-ltb, ltb-true, eqb-true}
-use Rattle.meaning.specs.Plain.{if◌then◌else◌, ◌<?◌, ◌=?◌}
+use Rattle.meaning.specs.Plain.{when◌then◌else◌, ◌<?◌, ◌=?◌}
 use Rattle.meaning.specs.Numbers.{empty}
 use Rattle.meaning.specs.Line.{Slice, cell_memory, idle_cell, Part, cells_allowed, line_part}
 
@@ -75,7 +75,7 @@ module _ (cells idle number : ℕ) where
   part_inside = go fits refl (number <? cells / 53) refl
     where
       go : (a : Bool) → fits ≡ a → (b : Bool) → (number <? cells / 53) ≡ b
-          → Inside (if not a then empty_part else if b then space_part number else idle_part)
+          → Inside (when not a then empty_part else when b then space_part number else idle_part)
       go false e b o = omega arith
       go true e true o = omega (arith, ltb-true number (cells / 53) o)
       go true e false o =

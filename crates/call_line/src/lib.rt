@@ -1,4 +1,6 @@
 // The cell on the line: a part of the cell memory or of the idle cell, which nothing copies.
+#![tactic(auto)]
+
 ghost use Rattle.std.specs.Prelude.{◌≡◌, length};
 ghost use Rattle.meaning.specs.Line.{line_part};
 ghost use Rattle.meaning.specs.Promises.{LinePromise};
@@ -6,7 +8,7 @@ ghost use Rattle.call_line.specs.Placed.{place_of};
 
 // Where a part lies: 1 for the idle cell and 0 for the cell memory, its first octet there, how many octets.
 #[repr(C)]
-#[derive(Drop)]
+#[derive(Clone, Copy)]
 pub struct Place {
     pub from_idle: u16,
     pub start: usize,

@@ -8,7 +8,7 @@ use native.Mathlib.Omega.{arith}
 use borrow.Author.Tests.{eq-eqb, ne_eqb, lt-ltb, le-ltb, leb-true}
 use lib.ListN.{length, get_or}
 use Rattle.meaning.specs.declared.Record.{Record}
-use Rattle.meaning.specs.Plain.{if◌then◌else◌, ◌<?◌, ◌≤?◌, ◌=?◌}
+use Rattle.meaning.specs.Plain.{when◌then◌else◌, ◌<?◌, ◌≤?◌, ◌=?◌}
 use Rattle.meaning.specs.Numbers.{most_n, least_v, most_v, empty, ranges_hold, per_entry, bit_words}
 use Rattle.meaning.specs.State.{Ends, ends_of}
 use Rattle.meaning.specs.Lists.{is_empty, ends_fit, entry_at}
@@ -37,7 +37,7 @@ module _ (N head tail : ℕ) where
       same : head =? empty ≡ true
       same = eq-eqb head empty h
 
-      go : (b : Bool) → ◌≡◌ {A = ℕ} 0 (if b || (head =? empty && tail =? empty) then (if head =? empty then 0 else 1) else 3)
+      go : (b : Bool) → ◌≡◌ {A = ℕ} 0 (when b || (head =? empty && tail =? empty) then (when head =? empty then 0 else 1) else 3)
       go true = rw same
       go false = rw (same, eq-eqb tail empty t)
 
@@ -63,7 +63,7 @@ module _ (N : ℕ) (e : Ends) where
   unfolding ends_is
   by_ends P f g h = go (ends_fit N e) (is_empty e) f g h
     where
-      go : (a b : Bool) → (a ≡ true → b ≡ true → P 0) → (a ≡ true → b ≡ false → P 1) → (a ≡ false → P 3) → P (if a then (if b then 0 else 1) else 3)
+      go : (a b : Bool) → (a ≡ true → b ≡ true → P 0) → (a ≡ true → b ≡ false → P 1) → (a ≡ false → P 3) → P (when a then (when b then 0 else 1) else 3)
       go true true f g h = f refl refl
       go true false f g h = g refl refl
       go false b f g h = h refl

@@ -1,4 +1,6 @@
 // How long until something leaves: how many slots from now, if no cell arrives, the next cell leaves. Nothing is written.
+#![tactic(auto)]
+
 ghost use Rattle.std.specs.Prelude.{◌≡◌, ◌+◌, ◌*◌, ◌%◌, ◌≤◌, ◌<◌, length};
 ghost use Rattle.meaning.specs.Numbers.{most_n, per_entry, bit_words};
 ghost use Rattle.meaning.specs.State.{ends_of};

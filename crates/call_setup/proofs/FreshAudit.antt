@@ -8,7 +8,7 @@ use native.Mathlib.Omega.{arith}
 use borrow.Author.Tests.{eq-eqb, lt-ltb, le-ltb}
 use lib.ListN.{get_or, replicate, length-replicate, get_or-replicate}
 use Rattle.meaning.specs.declared.Fresh.{Fresh}
-use Rattle.meaning.specs.Plain.{if◌then◌else◌, ◌<?◌}
+use Rattle.meaning.specs.Plain.{when◌then◌else◌, ◌<?◌}
 use Rattle.meaning.specs.Numbers.{most_n, ranges_hold, words_in, open_place, kind_in_range, splits_hold}
 use Rattle.meaning.specs.Bits.{is_free_space, is_marked, all_free}
 use Rattle.meaning.specs.State.{state_of, words_length, lengths_hold, State, with_record}
@@ -60,7 +60,7 @@ module _ (N z : ℕ) (r : InRange N z) where
   counted x = ap (count x) (joined_none N)
 
   -- each space is free, and in no list
-  free_once : (x : ℕ) → x < N → count x queued ≡ (if is_free_space (all_free N) x then 0 else 1)
+  free_once : (x : ℕ) → x < N → count x queued ≡ (when is_free_space (all_free N) x then 0 else 1)
   free_once x l = rw (all_free_lem N x r.N_most ∙ lt-ltb x N l) (counted x)
 
   closed : (c : ℕ) → (connection_at (replicate (words_in z) 0) c).opened ≡ 0
@@ -133,10 +133,10 @@ setup_audit N z asked lent r cells' links' calendar' words' bits' arrived' p e =
     after : Bool → Bool → Bool → Bool → SetUp
     after a s b d =
         let as_it_came = with_record lent zeros in
-        if not a then set_up_of 1 as_it_came
-        else if not s then set_up_of 1 as_it_came
-        else if not b then set_up_of 13 as_it_came
-        else if not d then set_up_of 2 as_it_came
+        when not a then set_up_of 1 as_it_came
+        else when not s then set_up_of 1 as_it_came
+        else when not b then set_up_of 13 as_it_came
+        else when not d then set_up_of 2 as_it_came
         else set_up_of 0 (fresh_state N z (chosen asked))
 
     go : (a s b d : Bool) → in_range ≡ a → splits ≡ s → (after a s b d).number ≡ 0 → AuditHolds (after a s b d).state

@@ -7,7 +7,7 @@ use native.Mathlib.Omega.{arith}
 use borrow.Author.Tests.{eqb-true, leb-true}
 use lib.ListN.{length, replicate}
 use Rattle.meaning.specs.declared.Record.{Record}
-use Rattle.meaning.specs.Plain.{if◌then◌else◌, ◌=?◌}
+use Rattle.meaning.specs.Plain.{when◌then◌else◌, ◌=?◌}
 use Rattle.meaning.specs.Numbers.{ranges_hold, nni, kind_in_range, words_in, bit_words, splits_hold}
 use Rattle.meaning.specs.Bits.{all_free}
 use Rattle.meaning.specs.State.{state_of, with_record, words_length, lengths_hold}
@@ -19,7 +19,7 @@ use Rattle.call_setup.specs.Order.{in_order, lengths_are}
 module _ {A : Type 0} (refusal : ℕ → A) (done : A) where
   abbrev told : Bool → Bool → Bool → Bool → A
   told a s b d =
-      if not a then refusal 1 else if not s then refusal 1 else if not b then refusal 13 else if not d then refusal 2 else done
+      when not a then refusal 1 else when not s then refusal 1 else when not b then refusal 13 else when not d then refusal 2 else done
 
   four_given : (a s b d : Bool) → (in_order a s b d ≡ 0 → ⊥) → refusal (in_order a s b d) ≡ told a s b d
   four_given true true true true h = absurd (h refl)

@@ -1,5 +1,7 @@
 // Setting up a policer: cells, links, words and arrival slots cleared, all N spaces free by their bits, the calendar and the Output
 // List emptied.
+#![tactic(auto)]
+
 ghost use Rattle.std.specs.Prelude.{◌≡◌, ◌<◌, length, replicate};
 ghost use Rattle.meaning.specs.Numbers.{ranges_hold, kind_in_range, bit_words, splits_hold};
 ghost use Rattle.meaning.specs.Bits.{full_word, all_free};

@@ -8,7 +8,7 @@ use mathlib.Core.List.{List}
 use native.Mathlib.Omega.{arith}
 use borrow.Author.Tests.{eqb-true, eqb-false}
 use Rattle.base_hec.specs.Modes.{Arriving, arriving, arriving_fits}
-use Rattle.meaning.specs.Plain.{if◌then◌else◌, ◌=?◌}
+use Rattle.meaning.specs.Plain.{when◌then◌else◌, ◌=?◌}
 use Rattle.meaning.specs.Numbers.{ranges_hold}
 use Rattle.meaning.specs.Bits.{lowest_free}
 use Rattle.meaning.specs.State.{State, state_of, sizes_hold, with_record, record_in_mode, with_mode}
@@ -65,7 +65,7 @@ module _ (s : State) (mode : ℕ) (b : Bool) (w : Work) (h : Answered (with_mode
   back_answered = go (w.answer.number =? 0) refl
     where
       go : (c : Bool) → (w.answer.number =? 0) ≡ c
-          → Answered s (if c then told b w else work_of (with_record w.state s.ctl) w.answer)
+          → Answered s (when c then told b w else work_of (with_record w.state s.ctl) w.answer)
       go true e = told_served_lem b (eqb-true w.answer.number 0 e)
       go false e = as_it_came_lem (eqb-false w.answer.number 0 e)
 
@@ -80,7 +80,7 @@ unfit_answered s cell lent fits =
   where
     go : (p q : Bool)
         → Answered s
-        (if not p then work_of s (bare_answer 1) else if not q then work_of s (bare_answer 2) else work_of s (bare_answer 3))
+        (when not p then work_of s (bare_answer 1) else when not q then work_of s (bare_answer 2) else work_of s (bare_answer 3))
     go false q = refused_with_lem s 1 (λ e. omega arith)
     go true false = refused_with_lem s 2 (λ e. omega arith)
     go true true = refused_with_lem s 3 (λ e. omega arith)

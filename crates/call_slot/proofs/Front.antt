@@ -17,7 +17,7 @@ use Rattle.base_hec.specs.declared.Checked.{Checked}
 use Rattle.base_hec.specs.Word.{octets_of, arriving_of}
 use Rattle.meaning.specs.declared.Record.{Record}
 use Rattle.meaning.specs.declared.Served.{Served}
-use Rattle.meaning.specs.Plain.{if◌then◌else◌, ◌=?◌, Out, refused, next, ◌andThen◌}
+use Rattle.meaning.specs.Plain.{when◌then◌else◌, ◌=?◌, Out, refused, next, ◌and_then◌}
 use Rattle.meaning.specs.Numbers.{ranges_hold, octets}
 use Rattle.meaning.specs.Bits.{lowest_free}
 use Rattle.meaning.specs.State.{State, state_of, sizes_hold, with_record, record_in_mode, with_mode}
@@ -30,9 +30,9 @@ use Rattle.call_slot.specs.Back.{is_checked, served_of, told_served, back_served
 -- record and answer, and the whole work
 back_work : (a b : Bool) (r : Record) (s : Served) (cells links calendar words bits arrived : List ℕ)
     → (s.answer.number =? 0) ≡ a
-    → let t = if a then told_served b s else served_of r s.answer in
+    → let t = when a then told_served b s else served_of r s.answer in
     work_of (state_of t.ctl cells links calendar words bits arrived) t.answer
-    ≡ (if a then told b (work_of (state_of s.ctl cells links calendar words bits arrived) s.answer)
+    ≡ (when a then told b (work_of (state_of s.ctl cells links calendar words bits arrived) s.answer)
     else work_of (state_of r cells links calendar words bits arrived) s.answer)
 back_work true true r s cells links calendar words bits arrived e = refl
 back_work true false r s cells links calendar words bits arrived e = refl
@@ -101,8 +101,8 @@ unfit_is s cell x lent fits e =
     (sizes_hold s))
   where
     go : (p q : Bool)
-        → work_of s (bare_answer (if not p then 1 else if not q then 2 else 3))
-        ≡ (if not p then work_of s (bare_answer 1) else if not q then work_of s (bare_answer 2) else work_of s (bare_answer 3))
+        → work_of s (bare_answer (when not p then 1 else when not q then 2 else 3))
+        ≡ (when not p then work_of s (bare_answer 1) else when not q then work_of s (bare_answer 2) else work_of s (bare_answer 3))
     go false q = refl
     go true false = refl
     go true true = refl

@@ -1,20 +1,20 @@
 -- What becomes of the slot that served what the header check let through: refused, the record is as it came, its mode too;
 -- served, a dropped cell is told.
 --
---   isChecked raw octets  == the header check comes in front
---   backServed r drop s   == of record and answer
+--   is_checked raw octets  == the header check comes in front
+--   back_served r drop s   == of record and answer
 --   back s drop w         == of the whole work, w being the slot without the check
---   backFrom s mode ..    == the same, s having been served in this mode with this cell
---   mendedBy c cell       == the cell with the header that the check answers
---   headWritten head l    == l with its first four octets from one number
---   unfitOf r ..          == what is given where raw or mode is neither 0 nor 1; unfitIn s the same of a state
+--   back_from s mode ..    == the same, s having been served in this mode with this cell
+--   mended_by c cell       == the cell with the header that the check answers
+--   head_written head l    == l with its first four octets from one number
+--   unfit_of r ..          == what is given where raw or mode is neither 0 nor 1; unfit_in s the same of a state
 use Rattle.std.specs.Prelude.{ℕ, ◌/◌, ◌%◌, ◌^◌, Bool, not, ◌&&◌, List, ◌++◌, set, drop}
 use Rattle.base_hec.specs.declared.Checked.{Checked}
 use Rattle.base_hec.specs.Word.{octets_of}
 use Rattle.meaning.specs.declared.Record.{Record}
 use Rattle.meaning.specs.declared.Answer.{Answer}
 use Rattle.meaning.specs.declared.Served.{Served}
-use Rattle.meaning.specs.Plain.{if◌then◌else◌, ◌=?◌}
+use Rattle.meaning.specs.Plain.{when◌then◌else◌, ◌=?◌}
 use Rattle.meaning.specs.Numbers.{ranges_hold, octets, dropped}
 use Rattle.meaning.specs.State.{State, state_of, lengths_hold, with_record, record_in_mode}
 use Rattle.meaning.specs.Work.{Work, work_of, answer_of, bare_answer}
@@ -30,14 +30,14 @@ served_of r a = record { ctl = r; answer = a }
 abbrev pub told_served : Bool → Served → Served
 told_served drop s =
     let a = s.answer in
-    if drop then served_of s.ctl (answer_of a.number dropped 0 0 a.space a.departing) else s
+    when drop then served_of s.ctl (answer_of a.number dropped 0 0 a.space a.departing) else s
 
 unfoldable pub back_served : Record → Bool → Served → Served
-back_served r drop s = if s.answer.number =? 0 then told_served drop s else served_of r s.answer
+back_served r drop s = when s.answer.number =? 0 then told_served drop s else served_of r s.answer
 
 unfoldable pub back : State → Bool → Work → Work
 back s drop w =
-    if w.answer.number =? 0 then told drop w else work_of (with_record w.state s.ctl) w.answer
+    when w.answer.number =? 0 then told drop w else work_of (with_record w.state s.ctl) w.answer
 
 abbrev pub back_from : State → ℕ → Bool → List ℕ → Work
 back_from s mode drop cell =
@@ -49,8 +49,8 @@ unfoldable pub unfit_of : Record → List ℕ → List ℕ → List ℕ → List
 unfit_of r cells links calendar words bits arrived =
     served_of r
     (bare_answer
-    (if not (ranges_hold r.n r.v) then 1
-    else if not (lengths_hold r.n r.v cells links calendar words bits arrived) then 2
+    (when not (ranges_hold r.n r.v) then 1
+    else when not (lengths_hold r.n r.v cells links calendar words bits arrived) then 2
     else 3))
 
 abbrev pub unfit_in : State → Served

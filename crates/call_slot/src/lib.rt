@@ -1,8 +1,10 @@
 // One slot: the header check of a raw policer comes in front, and the five steps go on with what it lets through.
+#![tactic(auto)]
+
 ghost use Rattle.std.specs.Prelude.{◌≡◌, true, false, [], ◌++◌, ◌≤◌, length, drop};
 ghost use Rattle.base_hec.specs.Word.{octets_of};
 ghost use Rattle.meaning.specs.Promises.{slot_promise};
-ghost use Rattle.meaning.specs.Lent.{before, served_after};
+ghost use Rattle.meaning.specs.Lent.{before, seen, served_after};
 ghost use Rattle.call_slot.specs.Back.{is_checked, back_served, back_from, unfit_in, mended_by, head_written};
 
 use base_hec::Checked;
@@ -151,7 +153,7 @@ fn unfit_slot(
     cell: &[u8],
 ) -> Served
     requires { length cell.now ≡ 53 }
-    ensures { result ≡ unfit_in (before r cells links calendar words bits arrived) }
+    ensures { result ≡ unfit_in (seen r cells links calendar words bits arrived) }
 {
     let number = slot_steps::shape(r, cells, links, calendar, words, bits, arrived, cell);
     if number != 0 {

@@ -7,7 +7,7 @@ use mathlib.Core.List.{List, [], ◌∷◌}
 use native.Mathlib.Omega.{arith}
 use lib.ListN.{length}
 use borrow.Author.Tests.{eq-eqb, ne_eqb}
-use Rattle.meaning.specs.Plain.{if◌then◌else◌, ◌=?◌}
+use Rattle.meaning.specs.Plain.{when◌then◌else◌, ◌=?◌}
 use Rattle.meaning.specs.State.{State}
 use Rattle.call_burst.specs.Burst.{Stretch, stretch_of, stopped, one_slot, slots, burst}
 use Rattle.call_burst.proofs.Refusals.{fit_of}
@@ -28,13 +28,13 @@ unfolding slots_tallied slots
 slots_as arrivals c [] b = refl
 slots_as arrivals c (size ∷ sizes) b =
     go y (y.stretch.number =? 0) (slots_as arrivals c sizes y)
-    ∙ ap (λ (x : Stretch). if x.number =? 0 then slots arrivals sizes x else x) (next_stretch arrivals c size b.stretch b.tally y refl)
+    ∙ ap (λ (x : Stretch). when x.number =? 0 then slots arrivals sizes x else x) (next_stretch arrivals c size b.stretch b.tally y refl)
   where
     y : Tallying
     y = one_tallied arrivals c size b
 
     go : (y : Tallying) (t : Bool) → (slots_tallied arrivals c sizes y).stretch ≡ slots arrivals sizes y.stretch
-        → (if t then slots_tallied arrivals c sizes y else y).stretch ≡ (if t then slots arrivals sizes y.stretch else y.stretch)
+        → (when t then slots_tallied arrivals c sizes y else y).stretch ≡ (when t then slots arrivals sizes y.stretch else y.stretch)
     go y true h = h
     go y false h = refl
 
@@ -47,8 +47,8 @@ as_burst t c s arrivals sizes departures answers e =
     b : Stretch
     b = stretch_of s departures answers 0 0
 
-    go : (f : Bool) → (if not f then tallying_of (stopped b 2) t else slots_tallied arrivals c sizes (tallying_of b t)).stretch
-        ≡ (if not f then stopped b 2 else slots arrivals sizes b)
+    go : (f : Bool) → (when not f then tallying_of (stopped b 2) t else slots_tallied arrivals c sizes (tallying_of b t)).stretch
+        ≡ (when not f then stopped b 2 else slots arrivals sizes b)
     go true = slots_as arrivals c sizes (tallying_of b t)
     go false = refl
 
@@ -72,7 +72,7 @@ slots_add arrivals c (size ∷ sizes) b t f e s n =
     is = next_stretch arrivals c size b t y refl
 
     after : Tallying
-    after = if y.stretch.number =? 0 then slots_tallied arrivals c sizes y else y
+    after = when y.stretch.number =? 0 then slots_tallied arrivals c sizes y else y
 
     stops : (number : ℕ) → (one_slot arrivals size b).number ≡ number → number ≢ 0 → AddsUp after.tally
     stops number q ne =
@@ -102,7 +102,7 @@ still_fits t c s arrivals sizes departures answers n e = rw e (go (fit_of s arri
     b = stretch_of s departures answers 0 0
 
     go : (f : Bool) → fit_of s arrivals sizes departures answers ≡ f
-        → AddsUp (if not f then tallying_of (stopped b 2) t else slots_tallied arrivals c sizes (tallying_of b t)).tally
+        → AddsUp (when not f then tallying_of (stopped b 2) t else slots_tallied arrivals c sizes (tallying_of b t)).tally
     go true h =
         let g = stands t.bins t.cells s.ctl (length s.arrived) c e in
         let p = fit_burst s (length arrivals) (length departures) (length answers) (length sizes) g.ranges h in

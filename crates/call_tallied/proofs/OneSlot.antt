@@ -8,7 +8,7 @@ use lib.ListN.{length, get_or, take, drop}
 use native.Mathlib.Nat.{add-sub_cancel_left}
 use lib.Seq.{drop-cons, drop-drop}
 use borrow.Author.Tests.{eq-eqb, le-leb}
-use Rattle.meaning.specs.Plain.{if◌then◌else◌, ◌=?◌}
+use Rattle.meaning.specs.Plain.{when◌then◌else◌, ◌=?◌}
 use Rattle.meaning.specs.Numbers.{ranges_hold}
 use Rattle.meaning.specs.State.{State}
 use Rattle.meaning.specs.Work.{Work}
@@ -24,7 +24,7 @@ slots_one : (arrivals : List ℕ) (size : ℕ) (b : Stretch) → slots arrivals 
 unfolding slots
 slots_one arrivals size b = go ((one_slot arrivals size b).number =? 0)
   where
-    go : (t : Bool) → (if t then one_slot arrivals size b else one_slot arrivals size b) ≡ one_slot arrivals size b
+    go : (t : Bool) → (when t then one_slot arrivals size b else one_slot arrivals size b) ≡ one_slot arrivals size b
     go true = refl
     go false = refl
 
@@ -39,7 +39,7 @@ done_most arrivals size b = go (size_fits size) (w.answer.number =? 0)
     w : Work
     w = slot b.state (cell_lent arrivals b.done size)
 
-    go : (f t : Bool) → (if not f then stopped b 9 else if not t then stopped b w.answer.number else served b w).done ≤ b.done + 1
+    go : (f t : Bool) → (when not f then stopped b 9 else when not t then stopped b w.answer.number else served b w).done ≤ b.done + 1
     go false t = omega arith
     go true false = omega arith
     go true true = omega arith
@@ -108,8 +108,8 @@ module _ (s : State) (arrivals sizes departures answers : List ℕ) (i : ℕ) (l
   unfolding slot_done
   done_whole w = go (w.answer.number =? 0)
     where
-      go : (t : Bool) → whole (if not t then stopped one w.answer.number else served one w)
-          ≡ (if not t then stopped all w.answer.number else served all w)
+      go : (t : Bool) → whole (when not t then stopped one w.answer.number else served one w)
+          ≡ (when not t then stopped all w.answer.number else served all w)
       go true = serve_whole w
       go false = stop_whole w.answer.number
 
@@ -119,8 +119,8 @@ module _ (s : State) (arrivals sizes departures answers : List ℕ) (i : ℕ) (l
   slot_whole = go (size_fits size) refl
     where
       go : (f : Bool) → size_fits size ≡ f
-          → whole (if not f then stopped one 9 else slot_done one (slot s (cell_lent arrivals₁ 0 size)))
-          ≡ (if not f then stopped all 9 else slot_done all (slot s (cell_lent arrivals i size)))
+          → whole (when not f then stopped one 9 else slot_done one (slot s (cell_lent arrivals₁ 0 size)))
+          ≡ (when not f then stopped all 9 else slot_done all (slot s (cell_lent arrivals i size)))
       go true e =
           done_whole (slot s (cell_lent arrivals₁ 0 size))
           ∙ ap (λ (cell : List ℕ). slot_done all (slot s cell)) (lent_part arrivals i size (size_most size e))

@@ -7,7 +7,7 @@ use mathlib.Core.List.{List}
 use native.Mathlib.Omega.{arith}
 use lib.ListN.{length}
 use borrow.Author.Tests.{eqb-true, eqb-false}
-use Rattle.meaning.specs.Plain.{if◌then◌else◌, ◌=?◌}
+use Rattle.meaning.specs.Plain.{when◌then◌else◌, ◌=?◌}
 use Rattle.meaning.specs.State.{State}
 use Rattle.leaf_refusal.specs.Order.{refuse_of, first_of}
 use Rattle.call_burst.specs.Burst.{Stretch, stretch_of, stopped}
@@ -33,7 +33,7 @@ module _ (t : Tally) (c : ℕ) (s : State) (arrivals sizes departures answers : 
 
   abbrev result : ℕ → Bool → Bool → Tallying
   result n z f =
-      if not z then tallying_of (stopped begun n) t else if not f then tallying_of (stopped begun 2) t else slots_tallied arrivals c sizes (tallying_of begun t)
+      when not z then tallying_of (stopped begun n) t else when not f then tallying_of (stopped begun 2) t else slots_tallied arrivals c sizes (tallying_of begun t)
 
   -- k is the refusal that is worked out
   module _ (k : ℕ) (e : k ≡ first_of judged (refuse_of 2 (not fit))) where
@@ -41,8 +41,8 @@ module _ (t : Tally) (c : ℕ) (s : State) (arrivals sizes departures answers : 
     unfolding burst_tallied stopped
     tallied_refused ne = ap (λ (n : ℕ). tallying_of (stretch_of s departures answers n 0) t) e ∙ go (judged =? 0) fit (λ z. ne (e ∙ z))
       where
-        go : (z f : Bool) → ((if z then refuse_of 2 (not f) else judged) ≡ 0 → ⊥)
-            → tallying_of (stretch_of s departures answers (if z then refuse_of 2 (not f) else judged) 0) t ≡ result judged z f
+        go : (z f : Bool) → ((when z then refuse_of 2 (not f) else judged) ≡ 0 → ⊥)
+            → tallying_of (stretch_of s departures answers (when z then refuse_of 2 (not f) else judged) 0) t ≡ result judged z f
         go false f n = refl
         go true true n = absurd (n refl)
         go true false n = refl
@@ -51,7 +51,7 @@ module _ (t : Tally) (c : ℕ) (s : State) (arrivals sizes departures answers : 
       both : (judged ≡ 0) × (fit ≡ true)
       both = go (judged =? 0) fit refl (sym e ∙ none)
         where
-          go : (z f : Bool) → (judged =? 0) ≡ z → (if z then refuse_of 2 (not f) else judged) ≡ 0 → (judged ≡ 0) × (f ≡ true)
+          go : (z f : Bool) → (judged =? 0) ≡ z → (when z then refuse_of 2 (not f) else judged) ≡ 0 → (judged ≡ 0) × (f ≡ true)
           go true true h n = (eqb-true judged 0 h, refl)
           go true false h n = absurd (omega (arith, n))
           go false f h n = absurd (eqb-false judged 0 h n)

@@ -10,7 +10,7 @@ use lib.ListN.{length, get_or, drop, drop_of_length-le}
 use lib.Seq.{drop-cons}
 use borrow.Author.Tests.{eq-eqb, ne_eqb, eqb-false}
 use Rattle.meaning.specs.declared.Record.{Record}
-use Rattle.meaning.specs.Plain.{if◌then◌else◌, ◌=?◌}
+use Rattle.meaning.specs.Plain.{when◌then◌else◌, ◌=?◌}
 use Rattle.meaning.specs.Work.{Work}
 use Rattle.meaning.specs.Slot.{slot}
 use Rattle.call_burst.specs.Burst.{Stretch, size_fits, cell_lent, served, stopped, slot_done, one_slot}
@@ -39,8 +39,8 @@ served_is arrivals size b = go (size_fits size) (w.answer.number =? 0) refl
     w = slot b.state (cell_lent arrivals b.done size)
 
     go : (f t : Bool) → (w.answer.number =? 0) ≡ t
-        → (if not f then stopped b 9 else if not t then stopped b w.answer.number else served b w).number ≡ 0
-        → (if not f then stopped b 9 else if not t then stopped b w.answer.number else served b w) ≡ served b w
+        → (when not f then stopped b 9 else when not t then stopped b w.answer.number else served b w).number ≡ 0
+        → (when not f then stopped b 9 else when not t then stopped b w.answer.number else served b w) ≡ served b w
     go false t e h = absurd (omega (arith, h))
     go true false e h = absurd (eqb-false w.answer.number 0 e h)
     go true true e h = refl
@@ -83,7 +83,7 @@ tallied_stretch : (arrivals : List ℕ) (c size : ℕ) (b : Stretch) (t : Tally)
 unfolding one_tallied
 tallied_stretch arrivals c size b t = go ((one_slot arrivals size b).number =? 0)
   where
-    go : (f : Bool) → (if f then tallying_of (one_slot arrivals size b) (takes_slot c t (slot b.state (cell_lent arrivals b.done size))) else tallying_of (one_slot arrivals size b) t).stretch
+    go : (f : Bool) → (when f then tallying_of (one_slot arrivals size b) (takes_slot c t (slot b.state (cell_lent arrivals b.done size))) else tallying_of (one_slot arrivals size b) t).stretch
         ≡ one_slot arrivals size b
     go true = refl
     go false = refl
@@ -138,7 +138,7 @@ module _ (arrivals : List ℕ) (c size : ℕ) (b : Stretch) (t : Tally) (y : Tal
 -- ---- the sizes from the i-th on
 module _ (arrivals : List ℕ) (c : ℕ) (sizes : List ℕ) (i : ℕ) (low : i < length sizes) (b y : Tallying) (e : y ≡ one_tallied arrivals c (get_or sizes i 0) b) where
   abbrev rest : Tallying → Tallying
-  rest x = if x.stretch.number =? 0 then slots_tallied arrivals c (drop (suc i) sizes) x else x
+  rest x = when x.stretch.number =? 0 then slots_tallied arrivals c (drop (suc i) sizes) x else x
 
   slots_rest : slots_tallied arrivals c (drop i sizes) b ≡ rest y
   unfolding slots_tallied

@@ -2,12 +2,12 @@
 -- slot with it, so a tally after the burst would come too late.
 --
 --   Tallying         == how far such a burst has come: the burst, and the tally beside it
---   takesSlot c t w  == the tally t of connection c after the served slot w: the call after a slot, as tally_slot has it
---   oneTallied       == one slot, as a burst has it; where it was served, the tally takes what it answered
---   slotsTallied     == slot after slot, as a burst has them
---   burstTallied     == the call
+--   takes_slot c t w  == the tally t of connection c after the served slot w: the call after a slot, as tally_slot has it
+--   one_tallied       == one slot, as a burst has it; where it was served, the tally takes what it answered
+--   slots_tallied     == slot after slot, as a burst has them
+--   burst_tallied     == the call
 use Rattle.std.specs.Prelude.{ℕ, not, List, [], ◌∷◌, length}
-use Rattle.meaning.specs.Plain.{if◌then◌else◌, ◌=?◌}
+use Rattle.meaning.specs.Plain.{when◌then◌else◌, ◌=?◌}
 use Rattle.meaning.specs.State.{State}
 use Rattle.meaning.specs.Work.{Work}
 use Rattle.meaning.specs.Slot.{slot}
@@ -30,14 +30,14 @@ unfoldable pub one_tallied : List ℕ → ℕ → ℕ → Tallying → Tallying
 one_tallied arrivals c size b =
     let before = b.stretch in
     let after = one_slot arrivals size before in
-    if after.number =? 0 then tallying_of after (takes_slot c b.tally (slot before.state (cell_lent arrivals before.done size)))
+    when after.number =? 0 then tallying_of after (takes_slot c b.tally (slot before.state (cell_lent arrivals before.done size)))
     else tallying_of after b.tally
 
 unfoldable pub slots_tallied : List ℕ → ℕ → List ℕ → Tallying → Tallying
 slots_tallied arrivals c [] b = b
 slots_tallied arrivals c (size ∷ sizes) b =
     let after = one_tallied arrivals c size b in
-    if after.stretch.number =? 0 then slots_tallied arrivals c sizes after else after
+    when after.stretch.number =? 0 then slots_tallied arrivals c sizes after else after
 
 -- The tally is judged once, before anything else: 1, 2, 4 and 3 of tally_slot as in a slot in which nothing leaves. Then the burst's own
 -- 2. A refused call changes nothing.
@@ -47,6 +47,6 @@ burst_tallied t c s arrivals sizes departures answers =
     let number = standing t.bins t.cells s.ctl (length s.arrived) c in
     let fit = lengths_fit s.ctl.n s.ctl.v (length s.cells) (length s.links) (length s.calendar) (length s.words)
     (length s.bits) (length s.arrived) (length arrivals) (length sizes) (length departures) (length answers) in
-    if not (number =? 0) then tallying_of (stopped begun number) t
-    else if not fit then tallying_of (stopped begun 2) t
+    when not (number =? 0) then tallying_of (stopped begun number) t
+    else when not fit then tallying_of (stopped begun 2) t
     else slots_tallied arrivals c sizes (tallying_of begun t)

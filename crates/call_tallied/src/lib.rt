@@ -1,5 +1,7 @@
 // A burst that tallies the delays of one connection: slot after slot in one call, and after each served slot the tally takes what it
 // answered. Its bins are added up once, before the first slot.
+#![tactic(auto)]
+
 ghost use Rattle.std.specs.Prelude.{◌≡◌, not, ◌<◌, length, get_or};
 ghost use Rattle.meaning.specs.Lent.{before, after};
 ghost use Rattle.leaf_refusal.specs.Order.{refuse_of, first_of};
@@ -17,14 +19,14 @@ use meaning::Record;
 
 // What such a burst gives back: how the burst ended, and the tally.
 #[repr(C)]
-#[derive(Drop)]
+#[derive(Clone, Copy)]
 pub struct BurstTallied {
     pub end: BurstEnd,
     pub tally: Tally,
 }
 
 // How far the burst has come, with the number of cells of the tally, whose bins are lent.
-#[derive(Drop)]
+#[derive(Clone, Copy)]
 struct Ran {
     end: BurstEnd,
     sent: u64,

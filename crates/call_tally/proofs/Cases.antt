@@ -2,7 +2,7 @@
 use Rattle.std.proofs.Common.{◌≡◌, ℕ, suc, ◌+◌, ◌*◌, ◌/◌, ◌^◌, ◌<◌, ◌≤◌, Bool, true, false, not, ◌&&◌, ◌||◌, List, [], ◌∷◌, length, get_or, drop, sym, refl, ap, ◌∙◌, arith, drop-cons, ltb-true, eq-eqb, ne_eqb, eqb-true, le-leb, leb-true}
 use native.Mathlib.Decide.{dec_lt}
 use borrow.Author.Tests.{eqb-false, lt-leb}
-use Rattle.meaning.specs.Plain.{if◌then◌else◌, ◌<?◌, ◌≤?◌, ◌=?◌}
+use Rattle.meaning.specs.Plain.{when◌then◌else◌, ◌<?◌, ◌≤?◌, ◌=?◌}
 use Rattle.meaning.specs.Numbers.{ranges_hold}
 use Rattle.meaning.specs.declared.Record.{Record}
 use Rattle.call_tally.specs.Tally.{most_cells, sum, tally_fits, is_connection, space_fits, tally_refusal, lowest, share_fits}
@@ -52,12 +52,12 @@ module _ (need : ℕ) (bins : List ℕ) where
   lowest_next i s h r = rw (drop-cons bins i 0 h, lt-leb _ _ r) refl
 
 -- ── whether the bins add up: the sum w on 64 bits, what lies over all bins a, and 1 where w is not the number ──
-pub one_low : (b : Bool) → (if b then 1 else 0) ≤ 1
+pub one_low : (b : Bool) → (when b then 1 else 0) ≤ 1
 one_low true = omega arith
 one_low false = omega arith
 
 module _ (bins : List ℕ) (cells w a : ℕ) (low : cells ≤ most_cells) (o : Over 64 (sum bins) w a) where
-  small : a < 2 ^ 33 → (b : Bool) → (w =? cells) ≡ b → (a / 2 ^ 33 + (if not b then 1 else 0) =? 0) ≡ tally_fits bins cells
+  small : a < 2 ^ 33 → (b : Bool) → (w =? cells) ≡ b → (a / 2 ^ 33 + (when not b then 1 else 0) =? 0) ≡ tally_fits bins cells
   small h true e =
       eq-eqb (a / 2 ^ 33 + 0) 0 (omega (arith, h))
       ∙ sym (fits_good bins cells low (sym (not_wrapped (sum bins) w a o h) ∙ eqb-true w cells e))
@@ -71,17 +71,17 @@ module _ (bins : List ℕ) (cells w a : ℕ) (low : cells ≤ most_cells) (o : O
       ne_eqb (a / 2 ^ 33 + x) 0 (λ z. omega (arith, z, h))
       ∙ sym (fits_bad bins cells (λ z. omega (arith, z, h, low, o.within)))
 
-  pub judged : (a / 2 ^ 33 + (if not (w =? cells) then 1 else 0) =? 0) ≡ tally_fits bins cells
+  pub judged : (a / 2 ^ 33 + (when not (w =? cells) then 1 else 0) =? 0) ≡ tally_fits bins cells
   judged = go (dec_lt a (2 ^ 33))
     where
-      go : Dec (a < 2 ^ 33) → (a / 2 ^ 33 + (if not (w =? cells) then 1 else 0) =? 0) ≡ tally_fits bins cells
+      go : Dec (a < 2 ^ 33) → (a / 2 ^ 33 + (when not (w =? cells) then 1 else 0) =? 0) ≡ tally_fits bins cells
       go (yes h) = small h (w =? cells) refl
-      go (no n) = large (omega (arith, n)) (if not (w =? cells) then 1 else 0)
+      go (no n) = large (omega (arith, n)) (when not (w =? cells) then 1 else 0)
 
 -- ── the order of the refusals ──
 -- what none of 1, 2, 4 and 3 means
 four : (a b d e : Bool)
-    → ◌≡◌ {A = ℕ} (if not a then 1 else if not b then 2 else if not d then 4 else if not e then 3 else 0) 0
+    → ◌≡◌ {A = ℕ} (when not a then 1 else when not b then 2 else when not d then 4 else when not e then 3 else 0) 0
     → (b ≡ true) × (e ≡ true)
 four true true true true h = (refl, refl)
 four true true true false h = absurd (omega (arith, h))

@@ -3,12 +3,12 @@
 use Rattle.std.proofs.Common.{◌≡◌, ℕ, zero, suc, ◌+◌, ◌-◌, ◌<◌, ◌≤◌, Bool, true, false, List, [], ◌∷◌, length, get_or, sym, refl, ap, ◌∙◌, ap₂, zero-le, arith, le-ltb, lt-ltb, eq-eqb, ne_eqb, le-leb}
 use native.Mathlib.Decide.{dec_lt, ℕ_discrete}
 use borrow.Author.Tests.{lt-leb}
-use Rattle.meaning.specs.Plain.{if◌then◌else◌, ◌<?◌, ◌≤?◌, ◌=?◌}
+use Rattle.meaning.specs.Plain.{when◌then◌else◌, ◌<?◌, ◌≤?◌, ◌=?◌}
 use Rattle.call_tally.specs.Tally.{bin_of}
 use Rattle.call_tally.specs.Delays.{cut, how_many, is_it, below, at_most, Ascending, SameNumbers}
 
 abbrev pub one_if : Bool → ℕ
-one_if b = if b then 1 else 0
+one_if b = when b then 1 else 0
 
 -- ── tests that agree ──
 pub count_same : (p q : ℕ → Bool) → ((x : ℕ) → p x ≡ q x) → (l : List ℕ) → how_many p l ≡ how_many q l

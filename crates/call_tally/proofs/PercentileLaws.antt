@@ -1,6 +1,6 @@
 -- The laws D4, D5 and D6 of the percentile: document 02's words, then by counting delays, then by sorting them.
 use Rattle.std.proofs.Common.{◌≡◌, ℕ, zero, suc, ◌+◌, ◌-◌, ◌*◌, ◌/◌, ◌<◌, ◌≤◌, Bool, true, false, List, [], ◌∷◌, length, get_or, take, sym, refl, ap, ◌∙◌, not-suc-le-zero, mul-le-mul_right, mul-le-mul, add-one, arith, leb-false, leb-true}
-use Rattle.meaning.specs.Plain.{if◌then◌else◌, ◌≤?◌}
+use Rattle.meaning.specs.Plain.{when◌then◌else◌, ◌≤?◌}
 use Rattle.call_tally.specs.declared.Tally.{Tally}
 use Rattle.call_tally.specs.Tally.{bins_in, most_cells, sum, tally_fits, share_fits, lowest, report_of, percentile_of}
 use Rattle.call_tally.specs.Delays.{no_cells, tally_all, cut, how_many, is_it, below, at_most, rank}
@@ -36,7 +36,7 @@ lowest_is need s (b ∷ bs) n h = go (lowest_is need (s + b) bs) (need ≤? 1000
 
     go : (1 ≤ length bs → need ≤ 1000 * (s + b + sum bs) → Lowest need (s + b) bs (lowest need (s + b) bs))
         → (t : Bool) → (need ≤? 1000 * (s + b)) ≡ t
-        → Lowest need s (b ∷ bs) (if t then 0 else suc (lowest need (s + b) bs))
+        → Lowest need s (b ∷ bs) (when t then 0 else suc (lowest need (s + b) bs))
     go ih true e =
         record {
           within = omega arith;

@@ -1,7 +1,7 @@
 -- A tally that stands, because it was judged before a burst: what a slot's departure then makes of it, and that it stands afterwards.
 use Rattle.std.proofs.Common.{◌≡◌, ℕ, ◌+◌, ◌<◌, ◌≤◌, Bool, true, false, not, ◌&&◌, List, length, get_or, sym, refl, ◌∙◌, subst, arith, le-ltb, lt-ltb, eq-eqb, ne_eqb}
 use native.Mathlib.Decide.{dec_lt, ℕ_discrete}
-use Rattle.meaning.specs.Plain.{if◌then◌else◌, ◌=?◌}
+use Rattle.meaning.specs.Plain.{when◌then◌else◌, ◌=?◌}
 use Rattle.meaning.specs.Numbers.{empty, ranges_hold, unused}
 use Rattle.meaning.specs.Bucket.{elapsed}
 use Rattle.meaning.specs.declared.Record.{Record}
@@ -20,7 +20,7 @@ pub record Stands (bins : List ℕ) (cells : ℕ) (r : Record) (arrived c : ℕ)
   pub fits : tally_fits bins cells ≡ true
 
 four : (a b d e : Bool)
-    → ◌≡◌ {A = ℕ} (if not a then 1 else if not b then 2 else if not d then 4 else if not e then 3 else 0) 0
+    → ◌≡◌ {A = ℕ} (when not a then 1 else when not b then 2 else when not d then 4 else when not e then 3 else 0) 0
     → (a ≡ true) × (b ≡ true) × (d ≡ true) × (e ≡ true)
 four true true true true h = (refl, refl, refl, refl)
 four true true true false h = absurd (omega (arith, h))

@@ -3,7 +3,7 @@
 use Rattle.std.proofs.Common.{◌≡◌, ℕ, zero, suc, ◌+◌, ◌^◌, ◌<◌, ◌≤◌, Bool, true, false, not, List, length, get_or, set, sym, refl, ap, ◌∙◌, ap₂, add-zero, arith, ne_eqb}
 use lib.Seq.{set-get_or}
 use borrow.Author.Tests.{eqb-false}
-use Rattle.meaning.specs.Plain.{if◌then◌else◌, ◌=?◌}
+use Rattle.meaning.specs.Plain.{when◌then◌else◌, ◌=?◌}
 use Rattle.meaning.specs.Bucket.{elapsed}
 use Rattle.meaning.specs.declared.Record.{Record}
 use Rattle.call_tally.specs.declared.Step.{Step}
@@ -39,9 +39,9 @@ module _ (t : Tally) (r : Record) (arrived : List ℕ) (c x o : ℕ) where
     where
       at : ℕ → Bool → Bool → Step
       at k b full =
-          if not (k =? 0) then step_to k 0 0
-          else if not b then step_to 0 0 0
-          else if full then step_to 0 0 0
+          when not (k =? 0) then step_to k 0 0
+          else when not b then step_to 0 0 0
+          else when full then step_to 0 0 0
           else step_to 0 (bin_of (elapsed r.t (get_or arrived x 0))) 1
 
       go : (k : ℕ) → tally_refusal t.bins t.cells r (length arrived) c x o ≡ k
@@ -67,9 +67,9 @@ module _ (t : Tally) (r : Record) (arrived : List ℕ) (c x o : ℕ) where
       d = elapsed r.t (get_or arrived x 0)
 
       go : (z b full : Bool)
-          → moved t (if not z then step_to number 0 0 else if not b then step_to 0 0 0 else if full then step_to 0 0 0 else step_to 0 (bin_of d) 1)
-          ≡ (if not z then tallied_of number t else if not b then tallied_of 0 t
-          else tallied_of 0 (if full then t else tally_of (set t.bins (bin_of d) (get_or t.bins (bin_of d) 0 + 1)) (t.cells + 1)))
+          → moved t (when not z then step_to number 0 0 else when not b then step_to 0 0 0 else when full then step_to 0 0 0 else step_to 0 (bin_of d) 1)
+          ≡ (when not z then tallied_of number t else when not b then tallied_of 0 t
+          else tallied_of 0 (when full then t else tally_of (set t.bins (bin_of d) (get_or t.bins (bin_of d) 0 + 1)) (t.cells + 1)))
       go false b full = stays_so t number
       go true false full = stays_so t 0
       go true true true = stays_so t 0

@@ -2,7 +2,7 @@
 use Rattle.std.proofs.Common.{◌≡◌, ℕ, zero, suc, ◌+◌, ◌<◌, ◌≤◌, min, Bool, true, false, not, List, [], ◌∷◌, length, get_or, set, replicate, sym, refl, ap, ◌∙◌, subst, arith, length-set, get_or-set_other, get_or-set_same, eq-eqb, ne_eqb, eqb-true, le-leb}
 use native.Mathlib.Decide.{dec_lt, ℕ_discrete}
 use borrow.Author.Tests.{eqb-false, lt-leb}
-use Rattle.meaning.specs.Plain.{if◌then◌else◌, ◌≤?◌, ◌=?◌}
+use Rattle.meaning.specs.Plain.{when◌then◌else◌, ◌≤?◌, ◌=?◌}
 use Rattle.meaning.specs.Bucket.{elapsed}
 use Rattle.meaning.specs.declared.Record.{Record}
 use Rattle.call_tally.specs.declared.Tally.{Tally}
@@ -48,8 +48,8 @@ stays_fit t r arrived c x o n = go (tally_refusal t.bins t.cells r (length arriv
   where
     after : ℕ → Bool → Tallied
     after k b =
-        if not (k =? 0) then tallied_of k t
-        else if not b then tallied_of 0 t
+        when not (k =? 0) then tallied_of k t
+        else when not b then tallied_of 0 t
         else tallied_of 0 (tally_one t (elapsed r.t (get_or arrived x 0)))
 
     go : (k : ℕ) → tally_refusal t.bins t.cells r (length arrived) c x o ≡ k → (after k (o =? c)).number ≡ 0

@@ -1,15 +1,15 @@
 -- Delays tallied one after the other, and what can be counted by hand in a list of them.
 --
---   noCells            == the empty tally
---   tallyAll t ds      == the tally t after cells that waited ds
+--   no_cells            == the empty tally
+--   tally_all t ds      == the tally t after cells that waited ds
 --   cut ds             == the delays, those above 63 as 63: the bin of each
---   howMany p l        == how many numbers of l meet the test p
---   at_most b, below b, isIt b, at_least b  == tests of a number
+--   how_many p l        == how many numbers of l meet the test p
+--   at_most b, below b, is_it b, at_least b  == tests of a number
 --   Ascending l        == l is sorted
 --   SameNumbers l k    == each number is in l as often as in k
 --   rank share n       == share × n / 1,000, rounded up: the how-manieth of n sorted delays the percentile is, counted from 1
 use Rattle.std.specs.Prelude.{◌≡◌, ℕ, ◌+◌, ◌*◌, ◌/◌, ◌<◌, ◌≤◌, Bool, List, [], ◌∷◌, map, length, replicate, slice_index}
-use Rattle.meaning.specs.Plain.{if◌then◌else◌, ◌<?◌, ◌≤?◌, ◌=?◌}
+use Rattle.meaning.specs.Plain.{when◌then◌else◌, ◌<?◌, ◌≤?◌, ◌=?◌}
 use Rattle.call_tally.specs.declared.Tally.{Tally}
 use Rattle.call_tally.specs.Tally.{tally_of, bins_in, bin_of, tally_one}
 
@@ -26,7 +26,7 @@ cut (d ∷ ds) = bin_of d ∷ cut ds
 
 unfoldable pub how_many : (ℕ → Bool) → List ℕ → ℕ
 how_many p [] = 0
-how_many p (x ∷ xs) = (if p x then 1 else 0) + how_many p xs
+how_many p (x ∷ xs) = (when p x then 1 else 0) + how_many p xs
 
 abbrev pub is_it : ℕ → ℕ → Bool
 is_it b x = x =? b

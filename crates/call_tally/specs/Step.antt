@@ -1,6 +1,6 @@
 -- How a call of the tally is worked out before the 64 bins are touched: a number to give, a bin, and how many cells more it gets.
 use Rattle.std.specs.Prelude.{ℕ, not, List, length, slice_index}
-use Rattle.meaning.specs.Plain.{if◌then◌else◌, ◌=?◌}
+use Rattle.meaning.specs.Plain.{when◌then◌else◌, ◌=?◌}
 use Rattle.meaning.specs.Bucket.{elapsed}
 use Rattle.meaning.specs.declared.Record.{Record}
 use Rattle.call_tally.specs.declared.Step.{Step}
@@ -13,7 +13,7 @@ step_to number bin more = record { number = number; bin = bin; more = more }
 unfoldable pub step_of : List ℕ → ℕ → Record → List ℕ → ℕ → ℕ → ℕ → Step
 step_of bins cells r arrived c x o =
     let number = tally_refusal bins cells r (length arrived) c x o in
-    if not (number =? 0) then step_to number 0 0
-    else if not (o =? c) then step_to 0 0 0
-    else if cells =? most_cells then step_to 0 0 0
+    when not (number =? 0) then step_to number 0 0
+    else when not (o =? c) then step_to 0 0 0
+    else when cells =? most_cells then step_to 0 0 0
     else step_to 0 (bin_of (elapsed r.t (slice_index arrived x))) 1

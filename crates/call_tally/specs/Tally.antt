@@ -3,16 +3,16 @@
 --   Tally                == 64 bins, and the number of cells beside them
 --   Tallied, Bin         == what the two calls give back: a refusal number, and the tally or a bin
 --   sum bins             == the bins added up
---   tallyFits bins n     == n is a number that a tally can have, and the sum of its bins; else refusal 3
+--   tally_fits bins n     == n is a number that a tally can have, and the sum of its bins; else refusal 3
 --   bin_of d              == the bin of a delay of d slots
---   tallyOne t d         == the tally t after one more cell, which waited d slots
+--   tally_one t d         == the tally t after one more cell, which waited d slots
 --   standing             == the refusal that a tally has before any slot, or 0
---   tallySlot            == the call after a slot
+--   tally_slot            == the call after a slot
 --   lowest need s bins   == the lowest bin at which 1,000 times the running sum reaches need, s being the sum before the first
---   percentileOf         == the call that reports a percentile
+--   percentile_of         == the call that reports a percentile
 -- z is V, c the named connection, x the departing space, o the departing VCI.
 use Rattle.std.specs.Prelude.{ℕ, suc, ◌+◌, ◌*◌, ◌^◌, min, Bool, not, ◌&&◌, ◌||◌, List, [], ◌∷◌, length, slice_index, slice_set}
-use Rattle.meaning.specs.Plain.{if◌then◌else◌, ◌<?◌, ◌≤?◌, ◌=?◌}
+use Rattle.meaning.specs.Plain.{when◌then◌else◌, ◌<?◌, ◌≤?◌, ◌=?◌}
 use Rattle.meaning.specs.Numbers.{empty, ranges_hold, connections_in, unused}
 use Rattle.meaning.specs.Bucket.{elapsed}
 use Rattle.meaning.specs.declared.Record.{Record}
@@ -62,10 +62,10 @@ space_fits N c x o = not (o =? c) || x <? N
 -- 1, 2, 4 and 3, in this order; 0 where none is given
 unfoldable pub tally_refusal : List ℕ → ℕ → Record → ℕ → ℕ → ℕ → ℕ → ℕ
 tally_refusal bins cells r arrived c x o =
-    if not (ranges_hold r.n r.v) then 1
-    else if not (arrived =? r.n) then 2
-    else if not (is_connection r.v c) then 4
-    else if not (space_fits r.n c x o && tally_fits bins cells) then 3
+    when not (ranges_hold r.n r.v) then 1
+    else when not (arrived =? r.n) then 2
+    else when not (is_connection r.v c) then 4
+    else when not (space_fits r.n c x o && tally_fits bins cells) then 3
     else 0
 
 -- the same of a tally as it stands, as in a slot in which nothing leaves
@@ -77,21 +77,21 @@ abbrev pub one_more : List ℕ → ℕ → List ℕ
 one_more bins k = slice_set bins k (slice_index bins k + 1)
 
 unfoldable pub tally_one : Tally → ℕ → Tally
-tally_one t d = if t.cells =? most_cells then t else tally_of (one_more t.bins (bin_of d)) (t.cells + 1)
+tally_one t d = when t.cells =? most_cells then t else tally_of (one_more t.bins (bin_of d)) (t.cells + 1)
 
 -- "For a named VC tally the slots between arrival and departure": t less the arrival slot, on the clock that wraps. Another
 -- connection's departure, or none, changes nothing; in a refusal the tally is as it came.
 unfoldable pub tally_slot : Tally → Record → List ℕ → ℕ → ℕ → ℕ → Tallied
 tally_slot t r arrived c x o =
     let number = tally_refusal t.bins t.cells r (length arrived) c x o in
-    if not (number =? 0) then tallied_of number t
-    else if not (o =? c) then tallied_of 0 t
+    when not (number =? 0) then tallied_of number t
+    else when not (o =? c) then tallied_of 0 t
     else tallied_of 0 (tally_one t (elapsed r.t (slice_index arrived x)))
 
 -- "the lowest bin at which 1,000 times the running sum is at least the asked share times the cells sent"
 unfoldable pub lowest : ℕ → ℕ → List ℕ → ℕ
 lowest need s [] = 0
-lowest need s (b ∷ bs) = if need ≤? 1000 * (s + b) then 0 else suc (lowest need (s + b) bs)
+lowest need s (b ∷ bs) = when need ≤? 1000 * (s + b) then 0 else suc (lowest need (s + b) bs)
 
 -- "15, share outside 1 to 1,000, or no cell sent"
 unfoldable pub share_fits : ℕ → ℕ → Bool
@@ -99,6 +99,6 @@ share_fits share cells = 1 ≤? share && share ≤? 1000 && 1 ≤? cells
 
 unfoldable pub percentile_of : Tally → ℕ → Bin
 percentile_of t share =
-    if not (tally_fits t.bins t.cells) then report_of 3 0
-    else if not (share_fits share t.cells) then report_of 15 0
+    when not (tally_fits t.bins t.cells) then report_of 3 0
+    else when not (share_fits share t.cells) then report_of 15 0
     else report_of 0 (lowest (share * t.cells) 0 t.bins)

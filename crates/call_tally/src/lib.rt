@@ -1,7 +1,9 @@
 // The delay summary of one connection: 64 bins and the number of cells, by value in and out, and the percentile that they give. It
 // is handed what a slot has answered, and changes nothing of the policer.
+#![tactic(auto)]
+
 ghost use Rattle.std.specs.Prelude.{◌≡◌, ◌+◌, ◌*◌, ◌%◌, ◌^◌, ◌<◌, ◌≤◌, true, length, slice_index, slice_set};
-ghost use Rattle.meaning.specs.Plain.{if◌then◌else◌};
+ghost use Rattle.meaning.specs.Plain.{when◌then◌else◌};
 ghost use Rattle.meaning.specs.Bucket.{elapsed};
 ghost use Rattle.call_tally.specs.Step.{step_of};
 ghost use Rattle.call_tally.specs.Tally.{bin_of, sum, most_cells, tally_fits, is_connection, space_fits, tally_refusal, standing};
@@ -12,27 +14,27 @@ use meaning::{PATHS, Record};
 
 // How many cells waited 0, 1, .. 62 slots, how many waited 63 or more, and how many there were.
 #[repr(C)]
-#[derive(Drop)]
+#[derive(Clone, Copy)]
 pub struct Tally {
     pub bins: [u64; 64],
     pub cells: u64,
 }
 
 #[repr(C)]
-#[derive(Drop)]
+#[derive(Clone, Copy)]
 pub struct Tallied {
     pub number: u16,
     pub tally: Tally,
 }
 
 #[repr(C)]
-#[derive(Drop)]
+#[derive(Clone, Copy)]
 pub struct Bin {
     pub number: u16,
     pub bin: u16,
 }
 
-#[derive(Drop)]
+#[derive(Clone, Copy)]
 struct Step {
     number: u16,
     bin: usize,
@@ -40,7 +42,7 @@ struct Step {
 }
 
 // All bins added, on 64 bits that wrap, and all bins laid over each other: the second says whether the first can have wrapped.
-#[derive(Drop)]
+#[derive(Clone, Copy)]
 struct Total {
     sum: u64,
     any: u64,
@@ -63,7 +65,7 @@ fn add_all(bins: &[u64; 64]) -> Total
 }
 
 fn one_if(given: bool) -> u64
-    ensures { result ≡ (if given then 1 else 0) }
+    ensures { result ≡ (when given then 1 else 0) }
 {
     if given { 1 } else { 0 }
 }

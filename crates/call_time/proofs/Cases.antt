@@ -11,7 +11,7 @@ use native.Mathlib.Nat.{lt_of_lt_of_le}
 use native.Mathlib.Omega.{arith}
 use lib.Pow.{shl_lt, pow_mono}
 use borrow.Author.Tests.{ltb-true, leb-true, lt-ltb, le-ltb, le-leb, eq-eqb, ne_eqb}
-use Rattle.meaning.specs.Plain.{if◌then◌else◌, ◌<?◌, ◌≤?◌}
+use Rattle.meaning.specs.Plain.{when◌then◌else◌, ◌<?◌, ◌≤?◌}
 use Rattle.meaning.specs.Numbers.{most_n, slot_numbers, accepted, excess}
 use Rattle.meaning.specs.Bucket.{bucket_of, obeys_rules}
 use Rattle.leaf_refusal.specs.Order.{refuse_of, first_of}
@@ -31,7 +31,7 @@ in_turn s N m F C a = go (1 ≤? N && N ≤? most_n) (obeys_rules N (bucket_of m
   where
     go : (x y u w : Bool)
         → ◌≡◌ {A = ℕ} (first_of (first_of (refuse_of 1 (not x)) (refuse_of 6 (not y))) (first_of (refuse_of 3 (not u)) (refuse_of 12 (not w))))
-        (if not x then 1 else if not y then 6 else if not u then 3 else if not w then 12 else 0)
+        (when not x then 1 else when not y then 6 else when not u then 3 else when not w then 12 else 0)
     go false y u w = refl
     go true false u w = refl
     go true true false w = refl
@@ -109,7 +109,7 @@ good_is s N m F C a =
   where
     go : (x y u w : Bool) → (1 ≤? N && N ≤? most_n) ≡ x → obeys_rules N (bucket_of m F C 0) ≡ y → stored_fits s ≡ u
         → in_order s a ≡ w
-        → ◌≡◌ {A = ℕ} (if not x then 1 else if not y then 6 else if not u then 3 else if not w then 12 else 0) 0
+        → ◌≡◌ {A = ℕ} (when not x then 1 else when not y then 6 else when not u then 3 else when not w then 12 else 0) 0
         → Good s N m F C a
     go false y u w ex ey eu ew e = absurd (omega (arith, e))
     go true false u w ex ey eu ew e = absurd (omega (arith, e))

@@ -10,7 +10,7 @@ use native.Mathlib.Decide.{ℕ_discrete}
 use lib.Pow.{pow_mono, pow_pos, split}
 use borrow.Author.Tests.{ltb-true, ltb-false, le-ltb, eqb-true}
 use lib.IntN.{pos, sub_ℕ}
-use Rattle.meaning.specs.Plain.{if◌then◌else◌, ◌<?◌, ◌≤?◌, ◌=?◌}
+use Rattle.meaning.specs.Plain.{when◌then◌else◌, ◌<?◌, ◌≤?◌, ◌=?◌}
 use Rattle.meaning.specs.Numbers.{most_n, slot_numbers, accepted, excess}
 use Rattle.meaning.specs.Bucket.{bucket_of, obeys_rules}
 use Rattle.leaf_bucket.proofs.Rules.{Obeys, rules_facts}
@@ -29,12 +29,12 @@ number_is s N m F C a = go (refusal_of s N m F C a) (refusal_of s N m F C a =? 0
     now : ℕ
     now = a * 2 ^ m
 
-    ruled : (b : Bool) (x y : Timed) → x.number ≡ 0 → y.number ≡ 0 → (if b then x else y).number ≡ 0
+    ruled : (b : Bool) (x y : Timed) → x.number ≡ 0 → y.number ≡ 0 → (when b then x else y).number ≡ 0
     ruled true x y e f = e
     ruled false x y e f = f
 
     go : (k : ℕ) (b : Bool) → (k =? 0) ≡ b
-        → (if not b then timed_of k 0 (pos 0) 0 s else scheduled F C a (a * 2 ^ m) (expected_at s (a * 2 ^ m))).number ≡ k
+        → (when not b then timed_of k 0 (pos 0) 0 s else scheduled F C a (a * 2 ^ m) (expected_at s (a * 2 ^ m))).number ≡ k
     go k false e = refl
     go k true e =
         ruled (C - F <? expected_at s now - now) _ _ refl refl ∙ sym (eqb-true k 0 e)
@@ -46,7 +46,7 @@ ruled F C a now e = go (C - F <? e - now) refl
   where
     go : (b : Bool) → (C - F <? e - now) ≡ b
         → Ruled F C a now e
-        (if b then timed_of 0 excess (sub_ℕ e now) 0 (tat_of e a true)
+        (when b then timed_of 0 excess (sub_ℕ e now) 0 (tat_of e a true)
         else timed_of 0 accepted (sub_ℕ e now) (max now e) (tat_of (max now e + F) a true))
     go true q =
         let k = ltb-true (C - F) (e - now) q in
@@ -97,7 +97,7 @@ fits_at s N m F C a e g low = go (C - F <? e - a * 2 ^ m) refl
     o = rules_facts N (bucket_of m F C 0) g.rules
 
     go : (b : Bool) → (C - F <? e - a * 2 ^ m) ≡ b
-        → Fits (if b then timed_of 0 excess (sub_ℕ e (a * 2 ^ m)) 0 (tat_of e a true)
+        → Fits (when b then timed_of 0 excess (sub_ℕ e (a * 2 ^ m)) 0 (tat_of e a true)
         else timed_of 0 accepted (sub_ℕ e (a * 2 ^ m)) (max (a * 2 ^ m) e) (tat_of (max (a * 2 ^ m) e + F) a true)).tat
     go true q = record { tat_low = low; arrival_low = g.run }
     go false q =
@@ -117,7 +117,7 @@ expected_low : (s : Tat) (N m F C a : ℕ) → Good s N m F C a → expected_at 
 unfolding expected_at too_late
 expected_low s N m F C a g = go s.started refl
   where
-    go : (b : Bool) → s.started ≡ b → (if b then s.tat else a * 2 ^ m) < 2 ^ 48
+    go : (b : Bool) → s.started ≡ b → (when b then s.tat else a * 2 ^ m) < 2 ^ 48
     go true q = (g.stored q).0
     go false q = omega (arith, now_low a m g.run (rules_facts N (bucket_of m F C 0) g.rules).m_low)
 
@@ -137,7 +137,7 @@ unfolding refusal_of
 other_number s N m F C a f = rw f (go (1 ≤? N && N ≤? most_n) (obeys_rules N (bucket_of m F C 0)) (in_order s a))
   where
     go : (x y w : Bool)
-        → ◌≡◌ {A = ℕ} (if not x then 1 else if not y then 6 else if not w then 12 else 0) 3
+        → ◌≡◌ {A = ℕ} (when not x then 1 else when not y then 6 else when not w then 12 else 0) 3
         → ⊥
     go false y w e = omega (arith, e)
     go true false w e = omega (arith, e)

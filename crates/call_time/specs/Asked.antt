@@ -1,10 +1,10 @@
 -- Calls of the engine, one after the other: each is handed the state that the one before left.
 --
 --   Ask               == what a caller hands over beside the state
---   notStarted        == a state before the first cell: no number in it is read
+--   not_started        == a state before the first cell: no number in it is read
 --   asked s q         == the call
---   askedAll s qs     == the state after the calls qs, in this order
---   answersTo s qs    == what they answered
+--   asked_all s qs     == the state after the calls qs, in this order
+--   answers_to s qs    == what they answered
 use Rattle.std.specs.Prelude.{ℕ, false, List, [], ◌∷◌}
 use Rattle.call_time.specs.declared.Tat.{Tat}
 use Rattle.call_time.specs.declared.Timed.{Timed}

@@ -7,7 +7,7 @@
 --   says N C rows  == what it says: verdict, earliness and due time, from not started on
 use Rattle.std.specs.Prelude.{ℕ, max, Bool, true, false, List, [], ◌∷◌, map, ℤ}
 use Rattle.std.proofs.Math.IntN.{sub_ℕ}
-use Rattle.meaning.specs.Plain.{if◌then◌else◌}
+use Rattle.meaning.specs.Plain.{when◌then◌else◌}
 use Rattle.meaning.specs.Numbers.{accepted, excess}
 use Rattle.call_time.specs.declared.Timed.{Timed}
 use Rattle.call_time.specs.Asked.{ask_of, not_started, answers_to}
@@ -35,9 +35,9 @@ printed [] = []
 printed (p ∷ ps) =
     record {
       number = 0;
-      verdict = if p.conforming then accepted else excess;
+      verdict = when p.conforming then accepted else excess;
       early = sub_ℕ p.tat p.arrival;
-      due = if p.conforming then max p.arrival p.tat else 0;
+      due = when p.conforming then max p.arrival p.tat else 0;
     }
     ∷ printed ps
 

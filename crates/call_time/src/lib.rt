@@ -1,5 +1,7 @@
 // Virtual scheduling as a plain engine: it is handed a TAT and answers cell by cell. It has no memory of its own and knows
 // nothing of the policer. Times are 64 bits wide, so that no slot number wraps.
+#![tactic(auto)]
+
 ghost use Rattle.std.specs.Prelude.{◌≡◌, true, ◌&&◌, ◌*◌, ◌^◌, ◌≤◌, ◌<◌, max};
 ghost use Rattle.std.proofs.Math.IntN.{sub_ℕ};
 ghost use Rattle.meaning.specs.Plain.{◌≤?◌};
@@ -10,7 +12,7 @@ use leaf_refusal::{first, refuse};
 
 // What the engine stores between two cells: TAT in parts of 1/L slot, the previous cell's slot, and whether a cell came yet.
 #[repr(C)]
-#[derive(Drop)]
+#[derive(Clone, Copy)]
 pub struct Tat {
     pub tat: u64,
     pub arrival: u64,
@@ -19,7 +21,7 @@ pub struct Tat {
 
 // What it answers. Earliness has a sign: negative when late.
 #[repr(C)]
-#[derive(Drop)]
+#[derive(Clone, Copy)]
 pub struct Timed {
     pub number: u16,
     pub verdict: u16,

@@ -3,7 +3,7 @@ use Prim.Native.Nat.{ℕ, ◌+◌}
 use mathlib.Core.Path.{◌≡◌, refl, sym, ◌∙◌, ap}
 use mathlib.Core.List.{List}
 use lib.ListN.{length, take, drop}
-use Rattle.meaning.specs.Plain.{if◌then◌else◌, ◌=?◌}
+use Rattle.meaning.specs.Plain.{when◌then◌else◌, ◌=?◌}
 use Rattle.meaning.specs.Line.{Slice, cell_memory, idle_cell, Part, line_part, slice_of, octets_of, line_cell}
 use Rattle.meaning.specs.Promises.{start_of, LinePromise}
 use Rattle.call_line.specs.declared.Place.{Place}
@@ -12,7 +12,7 @@ use Rattle.clurimoon.specs.Places.{place_promise}
 
 -- the slice that a place names: 1 the idle cell, otherwise the cell memory
 abbrev pub slice_at : {A : Type 0} → A → A → Place → A
-slice_at cells idle p = if p.from_idle =? 1 then idle else cells
+slice_at cells idle p = when p.from_idle =? 1 then idle else cells
 
 -- r, which starts at `at`, is the octets at the place p, and it lies there
 pub record LiesAt (cells idle : List ℕ) (at_cells at_idle : ℕ × ℕ) (p : Place) (r : List ℕ) (at : ℕ × ℕ) : Type 0 where
@@ -26,12 +26,12 @@ slice_octets cells idle q = go q.slice
   where
     go : (s : Slice)
         → take q.long (drop q.start (slice_of cells idle s))
-        ≡ take q.long (drop q.start (if slice_number s =? 1 then idle else cells))
+        ≡ take q.long (drop q.start (when slice_number s =? 1 then idle else cells))
     go cell_memory = refl
     go idle_cell = refl
 
 slice_start : (at_cells at_idle : ℕ × ℕ) (s : Slice)
-    → start_of at_cells at_idle s ≡ (if slice_number s =? 1 then at_idle else at_cells)
+    → start_of at_cells at_idle s ≡ (when slice_number s =? 1 then at_idle else at_cells)
 slice_start at_cells at_idle cell_memory = refl
 slice_start at_cells at_idle idle_cell = refl
 

@@ -1,12 +1,14 @@
 // The library as C sees it: each export hands its arguments on to the call behind it and promises the same. A slice
 // passes as a pointer and a length, a struct by value. include/clurimoon.h declares them.
+#![tactic(auto)]
+
 ghost use Rattle.std.specs.Prelude.{◌≡◌, length};
 ghost use Rattle.meaning.specs.Header.{by_vci, by_vpi};
 ghost use Rattle.meaning.specs.Words.{second_of, without_second};
 ghost use Rattle.meaning.specs.Calls.{zeros, asked_of};
 ghost use Rattle.meaning.specs.Next.{wait_for};
 ghost use Rattle.meaning.specs.Promises.{setup_promise, open_promise, close_promise, slot_promise, AuditPromise};
-ghost use Rattle.meaning.specs.Lent.{before, after, set_up_after, served_after};
+ghost use Rattle.meaning.specs.Lent.{before, seen, after, set_up_after, served_after};
 ghost use Rattle.call_burst.specs.Promise.{burst_promise};
 ghost use Rattle.call_time.specs.Schedule.{timed};
 ghost use Rattle.call_tally.specs.Tally.{tally_slot, percentile_of};
@@ -144,7 +146,7 @@ pub extern "C" fn clurimoon_audit(
     bits: &[u64],
     arrived: &[u32],
 ) -> bool
-    ensures { AuditPromise (before ctl cells links calendar words bits arrived) result }
+    ensures { AuditPromise (seen ctl cells links calendar words bits arrived) result }
 {
     call_audit::audit(ctl, cells, links, calendar, words, bits, arrived)
 }

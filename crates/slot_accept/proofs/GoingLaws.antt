@@ -9,7 +9,7 @@ use native.Mathlib.Omega.{arith}
 use borrow.Author.Tests.{eq-eqb, ne_eqb, eqb-true, eqb-false, not-true}
 use lib.ListN.{length, get_or}
 use Rattle.meaning.specs.declared.Record.{Record}
-use Rattle.meaning.specs.Plain.{if◌then◌else◌, ◌<?◌, ◌=?◌, Out, refused, next, ◌andThen◌}
+use Rattle.meaning.specs.Plain.{when◌then◌else◌, ◌<?◌, ◌=?◌, Out, refused, next, ◌and_then◌}
 use Rattle.meaning.specs.Numbers.{most_n, connections_in, empty, waiting_place}
 use Rattle.meaning.specs.Bits.{is_free_space, taken}
 use Rattle.meaning.specs.State.{Ends, state_of}
@@ -73,7 +73,7 @@ module _ (k : Record) (b : Fall) (j : Judged) (a : Seat) (cell cells links calen
   with_says joins e from clears o is low space none held goes = go o.ok (is_free_space (taken bits a.x) o.space) refl refl
     where
       go : (m f : Bool) → o.ok ≡ m → is_free_space (taken bits a.x) o.space ≡ f
-          → Says (if m then (if f then stuck_going else going_as true false o joins from clears) else stuck_going)
+          → Says (when m then (when f then stuck_going else going_as true false o joins from clears) else stuck_going)
       go false f em ef = stuck_says (none em)
       go true true em ef = stuck_says (held ef)
       go true false em ef =
@@ -121,7 +121,7 @@ module _ (k : Record) (b : Fall) (j : Judged) (a : Seat) (cell cells links calen
     unmarked_says e = go (k.outhead =? empty) refl
       where
         go : (m : Bool) → k.outhead =? empty ≡ m
-            → Says (if m then going_as true true stuck_going.off false 0 false else going_with bits a (off_then k j a cells links words false (ends_of 0 k.outtail)) false 0 false)
+            → Says (when m then going_as true true stuck_going.off false 0 false else going_with bits a (off_then k j a cells links words false (ends_of 0 k.outtail)) false 0 false)
         go true q =
             record {
               refuses = λ r. no (sym r);
@@ -139,7 +139,7 @@ module _ (k : Record) (b : Fall) (j : Judged) (a : Seat) (cell cells links calen
   going_says g is = rw is (go (ends_fit k.n entry) (entry.head =? empty) refl refl)
     where
       go : (f m : Bool) → ends_fit k.n entry ≡ f → entry.head =? empty ≡ m
-          → Says (if f then (if m then going_unmarked k j a cells links words bits else going_marked k j a entry cells links words bits) else stuck_going)
+          → Says (when f then (when m then going_unmarked k j a cells links words bits else going_marked k j a entry cells links words bits) else stuck_going)
       go true true ef em = unmarked_says ef (eqb-true _ _ em)
       go true false ef em = marked_says ef (eqb-false _ _ em)
       go false m ef em = stuck_says (seated_unfit k b j a cell cells links calendar words bits arrived entry.head entry.tail refl refl ef)
@@ -161,7 +161,7 @@ then_space k j a cells links words joins e o is ok = ap (λ (y : Off). y.space) 
     u = leaver_after k.n k.v k.kind cells words j.vci a.x x
 
     go : (m n f : Bool)
-        → (let y = if m then none_off else if n then off_as true x u (ends_of empty empty) else if f then off_as true x u (ends_of (get_or l x 0) e.tail) else none_off in
+        → (let y = when m then none_off else when n then off_as true x u (ends_of empty empty) else when f then off_as true x u (ends_of (get_or l x 0) e.tail) else none_off in
         y.ok ≡ true → y.space ≡ x)
     go true n f = λ q. no q
     go false true f = λ q. refl

@@ -6,7 +6,7 @@ use mathlib.Core.Bool.{true, false}
 use mathlib.Core.List.{List}
 use Rattle.meaning.specs.declared.Record.{Record}
 use Rattle.meaning.specs.declared.Served.{Served}
-use Rattle.meaning.specs.Plain.{◌andThen◌}
+use Rattle.meaning.specs.Plain.{◌and_then◌}
 use Rattle.meaning.specs.Numbers.{empty}
 use Rattle.meaning.specs.Bits.{lowest_free}
 use Rattle.meaning.specs.State.{state_of, Ends}

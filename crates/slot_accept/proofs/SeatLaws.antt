@@ -6,7 +6,7 @@ use mathlib.Core.Bool.{Bool, true, false, ◌&&◌}
 use mathlib.Core.List.{List}
 use borrow.Author.Tests.{eq-eqb, ne_eqb}
 use Rattle.meaning.specs.declared.Record.{Record}
-use Rattle.meaning.specs.Plain.{if◌then◌else◌}
+use Rattle.meaning.specs.Plain.{when◌then◌else◌}
 use Rattle.meaning.specs.Bits.{is_free_space, spaces_fit, lowest_free, taken}
 use Rattle.meaning.proofs.BitsLaws.{taken_own, taken_other}
 use Rattle.mem_lists.specs.Spaces.{no_seat, seat_of}
@@ -17,7 +17,7 @@ module _ (k : Record) (D : ℕ) (calendar bits : List ℕ) where
   unfolding seat_now
   none_free e = rw (eq-eqb k.free 0 e) (go (spaces_fit k.n k.free bits))
     where
-      go : (b : Bool) → no_seat ≡ (if b && false then seat_of k.n calendar k.turn D (lowest_free bits) else no_seat)
+      go : (b : Bool) → no_seat ≡ (when b && false then seat_of k.n calendar k.turn D (lowest_free bits) else no_seat)
       go true = refl
       go false = refl
 

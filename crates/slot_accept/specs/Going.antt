@@ -1,17 +1,17 @@
 -- What departs once an accepted cell has its seat, found before anything is written.
 --
---   goingOf k j a ..      == what departs: nothing, or a space, with what becomes of entry T; not ok where the slot is refused
---   goingUnmarked k j a.. == the same where entry T is not marked
---   goingMarked k j a e.. == the same where entry T is marked, with these ends
---   goingWith bits a o .. == o departs, if it may: it is in range, and its space is not free once the cell has taken its own
+--   going_of k j a ..      == what departs: nothing, or a space, with what becomes of entry T; not ok where the slot is refused
+--   going_unmarked k j a.. == the same where entry T is not marked
+--   going_marked k j a e.. == the same where entry T is marked, with these ends
+--   going_with bits a o .. == o departs, if it may: it is in range, and its space is not free once the cell has taken its own
 use Rattle.std.specs.Prelude.{ℕ, ◌+◌, ◌*◌, ◌≤◌, ◌<◌, ◌≡◌, Bool, true, false, not, List, length, get_or}
 use Rattle.meaning.specs.declared.Record.{Record}
-use Rattle.meaning.specs.Plain.{if◌then◌else◌, ◌=?◌}
+use Rattle.meaning.specs.Plain.{when◌then◌else◌, ◌=?◌}
 use Rattle.meaning.specs.Numbers.{most_n, most_v, octets, words_in, bit_words, empty, waiting_place}
 use Rattle.meaning.specs.Bits.{is_free_space, taken}
 use Rattle.meaning.specs.State.{Ends, HasConnection}
 use Rattle.meaning.specs.Lists.{ends_fit, entry_at, write_entry}
-use Rattle.meaning.specs.Lent.{Slice}
+use Rattle.meaning.specs.Lent.{Slice, SliceMut}
 use Rattle.slot_arrive.specs.declared.Judged.{Judged}
 use Rattle.mem_lists.specs.declared.Seat.{Seat}
 use Rattle.mem_lists.specs.declared.Off.{Off}
@@ -37,11 +37,11 @@ off_then k j a cells links words joins entry =
 
 unfoldable pub going_with : List ℕ → Seat → Off → Bool → ℕ → Bool → Departing
 going_with bits a o joins from clears =
-    if o.ok then (if is_free_space (taken bits a.x) o.space then stuck_going else going_as true false o joins from clears) else stuck_going
+    when o.ok then (when is_free_space (taken bits a.x) o.space then stuck_going else going_as true false o joins from clears) else stuck_going
 
 unfoldable pub going_unmarked : Record → Judged → Seat → List ℕ → List ℕ → List ℕ → List ℕ → Departing
 going_unmarked k j a cells links words bits =
-    if k.outhead =? empty then going_as true true no_off false 0 false
+    when k.outhead =? empty then going_as true true no_off false 0 false
     else going_with bits a (off_then k j a cells links words false (ends_of 0 k.outtail)) false 0 false
 
 unfoldable pub going_marked : Record → Judged → Seat → Ends → List ℕ → List ℕ → List ℕ → List ℕ → Departing
@@ -51,8 +51,8 @@ going_marked k j a entry cells links words bits =
 unfoldable pub going_of : Record → Judged → Seat → List ℕ → List ℕ → List ℕ → List ℕ → List ℕ → Departing
 going_of k j a cells links calendar words bits =
     let entry = entry_at (write_entry calendar a.e (seat_ends a)) k.turn in
-    if ends_fit k.n entry
-    then (if entry.head =? empty then going_unmarked k j a cells links words bits else going_marked k j a entry cells links words bits)
+    when ends_fit k.n entry
+    then (when entry.head =? empty then going_unmarked k j a cells links words bits else going_marked k j a entry cells links words bits)
     else stuck_going
 
 -- ---- what is asked of lent memories, for contracts
@@ -61,7 +61,7 @@ MayGo k a cells links words bits =
     (k.n ≤ most_n) × (k.v ≤ most_v) × (length cells.now ≡ octets * k.n) × (length links.now ≡ k.n) × (length words.now ≡ words_in k.v)
     × (length bits.now ≡ bit_words) × (ends_fit k.n (ends_of k.outhead k.outtail) ≡ true) × (a.x < k.n) × (is_free_space bits.now a.x ≡ true)
 
-abbrev pub MayLeave : Record → Off → Bool → Bool → Slice → Slice → Slice → Slice → Type 0
+abbrev pub MayLeave : Record → Off → Bool → Bool → SliceMut → SliceMut → SliceMut → SliceMut → Type 0
 MayLeave k o joins clears links calendar words bits =
     (HasConnection o.vci words.now) × (1 ≤ get_or words.now (waiting_place o.vci) 0) × (2 * k.turn + 2 ≤ length calendar.now)
     × (joins ≡ true → k.outtail < length links.now) × (o.space < most_n) × (length bits.now ≡ bit_words)

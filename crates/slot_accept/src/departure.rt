@@ -92,7 +92,7 @@ fn tail_joined(turn: u16, a: Seat, calendar: &[u16]) -> u16
 
 // What departs once the cell is stored: nothing, or the space and its connection and what is left of the Output List; whether entry T
 // joins that list, from which head, and whether it is emptied. Not ok where the slot is refused.
-#[derive(Drop)]
+#[derive(Clone, Copy)]
 pub struct Departing {
     pub ok: bool,
     pub none: bool,

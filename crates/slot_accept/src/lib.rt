@@ -1,6 +1,8 @@
 // A slot in which a cell is accepted: its seat, then steps 4 and 5, are read and judged, then all is written.
+#![tactic(auto)]
+
 ghost use Rattle.std.specs.Prelude.{◌≡◌, true, ◌-◌, ◌*◌, ◌≤◌, ◌<◌, length};
-ghost use Rattle.meaning.specs.Plain.{◌andThen◌, if◌then◌else◌};
+ghost use Rattle.meaning.specs.Plain.{◌and_then◌, when◌then◌else◌};
 ghost use Rattle.meaning.specs.Numbers.{most_n, per_entry, bit_words};
 ghost use Rattle.meaning.specs.Bits.{given, unmarked};
 ghost use Rattle.meaning.specs.Lists.{empty_list, ends_fit, write_entry};
@@ -35,9 +37,9 @@ fn leave(
 ) -> Served
     requires { MayLeave k o joins clears links calendar words bits }
     ensures links { links.new ≡ linked joins k.outtail from links.old }
-    ensures calendar { calendar.new ≡ (if clears then write_entry calendar.old k.turn empty_list else calendar.old) }
+    ensures calendar { calendar.new ≡ (when clears then write_entry calendar.old k.turn empty_list else calendar.old) }
     ensures words { words.new ≡ one_less o.vci words.old }
-    ensures bits { bits.new ≡ given (if clears then unmarked bits.old k.turn else bits.old) o.space }
+    ensures bits { bits.new ≡ given (when clears then unmarked bits.old k.turn else bits.old) o.space }
     ensures served { (result.ctl ≡ with_ends k k.free (ends_of o.head o.tail)) × (result.answer ≡ answer_of 0 j.verdict j.vci j.d o.space o.vci) }
 {
     slot_arrive::put_less(words, o.vci);

@@ -4,7 +4,7 @@ use mathlib.Core.Path.{◌≡◌, refl, ap}
 use mathlib.Core.Bool.{Bool, true, false}
 use native.Mathlib.Omega.{arith}
 use borrow.Author.Tests.{le-ltb}
-use Rattle.meaning.specs.Plain.{if◌then◌else◌, ◌<?◌, ◌=?◌}
+use Rattle.meaning.specs.Plain.{when◌then◌else◌, ◌<?◌, ◌=?◌}
 use Rattle.meaning.specs.Numbers.{accepted, excess, tagged}
 use Rattle.meaning.specs.Bucket.{with_s, is_excess, fall, fill}
 use Rattle.meaning.specs.Words.{Connection, second_in_range, fallen_to}
@@ -19,10 +19,10 @@ use Rattle.slot_arrive.proofs.BroughtLaws.{now_none}
 -- the tests one after the other, of a connection with its buckets at this slot
 abbrev by_tests : ℕ → ℕ → Connection → Bool → Bool → Bool → Bool → Judged
 by_tests N vci vc over zero above untagged =
-    if over then judged_as true excess vci 0 vc.bucket.S 0 vc.second.S
-    else if zero
-    then (if above
-    then (if untagged then judged_as true excess vci 0 vc.bucket.S 0 vc.second.S
+    when over then judged_as true excess vci 0 vc.bucket.S 0 vc.second.S
+    else when zero
+    then (when above
+    then (when untagged then judged_as true excess vci 0 vc.bucket.S 0 vc.second.S
     else let_in_as N tagged vci vc.bucket vc.waiting vc.second.S)
     else let_in_as N accepted vci vc.bucket vc.waiting (fill vc.second).S)
     else let_in_as N accepted vci vc.bucket vc.waiting vc.second.S
@@ -50,11 +50,11 @@ nothing vc n = omega (arith, n.F_is)
 -- the same of the connection's words and s, as the peak bucket has fallen
 pub both_is : (N t vci clp s : ℕ) (vc : Connection) → s ≡ (connection_now t vc).bucket.S
     → judged_both N t vci clp s vc
-    ≡ (if second_in_range vc.second vc.tag then judged_buckets N vci clp (connection_now t vc) else out_of_range)
+    ≡ (when second_in_range vc.second vc.tag then judged_buckets N vci clp (connection_now t vc) else out_of_range)
 unfolding judged_both judged_second connection_now fallen_to fall
 both_is N t vci clp s vc e =
     rw e
-    (ap (λ (j : Judged). if second_in_range vc.second vc.tag then j else out_of_range)
+    (ap (λ (j : Judged). when second_in_range vc.second vc.tag then j else out_of_range)
     (tests_are N vci clp (connection_now t vc) (is_excess (connection_now t vc).bucket) (clp =? 0) (is_excess (connection_now t vc).second) ((connection_now t vc).tag =? 0)
     refl refl refl refl))
 
@@ -67,9 +67,9 @@ none_is N t vci clp s vc e =
     rw (none_fits vc n, now_none t vc e, never vc n, nothing vc n) (go (is_excess (with_s vc.bucket s)) (clp =? 0))
   where
     go : (over zero : Bool)
-        → (if over then judged_as true excess vci 0 s 0 0 else let_in_as N accepted vci (with_s vc.bucket s) vc.waiting 0)
-        ≡ (if over then judged_as true excess vci 0 s 0 0
-        else if zero then let_in_as N accepted vci (with_s vc.bucket s) vc.waiting 0
+        → (when over then judged_as true excess vci 0 s 0 0 else let_in_as N accepted vci (with_s vc.bucket s) vc.waiting 0)
+        ≡ (when over then judged_as true excess vci 0 s 0 0
+        else when zero then let_in_as N accepted vci (with_s vc.bucket s) vc.waiting 0
         else let_in_as N accepted vci (with_s vc.bucket s) vc.waiting 0)
     go true zero = refl
     go false true = refl

@@ -10,7 +10,7 @@ use native.Mathlib.Nat.{div-lt_iff_lt-mul, mul-le-mul}
 use borrow.Author.Tests.{eq-eqb, ne_eqb}
 use lib.ListN.{length, get_or}
 use lib.Pow.{pow_pos, pow_mono}
-use Rattle.meaning.specs.Plain.{if◌then◌else◌}
+use Rattle.meaning.specs.Plain.{when◌then◌else◌}
 use Rattle.meaning.specs.Numbers.{most_v, kind_in_range, nothing, unknown, words_per_connection}
 use Rattle.meaning.specs.Header.{Header, header_at, clp_in, connection, names_connection}
 use Rattle.meaning.specs.Words.{connection_at, bucket_fits, buckets_fit}
@@ -99,7 +99,7 @@ module _ (N z kind t : ℕ) (words cell : List ℕ) where
       number : number_for z name ≡ numbered kind z h
       number = ap (number_for z) is ∙ number_named z h few (omega (arith, (reads fits).0)) ∙ rw_in
         where
-          rw_in : (if names_connection z h then connection z h else 0) ≡ numbered kind z h
+          rw_in : (when names_connection z h then connection z h else 0) ≡ numbered kind z h
           rw_in = sym (numbered_fits kind z h fits)
 
       go : Dec (name ≡ 0) → (b : Bool) → names_connection z h ≡ b

@@ -1,11 +1,11 @@
 -- What steps 2 and 3 of a slot find in the words of connections, as numbers: nothing is written yet.
 --
---   broughtOf   == step 2: whether the words that are read are in range, whether S and last are to be written, and S of both
+--   brought_of   == step 2: whether the words that are read are in range, whether S and last are to be written, and S of both
 --                  buckets
---   judgedOf    == step 3: whether the words that are read are in range; verdict, VCI and D of the answer; the connection's new S
+--   judged_of    == step 3: whether the words that are read are in range; verdict, VCI and D of the answer; the connection's new S
 --                  and, of a cell that is let in, its new waiting; the second bucket's new S
 use Rattle.std.specs.Prelude.{ℕ, ◌+◌, ◌-◌, ◌%◌, Bool, true, false, not, List, length, get_or, set}
-use Rattle.meaning.specs.Plain.{if◌then◌else◌, ◌<?◌, ◌=?◌}
+use Rattle.meaning.specs.Plain.{when◌then◌else◌, ◌<?◌, ◌=?◌}
 use Rattle.meaning.specs.Numbers.{unused, kind_in_range, nothing, excess, unknown, s_place, last_place, waiting_place, second_splace}
 use Rattle.meaning.specs.Header.{header_at, clp_in, no_user_cell, connection, names_connection}
 use Rattle.leaf_header.specs.Name.{no_name, name_at, number_for}
@@ -25,10 +25,10 @@ connection_now t vc = fallen_to (elapsed t vc.last) t vc
 unfoldable pub brought_of : ℕ → ℕ → ℕ → List ℕ → ℕ → Fall
 brought_of N z t words vci =
     let vc = connection_at words vci in
-    if unused z vci then fall_of true false 0 0
-    else if vc.opened =? 0 then fall_of true false 0 0
-    else if vc.opened =? 1
-    then (if buckets_fit N vc then fall_of true true (connection_now t vc).bucket.S (connection_now t vc).second.S else fall_of false false 0 0)
+    when unused z vci then fall_of true false 0 0
+    else when vc.opened =? 0 then fall_of true false 0 0
+    else when vc.opened =? 1
+    then (when buckets_fit N vc then fall_of true true (connection_now t vc).bucket.S (connection_now t vc).second.S else fall_of false false 0 0)
     else fall_of false false 0 0
 
 abbrev pub judged_as : Bool → ℕ → ℕ → ℕ → ℕ → ℕ → ℕ → Judged
@@ -42,8 +42,8 @@ out_of_range = judged_as false 0 0 0 0 0 0
 unfoldable pub judged_buckets : ℕ → ℕ → ℕ → Connection → Judged
 judged_buckets N vci clp vc =
     let verdict = verdict_on clp vc in
-    if verdict =? excess then judged_as true excess vci 0 vc.bucket.S 0 vc.second.S
-    else if vc.waiting <? N
+    when verdict =? excess then judged_as true excess vci 0 vc.bucket.S 0 vc.second.S
+    else when vc.waiting <? N
     then judged_as true verdict vci (delay vc.bucket) (fill vc.bucket).S (vc.waiting + 1) (second_after clp verdict vc.second).S
     else out_of_range
 
@@ -51,36 +51,36 @@ judged_buckets N vci clp vc =
 unfoldable pub judged_connection : ℕ → ℕ → List ℕ → ℕ → ℕ → ℕ → Judged
 judged_connection N t words vci c clp =
     let vc = connection_at words c in
-    if vc.opened =? 0 then judged_as true unknown vci 0 0 0 0
-    else if vc.opened =? 1
-    then (if buckets_fit N vc then judged_buckets N c clp (connection_now t vc) else out_of_range)
+    when vc.opened =? 0 then judged_as true unknown vci 0 0 0 0
+    else when vc.opened =? 1
+    then (when buckets_fit N vc then judged_buckets N c clp (connection_now t vc) else out_of_range)
     else out_of_range
 
 -- the number that stands for a cell: VPI and VCI of its header, or 0 where it has no octets
 unfoldable pub cell_name : ℕ → List ℕ → ℕ
-cell_name kind cell = if length cell =? 0 then 0 else name_at kind cell 0
+cell_name kind cell = when length cell =? 0 then 0 else name_at kind cell 0
 
 -- step 3 of a cell with this name and this CLP
 unfoldable pub judged_name : ℕ → ℕ → ℕ → List ℕ → ℕ → ℕ → Judged
 judged_name N z t words name clp =
-    if name =? 0 then judged_as true nothing 0 0 0 0 0
-    else if number_for z name =? 0
-    then (if name =? no_name then out_of_range else judged_as true unknown (name % 65536) 0 0 0 0)
+    when name =? 0 then judged_as true nothing 0 0 0 0 0
+    else when number_for z name =? 0
+    then (when name =? no_name then out_of_range else judged_as true unknown (name % 65536) 0 0 0 0)
     else judged_connection N t words (name % 65536) (number_for z name) clp
 
 unfoldable pub judged_of : ℕ → ℕ → ℕ → ℕ → List ℕ → List ℕ → Judged
 judged_of N z kind t words cell =
     let h = header_at kind cell 0 in
-    if length cell =? 0 then judged_as true nothing 0 0 0 0 0
-    else if not (kind_in_range kind) then out_of_range
-    else if no_user_cell h then judged_as true nothing 0 0 0 0 0
-    else if not (names_connection z h) then judged_as true unknown h.vci 0 0 0 0
+    when length cell =? 0 then judged_as true nothing 0 0 0 0 0
+    else when not (kind_in_range kind) then out_of_range
+    else when no_user_cell h then judged_as true nothing 0 0 0 0 0
+    else when not (names_connection z h) then judged_as true unknown h.vci 0 0 0 0
     else judged_connection N t words h.vci (connection z h) (clp_in cell)
 
 -- both S and last of a connection written, where on
 unfoldable pub fallen : Bool → ℕ → ℕ → ℕ → ℕ → List ℕ → List ℕ
 fallen on vci S second t words =
-    if on then set (set (set words (s_place vci) S) (last_place vci) t) (second_splace vci) second else words
+    when on then set (set (set words (s_place vci) S) (last_place vci) t) (second_splace vci) second else words
 
 -- both S, last and waiting of a connection written
 unfoldable pub filled : ℕ → ℕ → ℕ → ℕ → ℕ → List ℕ → List ℕ

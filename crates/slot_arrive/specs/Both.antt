@@ -3,10 +3,10 @@
 --   Peaked N words vci     == the connection's words stand there, and its peak bucket is in range
 --   Within N words vci s   == and s in it is within the peak
 --   SecondIn words vci     == its second bucket and the flag are in range
---   letInAs ..             == a cell is let in with this verdict, unless waiting is out of range
---   judgedPeak ..          == step 3 without a second bucket; judgedSecond of a CLP 0 cell within the peak; judgedBoth of any
+--   let_in_as ..             == a cell is let in with this verdict, unless waiting is out of range
+--   judged_peak ..          == step 3 without a second bucket; judged_second of a CLP 0 cell within the peak; judged_both of any
 use Rattle.std.specs.Prelude.{ℕ, ◌+◌, ◌-◌, ◌≤◌, ◌≡◌, Bool, true, false, List}
-use Rattle.meaning.specs.Plain.{if◌then◌else◌, ◌<?◌, ◌=?◌}
+use Rattle.meaning.specs.Plain.{when◌then◌else◌, ◌<?◌, ◌=?◌}
 use Rattle.meaning.specs.Numbers.{accepted, excess, tagged}
 use Rattle.meaning.specs.State.{HasConnection}
 use Rattle.meaning.specs.Bucket.{Bucket, with_s, is_excess, delay, fill}
@@ -27,30 +27,30 @@ SecondIn words vci = second_in_range (connection_at words vci).second (connectio
 
 unfoldable pub brought_both : ℕ → Connection → ℕ → Fall
 brought_both t vc s =
-    if second_in_range vc.second vc.tag then fall_of true true s (connection_now t vc).second.S else fall_of false false 0 0
+    when second_in_range vc.second vc.tag then fall_of true true s (connection_now t vc).second.S else fall_of false false 0 0
 
 unfoldable pub let_in_as : ℕ → ℕ → ℕ → Bucket → ℕ → ℕ → Judged
 let_in_as N verdict vci b waiting second =
-    if waiting <? N then judged_as true verdict vci (delay b) (fill b).S (waiting + 1) second else out_of_range
+    when waiting <? N then judged_as true verdict vci (delay b) (fill b).S (waiting + 1) second else out_of_range
 
 unfoldable pub judged_peak : ℕ → ℕ → Bucket → ℕ → Judged
 judged_peak N vci b waiting =
-    if is_excess b then judged_as true excess vci 0 b.S 0 0 else let_in_as N accepted vci b waiting 0
+    when is_excess b then judged_as true excess vci 0 b.S 0 0 else let_in_as N accepted vci b waiting 0
 
 unfoldable pub judged_second : ℕ → ℕ → ℕ → ℕ → Connection → Judged
 judged_second N vci s second vc =
     let b = with_s vc.bucket s in
     let x = with_s vc.second second in
-    if is_excess x
-    then (if vc.tag =? 0 then judged_as true excess vci 0 s 0 second else let_in_as N tagged vci b vc.waiting second)
+    when is_excess x
+    then (when vc.tag =? 0 then judged_as true excess vci 0 s 0 second else let_in_as N tagged vci b vc.waiting second)
     else let_in_as N accepted vci b vc.waiting (fill x).S
 
 unfoldable pub judged_both : ℕ → ℕ → ℕ → ℕ → ℕ → Connection → Judged
 judged_both N t vci clp s vc =
     let b = with_s vc.bucket s in
     let second = (connection_now t vc).second.S in
-    if second_in_range vc.second vc.tag
-    then (if is_excess b then judged_as true excess vci 0 s 0 second
-    else if clp =? 0 then judged_second N vci s second vc
+    when second_in_range vc.second vc.tag
+    then (when is_excess b then judged_as true excess vci 0 s 0 second
+    else when clp =? 0 then judged_second N vci s second vc
     else let_in_as N accepted vci b vc.waiting second)
     else out_of_range

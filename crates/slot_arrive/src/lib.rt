@@ -1,4 +1,6 @@
 // Steps 2 and 3 of a slot, up to the words of connections: what is read and decided, before anything is written.
+#![tactic(auto)]
+
 ghost use Rattle.std.specs.Prelude.{◌≡◌, true, false, ◌%◌, ◌≤◌, ◌<◌, length, get_or};
 ghost use Rattle.meaning.specs.Numbers.{nothing, excess, unknown, waiting_place, most_v, words_in};
 ghost use Rattle.meaning.specs.State.{HasConnection};
@@ -16,7 +18,7 @@ use meaning::{
 
 // What step 2 found: ok where all that it reads is in range; on where S and last are to be written, S being s, and that of the
 // second bucket second.
-#[derive(Drop)]
+#[derive(Clone, Copy)]
 pub struct Fall {
     pub ok: bool,
     pub on: bool,
@@ -25,7 +27,7 @@ pub struct Fall {
 }
 
 // What step 3 found: ok where all that it reads of the connection is in range.
-#[derive(Drop)]
+#[derive(Clone, Copy)]
 pub struct Judged {
     pub ok: bool,
     pub verdict: u16,

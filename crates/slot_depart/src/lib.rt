@@ -1,6 +1,8 @@
 // How a slot ends: refused, as everything came; or with a departure, whose record, answer and writes stand here.
+#![tactic(auto)]
+
 ghost use Rattle.std.specs.Prelude.{◌≡◌, ◌+◌, ◌*◌, ◌≤◌, length};
-ghost use Rattle.meaning.specs.Plain.{if◌then◌else◌, ◌=?◌};
+ghost use Rattle.meaning.specs.Plain.{when◌then◌else◌, ◌=?◌};
 ghost use Rattle.meaning.specs.Numbers.{empty};
 ghost use Rattle.meaning.specs.Lists.{empty_list, write_entry};
 ghost use Rattle.meaning.specs.Work.{answer_of, bare_answer};
@@ -29,7 +31,7 @@ pub fn refuse(r: Record, number: u16) -> Served
 
 // The head of a list that has grown at its end by a list that begins at x.
 pub fn first_of(head: u16, x: u16) -> u16
-    ensures { result ≡ (if head =? empty then x else head) }
+    ensures { result ≡ (when head =? empty then x else head) }
 {
     if head == 65535 { x } else { head }
 }
@@ -55,7 +57,7 @@ pub fn left(k: Record, free: u16, verdict: u16, vci: u16, d: u16, o: Off) -> Ser
 // An entry emptied, where on.
 pub fn clear_entry(calendar: &mut [u16], on: bool, e: u16)
     requires { 2 * e + 2 ≤ length calendar.old }
-    ensures { calendar.new ≡ (if on then write_entry calendar.old e empty_list else calendar.old) }
+    ensures { calendar.new ≡ (when on then write_entry calendar.old e empty_list else calendar.old) }
 {
     if on {
         mem_lists::put_entry(calendar, e, 65535, 65535);

@@ -9,7 +9,7 @@ use mathlib.Core.List.{List}
 use native.Mathlib.Omega.{arith}
 use lib.ListN.{get_or}
 use Rattle.meaning.specs.declared.Record.{Record}
-use Rattle.meaning.specs.Plain.{◌=?◌, refused, next, ◌andThen◌}
+use Rattle.meaning.specs.Plain.{◌=?◌, refused, next, ◌and_then◌}
 use Rattle.meaning.specs.Numbers.{empty, connections_in, waiting_place}
 use Rattle.meaning.specs.Bits.{is_free_space, spaces_fit, taken, marked, unmarked}
 use Rattle.meaning.specs.State.{Ends, state_of, record_with, write_cell}

@@ -8,7 +8,7 @@ use native.Mathlib.Omega.{arith}
 use borrow.Author.Tests.{eq-eqb, ne_eqb, le-leb, lt-leb}
 use lib.ListN.{length}
 use Rattle.meaning.specs.declared.Record.{Record}
-use Rattle.meaning.specs.Plain.{if◌then◌else◌, ◌<?◌, ◌=?◌, Out, refused, next}
+use Rattle.meaning.specs.Plain.{when◌then◌else◌, ◌<?◌, ◌=?◌, Out, refused, next}
 use Rattle.meaning.specs.Numbers.{kind_in_range, accepted, excess, lets_in}
 use Rattle.meaning.specs.State.{state_of, with_words}
 use Rattle.meaning.specs.Header.{Header, header_at, clp_in, no_user_cell, connection, names_connection}
@@ -30,7 +30,7 @@ second_is : (clp verdict S : ℕ) (x : Bucket)
 unfolding second_after fill
 second_is clp verdict S x = go (clp =? 0 && verdict =? accepted)
   where
-    go : (b : Bool) → (if b then with_s x (S + x.F) else with_s x S) ≡ with_s x (if b then with_s x (S + x.F) else with_s x S).S
+    go : (b : Bool) → (when b then with_s x (S + x.F) else with_s x S) ≡ with_s x (when b then with_s x (S + x.F) else with_s x S).S
     go true = refl
     go false = refl
 
@@ -56,8 +56,8 @@ fill_is words vci t clp verdict =
 -- what step 3 comes to, from what was found
 unfoldable pub arriving : Record → Judged → ℕ → List ℕ → List ℕ → List ℕ → List ℕ → List ℕ → List ℕ → List ℕ → Out Work
 arriving k j x cell cells links calendar words bits arrived =
-    if j.ok
-    then (if lets_in j.verdict then seating k j x cell cells links calendar words bits arrived
+    when j.ok
+    then (when lets_in j.verdict then seating k j x cell cells links calendar words bits arrived
     else next (quiet_work k j cells links calendar words bits arrived))
     else refused
 

@@ -9,7 +9,7 @@ use native.Mathlib.Omega.{arith}
 use borrow.Author.Tests.{eq-eqb, ne_eqb, eqb-true, eqb-false}
 use lib.ListN.{length, get_or}
 use Rattle.meaning.specs.declared.Record.{Record}
-use Rattle.meaning.specs.Plain.{if◌then◌else◌, ◌=?◌, Out, refused, next, ◌andThen◌}
+use Rattle.meaning.specs.Plain.{when◌then◌else◌, ◌=?◌, Out, refused, next, ◌and_then◌}
 use Rattle.meaning.specs.Numbers.{empty, excess}
 use Rattle.meaning.specs.State.{Ends, output_list}
 use Rattle.meaning.specs.Lists.{empty_list, is_empty, ends_fit, entry_at, write_entry}
@@ -101,7 +101,7 @@ pub leaving_unfit : (w : Work) (links calendar bits : List ℕ) (o : Off)
 unfolding leaving
 leaving_unfit w links calendar bits o q = rw q (go o.ok)
   where
-    go : (b : Bool) → (if◌then◌else◌ {A = Out Work} b refused refused) ≡ refused
+    go : (b : Bool) → (when◌then◌else◌ {A = Out Work} b refused refused) ≡ refused
     go true = refl
     go false = refl
 
@@ -110,7 +110,7 @@ pub joined_low : (k : Record) (entry : Ends) → ends_fit k.n (ends_of k.outhead
 unfolding joined_head
 joined_low k entry f h = go (k.outhead =? empty) refl
   where
-    go : (b : Bool) → k.outhead =? empty ≡ b → (if b then entry.head else k.outhead) < k.n
+    go : (b : Bool) → k.outhead =? empty ≡ b → (when b then entry.head else k.outhead) < k.n
     go true q = h
     go false q = fit_head k.n (ends_of k.outhead k.outtail) f (eqb-false k.outhead empty q)
 

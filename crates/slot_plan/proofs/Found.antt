@@ -10,7 +10,7 @@ use borrow.Author.Tests.{eq-eqb, ne_eqb, ltb-true, ltb-false}
 use lib.ListN.{length}
 use lib.Pow.{pow_pos}
 use Rattle.meaning.specs.declared.Record.{Record}
-use Rattle.meaning.specs.Plain.{if◌then◌else◌, ◌<?◌, ◌≤?◌, ◌=?◌}
+use Rattle.meaning.specs.Plain.{when◌then◌else◌, ◌<?◌, ◌≤?◌, ◌=?◌}
 use Rattle.meaning.specs.Numbers.{connections_in, kind_in_range, excess, lets_in}
 use Rattle.meaning.specs.Header.{Header, header_at, clp_in, no_user_cell, connection, names_connection}
 use Rattle.meaning.specs.Bucket.{obeys_rules, elapsed, fall, is_excess, delay}
@@ -163,7 +163,7 @@ entry_low : (N T D : ℕ) → T < N → D < N → entry_of N T D < N
 unfolding entry_of
 entry_low N T D t d = go (T + D <? N) refl
   where
-    go : (b : Bool) → T + D <? N ≡ b → (if b then T + D else T + D - N) < N
+    go : (b : Bool) → T + D <? N ≡ b → (when b then T + D else T + D - N) < N
     go true e = ltb-true (T + D) N e
     go false e = omega arith
 

@@ -4,7 +4,7 @@ use mathlib.Core.Path.{◌≡◌, refl, ◌∙◌, ap}
 use mathlib.Core.Bool.{Bool, true, false, not, ◌&&◌}
 use mathlib.Core.List.{List}
 use lib.ListN.{get_or, set}
-use Rattle.meaning.specs.Plain.{if◌then◌else◌, ◌<?◌, ◌≤?◌, ◌=?◌, refused, next, needs, ◌andThen◌}
+use Rattle.meaning.specs.Plain.{when◌then◌else◌, ◌<?◌, ◌≤?◌, ◌=?◌, refused, next, needs, ◌and_then◌}
 use Rattle.meaning.specs.Numbers.{empty, cell_start, waiting_place, kind_in_range}
 use Rattle.meaning.specs.State.{State, state_of, Ends, output_list, record_with, with_record, with_links, with_calendar, with_words, with_bits, with_free, with_output_list}
 use Rattle.meaning.specs.Bits.{is_free_space, spaces_fit, given, unmarked}
@@ -31,7 +31,7 @@ less_is words v = write_waiting words v (get_or words (waiting_place v) 0 - 1)
 -- step 5, once the head x is taken and left is what remains of the Output List
 depart_is : (w : Work) (x : ℕ) (left : Ends)
     → depart w (record { space = x; left = left })
-    ≡ (if may_leave w.state.ctl.n w.state.ctl.v w.state.ctl.kind w.state.cells w.state.words x
+    ≡ (when may_leave w.state.ctl.n w.state.ctl.v w.state.ctl.kind w.state.cells w.state.words x
     then leaving w w.state.links w.state.calendar w.state.bits (off_as true x (connection w.state.ctl.v (header_at w.state.ctl.kind w.state.cells (cell_start x))) left)
     else refused)
 unfolding depart may_leave may_be_freed leaving left_by with_ends with_output_list with_free with_bits with_words with_record record_with
@@ -62,7 +62,7 @@ depart_is w x left =
 
     go : (a p q e : Bool)
         → needs a (needs (p && q) (needs e (next (made (write_connection s.words at (with_waiting vc (vc.waiting - 1)))))))
-        ≡ (if a && p && q then (if e then next (left_by w s.links s.calendar s.bits (off_as true x at left)) else refused) else refused)
+        ≡ (when a && p && q then (when e then next (left_by w s.links s.calendar s.bits (off_as true x at left)) else refused) else refused)
     go true true true true = ap next same
     go true true true false = refl
     go true true false e = refl
@@ -88,17 +88,17 @@ take_off w e = go (e.head =? e.tail) (follower <? s.ctl.n)
     may : Bool
     may = may_leave s.ctl.n s.ctl.v s.ctl.kind s.cells s.words e.head
 
-    inside : (m : Bool) (o : Off) → (if m then leaving w s.links s.calendar s.bits o else refused) ≡ leaving w s.links s.calendar s.bits (if m then o else none_off)
+    inside : (m : Bool) (o : Off) → (when m then leaving w s.links s.calendar s.bits o else refused) ≡ leaving w s.links s.calendar s.bits (when m then o else none_off)
     inside true o = refl
     inside false o = refl
 
-    none : (m : Bool) → refused ≡ leaving w s.links s.calendar s.bits (if m then none_off else none_off)
+    none : (m : Bool) → refused ≡ leaving w s.links s.calendar s.bits (when m then none_off else none_off)
     none true = refl
     none false = refl
 
     go : (a f : Bool)
-        → ((if a then next (record { space = e.head; left = empty_list }) else needs f (next (record { space = e.head; left = record { head = follower; tail = e.tail } }))) and_then depart w)
-        ≡ leaving w s.links s.calendar s.bits (if may then (if a then off_as true e.head vci (ends_of empty empty) else if f then off_as true e.head vci (ends_of follower e.tail) else none_off) else none_off)
+        → ((when a then next (record { space = e.head; left = empty_list }) else needs f (next (record { space = e.head; left = record { head = follower; tail = e.tail } }))) and_then depart w)
+        ≡ leaving w s.links s.calendar s.bits (when may then (when a then off_as true e.head vci (ends_of empty empty) else when f then off_as true e.head vci (ends_of follower e.tail) else none_off) else none_off)
     go true f = depart_is w e.head empty_list ∙ inside may (off_as true e.head vci empty_list)
     go false true = depart_is w e.head (ends_of follower e.tail) ∙ inside may (off_as true e.head vci (ends_of follower e.tail))
     go false false = none may
@@ -106,13 +106,13 @@ take_off w e = go (e.head =? e.tail) (follower <? s.ctl.n)
 -- entry T joined to the Output List, as numbers
 join_tail_is : (links : List ℕ) (output entry : Ends)
     → join_tail links output entry
-    ≡ grown (ends_of (if output.head =? empty then entry.head else output.head) entry.tail) (linked (not (output.head =? empty)) output.tail entry.head links)
+    ≡ grown (ends_of (when output.head =? empty then entry.head else output.head) entry.tail) (linked (not (output.head =? empty)) output.tail entry.head links)
 unfolding join_tail linked
 join_tail_is links output entry = go (output.head =? empty)
   where
     go : (b : Bool)
-        → (if b then grown entry links else grown (ends_of output.head entry.tail) (set links output.tail entry.head))
-        ≡ grown (ends_of (if b then entry.head else output.head) entry.tail) (if not b then set links output.tail entry.head else links)
+        → (when b then grown entry links else grown (ends_of output.head entry.tail) (set links output.tail entry.head))
+        ≡ grown (ends_of (when b then entry.head else output.head) entry.tail) (when not b then set links output.tail entry.head else links)
     go true = refl
     go false = refl
 
@@ -168,7 +168,7 @@ module _ (w : Work) where
         goes g x = off_of N s.ctl.v s.ctl.kind s.cells g.links s.words x entry_t.tail
 
         some : (b : Bool) → s.ctl.outhead =? empty ≡ b
-            → step5 (after4 (grown (ends_of (if s.ctl.outhead =? empty then entry_t.head else s.ctl.outhead) entry_t.tail) (linked (not (s.ctl.outhead =? empty)) s.ctl.outtail entry_t.head s.links)))
+            → step5 (after4 (grown (ends_of (when s.ctl.outhead =? empty then entry_t.head else s.ctl.outhead) entry_t.tail) (linked (not (s.ctl.outhead =? empty)) s.ctl.outtail entry_t.head s.links)))
             ≡ leaving_marked w entry_t
         some true e =
             let g = grown (ends_of entry_t.head entry_t.tail) (linked false s.ctl.outtail entry_t.head s.links) in

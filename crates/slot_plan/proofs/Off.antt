@@ -6,7 +6,7 @@ use mathlib.Core.List.{List}
 use native.Mathlib.Omega.{arith}
 use borrow.Author.Tests.{leb-true, not-true}
 use lib.ListN.{get_or}
-use Rattle.meaning.specs.Plain.{if◌then◌else◌, ◌<?◌, ◌≤?◌, ◌=?◌}
+use Rattle.meaning.specs.Plain.{when◌then◌else◌, ◌<?◌, ◌≤?◌, ◌=?◌}
 use Rattle.meaning.specs.Numbers.{empty, most_n, connections_in, kind_in_range, open_place, waiting_place, cell_start}
 use Rattle.meaning.specs.Bits.{is_free_space, spaces_fit}
 use Rattle.meaning.specs.Header.{Header, header_at, connection, names_connection, names_open}
@@ -43,7 +43,7 @@ module _ (N z kind : ℕ) (cells links words : List ℕ) (x tail : ℕ) where
   off_shows = go (may_leave N z kind cells words x) (x =? tail) (get_or links x 0 <? N) refl
     where
       go : (m a f : Bool) → may_leave N z kind cells words x ≡ m
-          → (let o = if m then (if a then off_as true x at (ends_of empty empty) else if f then off_as true x at (ends_of (get_or links x 0) tail) else none_off) else none_off in
+          → (let o = when m then (when a then off_as true x at (ends_of empty empty) else when f then off_as true x at (ends_of (get_or links x 0) tail) else none_off) else none_off in
           o.ok ≡ true → (o.vci < connections_in z) × (1 ≤ get_or words (waiting_place o.vci) 0))
       go true true f e = λ ok. may_shows e
       go true false true e = λ ok. may_shows e
@@ -56,7 +56,7 @@ module _ (N z kind : ℕ) (cells links words : List ℕ) (x tail : ℕ) where
   off_space = go (may_leave N z kind cells words x) (x =? tail) (get_or links x 0 <? N)
     where
       go : (m a f : Bool)
-          → (let o = if m then (if a then off_as true x at (ends_of empty empty) else if f then off_as true x at (ends_of (get_or links x 0) tail) else none_off) else none_off in
+          → (let o = when m then (when a then off_as true x at (ends_of empty empty) else when f then off_as true x at (ends_of (get_or links x 0) tail) else none_off) else none_off in
           o.ok ≡ true → o.space ≡ x)
       go true true f = λ ok. refl
       go true false true = λ ok. refl

@@ -11,7 +11,7 @@ use native.Mathlib.Decide.{ℕ_discrete}
 use borrow.Author.Tests.{eq-eqb, ne_eqb, le-leb, lt-leb, leb-true}
 use lib.ListN.{length}
 use Rattle.meaning.specs.declared.Record.{Record}
-use Rattle.meaning.specs.Plain.{if◌then◌else◌, ◌≤?◌, ◌=?◌, refused, next}
+use Rattle.meaning.specs.Plain.{when◌then◌else◌, ◌≤?◌, ◌=?◌, refused, next}
 use Rattle.meaning.specs.Numbers.{slot_numbers, unused, unknown, words_per_connection, connection_place}
 use Rattle.meaning.specs.State.{state_of, with_words}
 use Rattle.meaning.specs.Header.{header_at, clp_in, connection}
@@ -45,7 +45,7 @@ update_is words vci t = write_fall words vci _ t _
 pub rotate_is : (k : Record) (cells links calendar words bits arrived : List ℕ) (b : Fall)
     → b ≡ brought_of k.n k.v k.t words k.rotation
     → step2 (work_of (state_of k cells links calendar words bits arrived) (bare_answer 0))
-    ≡ (if b.ok then next (rotated_work k cells links calendar (rotated k b words) bits arrived) else refused)
+    ≡ (when b.ok then next (rotated_work k cells links calendar (rotated k b words) bits arrived) else refused)
 unfolding step2 brought_of connection_now rotated_work rotated fallen open_word_fits up_to_date with_words
 rotate_is k cells links calendar words bits arrived b e = rw e (first (unused k.v vci) refl)
   where
@@ -58,7 +58,7 @@ rotate_is k cells links calendar words bits arrived b e = rw e (first (unused k.
     Goal : Type 0
     Goal =
         step2 (work_of (state_of k cells links calendar words bits arrived) (bare_answer 0))
-        ≡ (if (brought_of k.n k.v k.t words vci).ok
+        ≡ (when (brought_of k.n k.v k.t words vci).ok
         then next (rotated_work k cells links calendar (rotated k (brought_of k.n k.v k.t words vci) words) bits arrived)
         else refused)
 
@@ -172,9 +172,9 @@ still_fits N t vc e =
 -- a VC as step 3 sees it, before and after step 2
 abbrev judged_at : ℕ → ℕ → ℕ → ℕ → ℕ → Connection → Judged
 judged_at N t vci c clp vc =
-    if vc.opened =? 0 then judged_as true unknown vci 0 0 0 0
-    else if vc.opened =? 1
-    then (if buckets_fit N vc then judged_buckets N c clp (connection_now t vc) else out_of_range)
+    when vc.opened =? 0 then judged_as true unknown vci 0 0 0 0
+    else when vc.opened =? 1
+    then (when buckets_fit N vc then judged_buckets N c clp (connection_now t vc) else out_of_range)
     else out_of_range
 
 opened_now : (t : ℕ) (vc : Connection) → (connection_now t vc).opened ≡ vc.opened

@@ -10,7 +10,7 @@ use native.Mathlib.Decide.{dec_lt}
 use borrow.Author.Tests.{lt-ltb, le-ltb, ne_eqb}
 use lib.ListN.{set}
 use Rattle.meaning.specs.declared.Record.{Record}
-use Rattle.meaning.specs.Plain.{if◌then◌else◌, ◌<?◌, ◌=?◌, Out, refused, next}
+use Rattle.meaning.specs.Plain.{when◌then◌else◌, ◌<?◌, ◌=?◌, Out, refused, next}
 use Rattle.meaning.specs.Numbers.{empty}
 use Rattle.meaning.specs.Bits.{is_free_space, spaces_fit}
 use Rattle.meaning.specs.State.{Ends, record_with, with_record, with_cells, with_links, with_calendar, with_bits, with_arrived, with_free}
@@ -27,7 +27,7 @@ pub entry_is : (N T D : ℕ) → T < N → D < N → (T + D) % N ≡ entry_of N 
 unfolding entry_of
 entry_is N T D t d = go (dec_lt (T + D) N)
   where
-    go : Dec (T + D < N) → (T + D) % N ≡ (if T + D <? N then T + D else T + D - N)
+    go : Dec (T + D < N) → (T + D) % N ≡ (when T + D <? N then T + D else T + D - N)
     go (yes h) = rw (lt-ltb (T + D) N h) (mod-eq_of_lt h)
     go (no h) =
         rw (le-ltb (T + D) N (omega arith))
@@ -39,13 +39,13 @@ grown ends links = record { ends = ends; links = links }
 -- a space at the head of an entry, as numbers
 join_head_is : (links : List ℕ) (entry : Ends) (x : ℕ)
     → join_head links entry x
-    ≡ grown (ends_of x (if entry.head =? empty then x else entry.tail)) (linked (not (entry.head =? empty)) x entry.head links)
+    ≡ grown (ends_of x (when entry.head =? empty then x else entry.tail)) (linked (not (entry.head =? empty)) x entry.head links)
 unfolding join_head linked
 join_head_is links entry x = go (entry.head =? empty)
   where
     go : (b : Bool)
-        → (if b then grown (ends_of x x) links else grown (ends_of x entry.tail) (set links x entry.head))
-        ≡ grown (ends_of x (if b then x else entry.tail)) (if not b then set links x entry.head else links)
+        → (when b then grown (ends_of x x) links else grown (ends_of x entry.tail) (set links x entry.head))
+        ≡ grown (ends_of x (when b then x else entry.tail)) (when not b then set links x entry.head else links)
     go true = refl
     go false = refl
 
@@ -62,17 +62,17 @@ module _ (k : Record) (j : Judged) (x : ℕ) (cell cells links calendar words bi
 
     -- the cell takes space x
     place_is : place (sent_as j.verdict cell) j.d x (seeking_work k j cells links calendar words bits arrived)
-        ≡ (if ends_fit N entry then next (accept_work k j (seat_as true x e entry) cell cells links calendar words bits arrived) else refused)
+        ≡ (when ends_fit N entry then next (accept_work k j (seat_as true x e entry) cell cells links calendar words bits arrived) else refused)
     unfolding place seeking_work accept_work seat_ends with_ends with_free with_bits with_arrived with_cells with_links with_calendar with_record record_with e entry
     place_is =
         rw (entry_is N k.turn j.d turn near, join_head_is links (entry_at calendar (entry_of N k.turn j.d)) x)
 
     abbrev seated : Seat → Out Work
-    seated a = if a.ok then next (accept_work k j a cell cells links calendar words bits arrived) else refused
+    seated a = when a.ok then next (accept_work k j a cell cells links calendar words bits arrived) else refused
 
     inside : (t : Bool)
-        → (if t then next (accept_work k j (seat_as true x e entry) cell cells links calendar words bits arrived) else refused)
-        ≡ seated (if t then seat_as true x e entry else no_seat)
+        → (when t then next (accept_work k j (seat_as true x e entry) cell cells links calendar words bits arrived) else refused)
+        ≡ seated (when t then seat_as true x e entry else no_seat)
     inside true = refl
     inside false = refl
 

@@ -8,7 +8,7 @@ use mathlib.Core.List.{List}
 use borrow.Author.Tests.{eqb-false}
 use lib.ListN.{length}
 use Rattle.meaning.specs.declared.Record.{Record}
-use Rattle.meaning.specs.Plain.{if◌then◌else◌, ◌=?◌, Out, refused, next, ◌andThen◌}
+use Rattle.meaning.specs.Plain.{when◌then◌else◌, ◌=?◌, Out, refused, next, ◌and_then◌}
 use Rattle.meaning.specs.Numbers.{lets_in, words_per_connection, connection_place}
 use Rattle.meaning.specs.Bits.{is_free_space, spaces_fit, lowest_free}
 use Rattle.meaning.specs.State.{state_of, record_with}
@@ -35,7 +35,7 @@ module _ (k : Record) (j : Judged) (cell cells links calendar words bits arrived
   seats x = seating k j x cell cells links calendar words bits arrived
 
   abbrev seated : Seat → Out Work
-  seated s = if s.ok then next (accept_work k j s cell cells links calendar words bits arrived) else refused
+  seated s = when s.ok then next (accept_work k j s cell cells links calendar words bits arrived) else refused
 
   -- it takes space x, which is free
   module _ (x : ℕ) (fits : spaces_fit k.n k.free bits ≡ true) (some : k.free ≢ 0) (free : is_free_space bits x ≡ true)

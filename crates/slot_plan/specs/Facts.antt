@@ -14,7 +14,6 @@ use Rattle.meaning.specs.State.{State, state_of, Ends}
 use Rattle.meaning.specs.Header.{header_at}
 use Rattle.meaning.specs.Words.{connection_at}
 use Rattle.meaning.specs.Lists.{ends_fit}
-use Rattle.meaning.specs.Lent.{Slice}
 use Rattle.leaf_header.specs.Name.{numbered}
 use Rattle.slot_arrive.specs.declared.Judged.{Judged}
 use Rattle.mem_lists.specs.declared.Seat.{Seat}
@@ -37,9 +36,9 @@ pub record Sized (s : State) : Type 0 where
   pub turn_low : s.ctl.turn < s.ctl.n
   pub rotation_low : s.ctl.rotation < connections_in s.ctl.v
 
-abbrev pub SizedWith : Record → Slice → Slice → Slice → Slice → Slice → Type 0
+abbrev pub SizedWith : Record → List ℕ → List ℕ → List ℕ → List ℕ → List ℕ → Type 0
 SizedWith k cells links calendar words bits =
-    (arrived : List ℕ) × Sized (state_of k cells.now links.now calendar.now words.now bits.now arrived)
+    (arrived : List ℕ) × Sized (state_of k cells links calendar words bits arrived)
 
 pub record Accepted (k : Record) (j : Judged) (cell words : List ℕ) : Type 0 where
   pub let_in_lem : lets_in j.verdict ≡ true

@@ -2,20 +2,20 @@
 --
 --   clocked r                == the record once step 1 has moved the clock
 --   rotated k b words        == the words once step 2 has written what it found
---   rotatedWork k ..         == the work after step 2, of which words are the words
---   quietWork k j ..         == the work after step 3 where no cell is accepted; words are as step 2 left them
+--   rotated_work k ..         == the work after step 2, of which words are the words
+--   quiet_work k j ..         == the work after step 3 where no cell is accepted; words are as step 2 left them
 --   seating k j x ..         == what is left of step 3 once the cell is judged accepted, x being the space that it takes
---   seatNow k D ..           == where a cell with delay D goes: it takes the lowest free space, if the words of free spaces fit and have one
---   acceptWork k j a ..      == the work after step 3 where the cell is accepted into seat a
---   leftBy w links cal bits o == the work after step 5 where o departs: w is the work after step 3, links, cal and bits are as
+--   seat_now k D ..           == where a cell with delay D goes: it takes the lowest free space, if the words of free spaces fit and have one
+--   accept_work k j a ..      == the work after step 3 where the cell is accepted into seat a
+--   left_by w links cal bits o == the work after step 5 where o departs: w is the work after step 3, links, cal and bits are as
 --                               step 4 left them
---   mayFree N free bits x    == the words of free spaces and their number fit, and space x is not free
---   leaving w links cal bits o == leftBy, or refused where o is, or where its space may not be freed; a mark says nothing of that, so
+--   may_be_freed N free bits x    == the words of free spaces and their number fit, and space x is not free
+--   leaving w links cal bits o == left_by, or refused where o is, or where its space may not be freed; a mark says nothing of that, so
 --                               the bits of w are judged
 use Rattle.std.specs.Prelude.{ℕ, ◌+◌, ◌-◌, ◌%◌, Bool, not, ◌&&◌, List, set}
 use Rattle.meaning.specs.declared.Record.{Record}
 use Rattle.meaning.specs.declared.Served.{Served}
-use Rattle.meaning.specs.Plain.{if◌then◌else◌, ◌=?◌, Out, refused, next, needs}
+use Rattle.meaning.specs.Plain.{when◌then◌else◌, ◌=?◌, Out, refused, next, needs}
 use Rattle.meaning.specs.Numbers.{slot_numbers, connections_in, empty, excess}
 use Rattle.meaning.specs.Bits.{is_free_space, spaces_fit, lowest_free, taken, given, marked, unmarked}
 use Rattle.meaning.specs.State.{state_of, Ends, record_with, write_cell}
@@ -65,11 +65,11 @@ seating k j x cell cells links calendar words bits arrived =
 
 unfoldable pub seat_now : Record → ℕ → List ℕ → List ℕ → Seat
 seat_now k D calendar bits =
-    if spaces_fit k.n k.free bits && not (k.free =? 0) then seat_of k.n calendar k.turn D (lowest_free bits) else no_seat
+    when spaces_fit k.n k.free bits && not (k.free =? 0) then seat_of k.n calendar k.turn D (lowest_free bits) else no_seat
 
 -- the entry that the cell has joined: at the head, and at the tail where it was empty
 unfoldable pub seat_ends : Seat → Ends
-seat_ends a = ends_of a.x (if a.head =? empty then a.x else a.tail)
+seat_ends a = ends_of a.x (when a.head =? empty then a.x else a.tail)
 
 unfoldable pub accept_work : Record → Judged → Seat → List ℕ → List ℕ → List ℕ → List ℕ → List ℕ → List ℕ → List ℕ → Work
 accept_work k j a cell cells links calendar words bits arrived =
@@ -105,7 +105,7 @@ may_be_freed N free bits x = spaces_fit N free bits && not (is_free_space bits x
 unfoldable pub leaving : Work → List ℕ → List ℕ → List ℕ → Off → Out Work
 leaving w links calendar bits o =
     let s = w.state in
-    if o.ok then (if may_be_freed s.ctl.n s.ctl.free s.bits o.space then next (left_by w links calendar bits o) else refused)
+    when o.ok then (when may_be_freed s.ctl.n s.ctl.free s.bits o.space then next (left_by w links calendar bits o) else refused)
     else refused
 
 -- step 4: the links once entry T has joined the Output List, and that list's head
@@ -113,7 +113,7 @@ unfoldable pub joined_links : Record → Ends → List ℕ → List ℕ
 joined_links r entry links = linked (not (r.outhead =? empty)) r.outtail entry.head links
 
 unfoldable pub joined_head : Record → Ends → ℕ
-joined_head r entry = if r.outhead =? empty then entry.head else r.outhead
+joined_head r entry = when r.outhead =? empty then entry.head else r.outhead
 
 -- what departs from a work after step 3, where entry T is marked, and where it is not
 unfoldable pub off_marked : Work → Ends → Off
@@ -140,7 +140,7 @@ leaving_output w = leaving w w.state.links w.state.calendar w.state.bits (off_un
 unfoldable pub leaving_unmarked : Work → Out Work
 leaving_unmarked w =
     let r = w.state.ctl in
-    if ends_fit r.n (output_ends r) then (if r.outhead =? empty then next w else leaving_output w) else refused
+    when ends_fit r.n (output_ends r) then (when r.outhead =? empty then next w else leaving_output w) else refused
 
 -- what a case of the code gives back, with the memories as it leaves them
 abbrev pub served_work : Served → List ℕ → List ℕ → List ℕ → List ℕ → List ℕ → List ℕ → Work

@@ -1,15 +1,15 @@
 -- The works of a slot's cases over one state, for contracts: s is the state once the clock has moved, b and j are what
 -- steps 2 and 3 found, a is the seat of an accepted cell.
 --
---   quietOf s b j           == the work after step 3 where no cell is accepted
---   seatingOf s b j cell    == what is left of step 3 once the cell is judged accepted: it takes the lowest free space
---   acceptOf s b j a cell   == the work after step 3 where the cell is accepted into seat a
---   lastSteps w             == steps 4 and 5 of a work after step 3
---   quietLeft s b j o ..    == the work after step 5 where o departs and no cell is accepted: where joins, the chain from
+--   quiet_of s b j           == the work after step 3 where no cell is accepted
+--   seating_of s b j cell    == what is left of step 3 once the cell is judged accepted: it takes the lowest free space
+--   accept_of s b j a cell   == the work after step 3 where the cell is accepted into seat a
+--   last_steps w             == steps 4 and 5 of a work after step 3
+--   quiet_left s b j o ..    == the work after step 5 where o departs and no cell is accepted: where joins, the chain from
 --                              head on has joined the Output List; calendar and bits are as step 4 left them
---   acceptLeft s b j a ..   == the same of an accepted cell; where clears, entry T is emptied
+--   accept_left s b j a ..   == the same of an accepted cell; where clears, entry T is emptied
 use Rattle.std.specs.Prelude.{ℕ, Bool, not, List}
-use Rattle.meaning.specs.Plain.{if◌then◌else◌, ◌=?◌, Out, ◌andThen◌}
+use Rattle.meaning.specs.Plain.{when◌then◌else◌, ◌=?◌, Out, ◌and_then◌}
 use Rattle.meaning.specs.Numbers.{empty}
 use Rattle.meaning.specs.Bits.{lowest_free, taken, marked, unmarked}
 use Rattle.meaning.specs.State.{State}
@@ -45,5 +45,5 @@ accept_left s b j a cell o joins head clears =
     let calendar = write_entry s.calendar a.e (seat_ends a) in
     let bits = marked (taken s.bits a.x) a.e in
     left_by (accept_of s b j a cell) (linked joins s.ctl.outtail head links)
-    (if clears then write_entry calendar s.ctl.turn empty_list else calendar)
-    (if clears then unmarked bits s.ctl.turn else bits) o
+    (when clears then write_entry calendar s.ctl.turn empty_list else calendar)
+    (when clears then unmarked bits s.ctl.turn else bits) o

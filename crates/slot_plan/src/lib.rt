@@ -1,1 +1,2 @@
 // The slot's plan: no code, only what it means.
+#![tactic(auto)]

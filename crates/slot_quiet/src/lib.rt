@@ -1,4 +1,6 @@
 // A slot in which no cell is accepted: steps 4 and 5 are read and judged, then all is written.
+#![tactic(auto)]
+
 ghost use Rattle.std.specs.Prelude.{◌≡◌, true, false, List, ℕ, ◌+◌, ◌*◌, ◌≤◌, ◌<◌, length};
 ghost use Rattle.meaning.specs.Plain.{◌=?◌};
 ghost use Rattle.meaning.specs.Numbers.{excess, most_n, most_v, octets, connections_in, words_in, bit_words};
@@ -105,7 +107,7 @@ fn quiet_marked(
     words: &mut [u32],
     bits: &mut [u64],
 ) -> Served
-    requires sized_with { SizedWith k cells links calendar words bits }
+    requires sized_with { SizedWith k cells.now links.old calendar.old words.old bits.old }
     requires vci_bound { j.verdict =? excess ≡ true → j.vci < connections_in k.v }
     requires head_lt_n { (head < k.n) × (ends_fit k.n (ends_of k.outhead k.outtail) ≡ true) }
     ensures { (arrived : List ℕ) → AllWith arrived r k b j (λ w. leaving_marked w (ends_of head tail)) result cells links calendar words bits }
@@ -223,7 +225,7 @@ pub fn quiet(
     words: &mut [u32],
     bits: &mut [u64],
 ) -> Served
-    requires sized_with { SizedWith k cells links calendar words bits }
+    requires sized_with { SizedWith k cells.now links.old calendar.old words.old bits.old }
     requires vci_bound { j.verdict =? excess ≡ true → j.vci < connections_in k.v }
     ensures { (arrived : List ℕ) → AllWith arrived r k b j last_steps result cells links calendar words bits }
 {

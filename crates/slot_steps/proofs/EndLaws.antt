@@ -3,7 +3,7 @@
 use Rattle.std.proofs.Common.{◌≡◌, ℕ, ◌+◌, ◌-◌, ◌%◌, ◌<◌, Bool, true, false, not, ◌&&◌, ◌||◌, ◌≢◌, List, length, get_or, set, refl, ap, mod-lt, arith, ltb-true}
 use borrow.Author.Tests.{eqb-false, not-false}
 use Rattle.meaning.specs.declared.Record.{Record}
-use Rattle.meaning.specs.Plain.{if◌then◌else◌, ◌<?◌, ◌≤?◌, ◌=?◌, Out, refused, next, ◌andThen◌}
+use Rattle.meaning.specs.Plain.{when◌then◌else◌, ◌<?◌, ◌≤?◌, ◌=?◌, Out, refused, next, ◌and_then◌}
 use Rattle.meaning.specs.Numbers.{ranges_hold, octets, cell_start, connections_in, unused, kind_in_range, empty, unknown, excess}
 use Rattle.meaning.specs.State.{State, Ends, output_list, sizes_hold, with_record, with_cells, with_links, with_calendar, with_bits, with_arrived, with_words}
 use Rattle.meaning.specs.State.{record_with, with_clock, with_bits, with_free, with_output_list}
@@ -173,7 +173,7 @@ module _ (r : Record) where
     where
       joined : Bool → Grown
       joined b =
-          if b then record { ends = more; links = links }
+          when b then record { ends = more; links = links }
           else record { ends = record { head = e.head; tail = more.tail }; links = set links e.tail more.head }
 
       go : (b : Bool) → is_empty e ≡ b → ends_fit N (joined b).ends ≡ true

@@ -2,7 +2,7 @@
 use Rattle.std.proofs.Common.{◌≡◌, ℕ, ◌+◌, ◌*◌, ◌<◌, ◌≤◌, Bool, true, false, ◌&&◌, ◌||◌, ◌≢◌, List, length, sym, refl, ◌∙◌, subst, mod-lt, arith, le-ltb, lt-ltb, ne_eqb, eqb-true, leb-true}
 use Rattle.meaning.specs.declared.Record.{Record}
 use Rattle.meaning.specs.declared.Served.{Served}
-use Rattle.meaning.specs.Plain.{if◌then◌else◌, ◌≤?◌, ◌=?◌, Out, refused, ◌andThen◌}
+use Rattle.meaning.specs.Plain.{when◌then◌else◌, ◌≤?◌, ◌=?◌, Out, refused, ◌and_then◌}
 use Rattle.meaning.specs.Numbers.{ranges_hold, connections_in, words_in, bit_words}
 use Rattle.meaning.specs.Bits.{lowest_free}
 use Rattle.meaning.specs.State.{State, state_of, record_with, with_record, with_clock, words_length, lengths_hold}
@@ -22,14 +22,14 @@ module _ (r : Record) (cell cells links calendar words bits arrived : List ℕ) 
   shape = shape_of r cells links calendar words bits arrived cell
 
   by_shape : (a b d : Bool) → ranges_hold r.n r.v ≡ a → lengths_hold r.n r.v cells links calendar words bits arrived ≡ b → length cell =? 0 || length cell =? 53 ≡ d
-      → unchecked_slot s cell ≡ (if shape =? 0 then finish s (five_steps (lowest_free bits) cell (work_of s (bare_answer 0))) else work_of s (bare_answer shape))
+      → unchecked_slot s cell ≡ (when shape =? 0 then finish s (five_steps (lowest_free bits) cell (work_of s (bare_answer 0))) else work_of s (bare_answer shape))
   unfolding unchecked_slot unchecked_slot_at shape_of
   by_shape false b d ea eb ed = rw ea
   by_shape true false d ea eb ed = rw (ea, eb)
   by_shape true true false ea eb ed = rw (ea, eb, ed)
   by_shape true true true ea eb ed = rw (ea, eb, ed)
 
-  slot_is : unchecked_slot s cell ≡ (if shape =? 0 then finish s (five_steps (lowest_free bits) cell (work_of s (bare_answer 0))) else work_of s (bare_answer shape))
+  slot_is : unchecked_slot s cell ≡ (when shape =? 0 then finish s (five_steps (lowest_free bits) cell (work_of s (bare_answer 0))) else work_of s (bare_answer shape))
   slot_is = by_shape (ranges_hold r.n r.v) (lengths_hold r.n r.v cells links calendar words bits arrived) (length cell =? 0 || length cell =? 53) refl refl refl
 
   pub slot_refused : (number : ℕ) (x : Served) → number ≡ shape → number ≢ 0 → (x.ctl ≡ r) × (x.answer ≡ bare_answer number)

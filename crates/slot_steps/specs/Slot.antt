@@ -1,7 +1,7 @@
 -- A slot's refusals 1, 2 and 9 as one number, its steps 2 to 5, and what a slot without the header check promises.
 use Rattle.std.specs.Prelude.{◌≡◌, ℕ, not, ◌||◌, List, length}
 use Rattle.meaning.specs.declared.Record.{Record}
-use Rattle.meaning.specs.Plain.{if◌then◌else◌, ◌=?◌, Out, ◌andThen◌}
+use Rattle.meaning.specs.Plain.{when◌then◌else◌, ◌=?◌, Out, ◌and_then◌}
 use Rattle.meaning.specs.Numbers.{ranges_hold, octets}
 use Rattle.meaning.specs.State.{State, lengths_hold}
 use Rattle.meaning.specs.Bits.{lowest_free}
@@ -11,9 +11,9 @@ use Rattle.meaning.specs.Slot.{step2, step3, step4, step5, unchecked_slot}
 -- "slot 1, 2, 9": the first that is given, or 0
 unfoldable pub shape_of : Record → List ℕ → List ℕ → List ℕ → List ℕ → List ℕ → List ℕ → List ℕ → ℕ
 shape_of r cells links calendar words bits arrived cell =
-    if not (ranges_hold r.n r.v) then 1
-    else if not (lengths_hold r.n r.v cells links calendar words bits arrived) then 2
-    else if not (length cell =? 0 || length cell =? octets) then 9
+    when not (ranges_hold r.n r.v) then 1
+    else when not (lengths_hold r.n r.v cells links calendar words bits arrived) then 2
+    else when not (length cell =? 0 || length cell =? octets) then 9
     else 0
 
 abbrev pub shape_in : State → List ℕ → ℕ

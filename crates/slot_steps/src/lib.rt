@@ -1,8 +1,10 @@
 // One slot without the header check: all that it reads is read and judged first, as numbers; then each case writes, so that a refusal leaves
 // everything as it came.
+#![tactic(auto)]
+
 ghost use Rattle.std.specs.Prelude.{◌≡◌, ◌+◌, ◌%◌, ◌<◌, ◌≤◌, length, ◌≢◌};
 ghost use Rattle.meaning.specs.Numbers.{most_v, connections_in};
-ghost use Rattle.meaning.specs.Lent.{here, before, served_after, Gives};
+ghost use Rattle.meaning.specs.Lent.{here, before, seen, served_after, Gives};
 ghost use Rattle.slot_plan.specs.Plan.{clocked};
 ghost use Rattle.slot_plan.specs.Facts.{Sized};
 ghost use Rattle.slot_steps.specs.Slot.{shape_in, later_steps, unchecked_promise};
@@ -73,7 +75,7 @@ pub fn shape(
     arrived: &[u32],
     cell: &[u8],
 ) -> u16
-    ensures { result ≡ shape_in (before r cells links calendar words bits arrived) cell.now }
+    ensures { result ≡ shape_in (seen r cells links calendar words bits arrived) cell.now }
 {
     if !leaf_refusal::ranges_hold(r.n, r.v) {
         return 1;

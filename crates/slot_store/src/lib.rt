@@ -1,4 +1,6 @@
 // Step 3 of an accepted cell: all that it writes, and the record once its space is taken.
+#![tactic(auto)]
+
 ghost use Rattle.std.specs.Prelude.{◌≡◌, true, not, ◌+◌, ◌-◌, ◌≤◌, ◌<◌, length, set};
 ghost use Rattle.meaning.specs.Plain.{◌=?◌};
 ghost use Rattle.meaning.specs.Numbers.{empty, cell_start, octets};

@@ -1,0 +1,88 @@
+-- `burst_likely::store` meets its contract: seven writes, a slice at a time, from what was found of the cell.
+use native.Mathlib.Omega.{arith}
+use mathlib.Core.Path.{◌∙◌, ap}
+use borrow.Author.Tests.{eqb-false, not-true}
+use Rattle.slot_arrive.specs.Arrival.{filled}
+use Rattle.slot_plan.specs.Plan.{rotated}
+use Rattle.burst_way.specs.Way.{slot_record}
+use Rattle.burst_likely.proofs.StoreLaws.{head_read, entry_low, head_low, entry_writes}
+use Rattle.burst_likely.proofs.store.Goals as goal
+
+pub overflow_cast-w : goal.overflow_cast-w
+overflow_cast-w c =
+    let sized = c.requires.ready_in.sized in
+    omega (arith, sized.rotation_low, sized.v_high)
+
+pub put_fall-requires : goal.put_fall-requires
+put_fall-requires c =
+    let sized = c.requires.ready_in.sized in
+    λ e. omega (arith, sized.rotation_low, sized.words_long)
+
+pub put_fill-requires : goal.put_fill-requires
+put_fill-requires c =
+    let a = c.args in
+    let pre = c.requires in
+    let sized = pre.ready_in.sized in
+    let spotted = pre.spotted_in in
+    omega (arith, spotted.is_accepted_lem.vci_high, sized.words_long, c.put_fall.auto)
+
+pub put_cell-requires : goal.put_cell-requires
+put_cell-requires c =
+    let a = c.args in
+    let pre = c.requires in
+    let sized = pre.ready_in.sized in
+    let spotted = pre.spotted_in in
+    (omega (arith, spotted.seats.x_low, sized.n_high), omega (arith, spotted.seats.x_low, sized.cells_long_lem), pre.octets_in_bounds)
+
+pub put_arrived-requires : goal.put_arrived-requires
+put_arrived-requires c =
+    let a = c.args in
+    let pre = c.requires in
+    let sized = pre.ready_in.sized in
+    let spotted = pre.spotted_in in
+    omega (arith, spotted.seats.x_low, sized.arrived_long)
+
+pub put_link-requires : goal.put_link-requires
+put_link-requires c =
+    let a = c.args in
+    let pre = c.requires in
+    let sized = pre.ready_in.sized in
+    let spotted = pre.spotted_in in
+    λ e. (omega (arith, spotted.seats.x_low, sized.links_long), omega (arith, head_low (slot_record a.w) a.j a.calendar.now a.words.now a.bits.now _ a.p spotted (eqb-false _ _ (not-true _ e)), sized.n_high))
+
+pub put_entry-requires : goal.put_entry-requires
+put_entry-requires c =
+    let a = c.args in
+    let pre = c.requires in
+    let sized = pre.ready_in.sized in
+    let spotted = pre.spotted_in in
+    (omega (arith, entry_low (slot_record a.w) a.j a.calendar.now a.words.now a.bits.now _ a.p spotted sized.turn_low, sized.calendar_long), omega (arith, spotted.seats.x_low, sized.n_high), head_read (slot_record a.w) a.j a.calendar.now a.words.now a.bits.now _ a.p spotted)
+
+pub take_up-requires : goal.take_up-requires
+take_up-requires c =
+    let a = c.args in
+    let pre = c.requires in
+    let sized = pre.ready_in.sized in
+    let spotted = pre.spotted_in in (
+      omega (arith, spotted.seats.x_low, sized.n_high),
+      sized.bits_long,
+      spotted.seats.is_free,
+      omega (arith, entry_low (slot_record a.w) a.j a.calendar.now a.words.now a.bits.now _ a.p spotted sized.turn_low, sized.n_high),
+    )
+
+pub returns : goal.returns
+unfolding rotated
+returns c =
+    let a = c.args in
+    let pre = c.requires in
+    let sized = pre.ready_in.sized in
+    let spotted = pre.spotted_in in
+    record {
+      cells = c.put_cell.ensures;
+      links = c.put_link.ensures;
+      calendar = entry_writes (slot_record a.w) a.j a.calendar.now a.words.now a.bits.now _ a.p spotted _ c.put_entry.ensures;
+      words = c.put_fill.ensures
+          ∙ ap (filled a.j.vci a.j.s a.j.second a.w.t a.j.waiting) c.put_fall.ensures;
+      bits = c.take_up.ensures;
+      arrived = c.put_arrived.ensures;
+    }
