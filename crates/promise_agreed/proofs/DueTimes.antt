@@ -9,7 +9,7 @@ use mathlib.Core.Option.{Option, none, some}
 use native.Mathlib.Omega.{arith}
 use native.Mathlib.Decide.{ℕ_discrete}
 use borrow.Author.Tests.{ne_eqb}
-use Rattle.meaning.specs.Plain.{if◌then◌else◌, ◌=?◌}
+use Rattle.meaning.specs.Plain.{when◌then◌else◌, ◌=?◌}
 use Rattle.meaning.specs.Numbers.{accepted}
 use Rattle.meaning_runs.specs.Leak.{Opening, due_time, leak_accepts}
 use Rattle.call_time.specs.declared.Tat.{Tat}
@@ -53,7 +53,7 @@ module _ (N m F C a : ℕ) (p : Option ℕ) (s : Tat) (k : Tied F p s) where
 
   -- the opening afterwards
   abbrev then_is : Timed → Opening
-  then_is r = if r.number =? 0 && r.verdict =? accepted then conformed (peak_only m F C p) a else peak_only m F C p
+  then_is r = when r.number =? 0 && r.verdict =? accepted then conformed (peak_only m F C p) a else peak_only m F C p
 
   pub record Next (r : Timed) : Type 0 where
     pub previous : Option ℕ

@@ -5,7 +5,7 @@ use mathlib.Core.Bool.{Bool, true, false, not, ◌&&◌, ◌||◌}
 use mathlib.Core.List.{List}
 use mathlib.Core.Option.{Option, none, some}
 use lib.ListN.{length}
-use Rattle.meaning.specs.Plain.{if◌then◌else◌, ◌=?◌}
+use Rattle.meaning.specs.Plain.{when◌then◌else◌, ◌=?◌}
 use Rattle.meaning.specs.Numbers.{lets_in}
 use Rattle.meaning.specs.Header.{Header, header_at, clp_in, no_user_cell, connection, names_connection}
 use Rattle.meaning_runs.specs.Leak.{Opening, verdict_by}
@@ -43,8 +43,8 @@ others kind z t v op cell = go (length cell =? 0 || no_user_cell hd) (names_conn
     under (some o) e = rw e (and_no (lets_in (verdict_by o (clp_in cell) t)))
 
     go : (x y : Bool) (o : Option Opening) → (y && u =? v) ≡ false
-        → let j = (if x then judged_of 0 0 0
-        else if not y then judged_of 3 hd.vci 0 else judged_under t hd.vci u (clp_in cell) o) in
+        → let j = (when x then judged_of 0 0 0
+        else when not y then judged_of 3 hd.vci 0 else judged_under t hd.vci u (clp_in cell) o) in
         (lets_in j.verdict && j.vci =? v) ≡ false
     go true y o e = refl
     go false false o e = refl

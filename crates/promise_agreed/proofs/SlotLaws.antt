@@ -11,7 +11,7 @@ use native.Mathlib.Omega.{arith}
 use borrow.Author.Tests.{eqb-true}
 use lib.ListN.{length}
 use Rattle.meaning.specs.declared.Answer.{Answer}
-use Rattle.meaning.specs.Plain.{if◌then◌else◌, ◌=?◌}
+use Rattle.meaning.specs.Plain.{when◌then◌else◌, ◌=?◌}
 use Rattle.meaning.specs.Numbers.{connections_in, unused, slot_numbers, accepted, excess, lets_in}
 use Rattle.meaning.specs.Bucket.{bucket_of, obeys_rules}
 use Rattle.meaning.specs.State.{State}
@@ -47,7 +47,7 @@ the_one o p e = ap in_it e
 
 -- verdict, VCI and D, as the leak rule has them
 abbrev leak_says : ℕ → ℕ → Opening → Bool → Judged
-leak_says t v o b = if b then judged_of accepted v (due_slot o t - t) else judged_of excess v 0
+leak_says t v o b = when b then judged_of accepted v (due_slot o t - t) else judged_of excess v 0
 
 module _ (w : Watched) (h : List Event) (cell : List ℕ) (a : Answer) (out : List ℕ) (k : Tied w h) where
   abbrev o : Opening
@@ -140,7 +140,7 @@ module _ (w : Watched) (h : List Event) (s : State) (i : Inv w.N w.z w.kind h s)
       unfolding leak_accepts due_slot due_time
       mine low n e =
           judges
-          ∙ ap (λ (b : Bool). if b then judged_of 4 0 0 else judged w.kind w.z h (let_in s cell).cell)
+          ∙ ap (λ (b : Bool). when b then judged_of 4 0 0 else judged w.kind w.z h (let_in s cell).cell)
           (let_in_lem w.N w.z w.kind h s i cell n)
           ∙ named w.kind w.z (served h) (λ v. opening_of v h) (let_in s cell).cell o
           (user w.N w.z w.kind h s i (let_in s cell).cell n) n (ap (λ (v : ℕ). opening_of v h) e ∙ k.is)
@@ -164,7 +164,7 @@ module _ (w : Watched) (h : List Event) (s : State) (i : Inv w.N w.z w.kind h s)
           ap (λ (j : Judged). lets_in j.verdict && j.vci =? w.conn) judges ∙ go (let_in s cell).dropped
         where
           go : (b : Bool)
-              → let j = (if b then judged_of 4 0 0 else judged w.kind w.z h (let_in s cell).cell) in
+              → let j = (when b then judged_of 4 0 0 else judged w.kind w.z h (let_in s cell).cell) in
               (lets_in j.verdict && j.vci =? w.conn) ≡ false
           go true = refl
           go false = others w.kind w.z (served h) w.conn (λ v. opening_of v h) (let_in s cell).cell e

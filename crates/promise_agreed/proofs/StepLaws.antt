@@ -7,7 +7,7 @@ use mathlib.Core.Option.{Option, none, some}
 use native.Mathlib.Omega.{arith}
 use borrow.Author.Tests.{leb-true, leb-false}
 use lib.IntN.{sub_ℕ}
-use Rattle.meaning.specs.Plain.{if◌then◌else◌, ◌≤?◌}
+use Rattle.meaning.specs.Plain.{when◌then◌else◌, ◌≤?◌}
 use Rattle.meaning.specs.Numbers.{slot_numbers, accepted, excess}
 use Rattle.meaning.specs.Bucket.{bucket_of, obeys_rules}
 use Rattle.meaning_runs.specs.Leak.{Opening, due_time, due_slot, leak_accepts}
@@ -30,12 +30,12 @@ tied_later F t none s k = k
 tied_later F t (some p) s k = (k.0, k.1, omega (arith, k.2), k.3)
 
 abbrev pub next : Bool → Opening → ℕ → Option ℕ
-next b o t = if b then some (due_time o t) else o.previous
+next b o t = when b then some (due_time o t) else o.previous
 
 pub record Stepped (m F C t : ℕ) (p : Option ℕ) (b : Bool) (r : Timed) : Type 0 where
   pub number : r.number ≡ 0
-  pub verdict : r.verdict ≡ (if b then accepted else excess)
-  pub due : r.due ≡ (if b then due_time (peak_only m F C p) t else 0)
+  pub verdict : r.verdict ≡ (when b then accepted else excess)
+  pub due : r.due ≡ (when b then due_time (peak_only m F C p) t else 0)
   pub early : b ≡ true → ahead r.early / 2 ^ m ≡ due_slot (peak_only m F C p) t - t
   pub tied : TiedTo F (suc t) (next b (peak_only m F C p) t) r.tat
 

@@ -9,7 +9,7 @@ use native.Mathlib.Nat.{le_trans, le_refl}
 use native.Mathlib.Omega.{arith}
 use borrow.Author.Tests.{eq-eqb, ne_eqb}
 use Rattle.meaning.specs.declared.Answer.{Answer}
-use Rattle.meaning.specs.Plain.{if◌then◌else◌, ◌=?◌}
+use Rattle.meaning.specs.Plain.{when◌then◌else◌, ◌=?◌}
 use Rattle.meaning.specs.Numbers.{slot_numbers}
 use Rattle.meaning.specs.State.{State}
 use Rattle.meaning.specs.Header.{Name, number_in}
@@ -109,7 +109,7 @@ unfolding served
 unserved h cell a out e = (λ n. omega (arith, first n), omega (arith, e))
   where
     first : a.number ≡ 0 → 1 ≤ 0
-    first n = subst (λ (b : Bool). (if b then 1 else 0) ≤ 0) (eq-eqb a.number 0 n) (omega (arith, e))
+    first n = subst (λ (b : Bool). (when b then 1 else 0) ≤ 0) (eq-eqb a.number 0 n) (omega (arith, e))
 
 asleep : (w : Watched) (h : List Event) → served h ≡ 0 → (engine_after w h ≡ not_started) × Agrees w h
 unfolding engine_after Agrees served

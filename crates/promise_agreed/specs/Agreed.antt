@@ -10,16 +10,16 @@
 -- "Without a second bucket": so the connection was opened. Others may have one.
 --
 --   Watched            == N, V, the line kind, and the number of the connection with its m, F and C
---   isFor w cell a     == the slot that answered a was served, and the cell that the header check let through names the connection
+--   is_for w cell a     == the slot that answered a was served, and the cell that the header check let through names the connection
 --   ask w s t          == a call of the engine, with N, m, F and C as at setup and opening
---   engineAfter w h    == the engine's state after the events h: a call for each cell of the connection, in the slot it came in
+--   engine_after w h    == the engine's state after the events h: a call for each cell of the connection, in the slot it came in
 --   Same w h a r       == the slot after the events h answered a, and the engine r: they say the same
 --   Agrees w h         == they do for every cell of the connection in the events h
 --   Apart z v c        == the call c neither opens nor closes the connection v
 use Rattle.std.specs.Prelude.{ℕ, ◌-◌, ◌/◌, ◌^◌, ◌≤◌, ◌≡◌, ◌≢◌, Bool, true, ◌&&◌, List, [], ◌∷◌, map}
 use Rattle.std.proofs.Math.Option.{some}
 use Rattle.meaning.specs.declared.Answer.{Answer}
-use Rattle.meaning.specs.Plain.{if◌then◌else◌, ◌=?◌}
+use Rattle.meaning.specs.Plain.{when◌then◌else◌, ◌=?◌}
 use Rattle.meaning.specs.Numbers.{slot_numbers, accepted}
 use Rattle.meaning.specs.Header.{header_at, Name, number_in, connection, names_connection}
 use Rattle.meaning.specs.State.{State}
@@ -58,7 +58,7 @@ engine_after w [] = not_started
 engine_after w (opened who vci m F C x number ∷ h) = engine_after w h
 engine_after w (closed who vci number ∷ h) = engine_after w h
 engine_after w (ran cell a out ∷ h) =
-    if is_for w cell a then (ask w (engine_after w h) (served h)).tat else engine_after w h
+    when is_for w cell a then (ask w (engine_after w h) (served h)).tat else engine_after w h
 
 pub record Same (w : Watched) (h : List Event) (a : Answer) (r : Timed) : Type 0 where
   pub answered : r.number ≡ 0

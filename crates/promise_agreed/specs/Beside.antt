@@ -4,9 +4,9 @@
 --
 --   Noted              == slot, verdict and D of a cell
 --   noted_in v row      == those of the cells of the VC v in a row, as document 01 gives them
---   engineOn N m F C l == those that the engine gives, asked in the same slots, from not started on
+--   engine_on N m F C l == those that the engine gives, asked in the same slots, from not started on
 use Rattle.std.specs.Prelude.{ℕ, suc, ◌+◌, ◌-◌, ◌/◌, ◌^◌, ◌≡◌, List, [], ◌∷◌}
-use Rattle.meaning.specs.Plain.{if◌then◌else◌, ◌=?◌}
+use Rattle.meaning.specs.Plain.{when◌then◌else◌, ◌=?◌}
 use Rattle.promise_starred.specs.Row.{Step, opens, closes, cell, absent_cell, pause, Row, run, leak}
 use Rattle.promise_starred.specs.Table.{eight_slots, one_space, second16, second15, table_i, table_ii}
 use Rattle.call_time.specs.declared.Tat.{Tat}
@@ -27,7 +27,7 @@ noted_from v t [] = []
 noted_from v t (opens vci m F C k ∷ steps) = noted_from v t steps
 noted_from v t (closes vci k ∷ steps) = noted_from v t steps
 noted_from v t (cell vci a ∷ steps) =
-    if vci =? v then noted t a.verdict a.d ∷ noted_from v (suc t) steps else noted_from v (suc t) steps
+    when vci =? v then noted t a.verdict a.d ∷ noted_from v (suc t) steps else noted_from v (suc t) steps
 noted_from v t (absent_cell a ∷ steps) = noted_from v (suc t) steps
 noted_from v t (pause k ∷ steps) = noted_from v (t + k) steps
 

@@ -2,13 +2,13 @@
 -- 01 words, and the verdict is the leak rule's. Document 01's definitions (crate meaning_runs, specs/Leak.antt) are folded over what
 -- the engine itself answered; refused calls move nothing. No policer here.
 --
---   peakOnly m F C p  == an opening without a second bucket; p is the last due time, if there is one
+--   peak_only m F C p  == an opening without a second bucket; p is the last due time, if there is one
 --   Timing            == the engine's state, and the opening with the last conforming cell's due time
---   timedOn N t a     == both after a call with the arrival a
---   timedAll N t l    == both after calls with these arrivals, in this order
+--   timed_on N t a     == both after a call with the arrival a
+--   timed_all N t l    == both after calls with these arrivals, in this order
 use Rattle.std.specs.Prelude.{ℕ, ◌≡◌, ◌↔◌, true, ◌&&◌, List, [], ◌∷◌}
 use Rattle.std.proofs.Math.Option.{Option, none, some}
-use Rattle.meaning.specs.Plain.{if◌then◌else◌, ◌=?◌}
+use Rattle.meaning.specs.Plain.{when◌then◌else◌, ◌=?◌}
 use Rattle.meaning.specs.Numbers.{accepted}
 use Rattle.meaning.specs.Words.{without_second}
 use Rattle.meaning_runs.specs.Leak.{Opening, opening_with, due_time, leak_accepts}
@@ -37,7 +37,7 @@ conformed o a = peak_only o.m o.F o.C (some (due_time o a))
 abbrev pub timed_on : ℕ → Timing → ℕ → Timing
 timed_on N t a =
     let r = answer_on N t a in
-    timing_of r.tat (if r.number =? 0 && r.verdict =? accepted then conformed t.opening a else t.opening)
+    timing_of r.tat (when r.number =? 0 && r.verdict =? accepted then conformed t.opening a else t.opening)
 
 abbrev pub timed_all : ℕ → Timing → List ℕ → Timing
 timed_all N t [] = t

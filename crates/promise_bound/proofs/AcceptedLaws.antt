@@ -9,7 +9,7 @@ use native.Mathlib.Omega.{arith}
 use lib.ListN.{length}
 use Rattle.base_hec.specs.Modes.{Arriving}
 use Rattle.meaning.specs.declared.Answer.{Answer}
-use Rattle.meaning.specs.Plain.{if◌then◌else◌, ◌=?◌}
+use Rattle.meaning.specs.Plain.{when◌then◌else◌, ◌=?◌}
 use Rattle.meaning.specs.Numbers.{nothing, unknown, dropped, lets_in}
 use Rattle.meaning.specs.Header.{Header, header_at, clp_in, no_user_cell, connection, names_connection}
 use Rattle.meaning.specs.Work.{Work}
@@ -50,7 +50,7 @@ module _ (t : ℕ) (openings : ℕ → Option Opening) where
       u = connection z hd
 
       go : (b c : Bool) → OpenWhere (judged_under t hd.vci u (clp_in cell) (openings u))
-          → OpenWhere (if b then judged_of nothing 0 0 else if not c then judged_of unknown hd.vci 0
+          → OpenWhere (when b then judged_of nothing 0 0 else when not c then judged_of unknown hd.vci 0
           else judged_under t hd.vci u (clp_in cell) (openings u))
       go true c k n = not_let n
       go false false k n = not_let n
@@ -61,7 +61,7 @@ unfolding lets_in
 judged_open kind z h a = go a.dropped
   where
     go : (b : Bool) → OpenWhere (served h) (λ v. opening_of v h)
-        (if b then judged_of dropped 0 0 else judged_by kind z (served h) (λ v. opening_of v h) a.cell)
+        (when b then judged_of dropped 0 0 else judged_by kind z (served h) (λ v. opening_of v h) a.cell)
     go true n = not_let n
     go false n = by_open (served h) (λ v. opening_of v h) kind z a.cell n
 

@@ -10,7 +10,7 @@ use lib.ListN.{length, get_or, take, length-take, length-drop, get_or-append}
 use lib.Pow.{pow_pos}
 use lib.Seq.{get_or-take, get_or-drop}
 use borrow.Author.Tests.{leb-true, ltb-true}
-use Rattle.meaning.specs.Plain.{if◌then◌else◌, ◌<?◌, ◌≤?◌}
+use Rattle.meaning.specs.Plain.{when◌then◌else◌, ◌<?◌, ◌≤?◌}
 use Rattle.meaning.specs.State.{State}
 use Rattle.meaning.specs.Words.{Second}
 use Rattle.meaning_runs.specs.Run.{Event, opened, closed, ran}
@@ -72,7 +72,7 @@ in_window x w d e = (
 
 pub leaving_is : (x w : ℕ) (ds : List Departure) → leaving x w ds ≡ count (is_in_window x w) no_departure ds
 leaving_is x w [] = refl
-leaving_is x w (d ∷ ds) = ap (λ (n : ℕ). (if is_in_window x w d then 1 else 0) + n) (leaving_is x w ds)
+leaving_is x w (d ∷ ds) = ap (λ (n : ℕ). (when is_in_window x w d then 1 else 0) + n) (leaving_is x w ds)
 
 module _ (N z kind : ℕ) (h : List Event) (s : State) (d : Demand3 N z kind h s) (v m F C : ℕ) (o : OneOpening v m F C h) where
   abbrev lasted : List Event

@@ -8,7 +8,7 @@ use mathlib.Core.List.{List, [], ◌∷◌, ◌++◌, append_assoc, append-nil}
 use mathlib.Core.Option.{Option, none, some}
 use borrow.Author.Tests.{eqb-true, eqb-false}
 use Rattle.meaning.specs.declared.Answer.{Answer}
-use Rattle.meaning.specs.Plain.{if◌then◌else◌, ◌=?◌}
+use Rattle.meaning.specs.Plain.{when◌then◌else◌, ◌=?◌}
 use Rattle.meaning.specs.Numbers.{lets_in}
 use Rattle.meaning.specs.Words.{Second}
 use Rattle.meaning.specs.Arrival.{sent_as}
@@ -64,7 +64,7 @@ module _ (v : ℕ) where
       named (some o) ne = ne
 
       go : (b : Bool) → lets_in a.verdict ≡ b
-          → of_connection vci_of v (if b then cells_in h ++ (new ∷ []) else cells_in h) ≡ of_connection vci_of v (cells_in h)
+          → of_connection vci_of v (when b then cells_in h ++ (new ∷ []) else cells_in h) ≡ of_connection vci_of v (cells_in h)
       go true y =
           of_connection_append vci_of v (cells_in h) (new ∷ [])
           ∙ ap (λ l. of_connection vci_of v (cells_in h) ++ l) (of_connection_no vci_of v new [] (named (opening_of a.vci h) (other y)))

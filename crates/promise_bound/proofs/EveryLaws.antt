@@ -9,7 +9,7 @@ use native.Mathlib.Omega.{arith}
 use borrow.Author.Tests.{eqb-true, eq-eqb}
 use lib.ListN.{length, length-append}
 use Rattle.meaning.specs.declared.Answer.{Answer}
-use Rattle.meaning.specs.Plain.{if◌then◌else◌, ◌=?◌}
+use Rattle.meaning.specs.Plain.{when◌then◌else◌, ◌=?◌}
 use Rattle.meaning.specs.Numbers.{lets_in}
 use Rattle.meaning.specs.Header.{clp_in}
 use Rattle.meaning.specs.Words.{Second}
@@ -57,7 +57,7 @@ module _ (v : ℕ) where
       omega arith
 
   -- a cell that is let in moves an opening on, and begins none
-  was_open : (t clp verdict : ℕ) (b : Bool) (x : Option Opening) → IsOpen (if b then after_cell t clp verdict x else x) → IsOpen x
+  was_open : (t clp verdict : ℕ) (b : Bool) (x : Option Opening) → IsOpen (when b then after_cell t clp verdict x else x) → IsOpen x
   was_open t clp verdict true none o = o
   was_open t clp verdict true (some x) o = tt
   was_open t clp verdict false x o = o
@@ -68,7 +68,7 @@ module _ (v : ℕ) where
   found (opened who u m F C x number ∷ h) o = go (number =? 0 && u =? v) refl (λ y. found h y) o
     where
       go : (b : Bool) → number =? 0 && u =? v ≡ b → (IsOpen (opening_of v h) → Found v h)
-          → IsOpen (if b then some (new_opening m F C x) else opening_of v h) → Found v (opened who u m F C x number ∷ h)
+          → IsOpen (when b then some (new_opening m F C x) else opening_of v h) → Found v (opened who u m F C x number ∷ h)
       go true e f y =
           record {
             operator = who;
@@ -86,7 +86,7 @@ module _ (v : ℕ) where
   found (closed who u number ∷ h) o = go (number =? 0 && u =? v) refl (λ y. found h y) o
     where
       go : (b : Bool) → number =? 0 && u =? v ≡ b → (IsOpen (opening_of v h) → Found v h)
-          → IsOpen (if b then none else opening_of v h) → Found v (closed who u number ∷ h)
+          → IsOpen (when b then none else opening_of v h) → Found v (closed who u number ∷ h)
       go true e f y = absurd y
       go false e f y = found_more (closed who u number) h (f y) (λ during l. (unless number u e, l))
   found (ran cell a out ∷ h) o =

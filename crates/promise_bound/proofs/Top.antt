@@ -7,7 +7,7 @@ use mathlib.Core.List.{List, [], ◌∷◌}
 use native.Mathlib.Omega.{arith}
 use borrow.Author.Tests.{eqb-false}
 use Rattle.meaning.specs.declared.Record.{Record}
-use Rattle.meaning.specs.Plain.{if◌then◌else◌, ◌=?◌}
+use Rattle.meaning.specs.Plain.{when◌then◌else◌, ◌=?◌}
 use Rattle.meaning.specs.State.{State}
 use Rattle.meaning.specs.Bucket.{bucket_of, obeys_rules}
 use Rattle.meaning.specs.Header.{Name, number_in}
@@ -27,14 +27,14 @@ use Rattle.promise_bound.proofs.LineLaws.{whole_line}
 
 -- an open that answers 0
 opens_by : (k : ℕ) (b c d : Bool) (words after : List ℕ)
-    → (if not (k =? 0) then called_of k words else if b then called_of 5 words else if not c then called_of 6 words
-    else if not d then called_of 11 words else called_of 0 after).number ≡ 0
+    → (when not (k =? 0) then called_of k words else when b then called_of 5 words else when not c then called_of 6 words
+    else when not d then called_of 11 words else called_of 0 after).number ≡ 0
     → c ≡ true
 opens_by k b c d words after = go (k =? 0) refl b c
   where
     go : (a : Bool) → k =? 0 ≡ a → (b c : Bool)
-        → (if not a then called_of k words else if b then called_of 5 words else if not c then called_of 6 words
-        else if not d then called_of 11 words else called_of 0 after).number ≡ 0
+        → (when not a then called_of k words else when b then called_of 5 words else when not c then called_of 6 words
+        else when not d then called_of 11 words else called_of 0 after).number ≡ 0
         → c ≡ true
     go false e b c n = absurd (eqb-false k 0 e n)
     go true e true c n = absurd (omega (arith, n))

@@ -18,7 +18,7 @@
 -- close, or into a later opening, still has all cells of this opening. Which cells are accepted, when they are due and what
 -- leaves is `meaning_runs/Seen`'s to say: a kind of cell or of connection that it counts, such as a tagged cell, is counted here.
 use Rattle.std.specs.Prelude.{ℕ, ◌+◌, ◌-◌, ◌*◌, ◌/◌, ◌^◌, ◌≤◌, ◌<◌, ◌≡◌, Bool, ◌&&◌, List, [], ◌∷◌, ◌++◌, ◌≢◌, length, take, drop}
-use Rattle.meaning.specs.Plain.{if◌then◌else◌, ◌<?◌, ◌≤?◌}
+use Rattle.meaning.specs.Plain.{when◌then◌else◌, ◌<?◌, ◌≤?◌}
 use Rattle.meaning.specs.Words.{Second}
 use Rattle.meaning.specs.State.{State}
 use Rattle.meaning.specs.Calls.{Asked, setup}
@@ -58,7 +58,7 @@ is_in_window x w d = x ≤? d.slot && d.slot <? x + w
 
 abbrev pub leaving : ℕ → ℕ → List Departure → ℕ
 leaving x w [] = 0
-leaving x w (d ∷ ds) = (if is_in_window x w d then 1 else 0) + leaving x w ds
+leaving x w (d ∷ ds) = (when is_in_window x w d then 1 else 0) + leaving x w ds
 
 -- "1 + floor(((w + N - 1) × L - 1) / F)": due times of two cells that leave in w slots are at most `spread` apart, since one
 -- leaves in its due slot at the earliest and the other N-1 slots after it at the latest

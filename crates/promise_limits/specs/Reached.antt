@@ -3,7 +3,7 @@
 --   Reached         == in this run a cell of the connection v leaves exactly N-1 slots after its due slot
 --   Within N o w    == at this N no cell of any run of a policer with these options leaves
 --                      more than w slots after its due slot
---   cleanFor vci    == a cell of a VC with the octet 5 that belongs to its header, which both kinds let through as it is
+--   clean_for vci    == a cell of a VC with the octet 5 that belongs to its header, which both kinds let through as it is
 --   PeakKept        == source 000's claim, that one connection's departures never come closer than its peak rate allows
 use Rattle.std.specs.Prelude.{ℕ, ◌+◌, ◌-◌, ◌*◌, ◌≤◌, ◌<◌, ◌≡◌, List, [], ◌∷◌, ◌++◌, length, replicate, set}
 use Rattle.std.proofs.Math.Option.{some}

@@ -3,7 +3,7 @@ use Prim.Native.Nat.{ℕ}
 use mathlib.Core.Path.{◌≡◌, refl, sym, subst}
 use mathlib.Core.Bool.{Bool, true, false}
 use mathlib.Core.List.{List}
-use Rattle.meaning.specs.Plain.{if◌then◌else◌, Out, refused, next, needs, ◌andThen◌}
+use Rattle.meaning.specs.Plain.{when◌then◌else◌, Out, refused, next, needs, ◌and_then◌}
 use Rattle.meaning.specs.State.{Ends}
 use Rattle.meaning.specs.Work.{Work}
 use Rattle.meaning_listed.specs.Listed.{ListedWork, work_with}
@@ -23,7 +23,7 @@ module _ (n : ℕ) (b : List ℕ) (P : Ends → Type 0) where
   needs_new false x y h = tt
 
   pub if_both : (c : Bool) (x x' : Out Work) (y y' : Out ListedWork) → (c ≡ true → Follows n b P x y) → (c ≡ false → Follows n b P x' y')
-      → Follows n b P (if c then x else x') (if c then y else y')
+      → Follows n b P (when c then x else x') (when c then y else y')
   if_both true x x' y y' h k = h refl
   if_both false x x' y y' h k = k refl
 
@@ -50,7 +50,7 @@ module _ (n : ℕ) (b : List ℕ) (P : Ends → Type 0) where
     needs_on false x y h = tt
 
     pub if_on : (c : Bool) (x x' y y' : Out Work) → (c ≡ true → Follows n b P x (on y)) → (c ≡ false → Follows n b P x' (on y'))
-        → Follows n b P (if c then x else x') (on (if c then y else y'))
+        → Follows n b P (when c then x else x') (on (when c then y else y'))
     if_on true x x' y y' h k = h refl
     if_on false x x' y y' h k = k refl
 

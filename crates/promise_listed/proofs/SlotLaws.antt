@@ -8,7 +8,7 @@ use native.Mathlib.Omega.{arith}
 use borrow.Author.Tests.{eq-eqb}
 use lib.ListN.{length}
 use Rattle.base_hec.specs.Modes.{arriving, arriving_fits}
-use Rattle.meaning.specs.Plain.{if◌then◌else◌, ◌=?◌, Out, refused, next, needs, ◌andThen◌}
+use Rattle.meaning.specs.Plain.{when◌then◌else◌, ◌=?◌, Out, refused, next, needs, ◌and_then◌}
 use Rattle.meaning.specs.Numbers.{ranges_hold, words_in}
 use Rattle.meaning.specs.State.{State, Ends, sizes_hold, with_record, record_in_mode, with_mode}
 use Rattle.meaning.specs.Bits.{is_free_space}
@@ -100,11 +100,11 @@ module _ (n : ℕ) (b : List ℕ) where
         (λ w k f u _. told_follows a.dropped w k f u))
 
     module _ (lent : Bool) (is_lent_lem : length cell =? 0 || length cell =? 53 ≡ lent) where
-      new_is : slot_at x s cell ≡ (if not lent then work_of s (bare_answer 9) else finish s new)
+      new_is : slot_at x s cell ≡ (when not lent then work_of s (bare_answer 9) else finish s new)
       unfolding slot_at
       new_is = rw (ranges, sizes, is_lent_lem)
 
-      old_is : slot_listed l cell ≡ (if not lent then refuse l 9 else finish_listed l old)
+      old_is : slot_listed l cell ≡ (when not lent then refuse l 9 else finish_listed l old)
       unfolding slot_listed
       old_is = rw (ranges, four, is_lent_lem)
 

@@ -6,7 +6,7 @@ use mathlib.Core.List.{List}
 use native.Mathlib.Nat.{mod-lt}
 use native.Mathlib.Omega.{arith}
 use lib.ListN.{length}
-use Rattle.meaning.specs.Plain.{◌<?◌, ◌≤?◌, ◌=?◌, next, ◌andThen◌}
+use Rattle.meaning.specs.Plain.{◌<?◌, ◌≤?◌, ◌=?◌, next, ◌and_then◌}
 use Rattle.meaning.specs.Numbers.{cell_start, connections_in, unused, kind_in_range, excess}
 use Rattle.meaning.specs.State.{State, Ends, ends_of, output_list, with_record, with_cells, with_links, with_calendar, with_words, with_bits, with_arrived}
 use Rattle.meaning.specs.State.{record_with, with_clock, with_free, with_output_list}

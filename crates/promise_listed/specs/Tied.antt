@@ -5,7 +5,7 @@
 --   Tied     == both links lead through the same lists, the old ones also through the Free List, which holds the free spaces
 --   Led      == the outcome of a step of the old form is that of the new one, and both are tied again; P holds of the Free List's ends
 use Rattle.std.specs.Prelude.{ℕ, ◌+◌, ◌*◌, ◌≤◌, ◌<◌, ◌≡◌, ◌≢◌, List, length}
-use Rattle.meaning.specs.Plain.{if◌then◌else◌, ◌=?◌, Out, refused, next}
+use Rattle.meaning.specs.Plain.{when◌then◌else◌, ◌=?◌, Out, refused, next}
 use Rattle.meaning.specs.Numbers.{most_n, bit_words}
 use Rattle.meaning.specs.State.{State, state_of, Ends, output_list}
 use Rattle.meaning.specs.Lists.{entry_at}
@@ -62,7 +62,7 @@ TiedAt s list free = Tied s.ctl.n s.ctl.turn s.links s.calendar (output_list s) 
 
 -- the queues with another one at entry e
 abbrev pub upd : (ℕ → List ℕ) → ℕ → List ℕ → ℕ → List ℕ
-upd q e l d = if d =? e then l else q d
+upd q e l d = when d =? e then l else q d
 
 pub record Led (n : ℕ) (b : List ℕ) (P : Ends → Type 0) (w : Work) (y : Out ListedWork) : Type 0 where
   pub list : List ℕ

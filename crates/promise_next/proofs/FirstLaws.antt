@@ -5,7 +5,7 @@ use mathlib.Core.Logic.{◌≢◌}
 use mathlib.Core.Bool.{Bool, true, false}
 use native.Mathlib.Decide.{ℕ_discrete}
 use native.Mathlib.Omega.{arith}
-use Rattle.meaning.specs.Plain.{if◌then◌else◌}
+use Rattle.meaning.specs.Plain.{when◌then◌else◌}
 use Rattle.meaning.specs.Next.{first_in}
 
 module _ (p : ℕ → Bool) where
@@ -25,7 +25,7 @@ module _ (p : ℕ → Bool) where
       }
   first_in_lem (suc k) d h = go (p d) refl (first_in_lem k (d + 1) (omega arith))
     where
-      go : (b : Bool) → p d ≡ b → First k (d + 1) (first_in p k (d + 1)) → First (suc k) d (if b then d else first_in p k (d + 1))
+      go : (b : Bool) → p d ≡ b → First k (d + 1) (first_in p k (d + 1)) → First (suc k) d (when b then d else first_in p k (d + 1))
       go true e f =
           record {
             none = λ z j l m. absurd (omega arith);

@@ -8,7 +8,7 @@ use mathlib.Core.List.{List, [], ◌∷◌, map}
 use native.Mathlib.Decide.{dec_lt, ℕ_discrete}
 use native.Mathlib.Omega.{arith}
 use lib.ListN.{get_or}
-use Rattle.meaning.specs.Plain.{if◌then◌else◌}
+use Rattle.meaning.specs.Plain.{when◌then◌else◌}
 use Rattle.meaning.specs.Numbers.{empty}
 use Rattle.meaning.specs.State.{State, Ends, output_list}
 use Rattle.meaning.specs.Lists.{is_empty, entry_at}
@@ -85,7 +85,7 @@ module _ (N z kind : ℕ) (h : List Event) (s : State) (i : Inv N z kind h s) wh
   n_low : 1 ≤ N
   n_low = i.stage.ranges.N_low
 
-  by_output : (o : Bool) → is_some (waiting i).out ≡ o → (d : ℕ) → First (holds_at s) (N - 1) 1 d → Until N (if o then 1 else d) (waiting i)
+  by_output : (o : Bool) → is_some (waiting i).out ≡ o → (d : ℕ) → First (holds_at s) (N - 1) 1 d → Until N (when o then 1 else d) (waiting i)
   by_output true e d f =
       record {
         at_most = omega (arith, i.good.room, some_sum i.out (sym (map_some cell_in i.out) ∙ e));

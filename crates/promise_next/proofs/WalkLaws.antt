@@ -9,7 +9,7 @@ use native.Mathlib.Decide.{dec_lt, ℕ_discrete}
 use native.Mathlib.Omega.{arith}
 use borrow.Author.Tests.{eq-eqb, ne_eqb, lt-ltb}
 use lib.ListN.{length, get_or}
-use Rattle.meaning.specs.Plain.{if◌then◌else◌, ◌=?◌}
+use Rattle.meaning.specs.Plain.{when◌then◌else◌, ◌=?◌}
 use Rattle.meaning.specs.Numbers.{octets, per_entry, bit_words}
 use Rattle.meaning.specs.State.{State, Ends, output_list, words_length, lengths_hold}
 use Rattle.meaning.specs.Bits.{is_marked}
@@ -108,14 +108,14 @@ module _ (s : State) (a : AuditHolds s) where
   next_is = first_same (λ d. is_marked s.bits ((T + d) % N)) (holds_at s) (N - 1) 1 mark_is
 
   by_output : (o : Bool) (d : ℕ) → First (holds_at s) (N - 1) 1 d
-      → (if not o then wait_of 0 1 else if d =? 0 then wait_of 0 0
-      else if not (ends_fit N (entry_at s.calendar ((T + d) % N)) && holds_at s d) then wait_of 3 0 else wait_of 0 d)
-      ≡ wait_of 0 (if not o then 1 else d)
+      → (when not o then wait_of 0 1 else when d =? 0 then wait_of 0 0
+      else when not (ends_fit N (entry_at s.calendar ((T + d) % N)) && holds_at s d) then wait_of 3 0 else wait_of 0 d)
+      ≡ wait_of 0 (when not o then 1 else d)
   by_output false d f = refl
   by_output true d f = go (ℕ_discrete d 0)
     where
-      go : Dec (d ≡ 0) → (if d =? 0 then wait_of 0 0
-          else if not (ends_fit N (entry_at s.calendar ((T + d) % N)) && holds_at s d) then wait_of 3 0 else wait_of 0 d)
+      go : Dec (d ≡ 0) → (when d =? 0 then wait_of 0 0
+          else when not (ends_fit N (entry_at s.calendar ((T + d) % N)) && holds_at s d) then wait_of 3 0 else wait_of 0 d)
           ≡ wait_of 0 d
       go (yes e) = rw (eq-eqb d 0 e) (ap (wait_of 0) (sym e))
       go (no e) = rw (ne_eqb d 0 e, entry_fits d, (f.found e).2) refl

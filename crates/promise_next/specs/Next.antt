@@ -2,8 +2,8 @@
 -- arrives, the next cell leaves: 1 if the Output List has one, otherwise the ring distance from T to the nearest marked entry, 1 to
 -- N-1, or that none waits." Two promises: what the bits say is what a walk over the entries says, and that is when a cell leaves.
 --
---   nextIn s            == the answer in the state s (crate meaning, specs/Next.antt): a number, and slots, 0 for none
---   fullWalk s          == the same by a walk over the entries after T, one by one, that reads no bit
+--   next_in s            == the answer in the state s (crate meaning, specs/Next.antt): a number, and slots, 0 for none
+--   full_walk s          == the same by a walk over the entries after T, one by one, that reads no bit
 --   EqualsFullWalk      == in every state that the audit says yes to, the answer is 0 and what the walk says
 --   LetsNone r c        == the call c after the run r lets no cell in: open, close, or a slot that is lent none, or whose cell is neither
 --                          accepted nor tagged: no user cell, unknown, excess or dropped. A refused slot lets none in
@@ -15,7 +15,7 @@
 use Rattle.std.specs.Prelude.{ℕ, ◌+◌, ◌-◌, ◌%◌, ◌≤◌, ◌<◌, ◌≡◌, ◌≢◌, Bool, false, not, List, [], ◌∷◌}
 use Rattle.meaning.specs.declared.Answer.{Answer}
 use Rattle.meaning.specs.declared.Wait.{Wait}
-use Rattle.meaning.specs.Plain.{if◌then◌else◌}
+use Rattle.meaning.specs.Plain.{when◌then◌else◌}
 use Rattle.meaning.specs.Numbers.{empty, lets_in}
 use Rattle.meaning.specs.State.{State, output_list}
 use Rattle.meaning.specs.Lists.{is_empty, entry_at}
@@ -36,7 +36,7 @@ holds_at s d = not (is_empty (entry_at s.calendar ((s.ctl.turn + d) % s.ctl.n)))
 
 -- 1 to N-1, one after the other, up to the first that holds a cell; 0 where none does
 unfoldable pub full_walk : State → ℕ
-full_walk s = if not (is_empty (output_list s)) then 1 else first_in (holds_at s) (s.ctl.n - 1) 1
+full_walk s = when not (is_empty (output_list s)) then 1 else first_in (holds_at s) (s.ctl.n - 1) 1
 
 -- "The answer equals that of the full walk in every audited state."
 abbrev pub EqualsFullWalk : Type 0

@@ -3,13 +3,13 @@
 --   openings           == the opening of each connection, by its number; of A's alone they are read
 --   word_for c A f q    == what A is told when it asks q with the openings f
 --   after c A f q      == the openings then
---   wordsFrom, afterAll  == the same of one ask after the other
---   cellsTold v ws     == the accepted cells of the connection v among what A was told
+--   words_from, after_all  == the same of one ask after the other
+--   cells_told v ws     == the accepted cells of the connection v among what A was told
 use Prim.Native.Nat.{ℕ}
 use mathlib.Core.Bool.{◌&&◌}
 use mathlib.Core.List.{List, [], ◌∷◌}
 use mathlib.Core.Option.{Option, none, some}
-use Rattle.meaning.specs.Plain.{if◌then◌else◌, ◌=?◌}
+use Rattle.meaning.specs.Plain.{when◌then◌else◌, ◌=?◌}
 use Rattle.meaning.specs.Numbers.{lets_in}
 use Rattle.meaning.specs.Header.{header_at, clp_in, Name, number_in, connection}
 use Rattle.meaning.specs.Operators.{owner_of}
@@ -39,11 +39,11 @@ word_for c A f (sends t cell) =
 
 abbrev pub after : Card → ℕ → (ℕ → Option Opening) → Ask → ℕ → Option Opening
 after c A f (asks_open name m F C x) v =
-    if opens_as c A f name m F C x =? 0 && number_in c.z name =? v then some (new_opening m F C x) else f v
-after c A f (asks_close name number) v = if number =? 0 && number_in c.z name =? v then none else f v
+    when opens_as c A f name m F C x =? 0 && number_in c.z name =? v then some (new_opening m F C x) else f v
+after c A f (asks_close name number) v = when number =? 0 && number_in c.z name =? v then none else f v
 after c A f (sends t cell) v =
     let j = judged_by c.kind c.z t f cell in
-    if lets_in j.verdict && j.vci =? v then after_cell t (clp_in cell) j.verdict (f v) else f v
+    when lets_in j.verdict && j.vci =? v then after_cell t (clp_in cell) j.verdict (f v) else f v
 
 unfoldable pub words_from : Card → ℕ → (ℕ → Option Opening) → List Ask → List Word
 words_from c A f [] = []
@@ -57,4 +57,4 @@ unfoldable pub cells_told : ℕ → List Word → List Cell
 cells_told v [] = []
 cells_told v (open_as_told number ∷ ws) = cells_told v ws
 cells_told v (close_told number ∷ ws) = cells_told v ws
-cells_told v (cell_told verdict x ∷ ws) = if lets_in verdict && x.vci =? v then x ∷ cells_told v ws else cells_told v ws
+cells_told v (cell_told verdict x ∷ ws) = when lets_in verdict && x.vci =? v then x ∷ cells_told v ws else cells_told v ws

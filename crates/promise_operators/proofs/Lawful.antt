@@ -11,7 +11,7 @@ use native.Mathlib.Omega.{arith}
 use borrow.Author.Tests.{eq-eqb, ne_eqb, eqb-true, eqb-false}
 use lib.ListN.{length}
 use Rattle.meaning.specs.declared.Answer.{Answer}
-use Rattle.meaning.specs.Plain.{if◌then◌else◌, ◌=?◌}
+use Rattle.meaning.specs.Plain.{when◌then◌else◌, ◌=?◌}
 use Rattle.meaning.specs.Numbers.{octets, lets_in}
 use Rattle.meaning.specs.State.{State}
 use Rattle.meaning.specs.Header.{Header, header_at, clp_in, Name, named, number_in, name_in, connection, names_connection}
@@ -250,7 +250,7 @@ module _ (c : Card) (A : ℕ) where
 
             go : (b : Bool) → accepts v a ≡ b
                 → cells_of v (ran passed a (shown (slot s cell)) ∷ h)
-                ≡ cells_of v h ++ (if lets_in a.verdict && new.vci =? v then new ∷ [] else [])
+                ≡ cells_of v h ++ (when lets_in a.verdict && new.vci =? v then new ∷ [] else [])
             go true e =
                 rw (test ∙ e)
                 (cells_new v h passed a (shown (slot s cell)) e

@@ -11,7 +11,7 @@ use native.Mathlib.Omega.{arith}
 use borrow.Author.Tests.{eqb-true}
 use lib.ListN.{length, get_or}
 use Rattle.meaning.specs.declared.Record.{Record}
-use Rattle.meaning.specs.Plain.{if◌then◌else◌, ◌=?◌}
+use Rattle.meaning.specs.Plain.{when◌then◌else◌, ◌=?◌}
 use Rattle.meaning.specs.Numbers.{lets_in}
 use Rattle.meaning.specs.Header.{Name, named, number_in}
 use Rattle.meaning.specs.Operators.{owns}
@@ -74,7 +74,7 @@ module _ (c : Card) (A : ℕ) where
   told_more v (close_told number) ws = refl
   told_more v (cell_told verdict x) ws = go (lets_in verdict && x.vci =? v)
     where
-      go : (b : Bool) → (if b then x ∷ [] else []) ++ cells_told v ws ≡ (if b then x ∷ cells_told v ws else cells_told v ws)
+      go : (b : Bool) → (when b then x ∷ [] else []) ++ cells_told v ws ≡ (when b then x ∷ cells_told v ws else cells_told v ws)
       go true = refl
       go false = refl
 

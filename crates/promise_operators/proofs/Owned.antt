@@ -5,14 +5,14 @@ use mathlib.Core.Bool.{Bool, true, false, not}
 use mathlib.Core.List.{List}
 use borrow.Author.Tests.{eqb-true, eqb-false}
 use Rattle.meaning.specs.declared.Record.{Record}
-use Rattle.meaning.specs.Plain.{if◌then◌else◌, ◌=?◌}
+use Rattle.meaning.specs.Plain.{when◌then◌else◌, ◌=?◌}
 use Rattle.meaning.specs.Header.{Name, named}
 use Rattle.meaning.specs.Operators.{owns}
 use Rattle.meaning.specs.Words.{Second}
 use Rattle.meaning.specs.Calls.{Called, called_of, shared_refusal, open_call, close_call}
 use Rattle.meaning.proofs.OperatorsLaws.{shared_owned}
 
-none_shared : (k : ℕ) (words : List ℕ) (rest : Called) (b : Bool) → k =? 0 ≡ b → (if not b then called_of k words else rest).number ≡ 0 → k ≡ 0
+none_shared : (k : ℕ) (words : List ℕ) (rest : Called) (b : Bool) → k =? 0 ≡ b → (when not b then called_of k words else rest).number ≡ 0 → k ≡ 0
 none_shared k words rest true e f = eqb-true k 0 e
 none_shared k words rest false e f = f
 

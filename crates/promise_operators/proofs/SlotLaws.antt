@@ -10,7 +10,7 @@ use native.Mathlib.Omega.{arith}
 use borrow.Author.Tests.{eqb-true, leb-true, not-false}
 use lib.ListN.{length}
 use Rattle.base_hec.specs.Modes.{arriving_fits}
-use Rattle.meaning.specs.Plain.{if◌then◌else◌, ◌<?◌, ◌≤?◌, ◌=?◌, Out, refused, next, ◌andThen◌}
+use Rattle.meaning.specs.Plain.{when◌then◌else◌, ◌<?◌, ◌≤?◌, ◌=?◌, Out, refused, next, ◌and_then◌}
 use Rattle.meaning.specs.Numbers.{ranges_hold, octets, per_entry, cell_start, connections_in, words_in, bit_words, unused, kind_in_range, excess}
 use Rattle.meaning.specs.State.{State, sizes_hold, lengths_hold, words_length, output_list, with_record, with_cells, with_links, with_calendar, with_words, with_bits, with_arrived}
 use Rattle.meaning.specs.State.{record_with, with_clock, with_free, with_output_list, record_in_mode, with_mode}

@@ -20,7 +20,7 @@
 --   FromFresh c        == a setup answered 0 on such a card, then these calls followed
 -- Slots are counted from the first after setup, without wrapping.
 use Rattle.std.specs.Prelude.{ℕ, ◌+◌, ◌-◌, ◌≤◌, ◌<◌, ◌≡◌, Bool, true, false, ◌&&◌, List, [], ◌∷◌, ◌↔◌, length}
-use Rattle.meaning.specs.Plain.{if◌then◌else◌, ◌=?◌}
+use Rattle.meaning.specs.Plain.{when◌then◌else◌, ◌=?◌}
 use Rattle.meaning.specs.State.{State}
 use Rattle.meaning.specs.Header.{header_at, Name, named, number_in, name_in, connection}
 use Rattle.meaning.specs.Operators.{owner_of}
@@ -90,11 +90,11 @@ word_of c r (on_slot cell) =
 
 unfoldable pub asked : Card → ℕ → Run → List Call → List Ask
 asked c A r [] = []
-asked c A r (x ∷ xs) = if is_a c A r x then ask_of r x ∷ asked c A (call r x) xs else asked c A (call r x) xs
+asked c A r (x ∷ xs) = when is_a c A r x then ask_of r x ∷ asked c A (call r x) xs else asked c A (call r x) xs
 
 unfoldable pub told : Card → ℕ → Run → List Call → List Word
 told c A r [] = []
-told c A r (x ∷ xs) = if is_a c A r x then word_of c r x ∷ told c A (call r x) xs else told c A (call r x) xs
+told c A r (x ∷ xs) = when is_a c A r x then word_of c r x ∷ told c A (call r x) xs else told c A (call r x) xs
 
 pub record FromFresh (c : Card) : Type 0 where
   pub raw : Bool

@@ -2,15 +2,15 @@
 -- operator, has VC 1, and A, the second, VC 2. B sends cells in the one run and none in the other; A asks the same in both, up to
 -- A's first close.
 --
---   cardOf N         == N spaces, V 3, UNI, split VCI 2, split path number 1
---   sharedAtTwo      == N 2: A's cells in slots 0 and 1, B's in slot 2; aloneAtTwo the same without B
---   sharedSpace      == N 2: B's cells in slots 0 and 1, A's in slot 2; aloneSpace the same without B's
---   sharedAtFour     == N 4: A's cells in slots 0 to 15, B's in 16 to 18, and on to slot 20; aloneAtFour the same without B's
+--   card_of N         == N spaces, V 3, UNI, split VCI 2, split path number 1
+--   shared_at_two      == N 2: A's cells in slots 0 and 1, B's in slot 2; alone_at_two the same without B
+--   shared_space      == N 2: B's cells in slots 0 and 1, A's in slot 2; alone_space the same without B's
+--   shared_at_four     == N 4: A's cells in slots 0 to 15, B's in 16 to 18, and on to slot 20; alone_at_four the same without B's
 --   reopens cs       == the calls cs, and then A closes and opens again
---   brokenFor vci    == a cell of a VC with a wrong bit in its header
+--   broken_for vci    == a cell of a VC with a wrong bit in its header
 use Rattle.std.specs.Prelude.{ℕ, ◌≡◌, Bool, true, List, [], ◌∷◌, ◌++◌, map, length, replicate, take}
 use Rattle.base_hec.specs.WrongBit.{flipped}
-use Rattle.meaning.specs.Plain.{if◌then◌else◌, ◌=?◌}
+use Rattle.meaning.specs.Plain.{when◌then◌else◌, ◌=?◌}
 use Rattle.meaning.specs.Header.{by_vci}
 use Rattle.meaning.specs.Operators.{first_operator, second_operator}
 use Rattle.meaning.specs.Words.{without_second}
@@ -74,7 +74,7 @@ abbrev pub spaces_of : ℕ → List Event → List ℕ
 spaces_of v [] = []
 spaces_of v (opened who c m F C x number ∷ h) = spaces_of v h
 spaces_of v (closed who c number ∷ h) = spaces_of v h
-spaces_of v (ran cell a out ∷ h) = if a.departing =? v then a.space ∷ spaces_of v h else spaces_of v h
+spaces_of v (ran cell a out ∷ h) = when a.departing =? v then a.space ∷ spaces_of v h else spaces_of v h
 
 abbrev pub shared_space : List Call
 shared_space = opens_b 0 2 3 ∷ opens_a 0 2 3 ∷ cell_of_b ∷ cell_of_b ∷ cell_of_a ∷ absent_cell ∷ []

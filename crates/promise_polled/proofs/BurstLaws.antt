@@ -8,7 +8,7 @@ use native.Mathlib.Omega.{arith}
 use native.Mathlib.Nat.{zero-add}
 use borrow.Author.Tests.{eq-eqb, eqb-true}
 use lib.ListN.{length, take, drop, length-drop}
-use Rattle.meaning.specs.Plain.{if◌then◌else◌, ◌=?◌}
+use Rattle.meaning.specs.Plain.{when◌then◌else◌, ◌=?◌}
 use Rattle.meaning.specs.Numbers.{octets, words_in, bit_words}
 use Rattle.meaning.specs.State.{State}
 use Rattle.meaning_runs.specs.Run.{on_slot, Run, run_of, calls}
@@ -31,7 +31,7 @@ unfolding up_to
 up_to_short [] = omega arith
 up_to_short (size ∷ sizes) = go (size_fits size) (up_to_short sizes)
   where
-    go : (b : Bool) → length (up_to sizes) ≤ length sizes → length (if b then size ∷ up_to sizes else []) ≤ suc (length sizes)
+    go : (b : Bool) → length (up_to sizes) ≤ length sizes → length (when b then size ∷ up_to sizes else []) ≤ suc (length sizes)
     go true h = omega (arith, h)
     go false h = omega arith
 
@@ -46,7 +46,7 @@ lent_all arr [] e = tt
 lent_all arr (size ∷ sizes) e =
     go (size_fits size) refl (lent_all (drop 53 arr) sizes (rw (length-drop 53 arr) (omega (arith, e))))
   where
-    go : (b : Bool) → size_fits size ≡ b → All Lent (lent_to (drop 53 arr) (up_to sizes)) → All Lent (lent_to arr (if b then size ∷ up_to sizes else []))
+    go : (b : Bool) → size_fits size ≡ b → All Lent (lent_to (drop 53 arr) (up_to sizes)) → All Lent (lent_to arr (when b then size ∷ up_to sizes else []))
     go true f rest = (take_lent size arr (omega (arith, e)) f, rest)
     go false f rest = tt
 
@@ -56,8 +56,8 @@ take_served arr [] = refl
 take_served arr (size ∷ sizes) = go (size_fits size) (take_served (drop 53 arr) sizes)
   where
     go : (b : Bool) → take (length (lent_to (drop 53 arr) (up_to sizes))) (lent_to (drop 53 arr) sizes) ≡ lent_to (drop 53 arr) (up_to sizes)
-        → take (length (lent_to arr (if b then size ∷ up_to sizes else []))) (lent_to arr (size ∷ sizes))
-        ≡ lent_to arr (if b then size ∷ up_to sizes else [])
+        → take (length (lent_to arr (when b then size ∷ up_to sizes else []))) (lent_to arr (size ∷ sizes))
+        ≡ lent_to arr (when b then size ∷ up_to sizes else [])
     go true rest = ap (λ (l : List (List ℕ)). take size arr ∷ l) rest
     go false rest = refl
 
@@ -79,7 +79,7 @@ module _ (arrivals sizes departures answers : List ℕ) where
   unfolding cells_served
   taken = go (lent_well arrivals sizes departures answers)
     where
-      go : (b : Bool) → take (length (if b then lent_to arrivals (up_to sizes) else [])) (lent_to arrivals sizes) ≡ (if b then lent_to arrivals (up_to sizes) else [])
+      go : (b : Bool) → take (length (when b then lent_to arrivals (up_to sizes) else [])) (lent_to arrivals sizes) ≡ (when b then lent_to arrivals (up_to sizes) else [])
       go true = take_served arrivals sizes
       go false = refl
 
@@ -87,7 +87,7 @@ module _ (arrivals sizes departures answers : List ℕ) where
   unfolding cells_served
   all_lent = go (lent_well arrivals sizes departures answers) refl
     where
-      go : (b : Bool) → lent_well arrivals sizes departures answers ≡ b → All Lent (if b then lent_to arrivals (up_to sizes) else [])
+      go : (b : Bool) → lent_well arrivals sizes departures answers ≡ b → All Lent (when b then lent_to arrivals (up_to sizes) else [])
       go true e = lent_all arrivals sizes (lengths e).0
       go false e = tt
 
@@ -95,13 +95,13 @@ module _ (arrivals sizes departures answers : List ℕ) where
   unfolding cells_served
   room = go (lent_well arrivals sizes departures answers) refl
     where
-      go : (b : Bool) → lent_well arrivals sizes departures answers ≡ b → 53 * length (if b then lent_to arrivals (up_to sizes) else []) ≤ length departures
+      go : (b : Bool) → lent_well arrivals sizes departures answers ≡ b → 53 * length (when b then lent_to arrivals (up_to sizes) else []) ≤ length departures
       go true e = omega (arith, (lengths e).1, lent_to_long arrivals (up_to sizes), up_to_short sizes)
       go false e = omega arith
 
   module _ (N z kind : ℕ) (r : Run) (k : Kept N z kind r) where
     begins : burst r.state arrivals sizes departures answers
-        ≡ (if not (lent_well arrivals sizes departures answers) then stopped (stretch_of r.state departures answers 0 0) 2
+        ≡ (when not (lent_well arrivals sizes departures answers) then stopped (stretch_of r.state departures answers 0 0) 2
         else slots arrivals sizes (stretch_of r.state departures answers 0 0))
     unfolding burst lengths_fit lent_well
     begins =
@@ -125,10 +125,10 @@ module _ (arrivals sizes departures answers : List ℕ) where
     whole = begins ∙ go (lent_well arrivals sizes departures answers) refl
       where
         go : (b : Bool) → lent_well arrivals sizes departures answers ≡ b
-            → (if not b then stopped (stretch_of r.state departures answers 0 0) 2 else slots arrivals sizes (stretch_of r.state departures answers 0 0))
-            ≡ (let cs = if b then lent_to arrivals (up_to sizes) else [] in
+            → (when not b then stopped (stretch_of r.state departures answers 0 0) 2 else slots arrivals sizes (stretch_of r.state departures answers 0 0))
+            ≡ (let cs = when b then lent_to arrivals (up_to sizes) else [] in
             stretch_of (calls r (map on_slot cs)).state (handed_out r.state cs departures) (answered r.state cs answers)
-            (if not b then 2 else if all_fit sizes then 0 else 9) (length cs))
+            (when not b then 2 else when all_fit sizes then 0 else 9) (length cs))
         go false e = refl
         go true e =
             slots_are N z kind arrivals sizes r k [] departures [] answers arrivals 0 refl (lengths e).0 refl (lengths e).1 refl (lengths e).2

@@ -9,7 +9,7 @@ use native.Mathlib.Nat.{add-zero}
 use borrow.Author.Tests.{eq-eqb}
 use lib.ListN.{length, take, drop, length-append, length-drop}
 use lib.Seq.{length-take-le, drop-drop}
-use Rattle.meaning.specs.Plain.{if◌then◌else◌}
+use Rattle.meaning.specs.Plain.{when◌then◌else◌}
 use Rattle.meaning.specs.Work.{Work}
 use Rattle.meaning.specs.Slot.{slot}
 use Rattle.meaning_runs.specs.Run.{on_slot, Run, call_at, call, calls}
@@ -91,7 +91,7 @@ module _ (N z kind : ℕ) where
       → arr ≡ drop (53 * i) arrivals → length arr ≡ 53 * length sizes → length fd ≡ 53 * i → length d ≡ 53 * length sizes
       → length fa ≡ 6 * i → length a ≡ 6 * length sizes
       → slots arrivals sizes (stretch_of r.state (fd ++ d) (fa ++ a) 0 i)
-      ≡ stretched r (lent_to arr (up_to sizes)) fd d fa a (if all_fit sizes then 0 else 9) (i + length (lent_to arr (up_to sizes)))
+      ≡ stretched r (lent_to arr (up_to sizes)) fd d fa a (when all_fit sizes then 0 else 9) (i + length (lent_to arr (up_to sizes)))
   unfolding slots up_to all_fit lent_to handed_out answered calls call call_at slot stopped
   slots_are arrivals [] r k fd d fa a arr i e1 e2 e3 e4 e5 e6 = rw (add-zero i)
   slots_are arrivals (size ∷ sizes) r k fd d fa a arr i e1 e2 e3 e4 e5 e6 =
@@ -106,11 +106,11 @@ module _ (N z kind : ℕ) where
           → arr' ≡ drop (53 * (i + 1)) arrivals → length arr' ≡ 53 * length sizes → length fd' ≡ 53 * (i + 1)
           → length d' ≡ 53 * length sizes → length fa' ≡ 6 * (i + 1) → length a' ≡ 6 * length sizes
           → slots arrivals sizes (stretch_of r'.state (fd' ++ d') (fa' ++ a') 0 (i + 1))
-          ≡ stretched r' (lent_to arr' (up_to sizes)) fd' d' fa' a' (if all_fit sizes then 0 else 9)
+          ≡ stretched r' (lent_to arr' (up_to sizes)) fd' d' fa' a' (when all_fit sizes then 0 else 9)
           (i + 1 + length (lent_to arr' (up_to sizes))))
           → slots arrivals (size ∷ sizes) b
-          ≡ stretched r (lent_to arr (if x then size ∷ up_to sizes else [])) fd d fa a (if x && all_fit sizes then 0 else 9)
-          (i + length (lent_to arr (if x then size ∷ up_to sizes else [])))
+          ≡ stretched r (lent_to arr (when x then size ∷ up_to sizes else [])) fd d fa a (when x && all_fit sizes then 0 else 9)
+          (i + length (lent_to arr (when x then size ∷ up_to sizes else [])))
       go false e rest = slots_stop arrivals sizes size b e ∙ rw (add-zero i)
       go true e rest =
           let w = slot r.state (take size arr) in
@@ -126,7 +126,7 @@ module _ (N z kind : ℕ) where
           (rw (length-append fa (six_of w.answer)) (omega (arith, e5)))
           (rw (length-drop 6 a) (omega (arith, e6)))
           ∙ regroup (call r (on_slot (take size arr))) (lent_to (drop 53 arr) (up_to sizes)) fd (out_of w d) (drop 53 d) fa (six_of w.answer) (drop 6 a)
-          (if all_fit sizes then 0 else 9) i
+          (when all_fit sizes then 0 else 9) i
         where
           further : (j : ℕ) → 53 * j + 53 ≡ 53 * (j + 1)
           further j = omega arith

@@ -8,7 +8,7 @@ use native.Mathlib.Omega.{arith}
 use lib.ListN.{length, take, drop, length-drop}
 use lib.Seq.{take_at, drop_at}
 use Rattle.meaning.specs.declared.Answer.{Answer}
-use Rattle.meaning.specs.Plain.{if◌then◌else◌, ◌=?◌}
+use Rattle.meaning.specs.Plain.{when◌then◌else◌, ◌=?◌}
 use Rattle.meaning.specs.Numbers.{octets, empty}
 use Rattle.meaning.specs.State.{State}
 use Rattle.meaning.specs.Work.{Work}
@@ -27,19 +27,19 @@ use Rattle.promise_polled.proofs.BurstRuns.{slot_leaves}
 
 -- the octets read are those noted
 out_read : (w : Work) (d rest : List ℕ) → Shows w.state.cells w.answer.space → 53 ≤ length d
-    → (if w.answer.space =? empty then [] else take octets (out_of w d ++ rest)) ≡ shown w
+    → (when w.answer.space =? empty then [] else take octets (out_of w d ++ rest)) ≡ shown w
 unfolding shown
 out_read w d rest shows room =
-    ap (λ (l : List ℕ). if w.answer.space =? empty then [] else l) (take_at (out_of w d) rest 53 (out_long w shows d room))
+    ap (λ (l : List ℕ). when w.answer.space =? empty then [] else l) (take_at (out_of w d) rest 53 (out_long w shows d room))
     ∙ go (w.answer.space =? empty) (line_cell w.state.cells idle w.answer.space)
   where
-    go : (b : Bool) (l : List ℕ) → (if b then [] else if b then take octets d else if b then [] else l) ≡ (if b then [] else l)
+    go : (b : Bool) (l : List ℕ) → (when b then [] else when b then take octets d else when b then [] else l) ≡ (when b then [] else l)
     go true l = refl
     go false l = refl
 
 -- one slot is read, and the rest is left
 one_read : (h : List Event) (cell : List ℕ) (cells : List (List ℕ)) (a : Answer) (o rest more out : List ℕ) → length o ≡ 53
-    → (if a.space =? empty then [] else take octets (o ++ rest)) ≡ out
+    → (when a.space =? empty then [] else take octets (o ++ rest)) ≡ out
     → read_again h (cell ∷ cells) (o ++ rest) (six_of a ++ more) ≡ read_again (ran cell a out ∷ h) cells rest more
 unfolding read_again first_six
 one_read h cell cells a o rest more out long e =

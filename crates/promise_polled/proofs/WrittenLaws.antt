@@ -11,7 +11,7 @@ use borrow.Author.Tests.{eqb-true, eqb-false, lt-ltb}
 use lib.ListN.{length, take, drop, set, length-append, length-drop, take-append-drop}
 use lib.Seq.{length-take-le, take_at, drop-append-add}
 use Rattle.meaning.specs.declared.Answer.{Answer}
-use Rattle.meaning.specs.Plain.{if◌then◌else◌, ◌=?◌}
+use Rattle.meaning.specs.Plain.{when◌then◌else◌, ◌=?◌}
 use Rattle.meaning.specs.Numbers.{octets, empty}
 use Rattle.meaning.specs.State.{write_cell}
 use Rattle.meaning.specs.Work.{Work}
@@ -25,7 +25,7 @@ use Rattle.promise_polled.specs.Polled.{six_of}
 -- ── departures ──
 -- the 53 octets that a slot leaves to be read: those of the line cell, or those lent
 abbrev pub out_of : Work → List ℕ → List ℕ
-out_of w d = if w.answer.space =? empty then take octets d else shown w
+out_of w d = when w.answer.space =? empty then take octets d else shown w
 
 module _ (fd d : List ℕ) (i : ℕ) (at : length fd ≡ 53 * i) (room : 53 ≤ length d) where
   inside : 53 * i + 53 ≤ length (fd ++ d)
@@ -55,7 +55,7 @@ module _ (fd d : List ℕ) (i : ℕ) (at : length fd ≡ 53 * i) (room : 53 ≤ 
     out_put = go (w.answer.space =? empty) refl
       where
         go : (b : Bool) → (w.answer.space =? empty) ≡ b
-            → shown_into (fd ++ d) i w.state.cells w.answer.space ≡ fd ++ (if b then take octets d else shown w) ++ drop 53 d
+            → shown_into (fd ++ d) i w.state.cells w.answer.space ≡ fd ++ (when b then take octets d else shown w) ++ drop 53 d
         go true e =
             shown_none (fd ++ d) i inside w.state.cells shows.allowed w.answer.space (eqb-true w.answer.space empty e)
             ∙ sym (append_assoc fd (take 53 d) (drop 53 d) ∙ ap (λ (l : List ℕ). fd ++ l) (take-append-drop 53 d))
@@ -77,7 +77,7 @@ module _ (w : Work) (shows : Shows w.state.cells w.answer.space) where
   out_long d room = go (w.answer.space =? empty) refl
     where
       go : (b : Bool) → (w.answer.space =? empty) ≡ b
-          → length (if b then take octets d else if b then [] else line_cell w.state.cells idle w.answer.space) ≡ 53
+          → length (when b then take octets d else when b then [] else line_cell w.state.cells idle w.answer.space) ≡ 53
       go true e = length-take-le 53 d room
       go false e = line_long (shows.low (eqb-false w.answer.space empty e))
 

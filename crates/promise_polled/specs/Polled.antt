@@ -1,16 +1,16 @@
--- A CARD THAT POLLS: some of its calls are bursts. Each burst stands for the calls of its slots (asCalls), and what it
--- hands out is read back as their events (readBack). So a run with bursts in it is a run.
+-- A CARD THAT POLLS: some of its calls are bursts. Each burst stands for the calls of its slots (as_calls), and what it
+-- hands out is read back as their events (read_again). So a run with bursts in it is a run.
 --
 --   Poll            == an open, close or slot, or a burst with what the caller lends to it: any lists
---   lentTo a sizes  == the cells that a burst lends to its slots, one after the other
+--   lent_to a sizes  == the cells that a burst lends to its slots, one after the other
 --   up_to sizes      == the sizes before the first that is neither 0 nor 53
---   asCalls p       == the calls that p stands for: of a burst its slots up to there, or none where a length is wrong
---   readBack        == the events of slots, as read from the departures and the answers that a burst has written
+--   as_calls p       == the calls that p stands for: of a burst its slots up to there, or none where a length is wrong
+--   read_again        == the events of slots, as read from the departures and the answers that a burst has written
 --   poll r p        == the run r, and then p
 use Rattle.std.specs.Prelude.{ℕ, ◌*◌, Bool, true, not, ◌&&◌, List, [], ◌∷◌, ◌++◌, map, length, get_or, take, drop}
 use Rattle.base_hec.specs.Modes.{arriving}
 use Rattle.meaning.specs.declared.Answer.{Answer}
-use Rattle.meaning.specs.Plain.{if◌then◌else◌, ◌=?◌}
+use Rattle.meaning.specs.Plain.{when◌then◌else◌, ◌=?◌}
 use Rattle.meaning.specs.Numbers.{octets, empty}
 use Rattle.meaning.specs.State.{State}
 use Rattle.meaning.specs.Work.{answer_of}
@@ -32,7 +32,7 @@ lent_to arrivals (size ∷ sizes) = take size arrivals ∷ lent_to (drop octets 
 
 unfoldable pub up_to : List ℕ → List ℕ
 up_to [] = []
-up_to (size ∷ sizes) = if size_fits size then size ∷ up_to sizes else []
+up_to (size ∷ sizes) = when size_fits size then size ∷ up_to sizes else []
 
 unfoldable pub all_fit : List ℕ → Bool
 all_fit [] = true
@@ -47,13 +47,13 @@ lent_well arrivals sizes departures answers =
 -- the cells of the slots that are served
 unfoldable pub cells_served : List ℕ → List ℕ → List ℕ → List ℕ → List (List ℕ)
 cells_served arrivals sizes departures answers =
-    if lent_well arrivals sizes departures answers then lent_to arrivals (up_to sizes) else []
+    when lent_well arrivals sizes departures answers then lent_to arrivals (up_to sizes) else []
 
 -- the number that it ends with: "the only later stops with a number are 9 (a size neither 0 nor 53) and 3"; 3 is not given
 unfoldable pub ends_with : List ℕ → List ℕ → List ℕ → List ℕ → ℕ
 ends_with arrivals sizes departures answers =
-    if not (lent_well arrivals sizes departures answers) then 2
-    else if all_fit sizes then 0
+    when not (lent_well arrivals sizes departures answers) then 2
+    else when all_fit sizes then 0
     else 9
 
 unfoldable pub as_calls : Poll → List Call
@@ -70,7 +70,7 @@ unfoldable pub handed_out : State → List (List ℕ) → List ℕ → List ℕ
 handed_out s [] departures = departures
 handed_out s (cell ∷ cells) departures =
     let w = slot s cell in
-    (if w.answer.space =? empty then take octets departures else shown w)
+    (when w.answer.space =? empty then take octets departures else shown w)
     ++ handed_out w.state cells (drop octets departures)
 
 -- "answers six numbers a slot", in the answer's order; all others keep their values
@@ -99,7 +99,7 @@ unfoldable pub read_again : List Event → List (List ℕ) → List ℕ → List
 read_again h [] departures answers = h
 read_again h (cell ∷ cells) departures answers =
     let a = first_six answers in
-    let out = if a.space =? empty then [] else take octets departures in
+    let out = when a.space =? empty then [] else take octets departures in
     read_again (ran cell a out ∷ h) cells (drop octets departures) (drop answer_long answers)
 
 -- the slots that a burst says were served, `done` of them

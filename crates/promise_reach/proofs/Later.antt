@@ -6,7 +6,7 @@ use mathlib.Core.List.{List}
 use native.Mathlib.Omega.{arith}
 use borrow.Author.Tests.{eq-eqb, ne_eqb}
 use lib.ListN.{length, drop, length-take, length-drop}
-use Rattle.meaning.specs.Plain.{if◌then◌else◌, ◌=?◌}
+use Rattle.meaning.specs.Plain.{when◌then◌else◌, ◌=?◌}
 use Rattle.meaning.specs.Numbers.{octets}
 use Rattle.trace_record.specs.Trace.{TraceRecord, GM, VO, VX, CA, SL, VS, PO, PX, Stands, event, finish, refusal, stands_at}
 use Rattle.trace_record.specs.Fits.{Fits, stands_fits}
@@ -65,7 +65,7 @@ unfolding calls_at
 stands_later more trace go at (event r next) p f g = record_later trace at r next (go next) p f (g next (event_next trace at r next f))
 stands_later more trace go at finish p f g = ends_later more
   where
-    ends_later : (b : Bool) → Later (if b then stopped at else finished)
+    ends_later : (b : Bool) → Later (when b then stopped at else finished)
     ends_later true = omega arith
     ends_later false = omega arith
 stands_later more trace go at (refusal number place) p f g = omega arith

@@ -9,7 +9,7 @@ use native.Mathlib.Nat.{zero-add}
 use borrow.Author.Tests.{eq-eqb}
 use lib.Dec.{lit<}
 use lib.ListN.{length, get_or, replicate, length-append, get_or-append}
-use Rattle.meaning.specs.Plain.{if◌then◌else◌}
+use Rattle.meaning.specs.Plain.{when◌then◌else◌}
 use Rattle.meaning.specs.Numbers.{ranges_hold, empty, lets_in}
 use Rattle.meaning.specs.State.{State}
 use Rattle.meaning.specs.Calls.{Kind, UNI, NNI, Options, options_of, Allowed}
@@ -78,7 +78,7 @@ module _ (f : Policer) where
       goes_on (call_by f r (on_slot [])) (λ cs. serves (on_slot [] ∷ cs)) m
       ∙ rw (eq-eqb (f r.state []).served.answer.number 0 (serves [])) (omega arith)
 
-  grown : (h : List Event) (c : Cell) (b : Bool) → (ys : List Cell) × ((if b then cells_in h ++ (c ∷ []) else cells_in h) ≡ cells_in h ++ ys)
+  grown : (h : List Event) (c : Cell) (b : Bool) → (ys : List Cell) × ((when b then cells_in h ++ (c ∷ []) else cells_in h) ≡ cells_in h ++ ys)
   grown h c true = (c ∷ [], refl)
   grown h c false = ([], sym (append-nil (cells_in h)))
 

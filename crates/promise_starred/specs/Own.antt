@@ -1,14 +1,14 @@
 -- Document 01, "Judging the promises": demand 3 of another policer's events. "One that stores and never sends is shut out by
 -- demands 2 and 3; discarding everything would meet 3 alone, so 3 is stated over 2's rules."
 --
---   callsBy f r cs   == the run r, and then the calls cs, where f serves the slots; open and close are as they are
+--   calls_by f r cs   == the run r, and then the calls cs, where f serves the slots; open and close are as they are
 --   OnEvents N h     == the clauses of demand 3 that speak of the events alone, as they stand in promises/specs/Demand3
 --   Meets3 o f       == they hold of each of its own runs from a fresh state
 --   keeper           == a policer that stores and never sends: steps 1 to 4, and never 5
 --   swallower        == one that accepts every cell and keeps none
 --   discarder        == a policer that finds every cell excess
 use Rattle.std.specs.Prelude.{ℕ, ◌+◌, ◌-◌, ◌≤◌, ◌<◌, ◌≡◌, false, List, [], ◌∷◌, length}
-use Rattle.meaning.specs.Plain.{if◌then◌else◌, ◌=?◌, ◌andThen◌}
+use Rattle.meaning.specs.Plain.{when◌then◌else◌, ◌=?◌, ◌and_then◌}
 use Rattle.meaning.specs.Numbers.{nothing, accepted, excess, empty, lets_in}
 use Rattle.meaning.specs.State.{state_of}
 use Rattle.meaning.specs.Bits.{lowest_free}
@@ -95,7 +95,7 @@ abbrev pub keeper : Policer
 keeper s cell = given (finish s (step1 (work_of s (bare_answer 0)) and_then step2 and_then step3 (lowest_free s.bits) cell and_then step4))
 
 abbrev pub swallower : Policer
-swallower s cell = given (work_of s (answer_of 0 (if length cell =? 0 then nothing else accepted) 1 0 empty 0))
+swallower s cell = given (work_of s (answer_of 0 (when length cell =? 0 then nothing else accepted) 1 0 empty 0))
 
 abbrev pub discarder : Policer
 discarder s cell = given (work_of s (answer_of 0 excess 0 0 empty 0))

@@ -3,7 +3,7 @@
 use Rattle.std.specs.Prelude.{ℕ, zero, suc, ◌*◌, ◌/◌, ◌%◌, false, List, [], ◌∷◌, ◌++◌, replicate}
 use Rattle.std.proofs.Math.Option.{Option, some}
 use Rattle.meaning.specs.declared.Answer.{Answer}
-use Rattle.meaning.specs.Plain.{if◌then◌else◌}
+use Rattle.meaning.specs.Plain.{when◌then◌else◌}
 use Rattle.meaning.specs.Numbers.{octets, per_entry, words_in, bit_words, uni, lets_in}
 use Rattle.meaning.specs.State.{State, with_words, state_of}
 use Rattle.meaning.specs.Header.{by_vci}
@@ -79,7 +79,7 @@ abbrev pub leak_says : Option Opening → List Arrival → List Said
 leak_says o [] = []
 leak_says o (arrives t verdict D ∷ more) =
     let j = judged_under t 1 1 0 o in
-    judged j.verdict j.D ∷ leak_says (if lets_in j.verdict then after_cell t 0 j.verdict o else o) more
+    judged j.verdict j.D ∷ leak_says (when lets_in j.verdict then after_cell t 0 j.verdict o else o) more
 
 abbrev pub leak_expects : List Arrival → List Said
 leak_expects [] = []

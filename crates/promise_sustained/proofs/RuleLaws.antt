@@ -12,7 +12,7 @@ use native.Mathlib.Decide.{dec_le}
 use native.Mathlib.Omega.{arith}
 use borrow.Author.Tests.{leb-true, ltb-true, le-leb}
 use lib.ListN.{length, get_or}
-use Rattle.meaning.specs.Plain.{if◌then◌else◌, ◌<?◌, ◌≤?◌}
+use Rattle.meaning.specs.Plain.{when◌then◌else◌, ◌<?◌, ◌≤?◌}
 use Rattle.meaning.specs.Words.{Second}
 use Rattle.meaning_runs.specs.Leak.{due_after, leak_after}
 use Rattle.theory_table.specs.Stored.{earliest_after}
@@ -113,7 +113,7 @@ inside x w t = x ≤? t && t <? x + w
 
 in_slots_lem : (x w : ℕ) (l : List ℕ) → in_slots x w l ≡ count (inside x w) 0 l
 in_slots_lem x w [] = refl
-in_slots_lem x w (t ∷ l) = ap (λ (n : ℕ). (if inside x w t then 1 else 0) + n) (in_slots_lem x w l)
+in_slots_lem x w (t ∷ l) = ap (λ (n : ℕ). (when inside x w t then 1 else 0) + n) (in_slots_lem x w l)
 
 pub few : (s : Second) (x w : ℕ) (l : List ℕ) → 1 ≤ s.F → 1 ≤ w → Keeps s.m s.F s.C l → in_slots x w l ≤ most s w
 few s x w l some-F some-w k =

@@ -10,7 +10,7 @@ use native.Mathlib.Omega.{arith}
 use borrow.Author.Tests.{eqb-true, eqb-false}
 use lib.ListN.{length}
 use Rattle.meaning.specs.declared.Answer.{Answer}
-use Rattle.meaning.specs.Plain.{if◌then◌else◌, ◌=?◌}
+use Rattle.meaning.specs.Plain.{when◌then◌else◌, ◌=?◌}
 use Rattle.meaning.specs.Numbers.{nothing, excess, unknown, dropped, lets_in}
 use Rattle.meaning.specs.Header.{Header, header_at, clp_in, no_user_cell, connection, names_connection}
 use Rattle.meaning.specs.Work.{Work}
@@ -50,7 +50,7 @@ quiet_by kind z t v op cell = go (length cell =? 0 || no_user_cell hd) (names_co
     u = connection z hd
 
     go : (x y : Bool) (o : Option Opening) → y && u =? v ≡ false
-        → Quiet v (if x then judged_of nothing 0 0 else if not y then judged_of unknown hd.vci 0
+        → Quiet v (when x then judged_of nothing 0 0 else when not y then judged_of unknown hd.vci 0
         else judged_under t hd.vci u (clp_in cell) o)
     go true y o e q = (refl, λ f. omega (arith, f))
     go false false o e q = (refl, λ f. omega (arith, f))
@@ -98,7 +98,7 @@ module _ (N z kind : ℕ) (r : Run) (k : Kept N z kind r) (cell : List ℕ) wher
     unfolding lets_in
     other_says v e = subst (Quiet v) (sym judged_as_lem) (go (let_in r.state cell).dropped)
       where
-        go : (b : Bool) → Quiet v (if b then judged_of dropped 0 0 else judged kind z h through)
+        go : (b : Bool) → Quiet v (when b then judged_of dropped 0 0 else judged kind z h through)
         go true q = (refl, λ f. omega (arith, f))
         go false q = quiet_by kind z (served h) v (λ u. opening_of u h) through e q
 

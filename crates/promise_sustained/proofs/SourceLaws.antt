@@ -12,7 +12,7 @@ use native.Mathlib.Omega.{arith}
 use borrow.Author.Tests.{eq-eqb, ne_eqb}
 use lib.ListN.{length, get_or}
 use Rattle.meaning.specs.declared.Answer.{Answer}
-use Rattle.meaning.specs.Plain.{if◌then◌else◌, ◌=?◌}
+use Rattle.meaning.specs.Plain.{when◌then◌else◌, ◌=?◌}
 use Rattle.meaning.specs.Numbers.{accepted, excess, tagged, lets_in}
 use Rattle.meaning.specs.Header.{clp_in}
 use Rattle.meaning.specs.Words.{Second}
@@ -36,9 +36,9 @@ slots_low p before (ran cell a out ∷ during) j low = go (p cell a) (λ i. slot
     go : (b : Bool)
         → ((i : ℕ) → i < length (slots_of p before during) → get_or (slots_of p before during) i 0 ≤ served (during ++ before))
         → (j : ℕ)
-        → j < length (if b then served (during ++ before) ∷ slots_of p before during else slots_of p before during)
-        → get_or (if b then served (during ++ before) ∷ slots_of p before during else slots_of p before during) j 0
-        ≤ (if a.number =? 0 then 1 else 0) + served (during ++ before)
+        → j < length (when b then served (during ++ before) ∷ slots_of p before during else slots_of p before during)
+        → get_or (when b then served (during ++ before) ∷ slots_of p before during else slots_of p before during) j 0
+        ≤ (when a.number =? 0 then 1 else 0) + served (during ++ before)
     go true f zero low = omega arith
     go true f (suc j) low = omega (arith, f j (le_of_suc-le-suc low))
     go false f j low = omega (arith, f j low)
@@ -50,7 +50,7 @@ unfolding verdict_by
 accepted_by o clp t e f = rw e (go (clp =? 0) f)
   where
     go : (b : Bool) → (b ≡ true → sustains o t ≡ true)
-        → (if b && not (sustains o t) then (if o.second.tag =? 0 then excess else tagged) else accepted) ≡ accepted
+        → (when b && not (sustains o t) then (when o.second.tag =? 0 then excess else tagged) else accepted) ≡ accepted
     go true f = rw (f refl)
     go false f = refl
 
@@ -172,7 +172,7 @@ module _ (kind z v m F C : ℕ) (x : Second) (before : List Event) where
   keeps_less p n G D during cell a out = go (p cell a)
     where
       go : (b : Bool)
-          → Keeps n G D (if b then served (during ++ before) ∷ slots_of p before during else slots_of p before during)
+          → Keeps n G D (when b then served (during ++ before) ∷ slots_of p before during else slots_of p before during)
           → Keeps n G D (slots_of p before during)
       go true k = keeps_rest n G D (served (during ++ before)) (slots_of p before during) k
       go false k = k

@@ -14,11 +14,11 @@
 --   comes kind z v  == a cell of the connection v came, as it leaves the header check, in a slot that was served
 --   passes v        == a CLP 0 cell of it was accepted, and so not tagged
 --   slots_of p b d   == the slots of the events d, which followed the events b, of which p says yes; the newest first
---   inSlots x w l   == how many of l are in the slots x to x + w - 1
+--   in_slots x w l   == how many of l are in the slots x to x + w - 1
 --   Untouched v d   == of the cells of the connection v in the events d none was tagged or excess
 use Rattle.std.specs.Prelude.{ℕ, ◌+◌, ◌-◌, ◌*◌, ◌/◌, ◌^◌, ◌≤◌, ◌<◌, ◌≡◌, ◌≢◌, Bool, ◌&&◌, List, [], ◌∷◌, ◌++◌, length, get_or}
 use Rattle.meaning.specs.declared.Answer.{Answer}
-use Rattle.meaning.specs.Plain.{if◌then◌else◌, ◌<?◌, ◌≤?◌, ◌=?◌}
+use Rattle.meaning.specs.Plain.{when◌then◌else◌, ◌<?◌, ◌≤?◌, ◌=?◌}
 use Rattle.meaning.specs.Numbers.{accepted, excess, tagged}
 use Rattle.meaning.specs.Header.{header_at, clp_in, connection, names_connection}
 use Rattle.meaning.specs.Words.{Second}
@@ -48,7 +48,7 @@ slots_of p before [] = []
 slots_of p before (opened who vci m F C x number ∷ during) = slots_of p before during
 slots_of p before (closed who vci number ∷ during) = slots_of p before during
 slots_of p before (ran cell a out ∷ during) =
-    if p cell a then served (during ++ before) ∷ slots_of p before during else slots_of p before during
+    when p cell a then served (during ++ before) ∷ slots_of p before during else slots_of p before during
 
 -- all up to the open that began it
 abbrev pub begun : {v m F C : ℕ} {h : List Event} → OneOpening v m F C h → List Event
@@ -66,7 +66,7 @@ arrivals_zero {v} kind z o = slots_of (comes_zero kind z v) (begun o) o.during
 -- ── what is said of them ──
 abbrev pub in_slots : ℕ → ℕ → List ℕ → ℕ
 in_slots x w [] = 0
-in_slots x w (t ∷ l) = (if x ≤? t && t <? x + w then 1 else 0) + in_slots x w l
+in_slots x w (t ∷ l) = (when x ≤? t && t <? x + w then 1 else 0) + in_slots x w l
 
 -- "1 + floor(((w-1) × L + C - F) / F)"
 abbrev pub most : Second → ℕ → ℕ

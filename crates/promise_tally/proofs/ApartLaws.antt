@@ -9,7 +9,7 @@ use native.Mathlib.Omega.{arith}
 use lib.ListN.{length, get_or, length-append}
 use lib.Seq.{get_or-append-add}
 use Rattle.meaning.specs.declared.Answer.{Answer}
-use Rattle.meaning.specs.Plain.{if◌then◌else◌, ◌=?◌}
+use Rattle.meaning.specs.Plain.{when◌then◌else◌, ◌=?◌}
 use Rattle.meaning.specs.Numbers.{empty, lets_in}
 use Rattle.meaning.specs.State.{State}
 use Rattle.meaning.specs.Arrival.{sent_as}
@@ -61,8 +61,8 @@ cells_in_apart (ran octets a out ∷ own) h = go (lets_in a.verdict) (cells_in_a
     under l = cell_under (served l) a (sent_as a.verdict octets) (opening_of a.vci l)
 
     go : (b : Bool) → map stamp_of (cells_in (own ++ h)) ≡ map stamp_of (cells_in h) ++ map (later (served h)) (map stamp_of (cells_in own))
-        → map stamp_of (if b then cells_in (own ++ h) ++ (under (own ++ h) ∷ []) else cells_in (own ++ h))
-        ≡ map stamp_of (cells_in h) ++ map (later (served h)) (map stamp_of (if b then cells_in own ++ (under own ∷ []) else cells_in own))
+        → map stamp_of (when b then cells_in (own ++ h) ++ (under (own ++ h) ∷ []) else cells_in (own ++ h))
+        ≡ map stamp_of (cells_in h) ++ map (later (served h)) (map stamp_of (when b then cells_in own ++ (under own ∷ []) else cells_in own))
     go true e =
         map_append stamp_of (cells_in (own ++ h)) (under (own ++ h) ∷ [])
         ∙ ap (λ l. l ++ (stamp_of (under (own ++ h)) ∷ [])) e
@@ -90,8 +90,8 @@ departures_in_apart (ran octets a out ∷ own) h = go (a.space =? empty) (depart
     seen t = record { slot = t; vci = a.departing; octets = out }
 
     go : (b : Bool) → departures_in (own ++ h) ≡ departures_in h ++ map (leaves_later (served h)) (departures_in own)
-        → (if b then departures_in (own ++ h) else (departures_in (own ++ h) ++ (seen (served (own ++ h)) ∷ [])))
-        ≡ departures_in h ++ map (leaves_later (served h)) (if b then departures_in own else (departures_in own ++ (seen (served own) ∷ [])))
+        → (when b then departures_in (own ++ h) else (departures_in (own ++ h) ++ (seen (served (own ++ h)) ∷ [])))
+        ≡ departures_in h ++ map (leaves_later (served h)) (when b then departures_in own else (departures_in own ++ (seen (served own) ∷ [])))
     go true e = e
     go false e =
         ap (λ l. l ++ (seen (served (own ++ h)) ∷ [])) e

@@ -7,7 +7,7 @@ use mathlib.Core.List.{List, [], ◌∷◌, ◌++◌, append-nil}
 use native.Mathlib.Omega.{arith}
 use borrow.Author.Tests.{eq-eqb, ne_eqb}
 use Rattle.meaning.specs.declared.Answer.{Answer}
-use Rattle.meaning.specs.Plain.{if◌then◌else◌, ◌=?◌}
+use Rattle.meaning.specs.Plain.{when◌then◌else◌, ◌=?◌}
 use Rattle.meaning.specs.Numbers.{empty, lets_in}
 use Rattle.meaning.specs.Arrival.{sent_as}
 use Rattle.meaning.specs.Slot.{slot}
@@ -24,7 +24,7 @@ module _ (v : ℕ) (h : List Event) (octets : List ℕ) (a : Answer) (out : List
       left : Departure
       left = record { slot = served h; vci = a.departing; octets = out }
 
-      go : (b : Bool) → of_connection (λ d. d.vci) v (if b then departures_in h else (departures_in h ++ (left ∷ [])))
+      go : (b : Bool) → of_connection (λ d. d.vci) v (when b then departures_in h else (departures_in h ++ (left ∷ [])))
           ≡ of_connection (λ d. d.vci) v (departures_in h)
       go true = refl
       go false =
@@ -62,7 +62,7 @@ cells_more v h octets a out = go (lets_in a.verdict)
     new : Cell
     new = cell_under (served h) a (sent_as a.verdict octets) (opening_of a.vci h)
 
-    go : (b : Bool) → More (of_connection (λ c. c.vci) v (cells_in h)) (of_connection (λ c. c.vci) v (if b then cells_in h ++ (new ∷ []) else cells_in h))
+    go : (b : Bool) → More (of_connection (λ c. c.vci) v (cells_in h)) (of_connection (λ c. c.vci) v (when b then cells_in h ++ (new ∷ []) else cells_in h))
     go true =
         record {
           rest = of_connection (λ c. c.vci) v (new ∷ []);

@@ -10,7 +10,7 @@ use native.Mathlib.Omega.{arith}
 use borrow.Author.Tests.{eq-eqb, ne_eqb}
 use lib.ListN.{length, get_or, length-append}
 use Rattle.base_hec.specs.Modes.{Arriving}
-use Rattle.meaning.specs.Plain.{if◌then◌else◌, ◌=?◌}
+use Rattle.meaning.specs.Plain.{when◌then◌else◌, ◌=?◌}
 use Rattle.meaning.specs.Numbers.{lets_in}
 use Rattle.meaning.specs.State.{State}
 use Rattle.meaning.specs.Work.{Work, answer_of}
@@ -42,7 +42,7 @@ all_right P (c ∷ a) b h = all_right P a b h.1
 module _ (v : ℕ) where
   -- the arrival slots of v's cells, added up
   abbrev own : Cell → ℕ
-  own c = if c.vci =? v then c.arrival else 0
+  own c = when c.vci =? v then c.arrival else 0
 
   sum_own : (l : List Cell) → sum (λ c. c.arrival) (of_connection connection_in v l) ≡ sum own l
   sum_own [] = refl
@@ -83,8 +83,8 @@ module _ (v : ℕ) where
       )
 
   entered_total : (N : ℕ) (b : Bool) (n : Cell) (cal : List (List Cell)) → length (turn cal) ≡ N
-      → All (Delayed N) (if b then n ∷ [] else [])
-      → sums own (entered (if b then n ∷ [] else []) (turn cal)) ≡ sum own (if b then n ∷ [] else []) + sums own cal
+      → All (Delayed N) (when b then n ∷ [] else [])
+      → sums own (entered (when b then n ∷ [] else []) (turn cal)) ≡ sum own (when b then n ∷ [] else []) + sums own cal
   entered_total N true n cal l d =
       omega (arith, put_sums own n.D n (turn cal) (omega (arith, l, d.0.1)), turn_sums own cal)
   entered_total N false n cal l d = omega (arith, turn_sums own cal)

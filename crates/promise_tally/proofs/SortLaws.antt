@@ -8,7 +8,7 @@ use native.Mathlib.Decide.{ℕ_discrete}
 use native.Mathlib.Omega.{arith}
 use borrow.Author.Tests.{eq-eqb, ne_eqb}
 use lib.ListN.{length, get_or}
-use Rattle.meaning.specs.Plain.{if◌then◌else◌, ◌=?◌}
+use Rattle.meaning.specs.Plain.{when◌then◌else◌, ◌=?◌}
 use Rattle.call_tally.specs.Tally.{bin_of}
 use Rattle.call_tally.specs.Delays.{cut, how_many, is_it, Ascending, SameNumbers}
 use Rattle.call_tally.proofs.Counting.{one_if, cut_same}
@@ -16,7 +16,7 @@ use Rattle.call_tally.proofs.Counting.{one_if, cut_same}
 -- the list without its first x
 remove : ℕ → List ℕ → List ℕ
 remove x [] = []
-remove x (y ∷ l) = if y =? x then l else (y ∷ remove x l)
+remove x (y ∷ l) = when y =? x then l else (y ∷ remove x l)
 
 removed : (p : ℕ → Bool) (x : ℕ) (l : List ℕ) → 1 ≤ how_many (is_it x) l → how_many p l ≡ one_if (p x) + how_many p (remove x l)
 unfolding how_many remove
@@ -24,7 +24,7 @@ removed p x [] h = absurd (omega (arith, h))
 removed p x (y ∷ l) h = go (ℕ_discrete y x) (removed p x l)
   where
     go : Dec (y ≡ x) → (1 ≤ how_many (is_it x) l → how_many p l ≡ one_if (p x) + how_many p (remove x l))
-        → one_if (p y) + how_many p l ≡ one_if (p x) + how_many p (if y =? x then l else (y ∷ remove x l))
+        → one_if (p y) + how_many p l ≡ one_if (p x) + how_many p (when y =? x then l else (y ∷ remove x l))
     go (yes e) r = rw (eq-eqb y x e) (ap (λ (n : ℕ). one_if (p n) + how_many p l) e)
     go (no n) r = rw (ne_eqb y x n) (omega (arith, r (omega (arith, h, ap one_if (ne_eqb y x n)))))
 

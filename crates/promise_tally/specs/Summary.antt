@@ -7,13 +7,13 @@
 -- ones among them. Slots of a listing are counted from its beginning, without wrapping.
 --
 --   listing s cs        == what the calls cs said from the state s on, the newest first: the run's own listing
---   delaysIn v h        == THE RECOUNT over a listing h: the slot of v's k-th departure less that of its k-th accepted cell, of each k.
+--   delays_in v h        == THE RECOUNT over a listing h: the slot of v's k-th departure less that of its k-th accepted cell, of each k.
 --                          Tagged cells count as accepted
 --   NoneWaits v h       == after h as many of v's cells have left as were accepted
 --   Summary             == what the card has: the tally, and what each call of the tally answered, the newest first
---   summaryOf v s cs    == the summary after the calls cs from the state s on: it begins with the empty tally, and after each slot
+--   summary_of v s cs    == the summary after the calls cs from the state s on: it begins with the empty tally, and after each slot
 --                          `tally_slot` is called with the record and the arrival slots as the slot left them, v, and the slot's answer
--- Of crate call_tally: tallyAll noCells ds, the tally of the delays ds; howMany, counting in a list; ByCount and rank, a percentile by
+-- Of crate call_tally: tally_all no_cells ds, the tally of the delays ds; how_many, counting in a list; ByCount and rank, a percentile by
 -- counting; LowestAt, a percentile in document 02's words; bin_of d, a delay's bin.
 use Rattle.std.specs.Prelude.{ℕ, ◌+◌, ◌-◌, ◌≤◌, ◌<◌, ◌≡◌, true, List, [], ◌∷◌, length, get_or}
 use Rattle.std.proofs.Math.Option.{none}

@@ -12,7 +12,7 @@ use lib.Dec.{eqb}
 use lib.ListN.{length}
 use Rattle.base_hec.specs.Modes.{correction, passes, arriving}
 use Rattle.meaning.specs.declared.Answer.{Answer}
-use Rattle.meaning.specs.Plain.{if◌then◌else◌, ◌=?◌}
+use Rattle.meaning.specs.Plain.{when◌then◌else◌, ◌=?◌}
 use Rattle.meaning.specs.Numbers.{connections_in, unused, accepted, nothing, lets_in}
 use Rattle.meaning.specs.State.{State}
 use Rattle.meaning.specs.Bucket.{bucket_of, obeys_rules, obeys_second, is_none}
@@ -55,7 +55,7 @@ either true mode cell = (refl, refl)
 either false mode cell = (refl, refl)
 
 -- octet 1 is 0: the VPI is 0 on either kind of line
-same : (b : Bool) → ◌≡◌ {A = ℕ} (if b then 0 else 0) 0
+same : (b : Bool) → ◌≡◌ {A = ℕ} (when b then 0 else 0) 0
 same true = refl
 same false = refl
 

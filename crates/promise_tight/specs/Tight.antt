@@ -66,7 +66,7 @@ burst_at_five =
     ∷ cell_of 1 ∷ absent_cell ∷ cell_of 1 ∷ absent_cell
     ∷ []
 
--- burstAtTwo, then VC 1 is closed after slot 6 and opened with F and C 5, and has a cell in slot 7: its first opening still
+-- burst_at_two, then VC 1 is closed after slot 6 and opened with F and C 5, and has a cell in slot 7: its first opening still
 -- has its three cells
 abbrev pub closed_and_reopened : List Call
 closed_and_reopened = burst_at_two ++ (absent_cell ∷ absent_cell ∷ on_close 1 (by_vci 1) ∷ on_open 1 0 5 5 ∷ cell_of 1 ∷ [])

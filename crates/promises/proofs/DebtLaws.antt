@@ -12,7 +12,7 @@ use native.Mathlib.Omega.{arith}
 use lib.ListN.{length}
 use lib.Pow.{pow_pos}
 use borrow.Author.Tests.{eq-eqb, ne_eqb, eqb-true}
-use Rattle.meaning.specs.Plain.{if◌then◌else◌, ◌=?◌}
+use Rattle.meaning.specs.Plain.{when◌then◌else◌, ◌=?◌}
 use Rattle.meaning.specs.Numbers.{ranges_hold, connections_in, unused}
 use Rattle.meaning.specs.State.{State}
 use Rattle.meaning.specs.Header.{Name, named, number_in}
@@ -41,7 +41,7 @@ use Rattle.promises.proofs.Demand3Laws.{waiting, many_left, many_cells, demanded
 
 -- ── what close answers of an open connection, by waiting and what is left of S ──
 abbrev answered_by : Bool → Bool → ℕ
-answered_by a b = if not (a && b) then 8 else 0
+answered_by a b = when not (a && b) then 8 else 0
 
 abbrev answered : ℕ → ℕ → ℕ
 answered w d = answered_by (w =? 0) (d =? 0)
@@ -130,7 +130,7 @@ module _ (N z kind : ℕ) (h : List Event) (s : State) (i : Inv N z kind h s) wh
         ∙ debt_is N (connections_in z) (connections_few N z i.stage.ranges) (served h) v (connection_at s.words v) (waits v i.out (turn i.cal)) o h2
         is_open
 
-    told : (b : Bool) (x : List ℕ) → (if b then called_of 8 s.words else called_of 0 x).number ≡ (if b then 8 else 0)
+    told : (b : Bool) (x : List ℕ) → (when b then called_of 8 s.words else called_of 0 x).number ≡ (when b then 8 else 0)
     told true x = refl
     told false x = refl
 

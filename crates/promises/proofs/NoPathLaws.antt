@@ -11,7 +11,7 @@ use native.Mathlib.Omega.{arith}
 use borrow.Author.Tests.{eq-eqb, ne_eqb, eqb-true, eqb-false, lt-ltb, le-ltb, le-leb, lt-leb, leb-false}
 use lib.ListN.{length, length-append}
 use Rattle.meaning.specs.declared.Answer.{Answer}
-use Rattle.meaning.specs.Plain.{if◌then◌else◌, ◌<?◌, ◌≤?◌, ◌=?◌}
+use Rattle.meaning.specs.Plain.{when◌then◌else◌, ◌<?◌, ◌≤?◌, ◌=?◌}
 use Rattle.meaning.specs.Numbers.{octets, uni, nothing, unknown, dropped, empty, lets_in}
 use Rattle.meaning.specs.State.{State}
 use Rattle.meaning.specs.Header.{Header, vpi_high, header_of, header_at, clp_in, no_user_cell, connection, names_connection}
@@ -59,12 +59,12 @@ none_open z (ran cell a out ∷ h) n p low high =
 module _ (z t : ℕ) (op : ℕ → Option Opening) (shut : (p : ℕ) → 1 ≤ p → p ≤ 255 → op (z + p) ≡ none) (hd : Header) (clp : ℕ) where
   abbrev now : Judged
   now =
-      if not (names_connection z hd) then judged_of unknown hd.vci 0
+      when not (names_connection z hd) then judged_of unknown hd.vci 0
       else judged_under t hd.vci (connection z hd) clp (op (connection z hd))
 
   abbrev before : Judged
   before =
-      if not (hd.vpi =? 0) || z ≤? hd.vci then judged_of unknown hd.vci 0
+      when not (hd.vpi =? 0) || z ≤? hd.vci then judged_of unknown hd.vci 0
       else judged_under t hd.vci hd.vci clp (op hd.vci)
 
   -- VPI 0, VCI not 0
@@ -73,8 +73,8 @@ module _ (z t : ℕ) (op : ℕ → Option Opening) (shut : (p : ℕ) → 1 ≤ p
       rw (vc_named z hd e, vc_number z hd e, eq-eqb hd.vpi 0 e, le-leb 1 hd.vci (omega (arith, ne))) (go (dec_lt hd.vci z))
     where
       go : Dec (hd.vci < z)
-          → (if not (true && hd.vci <? z) then judged_of unknown hd.vci 0 else judged_under t hd.vci hd.vci clp (op hd.vci))
-          ≡ (if not true || z ≤? hd.vci then judged_of unknown hd.vci 0 else judged_under t hd.vci hd.vci clp (op hd.vci))
+          → (when not (true && hd.vci <? z) then judged_of unknown hd.vci 0 else judged_under t hd.vci hd.vci clp (op hd.vci))
+          ≡ (when not true || z ≤? hd.vci then judged_of unknown hd.vci 0 else judged_under t hd.vci hd.vci clp (op hd.vci))
       go (yes y) = rw (lt-ltb hd.vci z y, lt-leb z hd.vci y)
       go (no y) = rw (le-ltb hd.vci z (omega (arith, y)), le-leb z hd.vci (omega (arith, y)))
 
@@ -90,17 +90,17 @@ module _ (z t : ℕ) (op : ℕ → Option Opening) (shut : (p : ℕ) → 1 ≤ p
           (ap op (path_number z hd ne) ∙ shut hd.vpi (omega (arith, ne)) (omega (arith, path_low z hd e))))
 
   pub as_before : (lent : Bool)
-      → (if lent || (hd.vpi =? 0 && hd.vci =? 0) then judged_of nothing 0 0
-      else if not (names_connection z hd) then judged_of unknown hd.vci 0
+      → (when lent || (hd.vpi =? 0 && hd.vci =? 0) then judged_of nothing 0 0
+      else when not (names_connection z hd) then judged_of unknown hd.vci 0
       else judged_under t hd.vci (connection z hd) clp (op (connection z hd)))
-      ≡ (if lent || (hd.vpi =? 0 && hd.vci =? 0) then judged_of nothing 0 0
-      else if not (hd.vpi =? 0) || z ≤? hd.vci then judged_of unknown hd.vci 0
+      ≡ (when lent || (hd.vpi =? 0 && hd.vci =? 0) then judged_of nothing 0 0
+      else when not (hd.vpi =? 0) || z ≤? hd.vci then judged_of unknown hd.vci 0
       else judged_under t hd.vci hd.vci clp (op hd.vci))
   as_before true = refl
   as_before false = go (hd.vpi =? 0) (hd.vci =? 0) refl refl
     where
       go : (a b : Bool) → hd.vpi =? 0 ≡ a → hd.vci =? 0 ≡ b
-          → (if a && b then judged_of nothing 0 0 else now) ≡ (if a && b then judged_of nothing 0 0 else before)
+          → (when a && b then judged_of nothing 0 0 else now) ≡ (when a && b then judged_of nothing 0 0 else before)
       go true true e f = refl
       go true false e f = of_vc (eqb-true hd.vpi 0 e) (eqb-false hd.vci 0 f)
       go false b e f = of_path (eqb-false hd.vpi 0 e)

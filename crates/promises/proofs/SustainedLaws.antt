@@ -7,7 +7,7 @@ use mathlib.Core.List.{List}
 use mathlib.Core.Option.{Option, none, some}
 use native.Mathlib.Omega.{arith}
 use borrow.Author.Tests.{le-leb}
-use Rattle.meaning.specs.Plain.{if◌then◌else◌, ◌=?◌}
+use Rattle.meaning.specs.Plain.{when◌then◌else◌, ◌=?◌}
 use Rattle.meaning.specs.Numbers.{connections_in, unused, accepted, excess, tagged, lets_in}
 use Rattle.meaning.specs.State.{State}
 use Rattle.meaning.specs.Header.{clp_in, connection}
@@ -34,10 +34,10 @@ unfolding verdict_by lets_in
 peak_alone t vci c clp o e = rw e (go (leak_accepts o t) (clp =? 0))
   where
     verdict : Bool → Bool → ℕ
-    verdict a b = if not a then excess else if b && false then (if o.second.tag =? 0 then excess else tagged) else accepted
+    verdict a b = when not a then excess else when b && false then (when o.second.tag =? 0 then excess else tagged) else accepted
 
-    go : (a b : Bool) → judged_of (verdict a b) c (if lets_in (verdict a b) then due_slot o t - t else 0)
-        ≡ (if a then judged_of accepted c (due_slot o t - t) else judged_of excess c 0)
+    go : (a b : Bool) → judged_of (verdict a b) c (when lets_in (verdict a b) then due_slot o t - t else 0)
+        ≡ (when a then judged_of accepted c (due_slot o t - t) else judged_of excess c 0)
     go false b = refl
     go true false = refl
     go true true = refl

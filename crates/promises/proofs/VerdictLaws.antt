@@ -9,7 +9,7 @@ use mathlib.Core.Option.{some}
 use native.Mathlib.Omega.{arith}
 use borrow.Author.Tests.{ne_eqb, eqb-true}
 use lib.ListN.{length}
-use Rattle.meaning.specs.Plain.{if◌then◌else◌, ◌=?◌}
+use Rattle.meaning.specs.Plain.{when◌then◌else◌, ◌=?◌}
 use Rattle.meaning.specs.Numbers.{uni, accepted, excess, tagged, lets_in}
 use Rattle.meaning.specs.State.{State}
 use Rattle.meaning.specs.Header.{Header, vpi_high, header_of, header_at, clp_in, no_user_cell, connection, names_connection}
@@ -29,7 +29,7 @@ unfolding verdict_by admits lets_in
 admits_is o clp t = go (leak_accepts o t) (clp =? 0) (sustains o t) (o.second.tag =? 0)
   where
     go : (a b c d : Bool)
-        → lets_in (if not a then excess else if b && not c then (if d then excess else tagged) else accepted)
+        → lets_in (when not a then excess else when b && not c then (when d then excess else tagged) else accepted)
         ≡ a && (not b || c || not d)
     go false b c d = refl
     go true false c d = refl
@@ -59,7 +59,7 @@ module _ (N z kind : ℕ) (h : List Event) (s : State) (i : Inv N z kind h s) wh
   unfolding no_user_cell header_at header_of vpi_high
   empty_header = go (kind =? uni)
     where
-      go : (b : Bool) → ((if b then 0 % 16 else 0) * 16 + 0 / 16 =? 0) && (0 % 16 * 4096 + 0 * 16 + 0 / 16 =? 0) ≡ true
+      go : (b : Bool) → ((when b then 0 % 16 else 0) * 16 + 0 / 16 =? 0) && (0 % 16 * 4096 + 0 * 16 + 0 / 16 =? 0) ≡ true
       go true = refl
       go false = refl
 

@@ -1,11 +1,11 @@
 -- REQUEST (i) of document 02: header error control, over runs. A setup has answered 0, of a raw policer or not; then any
 -- calls followed, and r is the run. The clauses say what the next call does, whatever is lent to it.
 --
---   letIn s cell     == what the header check lets through of the octets lent (crate base_hec, specs/Modes.antt): the octets,
+--   let_in s cell     == what the header check lets through of the octets lent (crate base_hec, specs/Modes.antt): the octets,
 --                       mended or as they came; whether the cell is dropped; the mode that follows
---   uncheckedSlot    == the slot of document 01; told: where the cell is dropped, verdict 4, VCI 0 and D 0
+--   unchecked_slot    == the slot of document 01; told: where the cell is dropped, verdict 4, VCI 0 and D 0
 --   after r cell     == the run r, and then a slot that is lent these octets
---   plainCalls r cs  == the run r, and then the calls cs over the slot of document 01, with no header check
+--   plain_calls r cs  == the run r, and then the calls cs over the slot of document 01, with no header check
 use Rattle.std.specs.Prelude.{ℕ, ◌≤◌, ◌<◌, ◌≡◌, ◌≢◌, ◌⊎◌, Bool, true, false, ◌||◌, List, [], ◌∷◌, length}
 use Rattle.base_hec.specs.WrongBit.{flipped}
 use Rattle.base_hec.specs.Modes.{Arriving, correction, detection}

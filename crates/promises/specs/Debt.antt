@@ -2,7 +2,7 @@
 -- was called and said, the newest first; s is the record and memory that the next call gets; z is V. Slots don't wrap. A
 -- connection is a VC or a path, named by VCI or VPI; number_in z name is its number.
 --
---   lastSlot h      == the slot served last, t as of which close brings the connection up to date
+--   last_slot h      == the slot served last, t as of which close brings the connection up to date
 --   Paid o t        == last due + F is at most t × L; an opening that accepted no cell owes nothing
 --   AllLeft v h     == each accepted cell of the connection v has left
 --   Across h        == the claim across a close and a reopening

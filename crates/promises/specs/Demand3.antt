@@ -7,14 +7,14 @@
 --   served h             how many slots were served: slot numbers that don't wrap
 --   cell_at v k h         the k-th accepted cell of the connection v, from 0: its arrival slot, the D answered, its octets, and,
 --                        by the leak rule in exact parts of 1/L slot, its due slot. There are `length (cells_of v h)`
---   departureAt v k h    the k-th departure of the connection v: its slot, and the octets of the line cell, which are the same
+--   departure_at v k h    the k-th departure of the connection v: its slot, and the octets of the line cell, which are the same
 --                        whatever idle cell is lent. There are `length (departures_of v h)`
---   openingOf v h        the m, F, C and last due time of the connection v, if it is open, and those of its second bucket
---   leakAccepts o t      the leak rule's verdict on a cell that arrives in slot t; sustains o t, the second bucket's
---   letIn s cell         what the header check of document 02 (i) lets through of the octets lent: all of them, where the
+--   opening_of v h        the m, F, C and last due time of the connection v, if it is open, and those of its second bucket
+--   leak_accepts o t      the leak rule's verdict on a cell that arrives in slot t; sustains o t, the second bucket's
+--   let_in s cell         what the header check of document 02 (i) lets through of the octets lent: all of them, where the
 --                        policer is not raw; of a raw one the cell as it came or mended, or none where it is dropped
---   headerLetIn kind s cell  the header of those octets, on a line of this kind
---   judgedAs kind z h a  verdict, VCI and D by the header let through and the exact leak rules; of a dropped cell 4, 0, 0
+--   header_let_in kind s cell  the header of those octets, on a line of this kind
+--   judged_as kind z h a  verdict, VCI and D by the header let through and the exact leak rules; of a dropped cell 4, 0, 0
 -- Document 02 (iv): "Demand 3 and the end line count tagged cells as accepted, with the two octets changed as said." An accepted
 -- cell's octets are those let through, the mended ones; a tagged cell's are those too, but for octet 4, whose CLP is 1, and
 -- octet 5, which is recomputed. Such cells are the accepted ones below.

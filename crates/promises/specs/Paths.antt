@@ -2,21 +2,21 @@
 -- line kind (0 UNI, 1 NNI), whatever the memory held before. Then any calls followed, refused ones among them. r is the run: its
 -- events are what was called and said, the newest first; its state is what the next call gets.
 --
---   Name                    == how a call or a header names a connection: byVci vci a VC, byVpi vpi a path. named z name: there is
+--   Name                    == how a call or a header names a connection: by_vci vci a VC, by_vpi vpi a path. named z name: there is
 --                              such a connection; number_in z name: its number, the VCI or V + VPI
---   headerLetIn kind s cell == the header of what the header check lets through, on a line of this kind
---   openingOf v h           == what the leak rules know of the connection v, if it is open: m, F, C, its last due time, and the same
+--   header_let_in kind s cell == the header of what the header check lets through, on a line of this kind
+--   opening_of v h           == what the leak rules know of the connection v, if it is open: m, F, C, its last due time, and the same
 --                              of its second bucket
 --
 --   Apart                   == VCs and paths never share a bucket: a call moves no opening but that of the connection it names
---   pathCells kind p h      == the accepted cells whose header has the VPI p, whatever its VCI, in order of arrival
---   pathDepartures kind p h == the departures whose line cell's header has the VPI p, in order
+--   path_cells kind p h      == the accepted cells whose header has the VPI p, whatever its VCI, in order of arrival
+--   path_departures kind p h == the departures whose line cell's header has the VPI p, in order
 --   PathOrder               == they are the cells of the connection V + p, and leave in arrival order
---   judgedBefore z h cell   == verdict, VCI and D by document 01's own words, where VPI not 0 is unknown
+--   judged_before z h cell   == verdict, VCI and D by document 01's own words, where VPI not 0 is unknown
 --   NoPaths                 == while no path is open, the UNI has these answers
 use Rattle.std.specs.Prelude.{ℕ, ◌+◌, ◌-◌, ◌*◌, ◌/◌, ◌%◌, ◌≤◌, ◌<◌, ◌≡◌, ◌≢◌, Bool, true, false, not, ◌&&◌, ◌||◌, List, [], ◌∷◌, length, get_or}
 use Rattle.std.proofs.Math.Option.{none}
-use Rattle.meaning.specs.Plain.{if◌then◌else◌, ◌≤?◌, ◌=?◌}
+use Rattle.meaning.specs.Plain.{when◌then◌else◌, ◌≤?◌, ◌=?◌}
 use Rattle.meaning.specs.Numbers.{uni, nothing, unknown, dropped, empty}
 use Rattle.meaning.specs.State.{State}
 use Rattle.meaning.specs.Header.{header_at, clp_in, Name, named, number_in, name_in}
@@ -105,8 +105,8 @@ abbrev pub judged_before : ℕ → List Event → List ℕ → Judged
 judged_before z h cell =
     let vpi = vpi_before cell in
     let vci = vci_before cell in
-    if length cell =? 0 || (vpi =? 0 && vci =? 0) then judged_of nothing 0 0
-    else if not (vpi =? 0) || z ≤? vci then judged_of unknown vci 0
+    when length cell =? 0 || (vpi =? 0 && vci =? 0) then judged_of nothing 0 0
+    else when not (vpi =? 0) || z ≤? vci then judged_of unknown vci 0
     else judged_under (served h) vci vci (clp_in cell) (opening_of vci h)
 
 abbrev pub NoPathOpen : ℕ → List Event → Type 0

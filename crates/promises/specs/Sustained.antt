@@ -2,13 +2,13 @@
 -- memory held before, then any calls followed, refused ones among them; h is what was called and said, the newest first, s the
 -- record and memory that the next call gets, z is V, and kind the line kind.
 --
---   byPeak t c o     == verdict, VCI and D of a cell of the connection c that arrives in slot t, by the peak bucket's rule alone: those of
+--   by_peak t c o     == verdict, VCI and D of a cell of the connection c that arrives in slot t, by the peak bucket's rule alone: those of
 --                       document 01
 --   AsBefore         == in the next slot they are what is answered, whatever the cell's CLP, if m, F, C and flag of the second
 --                       bucket were all 0 when the connection was opened. So none of its cells is tagged, nor excess but by the peak
 use Rattle.std.specs.Prelude.{ℕ, ◌-◌, ◌≡◌, true, List, [], length}
 use Rattle.std.proofs.Math.Option.{some}
-use Rattle.meaning.specs.Plain.{if◌then◌else◌}
+use Rattle.meaning.specs.Plain.{when◌then◌else◌}
 use Rattle.meaning.specs.Numbers.{octets, accepted, excess}
 use Rattle.meaning.specs.State.{State}
 use Rattle.meaning.specs.Header.{connection, names_connection}
@@ -21,7 +21,7 @@ use Rattle.meaning_runs.specs.Judged.{Judged, judged_of}
 use Rattle.promises.specs.Demand3.{header_let_in}
 
 abbrev pub by_peak : ℕ → ℕ → Opening → Judged
-by_peak t c o = if leak_accepts o t then judged_of accepted c (due_slot o t - t) else judged_of excess c 0
+by_peak t c o = when leak_accepts o t then judged_of accepted c (due_slot o t - t) else judged_of excess c 0
 
 pub record AsBefore (z kind : ℕ) (h : List Event) (s : State) : Type 0 where
   pub by_peak_alone : (cell : List ℕ) (o : Opening) → length cell ≡ octets

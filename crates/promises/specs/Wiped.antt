@@ -1,13 +1,13 @@
 -- Why request (ii) was made: close as document 01 had it before, kept for this one statement. With it a VC that is closed
 -- and reopened at once sends twice its peak.
 --
---   closeWiping       == close that looks at waiting alone
---   callWiping        == a call of a run, with that close
---   reopenedAtOnce    == a cell in slot 0 (beforeClose), then close and open, at F 10 and L 1
---   closedEveryFive   == the same again every 5 slots, 20 slots in all
+--   close_wiping       == close that looks at waiting alone
+--   call_wiping        == a call of a run, with that close
+--   reopened_at_once    == a cell in slot 0 (before_close), then close and open, at F 10 and L 1
+--   closed_every_five   == the same again every 5 slots, 20 slots in all
 use Rattle.std.specs.Prelude.{ℕ, not, List, [], ◌∷◌, ◌++◌, replicate}
 use Rattle.meaning.specs.declared.Record.{Record}
-use Rattle.meaning.specs.Plain.{if◌then◌else◌, ◌=?◌}
+use Rattle.meaning.specs.Plain.{when◌then◌else◌, ◌=?◌}
 use Rattle.meaning.specs.State.{with_words}
 use Rattle.meaning.specs.Header.{Name, by_vci, number_in}
 use Rattle.meaning.specs.Words.{connection_at, write_connection, closed_connection}
@@ -19,9 +19,9 @@ unfoldable pub close_wiping : Record → List ℕ → ℕ → Name → Called
 close_wiping r words who name =
     let c = number_in r.v name in
     let k = shared_refusal r words who name in
-    if not (k =? 0) then called_of k words
-    else if (connection_at words c).opened =? 0 then called_of 7 words
-    else if not ((connection_at words c).waiting =? 0) then called_of 8 words
+    when not (k =? 0) then called_of k words
+    else when (connection_at words c).opened =? 0 then called_of 7 words
+    else when not ((connection_at words c).waiting =? 0) then called_of 8 words
     else called_of 0 (write_connection words c closed_connection)
 
 unfoldable pub call_wiping : Run → Call → Run

@@ -1,7 +1,7 @@
 -- Lists of spaces joined: a cell at the head of an entry, an entry behind the Output List; and that a list which shares no
 -- space with them is kept.
 use Prim.Native.Nat.{ℕ, ◌+◌, ◌≤◌}
-use mathlib.Core.Path.{◌≡◌, refl, sym, ap, ◌∙◌}
+use mathlib.Core.Path.{◌≡◌, refl, sym, ap, ◌∙◌, subst}
 use mathlib.Core.Bool.{Bool, true, false}
 use mathlib.Core.List.{List, [], ◌∷◌, ◌++◌}
 use native.Mathlib.Omega.{arith}
@@ -10,7 +10,7 @@ use lib.ListN.{length, get_or, set, length-set}
 use lib.Seq.{get_or-set_same}
 use Rattle.meaning.specs.Numbers.{empty}
 use Rattle.meaning.specs.State.{Ends}
-use Rattle.meaning.specs.Lists.{is_empty, join_head, join_tail}
+use Rattle.meaning.specs.Lists.{Grown, is_empty, join_head, join_tail}
 use Rattle.theory_chains.specs.Strung.{inside, cnt, Follow, last_of, Strung}
 use Rattle.theory_chains.proofs.CountLaws.{is_same, inside_le, inside_lt}
 use Rattle.theory_chains.proofs.StrungLaws.{off_zero, last_in, off_last, follow_set, strung_set, Within, marked, bare}
@@ -52,7 +52,8 @@ module _ {C : Type 0} (sp : C → ℕ) where
         → Strung sp (join_head l e (sp c)).links (join_head l e (sp c)).ends (c ∷ q)
     join_head_lem e c [] p s = rw (head_bare l e (sp c) (bare sp N low l e s)) (refl, refl, tt)
     join_head_lem e c (x ∷ xs) p s =
-        rw (head_marked l e (sp c) (marked sp N low l e x xs (λ k. omega (arith, p k)) s)) (
+        let P : Grown → Type 0 = λ m. Strung sp m.links m.ends (c ∷ (x ∷ xs)) in
+        subst P (sym (head_marked l e (sp c) (marked sp N low l e x xs (λ k. omega (arith, p k)) s))) (
           refl,
           s.1,
           (
@@ -70,7 +71,8 @@ module _ {C : Type 0} (sp : C → ℕ) where
         (q ++ y ∷ ys)
     join_tail_lem e more [] y ys p c d = rw (tail_bare l e more (bare sp N low l e c)) d
     join_tail_lem e more (x ∷ xs) y ys p c d =
-        rw (tail_marked l e more (marked sp N low l e x xs (λ k. omega (arith, p k)) c)) (
+        let P : Grown → Type 0 = λ m. Strung sp m.links m.ends ((x ∷ xs) ++ y ∷ ys) in
+        subst P (sym (tail_marked l e more (marked sp N low l e x xs (λ k. omega (arith, p k)) c))) (
           c.0,
           d.1 ∙ ap sp (sym (last_join x xs y ys)),
           rw (c.1, d.0)

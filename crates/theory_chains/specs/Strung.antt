@@ -5,16 +5,16 @@
 --   cnt sp k q      == how often the space k stands in q
 --   Strung sp l e q == the links l lead through the spaces of q, from head to tail of e
 use Rattle.std.specs.Prelude.{ℕ, ◌≡◌, List, [], ◌∷◌, get_or}
-use Rattle.meaning.specs.Plain.{if◌then◌else◌, ◌<?◌, ◌=?◌}
+use Rattle.meaning.specs.Plain.{when◌then◌else◌, ◌<?◌, ◌=?◌}
 use Rattle.meaning.specs.Numbers.{empty}
 use Rattle.meaning.specs.State.{Ends}
 use Rattle.theory_queues.specs.Queue.{sum}
 
 unfoldable pub is : ℕ → ℕ → ℕ
-is k x = if k =? x then 1 else 0
+is k x = when k =? x then 1 else 0
 
 unfoldable pub inside : ℕ → ℕ → ℕ
-inside k n = if k <? n then 1 else 0
+inside k n = when k <? n then 1 else 0
 
 -- a space as it stands for itself
 abbrev pub self : ℕ → ℕ

@@ -10,7 +10,7 @@ use borrow.Author.Tests.{eq-eqb, ne_eqb}
 use lib.ListN.{length}
 use Rattle.base_hec.specs.Modes.{Arriving, arriving}
 use Rattle.meaning.specs.declared.Answer.{Answer}
-use Rattle.meaning.specs.Plain.{if◌then◌else◌, ◌=?◌}
+use Rattle.meaning.specs.Plain.{when◌then◌else◌, ◌=?◌}
 use Rattle.meaning.specs.Numbers.{empty, dropped}
 use Rattle.meaning.specs.State.{with_words}
 use Rattle.meaning.specs.Header.{Name, number_in}
@@ -62,7 +62,7 @@ module _ (h k : List Event) (said : map but_space h ≡ map but_space k) where
 
   same_judged : (kind z : ℕ) (a : Arriving) → judged_as kind z h a ≡ judged_as kind z k a
   same_judged kind z a =
-      ap₂ (λ (n : ℕ) (f : ℕ → Option Opening). if a.dropped then judged_of dropped 0 0 else judged_by kind z n f a.cell)
+      ap₂ (λ (n : ℕ) (f : ℕ → Option Opening). when a.dropped then judged_of dropped 0 0 else judged_by kind z n f a.cell)
       same_served same_openings
 
   same_new : (cell : List ℕ) (a b : Answer) → half a.verdict a.vci a.d ≡ half b.verdict b.vci b.d

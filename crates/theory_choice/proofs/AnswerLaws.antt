@@ -5,7 +5,7 @@ use mathlib.Core.Bool.{Bool, true, false, not, ◌&&◌}
 use mathlib.Core.List.{List}
 use mathlib.Core.Option.{Option, none, some}
 use native.Mathlib.Omega.{arith}
-use Rattle.meaning.specs.Plain.{if◌then◌else◌, ◌=?◌}
+use Rattle.meaning.specs.Plain.{when◌then◌else◌, ◌=?◌}
 use Rattle.meaning.specs.Numbers.{connections_in, unused}
 use Rattle.meaning.specs.State.{State}
 use Rattle.meaning.specs.Header.{Name, named, number_in}
@@ -33,14 +33,14 @@ is_open (some o) = true
 
 abbrev opens_closed : ℕ → ℕ → ℕ → ℕ → Second → Option Opening → ℕ
 opens_closed N m F C x a =
-    if is_open a then 5
-    else if not (obeys_rules N (bucket_of m F C 0)) then 6
-    else if not (second_obeys (bucket_of x.m x.F x.C 0) x.tag) then 11
+    when is_open a then 5
+    else when not (obeys_rules N (bucket_of m F C 0)) then 6
+    else when not (second_obeys (bucket_of x.m x.F x.C 0) x.tag) then 11
     else 0
 
 -- own: the connection is the caller's
 abbrev pub open_answers : ℕ → ℕ → Bool → Name → ℕ → ℕ → ℕ → Second → Option Opening → ℕ
-open_answers N z own name m F C x a = if not (named z name) then 4 else if not own then 16 else opens_closed N m F C x a
+open_answers N z own name m F C x a = when not (named z name) then 4 else when not own then 16 else opens_closed N m F C x a
 
 -- how many cells of the connection v wait
 abbrev pub waiting_for : ℕ → Waiting → ℕ
@@ -48,19 +48,19 @@ waiting_for v b = sums (λ (c : Cell). is v c.vci) b.cal + sum (λ (c : Cell). i
 
 abbrev closes_open : ℕ → ℕ → Option Opening → ℕ
 closes_open now q none = 7
-closes_open now q (some o) = if not (q =? 0 && level o now =? 0) then 8 else 0
+closes_open now q (some o) = when not (q =? 0 && level o now =? 0) then 8 else 0
 
 abbrev pub close_answers : ℕ → Bool → Name → ℕ → ℕ → Option Opening → ℕ
-close_answers z own name now q a = if not (named z name) then 4 else if not own then 16 else closes_open now q a
+close_answers z own name now q a = when not (named z name) then 4 else when not own then 16 else closes_open now q a
 
 -- the number of what is given
-eight : (b : Bool) (l k : List ℕ) → (if b then called_of 8 l else called_of 0 k).number ≡ (if b then 8 else 0)
+eight : (b : Bool) (l k : List ℕ) → (when b then called_of 8 l else called_of 0 k).number ≡ (when b then 8 else 0)
 eight true l k = refl
 eight false l k = refl
 
 others : (a b c : Bool) (l k : List ℕ)
-    → (if a then called_of 5 l else if not b then called_of 6 l else if not c then called_of 11 l else called_of 0 k).number
-    ≡ (if a then 5 else if not b then 6 else if not c then 11 else 0)
+    → (when a then called_of 5 l else when not b then called_of 6 l else when not c then called_of 11 l else called_of 0 k).number
+    ≡ (when a then 5 else when not b then 6 else when not c then 11 else 0)
 others true b c l k = refl
 others false false c l k = refl
 others false true false l k = refl

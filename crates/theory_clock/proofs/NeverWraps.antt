@@ -8,7 +8,7 @@ use native.Mathlib.Omega.{arith}
 use native.Mathlib.Nat.{mod-eq_of_lt}
 use borrow.Author.Tests.{eq-eqb, not-false}
 use lib.ListN.{get_or, replicate, length-replicate}
-use Rattle.meaning.specs.Plain.{if◌then◌else◌, ◌=?◌}
+use Rattle.meaning.specs.Plain.{when◌then◌else◌, ◌=?◌}
 use Rattle.meaning.specs.Numbers.{ranges_hold, splits_hold, open_place, connections_in, kind_in_range, words_in}
 use Rattle.meaning.specs.State.{State, lengths_hold, with_record, with_words, with_arrived, record_with, with_clock}
 use Rattle.meaning.specs.Header.{number_in}
@@ -94,7 +94,7 @@ unfolding unwrapped_call served with_words
 call_counts r (on_open_with who name m F C x) kept e = e
 call_counts r (on_close who name) kept e = e
 call_counts r (on_slot cell) kept e =
-    slot_counts r.state cell kept ∙ ap (λ (n : ℕ). (if (unwrapped_slot r.state cell).answer.number =? 0 then 1 else 0) + n) e
+    slot_counts r.state cell kept ∙ ap (λ (n : ℕ). (when (unwrapped_slot r.state cell).answer.number =? 0 then 1 else 0) + n) e
 
 -- any number of calls, from any run that agrees so far
 calls_agree : (r : Run) (cs : List Call) → Kept r.state → r.state.ctl.t ≡ served r.events

@@ -3,7 +3,7 @@ use Prim.Native.Nat.{ℕ}
 use native.Mathlib.Omega.{arith}
 use mathlib.Core.Path.{◌≡◌, refl, ◌∙◌, ap}
 use mathlib.Core.Bool.{Bool, true, false, ◌&&◌}
-use Rattle.meaning.specs.Plain.{if◌then◌else◌, Out, refused, next, needs, ◌andThen◌}
+use Rattle.meaning.specs.Plain.{when◌then◌else◌, Out, refused, next, needs, ◌and_then◌}
 use Rattle.meaning_runs.proofs.OutLaws.{AllOut}
 
 abbrev pub map_out : {A B : Type 0} → (A → B) → Out A → Out B
@@ -15,7 +15,7 @@ both_true true b p = (refl, p)
 both_true false b p = absurd (let y : ◌≡◌ {A = ℕ} 0 1 = cc in omega arith)
 
 pub if_both : {A B : Type 0} (f : A → B) (b : Bool) (x y : B) (x' y' : A) → (b ≡ true → x ≡ f x') → (b ≡ false → y ≡ f y')
-    → (if b then x else y) ≡ f (if b then x' else y')
+    → (when b then x else y) ≡ f (when b then x' else y')
 if_both f true x y x' y' h k = h refl
 if_both f false x y x' y' h k = k refl
 
@@ -25,7 +25,7 @@ module _ {A : Type 0} (f : A → A) where
   needs_map false x y h = refl
 
   pub if_map : (b : Bool) (x y x' y' : Out A) → (b ≡ true → x ≡ map_out f x') → (b ≡ false → y ≡ map_out f y')
-      → (if b then x else y) ≡ map_out f (if b then x' else y')
+      → (when b then x else y) ≡ map_out f (when b then x' else y')
   if_map b x y x' y' h k = if_both (map_out f) b x y x' y' h k
 
 pub then_map : {A B : Type 0} (f : A → A) (g : B → B) (x : Out A) (h k : A → Out B) → ((a : A) → h (f a) ≡ map_out g (k a))

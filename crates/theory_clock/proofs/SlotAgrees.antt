@@ -8,7 +8,7 @@ use native.Mathlib.Nat.{mod-lt}
 use borrow.Author.Tests.{leb-true, not-false, ne_eqb}
 use lib.ListN.{length, length-map}
 use Rattle.base_hec.specs.Modes.{Arriving, arriving_fits}
-use Rattle.meaning.specs.Plain.{if◌then◌else◌, ◌≤?◌, ◌=?◌, Out, refused, next, needs, ◌andThen◌}
+use Rattle.meaning.specs.Plain.{when◌then◌else◌, ◌≤?◌, ◌=?◌, Out, refused, next, needs, ◌and_then◌}
 use Rattle.meaning.specs.Numbers.{ranges_hold, octets, least_v, most_v, most_n, connections_in, unused, words_in}
 use Rattle.meaning.specs.State.{State, words_length, lengths_hold, sizes_hold, with_record, with_words, with_arrived, record_with, with_clock}
 use Rattle.meaning.specs.State.{record_in_mode, with_mode}
@@ -173,8 +173,8 @@ module _ (x : ℕ) (u : State) (cell : List ℕ) where
 
   -- refusal 9 comes before
   lent_agrees : Kept u → ranges_hold u.ctl.n u.ctl.v ≡ true
-      → (if not (length cell =? 0 || length cell =? octets) then work_of (stored_state u) (bare_answer 9) else wrapped)
-      ≡ stored_work (if not (length cell =? 0 || length cell =? octets) then work_of u (bare_answer 9) else never_wrapped)
+      → (when not (length cell =? 0 || length cell =? octets) then work_of (stored_state u) (bare_answer 9) else wrapped)
+      ≡ stored_work (when not (length cell =? 0 || length cell =? octets) then work_of u (bare_answer 9) else never_wrapped)
   unfolding stored_work
   lent_agrees kept range =
       if_both stored_work (not (length cell =? 0 || length cell =? octets)) (work_of (stored_state u) (bare_answer 9)) wrapped
@@ -235,9 +235,9 @@ slot_keeps u cell kept = slot_cases u cell (λ w. Kept w.state) (λ number h. ke
 
 -- the clock is the number of slots served: one more exactly where the answer's number is 0
 pub slot_counts : (u : State) (cell : List ℕ) → Kept u
-    → (unwrapped_slot u cell).state.ctl.t ≡ (if (unwrapped_slot u cell).answer.number =? 0 then 1 else 0) + u.ctl.t
+    → (unwrapped_slot u cell).state.ctl.t ≡ (when (unwrapped_slot u cell).answer.number =? 0 then 1 else 0) + u.ctl.t
 slot_counts u cell kept =
-    slot_cases u cell (λ w. w.state.ctl.t ≡ (if w.answer.number =? 0 then 1 else 0) + u.ctl.t)
+    slot_cases u cell (λ w. w.state.ctl.t ≡ (when w.answer.number =? 0 then 1 else 0) + u.ctl.t)
     (λ number h. rw (ne_eqb number 0 (λ e. omega arith)) (omega arith))
     (λ w low h. rw (h.done, h.t_is) (omega arith))
     kept

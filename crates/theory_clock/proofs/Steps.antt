@@ -7,7 +7,7 @@ use mathlib.Core.List.{List}
 use native.Mathlib.Omega.{arith}
 use borrow.Author.Tests.{eqb-false, not-false}
 use lib.ListN.{length, get_or}
-use Rattle.meaning.specs.Plain.{if◌then◌else◌, ◌<?◌, ◌≤?◌, ◌=?◌, Out, next, needs, ◌andThen◌}
+use Rattle.meaning.specs.Plain.{when◌then◌else◌, ◌<?◌, ◌≤?◌, ◌=?◌, Out, next, needs, ◌and_then◌}
 use Rattle.meaning.specs.Numbers.{excess, unknown, open_place, cell_start, connections_in, unused, kind_in_range, words_in}
 use Rattle.meaning.specs.State.{with_record, with_cells, with_links, with_calendar, with_words, record_with}
 use Rattle.meaning.specs.State.{with_clock, with_bits, with_arrived, with_free, with_output_list, output_list}
@@ -59,11 +59,11 @@ at_stored : (w : Work) (v : ℕ) (x : Out Work) (f g : Connection → Out Work) 
     → Behind w.state.ctl.t longest (connection_at w.state.words v)
     → ((vc : Connection) → f (stored_connection vc) ≡ map_out stored_work (g vc))
     → needs (open_word_fits (connection_at (stored_words (connections_in w.state.ctl.v) w.state.words) v))
-    (if (connection_at (stored_words (connections_in w.state.ctl.v) w.state.words) v).opened =? 0 then map_out stored_work x
+    (when (connection_at (stored_words (connections_in w.state.ctl.v) w.state.words) v).opened =? 0 then map_out stored_work x
     else (up_to_date w.state.ctl.n (stored w.state.ctl.t) (connection_at (stored_words (connections_in w.state.ctl.v) w.state.words) v) and_then f))
     ≡ map_out stored_work
     (needs (open_word_fits (connection_at w.state.words v))
-    (if (connection_at w.state.words v).opened =? 0 then x
+    (when (connection_at w.state.words v).opened =? 0 then x
     else (caught_up w.state.ctl.n w.state.ctl.t (connection_at w.state.words v) and_then g)))
 unfolding open_word_fits stored_connection
 at_stored w v x f g low long near same =

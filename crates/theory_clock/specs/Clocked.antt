@@ -4,7 +4,7 @@
 use Rattle.std.specs.Prelude.{ℕ, ◌+◌, ◌%◌, not, ◌&&◌, ◌||◌, List, length}
 use Rattle.base_hec.specs.Modes.{arriving_fits}
 use Rattle.meaning.specs.declared.Record.{Record}
-use Rattle.meaning.specs.Plain.{if◌then◌else◌, ◌<?◌, ◌=?◌, Out, next, needs, ◌andThen◌}
+use Rattle.meaning.specs.Plain.{when◌then◌else◌, ◌<?◌, ◌=?◌, Out, next, needs, ◌and_then◌}
 use Rattle.meaning.specs.Numbers.{ranges_hold, octets, connections_in, unused, kind_in_range, unknown}
 use Rattle.meaning.specs.State.{State, sizes_hold, with_clock, with_mode}
 use Rattle.meaning.specs.Header.{header_at, no_user_cell, Name, number_in, connection, names_connection}
@@ -35,9 +35,9 @@ step2_by up_to_date w =
     let s = w.state in
     let c = s.ctl.rotation in
     let vc = connection_at s.words c in
-    if unused s.ctl.v c then next w
+    when unused s.ctl.v c then next w
     else needs (open_word_fits vc)
-    (if vc.opened =? 0 then next w
+    (when vc.opened =? 0 then next w
     else (up_to_date s.ctl.n s.ctl.t vc and_then λ now. next (with_connection w c now)))
 
 -- 3: the connection of the arriving cell, which takes space x, if it is let in
@@ -48,12 +48,12 @@ step3_by up_to_date x cell w =
     let c = connection s.ctl.v h in
     let vc = connection_at s.words c in
     let is_unknown = next (with_arrival w unknown h.vci 0) in
-    if length cell =? 0 then next w
+    when length cell =? 0 then next w
     else needs (kind_in_range s.ctl.kind)
-    (if no_user_cell h then next w
-    else if not (names_connection s.ctl.v h) then is_unknown
+    (when no_user_cell h then next w
+    else when not (names_connection s.ctl.v h) then is_unknown
     else needs (open_word_fits vc)
-    (if vc.opened =? 0 then is_unknown
+    (when vc.opened =? 0 then is_unknown
     else (up_to_date s.ctl.n s.ctl.t vc and_then judge x cell c w)))
 
 -- 4 and 5 touch neither t nor elapsed, and keep every `last`
@@ -66,9 +66,9 @@ slot_by five_steps s cell =
     let N = s.ctl.n in
     let z = s.ctl.v in
     let a = let_in s cell in
-    if not (ranges_hold N z) then work_of s (bare_answer 1)
-    else if not (sizes_hold s) then work_of s (bare_answer 2)
-    else if not (length cell =? 0 || length cell =? octets) then work_of s (bare_answer 9)
+    when not (ranges_hold N z) then work_of s (bare_answer 1)
+    else when not (sizes_hold s) then work_of s (bare_answer 2)
+    else when not (length cell =? 0 || length cell =? octets) then work_of s (bare_answer 9)
     else finish s (needs (arriving_fits s.ctl.raw s.ctl.mode cell)
     (five_steps a.cell (work_of (with_mode s a.mode) (bare_answer 0)) and_then λ w. next (told a.dropped w)))
 
@@ -81,7 +81,7 @@ abbrev pub close_by : (ℕ → Connection → ℕ) → Record → List ℕ → �
 close_by debt r words who name =
     let c = number_in r.v name in
     let k = shared_refusal r words who name in
-    if not (k =? 0) then called_of k words
-    else if (connection_at words c).opened =? 0 then called_of 7 words
-    else if not ((connection_at words c).waiting =? 0 && debt r.t (connection_at words c) =? 0) then called_of 8 words
+    when not (k =? 0) then called_of k words
+    else when (connection_at words c).opened =? 0 then called_of 7 words
+    else when not ((connection_at words c).waiting =? 0 && debt r.t (connection_at words c) =? 0) then called_of 8 words
     else called_of 0 (write_connection words c closed_connection)

@@ -1,7 +1,7 @@
 -- "So no VC is ever more than V slots behind, however long it is silent": what rotation keeps, exactly. By document 02 (vi)
 -- rotation goes over V + 256, so no connection is ever more than V + 256 slots behind.
 use Rattle.std.specs.Prelude.{ℕ, ◌+◌, ◌-◌, ◌%◌, ◌≤◌, ◌<◌, ◌≡◌, false, List, length}
-use Rattle.meaning.specs.Plain.{if◌then◌else◌, ◌≤?◌}
+use Rattle.meaning.specs.Plain.{when◌then◌else◌, ◌≤?◌}
 use Rattle.meaning.specs.Numbers.{connections_in, unused, words_in, most_v}
 use Rattle.meaning.specs.State.{State}
 use Rattle.meaning.specs.Words.{Connection, connection_at}
@@ -12,7 +12,7 @@ longest = connections_in most_v
 
 -- how many slots ago rotation, which goes over R connections, named the connection c, if it ever did: at most R - 1
 unfoldable pub since : ℕ → ℕ → ℕ → ℕ
-since R rotation c = if c ≤? rotation then rotation - c else (rotation + R - c)
+since R rotation c = when c ≤? rotation then rotation - c else (rotation + R - c)
 
 -- an open connection was brought up to date at most `most` slots ago; k slots have been served
 abbrev pub Behind : ℕ → ℕ → Connection → Type 0

@@ -1,7 +1,7 @@
 -- What 32 bits keep of the clock that never wraps: the record and memories of the policer, from those of its unwrapped
 -- fellow. Only the numbers t and last and the arrival slots differ.
 use Rattle.std.specs.Prelude.{ℕ, zero, suc, ◌+◌, ◌-◌, ◌%◌, List, map}
-use Rattle.meaning.specs.Plain.{if◌then◌else◌, ◌=?◌}
+use Rattle.meaning.specs.Plain.{when◌then◌else◌, ◌=?◌}
 use Rattle.meaning.specs.Numbers.{slot_numbers, connections_in}
 use Rattle.meaning.specs.State.{State, with_clock, with_words, with_arrived}
 use Rattle.meaning.specs.Words.{Connection, connection_at, write_connection}
@@ -18,7 +18,7 @@ stored_connection vc =
     record {
       opened = vc.opened;
       bucket = vc.bucket;
-      last = (if vc.opened =? 0 then vc.last else stored vc.last);
+      last = (when vc.opened =? 0 then vc.last else stored vc.last);
       waiting = vc.waiting;
       second = vc.second;
       tag = vc.tag;

@@ -10,7 +10,7 @@ use native.Mathlib.Decide.{ℕ_discrete}
 use native.Mathlib.Omega.{arith}
 use borrow.Author.Tests.{eq-eqb, ne_eqb, eqb-true}
 use lib.ListN.{length}
-use Rattle.meaning.specs.Plain.{if◌then◌else◌, ◌=?◌, next}
+use Rattle.meaning.specs.Plain.{when◌then◌else◌, ◌=?◌, next}
 use Rattle.meaning.specs.Numbers.{connections_in, unused, excess, unknown, nothing, lets_in}
 use Rattle.meaning.specs.State.{State, with_words}
 use Rattle.meaning.specs.Bits.{is_free_space}
@@ -146,7 +146,7 @@ module _ (x now : ℕ) (cell : List ℕ) (op : ℕ → Option Opening) (out : Li
           verdict = verdict_by o (clp_in cell) now
 
           judge_goes : (b : Bool) → lets_in verdict ≡ b → length cell ≡ 53 → names_connection z (h) ≡ true
-              → judged_by kind z now op cell ≡ judged_of verdict u (if b then due_slot o now - now else 0)
+              → judged_by kind z now op cell ≡ judged_of verdict u (when b then due_slot o now - now else 0)
               → Goes (judge x cell u w vc) (Came N z kind now cell op out cal)
           unfolding judge
           judge_goes true e long named judges =

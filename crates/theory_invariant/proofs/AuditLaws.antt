@@ -10,7 +10,7 @@ use native.Mathlib.Decide.{dec_lt}
 use native.Mathlib.Omega.{arith}
 use borrow.Author.Tests.{eq-eqb, leb-true}
 use lib.ListN.{length, get_or, take, drop, take-append-drop}
-use Rattle.meaning.specs.Plain.{if◌then◌else◌, ◌<?◌, ◌=?◌}
+use Rattle.meaning.specs.Plain.{when◌then◌else◌, ◌<?◌, ◌=?◌}
 use Rattle.meaning.specs.Numbers.{connections_in, unused, kind_in_range, cell_start, open_place, splits_hold}
 use Rattle.meaning.specs.State.{State, output_list}
 use Rattle.meaning.specs.Bits.{is_free_space, spaces_fit}
@@ -130,10 +130,10 @@ module _ (N z kind : ℕ) (h : List Event) (s : State) (i : Inv N z kind h s) wh
       )
 
   -- a space is queued once where it isn't free, and below N
-  below_count : (m : ℕ) → m < N → count m (map space_of i.out ++ joined queues) ≡ (if is_free_space s.bits m then 0 else 1)
+  below_count : (m : ℕ) → m < N → count m (map space_of i.out ++ joined queues) ≡ (when is_free_space s.bits m then 0 else 1)
   below_count m low = go (is_free_space s.bits m) refl
     where
-      go : (f : Bool) → is_free_space s.bits m ≡ f → count m (map space_of i.out ++ joined queues) ≡ (if f then 0 else 1)
+      go : (f : Bool) → is_free_space s.bits m ≡ f → count m (map space_of i.out ++ joined queues) ≡ (when f then 0 else 1)
       go true e =
           omega (arith, queued_parts m, i.stage.has.parted m, free_yes s.bits m e, inside_yes m N low)
       go false e =
@@ -194,8 +194,8 @@ module _ (N z kind : ℕ) (h : List Event) (s : State) (i : Inv N z kind h s) wh
   unfolding is
   counted v [] a = refl
   counted v (c ∷ q) a =
-      ap (λ (x : ℕ). (if v =? x then 1 else 0) + count v (map (connection_in kind z s.cells) (map space_of q))) (vci_of_lem c a.0)
-      ∙ ap (λ (n : ℕ). (if v =? vci_of c then 1 else 0) + n) (counted v q a.1)
+      ap (λ (x : ℕ). (when v =? x then 1 else 0) + count v (map (connection_in kind z s.cells) (map space_of q))) (vci_of_lem c a.0)
+      ∙ ap (λ (n : ℕ). (when v =? vci_of c then 1 else 0) + n) (counted v q a.1)
 
   counted_all : (v : ℕ) → count v (map (connection_in kind z s.cells) (map space_of i.out ++ joined queues)) ≡ waits v i.out
       (turn i.cal)

@@ -8,7 +8,7 @@ use native.Mathlib.Decide.{dec_lt}
 use native.Mathlib.Omega.{arith}
 use borrow.Author.Tests.{leb-true, eq-eqb, lt-ltb, le-ltb}
 use lib.ListN.{length, replicate, length-replicate, get_or-replicate}
-use Rattle.meaning.specs.Plain.{if◌then◌else◌, ◌<?◌, ◌≤?◌}
+use Rattle.meaning.specs.Plain.{when◌then◌else◌, ◌<?◌, ◌≤?◌}
 use Rattle.meaning.specs.Numbers.{ranges_hold, connections_in, kind_in_range, nni, most_n, least_v, most_v, empty, slot_numbers, words_in, open_place, splits_hold}
 use Rattle.meaning.specs.State.{State, state_of, output_list, lengths_hold, with_record}
 use Rattle.meaning.specs.Bits.{all_free}
@@ -186,10 +186,10 @@ setup_fresh N z a lent e =
 
     after : Bool → Bool → Bool → Bool → SetUp
     after x t y w =
-        if not x then set_up_of 1 as_it_came
-        else if not t then set_up_of 1 as_it_came
-        else if not y then set_up_of 13 as_it_came
-        else if not w then set_up_of 2 as_it_came
+        when not x then set_up_of 1 as_it_came
+        else when not t then set_up_of 1 as_it_came
+        else when not y then set_up_of 13 as_it_came
+        else when not w then set_up_of 2 as_it_came
         else set_up_of 0 fresh
 
     go : (x t y w : Bool) → ranges_hold N z ≡ x → splits_hold z a.splitvci a.splitpath ≡ t → kind_in_range a.kind ≡ y

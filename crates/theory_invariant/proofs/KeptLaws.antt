@@ -9,7 +9,7 @@ use mathlib.Core.Option.{Option, none, some}
 use native.Mathlib.Omega.{arith}
 use borrow.Author.Tests.{eq-eqb, ne_eqb}
 use Rattle.meaning.specs.declared.Answer.{Answer}
-use Rattle.meaning.specs.Plain.{if◌then◌else◌}
+use Rattle.meaning.specs.Plain.{when◌then◌else◌}
 use Rattle.meaning.specs.Numbers.{empty, lets_in}
 use Rattle.meaning.specs.Work.{answer_of}
 use Rattle.meaning.specs.Arrival.{sent_as}
@@ -99,8 +99,8 @@ module _ (h : List Event) (cell : List ℕ) (verdict vci D x out : ℕ) (seen : 
   unfolding cells_in
   cells_ran = go (lets_in verdict)
     where
-      go : (b : Bool) → (if b then cells_in h ++ (cell_under (served h) a sent (opening_of vci h) ∷ []) else cells_in h)
-          ≡ cells_in h ++ (if b then cell_under (served h) (half verdict vci D) sent (opening_of vci h) ∷ [] else [])
+      go : (b : Bool) → (when b then cells_in h ++ (cell_under (served h) a sent (opening_of vci h) ∷ []) else cells_in h)
+          ≡ cells_in h ++ (when b then cell_under (served h) (half verdict vci D) sent (opening_of vci h) ∷ [] else [])
       go true = ap (λ c. cells_in h ++ (c ∷ [])) (under_same (opening_of vci h))
       go false = sym (append-nil (cells_in h))
 

@@ -3,7 +3,7 @@
 use Rattle.std.specs.Prelude.{ℕ, suc, ◌-◌, ◌≡◌, ◌&&◌, List, [], ◌∷◌, ◌++◌, map}
 use Rattle.std.proofs.Math.Option.{Option}
 use Rattle.meaning.specs.declared.Answer.{Answer}
-use Rattle.meaning.specs.Plain.{if◌then◌else◌, ◌=?◌}
+use Rattle.meaning.specs.Plain.{when◌then◌else◌, ◌=?◌}
 use Rattle.meaning.specs.Numbers.{empty, lets_in}
 use Rattle.meaning.specs.Header.{clp_in}
 use Rattle.meaning.specs.Arrival.{sent_as}
@@ -18,7 +18,7 @@ use Rattle.theory_invariant.specs.Invariant.{cell_in, Sits, Stage, Delayed, Name
 -- the openings after a slot with this verdict on a cell of this connection, with this CLP
 abbrev pub after : ℕ → ℕ → ℕ → ℕ → (ℕ → Option Opening) → ℕ → Option Opening
 after now clp verdict vci openings v =
-    if lets_in verdict && vci =? v then after_cell now clp verdict (openings v) else openings v
+    when lets_in verdict && vci =? v then after_cell now clp verdict (openings v) else openings v
 
 -- the answer as step 3 leaves it
 abbrev pub half : ℕ → ℕ → ℕ → Answer
@@ -27,7 +27,7 @@ half verdict vci D = answer_of 0 verdict vci D empty 0
 -- the accepted or tagged cell, if there is one, with the octets that are stored
 abbrev pub noted : ℕ → Answer → List ℕ → (ℕ → Option Opening) → List Cell
 noted now a octets openings =
-    if lets_in a.verdict then cell_under now a (sent_as a.verdict octets) (openings a.vci) ∷ [] else []
+    when lets_in a.verdict then cell_under now a (sent_as a.verdict octets) (openings a.vci) ∷ [] else []
 
 -- the openings after a slot in which this cell came
 abbrev pub onward : ℕ → List ℕ → ℕ → ℕ → (ℕ → Option Opening) → ℕ → Option Opening

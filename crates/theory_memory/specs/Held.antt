@@ -2,12 +2,12 @@
 -- each queued cell's space holds its octets and its arrival slot. A proof device.
 --
 --   Queued   == an accepted cell, and the space that it was given
---   freeAt   == 1 where the space is free, otherwise 0
+--   free_at   == 1 where the space is free, otherwise 0
 --   Has      == the lists of spaces are o and r, where r is the calendar from the entry b on, modulo N, and every other space
 --               below N is free; the entries that hold a cell are marked, and no other
 --   Dates    == beside each queued cell's octets its arrival slot is kept, modulo 2^32
 use Rattle.std.specs.Prelude.{ℕ, ◌+◌, ◌*◌, ◌%◌, ◌≤◌, ◌<◌, ◌≡◌, true, not, ◌&&◌, List, [], length, get_or, take, drop}
-use Rattle.meaning.specs.Plain.{if◌then◌else◌, ◌<?◌}
+use Rattle.meaning.specs.Plain.{when◌then◌else◌, ◌<?◌}
 use Rattle.meaning.specs.Numbers.{most_n, bit_words, slot_numbers}
 use Rattle.meaning.specs.State.{Ends}
 use Rattle.meaning.specs.Bits.{is_free_space, is_marked, spaces_fit}
@@ -42,7 +42,7 @@ abbrev pub cnts : ℕ → List (List Queued) → ℕ
 cnts k r = sums (λ c. is k c.space) r
 
 unfoldable pub free_at : List ℕ → ℕ → ℕ
-free_at bits k = if is_free_space bits k then 1 else 0
+free_at bits k = when is_free_space bits k then 1 else 0
 
 pub record Has (N b : ℕ) (cells links calendar : List ℕ) (out : Ends) (number : ℕ) (bits : List ℕ) (o : List Queued)
     (r : List (List Queued)) : Type 0 where

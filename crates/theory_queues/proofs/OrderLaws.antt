@@ -1,6 +1,6 @@
 -- One connection's cells keep their order: a cell due after all of its connection joins behind them, whichever queue it goes to.
 use Prim.Native.Nat.{ℕ, zero, suc, ◌+◌, ◌≤◌, ◌<◌}
-use mathlib.Core.Path.{◌≡◌, refl, sym, ap, ◌∙◌}
+use mathlib.Core.Path.{◌≡◌, refl, sym, ap, ◌∙◌, subst}
 use mathlib.Core.List.{List, [], ◌∷◌, ◌++◌, map, append_assoc, append-nil}
 use native.Mathlib.Nat.{le_of_suc-le-suc, not-suc-le-zero}
 use native.Mathlib.Decide.{ℕ_discrete}
@@ -74,7 +74,7 @@ module _ {C : Type 0} (vc due : C → ℕ) where
           ∙ sym (ap (λ l. l ++ of_connection vc v (c ∷ [])) none ∙ of_connection_yes vc v c [] p)
         where
           none : of_connection vc v (q ++ flat r) ≡ []
-          none = of_connection_later v n (due c) (q ∷ r) (omega arith) t (rw p at a)
+          none = of_connection_later v n (due c) (q ∷ r) (omega arith) t (subst (λ (w : ℕ). Alls (λ b. vc b ≡ w → due b < due c) (q ∷ r)) p a)
       go (no p) =
           of_connection_no vc v c (q ++ flat r) p
           ∙ sym (ap (λ l. of_connection vc v (q ++ flat r) ++ l) (of_connection_no vc v c [] p) ∙ append-nil (of_connection vc v (q ++ flat r)))

@@ -7,7 +7,7 @@ use mathlib.Core.Option.{Option, none, some}
 use native.Mathlib.Omega.{arith}
 use lib.Pow.{pow_pos}
 use borrow.Author.Tests.{le-leb, eq-eqb}
-use Rattle.meaning.specs.Plain.{if◌then◌else◌, ◌=?◌, next}
+use Rattle.meaning.specs.Plain.{when◌then◌else◌, ◌=?◌, next}
 use Rattle.meaning.specs.Numbers.{slot_numbers, accepted}
 use Rattle.meaning.specs.Bucket.{Bucket, bucket_of, obeys_rules, fall, delay, fill}
 use Rattle.meaning.specs.Words.{Connection, Second, with_waiting, with_buckets, opened_connection, open_word_fits, bucket_fits, second_obeys, second_in_range, buckets_fit, connection_fits, fallen_to, up_to_date, debt}
@@ -133,10 +133,10 @@ module _ (N R : ℕ) (few : R ≤ 1_280) where
   -- the second bucket, which is filled or not
   module _ (m F C : ℕ) (p : Option ℕ) (now : ℕ) where
     abbrev on : Bool → Option ℕ
-    on b = if b then some (due_after (2 ^ m) F now p) else p
+    on b = when b then some (due_after (2 ^ m) F now p) else p
 
     second_filled : (b : Bool)
-        → (if b then fill (bucket_after m F C p (suc now)) else bucket_after m F C p (suc now)) ≡ bucket_after m F C (on b) (suc now)
+        → (when b then fill (bucket_after m F C p (suc now)) else bucket_after m F C p (suc now)) ≡ bucket_after m F C (on b) (suc now)
     second_filled true = fills m F C p now
     second_filled false = refl
 

@@ -3,7 +3,7 @@ use Prim.Native.Nat.{ℕ, suc}
 use mathlib.Core.Path.{◌≡◌, refl, sym}
 use mathlib.Core.Bool.{Bool, true, false, not, ◌&&◌}
 use native.Mathlib.Omega.{arith}
-use Rattle.meaning.specs.Plain.{if◌then◌else◌, ◌=?◌}
+use Rattle.meaning.specs.Plain.{when◌then◌else◌, ◌=?◌}
 use Rattle.meaning.specs.Numbers.{accepted, excess, tagged, lets_in}
 use Rattle.meaning.specs.Arrival.{verdict_on}
 use Rattle.meaning_runs.specs.Leak.{Opening, leak_accepts, sustains, verdict_by}
@@ -12,7 +12,7 @@ use Rattle.theory_table.proofs.BucketLaws.{excess_after}
 
 -- a CLP 0 cell above the peak, above the sustainable rate; the flag
 abbrev of : Bool → Bool → Bool → Bool → ℕ
-of peak zero-clp above unset = if peak then excess else if zero-clp && above then (if unset then excess else tagged) else accepted
+of peak zero-clp above unset = when peak then excess else when zero-clp && above then (when unset then excess else tagged) else accepted
 
 pub verdict_is : (o : Opening) (clp now q : ℕ) → verdict_on clp (stored o (suc now) q) ≡ verdict_by o clp now
 unfolding verdict_on verdict_by leak_accepts sustains

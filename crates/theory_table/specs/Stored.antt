@@ -1,9 +1,9 @@
 -- What an opening makes of a connection's words. A proof device.
 --
---   earliestAfter F p    == where p is the last due time, if any, the next cell is due at this time at the earliest
---   levelAfter m F p k   == S of a bucket with this m and F, k slots being served: what its own leak rule leaves of it. Said once
+--   earliest_after F p    == where p is the last due time, if any, the next cell is due at this time at the earliest
+--   level_after m F p k   == S of a bucket with this m and F, k slots being served: what its own leak rule leaves of it. Said once
 --                           for any bucket, and cited for both of a connection
---   bucketAfter m F C p k == such a bucket
+--   bucket_after m F C p k == such a bucket
 --   stored o k q         == the connection's words, where it was last brought up to date when k slots were served, and q cells wait
 --   gap R v now          == how many of the `now` slots were served since rotation, which goes over R connections, last named v
 --   ConnectionIs                 == the words vc of the connection v are those of its opening, if it has one; now slots were served
