@@ -8,7 +8,7 @@ use native.Mathlib.Omega.{arith}
 use borrow.Author.Tests.{eqb-false}
 use lib.ListN.{length, set}
 use Rattle.meaning.specs.declared.Answer.{Answer}
-use Rattle.meaning.specs.Plain.{if◌then◌else◌, ◌<?◌, ◌=?◌, next, needs}
+use Rattle.meaning.specs.Plain.{when◌then◌else◌, ◌<?◌, ◌=?◌, next, needs}
 use Rattle.meaning.specs.Numbers.{connections_in, unused, kind_in_range, excess, lets_in}
 use Rattle.meaning.specs.State.{State, with_record, with_cells, with_links, with_calendar, with_words, with_bits, with_arrived, record_with, with_clock, with_free, write_cell}
 use Rattle.meaning.specs.Bits.{is_free_space, spaces_fit, taken, marked}
@@ -133,8 +133,8 @@ module _ (all base : ℕ) where
   unfolding verdict_on lets_in
   lets_in_lem clp vc = go (is_excess vc.bucket) (clp =? 0 && is_excess vc.second) (vc.tag =? 0)
     where
-      go : (a b c : Bool) → (if a then 2 else if b then (if c then 2 else 5) else 1) =? excess ≡ false
-          → lets_in (if a then 2 else if b then (if c then 2 else 5) else 1) ≡ true
+      go : (a b c : Bool) → (when a then 2 else when b then (when c then 2 else 5) else 1) =? excess ≡ false
+          → lets_in (when a then 2 else when b then (when c then 2 else 5) else 1) ≡ true
       go true b c e = sym e
       go false true true e = sym e
       go false true false e = refl

@@ -8,7 +8,7 @@ use native.Mathlib.Omega.{arith}
 use borrow.Author.Tests.{ltb-true, ltb-false}
 use lib.Dec.{eqb, ltb}
 use lib.ListN.{length}
-use Rattle.meaning.specs.Plain.{if◌then◌else◌, Out, refused, next, needs, ◌andThen◌}
+use Rattle.meaning.specs.Plain.{when◌then◌else◌, Out, refused, next, needs, ◌and_then◌}
 use Rattle.meaning.specs.Numbers.{empty, words_per_connection, connections_in}
 use Rattle.meaning.specs.Words.{Connection, connection_at, write_connection}
 use Rattle.meaning.specs.Work.{Work, bare_answer}
@@ -28,7 +28,7 @@ pub holds_then : {A B : Type 0} (Q : A → Type 0) (P : B → Type 0) (x : Out A
 holds_then Q P refused f h g = omega arith
 holds_then Q P (next x) f h g = g x h
 
-pub holds_if : {A : Type 0} (P : Out A → Type 0) (b : Bool) (x y : Out A) → (b ≡ true → P x) → (b ≡ false → P y) → P (if b then x else y)
+pub holds_if : {A : Type 0} (P : Out A → Type 0) (b : Bool) (x y : Out A) → (b ≡ true → P x) → (b ≡ false → P y) → P (when b then x else y)
 holds_if P true x y f g = f refl
 holds_if P false x y f g = g refl
 
@@ -46,7 +46,7 @@ not_not true e = refl
 not_not false e = sym e
 
 abbrev pub one : Bool → ℕ
-one b = if b then 1 else 0
+one b = when b then 1 else 0
 
 module _ (all base : ℕ) where
   -- no closed connection has a cell waiting

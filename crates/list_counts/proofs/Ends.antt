@@ -10,7 +10,7 @@ use lib.Dec.{eqb}
 use lib.ListN.{length, replicate, get_or}
 use Rattle.meaning.specs.declared.Answer.{Answer}
 use Rattle.meaning.specs.declared.Record.{Record}
-use Rattle.meaning.specs.Plain.{if◌then◌else◌, ◌≤?◌, ◌=?◌}
+use Rattle.meaning.specs.Plain.{when◌then◌else◌, ◌≤?◌, ◌=?◌}
 use Rattle.meaning.specs.Numbers.{ranges_hold, splits_hold, slot_numbers, words_per_connection, words_in, connections_in, kind_in_range, waiting_place}
 use Rattle.meaning.specs.State.{State, with_record, with_words, words_length, lengths_hold}
 use Rattle.meaning.specs.Operators.{second_operator, owns}
@@ -68,7 +68,7 @@ pub record Passed (r : Record) (words : List ℕ) (c : ℕ) : Type 0 where
   pub low : c < records_of r.v
   pub fits : connection_fits r.n (connection_at words c) ≡ true
 
-refusal_zero : (b : Bool) (k x : ℕ) → 0 < k → (if not b then k else x) ≡ 0 → (b ≡ true) × (x ≡ 0)
+refusal_zero : (b : Bool) (k x : ℕ) → 0 < k → (when not b then k else x) ≡ 0 → (b ≡ true) × (x ≡ 0)
 refusal_zero true k x p e = (refl, e)
 refusal_zero false k x p e = absurd (omega arith)
 
@@ -89,7 +89,7 @@ passed r words who name e =
       fits = d.0;
     }
 
-choose_called : (P : Called → Type 0) (b : Bool) (x y : Called) → (b ≡ true → P x) → (b ≡ false → P y) → P (if b then x else y)
+choose_called : (P : Called → Type 0) (b : Bool) (x y : Called) → (b ≡ true → P x) → (b ≡ false → P y) → P (when b then x else y)
 choose_called P true x y p q = p refl
 choose_called P false x y p q = q refl
 
@@ -106,7 +106,7 @@ zero_opened N vc f o = go (vc.opened =? 0) refl
     go : (b : Bool) → vc.opened =? 0 ≡ b → vc.opened ≡ 0
     go true e = eqb-true _ _ e
     go false e =
-        let g : (if vc.opened =? 0 then true else (vc.opened ≤? 1 && buckets_fit N vc && vc.waiting ≤? N)) ≡ true = f in
+        let g : (when vc.opened =? 0 then true else (vc.opened ≤? 1 && buckets_fit N vc && vc.waiting ≤? N)) ≡ true = f in
         let k : vc.opened ≤? 1 && buckets_fit N vc && vc.waiting ≤? N ≡ true = rw e at g in
         let l : vc.opened ≤ 1 = leb-true _ _ (both (vc.opened ≤? 1) (buckets_fit N vc) (both (vc.opened ≤? 1 && buckets_fit N vc) (vc.waiting ≤? N) k).0).0 in
         let n : vc.opened ≢ 1 = eqb-false _ _ o in
@@ -168,7 +168,7 @@ unfolding fresh_state fresh_record many_of
 fresh_balanced N z o =
     record { even = omega (arith, cleared_sum (words_in z) (records_of z)); closed = λ c l k. cleared_connection (words_in z) c }
 
-choose_set_up : (P : SetUp → Type 0) (b : Bool) (x y : SetUp) → P x → P y → P (if b then x else y)
+choose_set_up : (P : SetUp → Type 0) (b : Bool) (x y : SetUp) → P x → P y → P (when b then x else y)
 choose_set_up P true x y p q = p
 choose_set_up P false x y p q = q
 

@@ -9,7 +9,7 @@ use borrow.Author.Tests.{eqb-true, eqb-false, leb-true, ne_eqb}
 use lib.ListN.{length, get_or}
 use Rattle.base_hec.specs.Modes.{Arriving, arriving, arriving_fits}
 use Rattle.meaning.specs.declared.Answer.{Answer}
-use Rattle.meaning.specs.Plain.{if◌then◌else◌, ◌<?◌, ◌≤?◌, ◌=?◌, Out, refused, next, needs, ◌andThen◌}
+use Rattle.meaning.specs.Plain.{when◌then◌else◌, ◌<?◌, ◌≤?◌, ◌=?◌, Out, refused, next, needs, ◌and_then◌}
 use Rattle.meaning.specs.Numbers.{octets, per_entry, words_in, bit_words, connections_in, kind_in_range, empty, lets_in, ranges_hold, cell_start, least_v, most_n, most_v}
 use Rattle.meaning.specs.State.{State, Ends, output_list, lengths_hold, sizes_hold, words_length, with_record, with_links, with_calendar, with_words, with_bits, record_with, with_free, with_output_list, record_in_mode, with_mode}
 use Rattle.meaning.specs.Bits.{is_free_space, spaces_fit, lowest_free, given, unmarked}
@@ -39,7 +39,7 @@ module _ (all base : ℕ) where
       let s1 = with_links (with_output_list s grown.ends) grown.links in
       let s2 : State = with_bits (with_calendar s1 (write_entry s.calendar s.ctl.turn empty_list)) (unmarked s.bits s.ctl.turn) in
       let q' : Quiet all base (with_state w s2) = record { v_is = q.v_is; words = q.words; unsent = q.unsent; number = q.number } in
-      holds_needs (Quiet all base) (ends_fit s.ctl.n entry && ends_fit s.ctl.n (output_list s)) (if is_empty entry then next w else next (with_state w s2))
+      holds_needs (Quiet all base) (ends_fit s.ctl.n entry && ends_fit s.ctl.n (output_list s)) (when is_empty entry then next w else next (with_state w s2))
       (λ _. holds_if (Holds (Quiet all base)) (is_empty entry) (next w) (next (with_state w s2)) (λ _. q) (λ _. q'))
 
   head_taken : (N : ℕ) (links : List ℕ) (e : Ends) → Holds (λ (t : Taken). t.space ≡ e.head) (take_head N links e)
@@ -162,7 +162,7 @@ ranges_some N z e =
     let l = leb-true least_v z (both (1 ≤? N && N ≤? most_n) (least_v ≤? z) (both (1 ≤? N && N ≤? most_n && least_v ≤? z) (z ≤? most_v) e).0).1 in
     omega (arith, l)
 
-choose_work : (P : Work → Type 0) (b : Bool) (x y : Work) → P x → (b ≡ false → P y) → P (if b then x else y)
+choose_work : (P : Work → Type 0) (b : Bool) (x y : Work) → P x → (b ≡ false → P y) → P (when b then x else y)
 choose_work P true x y p f = p
 choose_work P false x y p f = f refl
 

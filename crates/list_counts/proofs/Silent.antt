@@ -5,7 +5,7 @@ use mathlib.Core.Path.{◌≡◌, refl, ap, ◌∙◌}
 use mathlib.Core.Bool.{Bool, true, false, not, ◌&&◌}
 use mathlib.Core.List.{[]}
 use native.Mathlib.Omega.{arith}
-use Rattle.meaning.specs.Plain.{if◌then◌else◌, ◌<?◌, ◌≤?◌, ◌=?◌, Out, refused, next, needs, ◌andThen◌}
+use Rattle.meaning.specs.Plain.{when◌then◌else◌, ◌<?◌, ◌≤?◌, ◌=?◌, Out, refused, next, needs, ◌and_then◌}
 use Rattle.meaning.specs.Numbers.{nothing, lets_in, cell_start, connections_in, unused, kind_in_range}
 use Rattle.meaning.specs.State.{State, output_list, with_links, with_calendar, with_bits, with_free, with_output_list}
 use Rattle.meaning.specs.Bits.{is_free_space, spaces_fit, given, unmarked}
@@ -52,7 +52,7 @@ step4_silent w h =
     let grown = join_tail s.links (output_list s) entry in
     let s1 = with_links (with_output_list s grown.ends) grown.links in
     let s2 : State = with_bits (with_calendar s1 (write_entry s.calendar s.ctl.turn empty_list)) (unmarked s.bits s.ctl.turn) in
-    holds_needs Silent (ends_fit s.ctl.n entry && ends_fit s.ctl.n (output_list s)) (if is_empty entry then next w else next (with_state w s2))
+    holds_needs Silent (ends_fit s.ctl.n entry && ends_fit s.ctl.n (output_list s)) (when is_empty entry then next w else next (with_state w s2))
     (λ _. holds_if (Holds Silent) (is_empty entry) (next w) (next (with_state w s2)) (λ _. h) (λ _. h))
 
 depart_silent : (w : Work) (t : Taken) → Silent w → Holds Silent (depart w t)

@@ -1,8 +1,8 @@
 -- Document 01, "`end accepted excess unknown sent waiting`": the cells that wait are those accepted and not yet sent, and
 -- the connections' words hold them.
 --
---   recordsOf z         == how many connections' records a policer has, V being z
---   sumWaiting k words  == the sum of the waiting words of connections 0 to k-1
+--   records_of z         == how many connections' records a policer has, V being z
+--   sum_waiting k words  == the sum of the waiting words of connections 0 to k-1
 --   Balanced s h        == in state s, after slots with the answers h, the waiting words sum to accepted less sent
 --   end_at s h cs        == the state and the answers where the calls cs end
 use Rattle.std.specs.Prelude.{ℕ, zero, suc, ◌+◌, ◌<◌, ◌≡◌, List, []}
@@ -10,7 +10,7 @@ use Rattle.meaning.specs.declared.Answer.{Answer}
 use Rattle.meaning.specs.Numbers.{connections_in}
 use Rattle.meaning.specs.State.{State}
 use Rattle.meaning.specs.Words.{connection_at}
-use Rattle.meaning.specs.Plain.{if◌then◌else◌}
+use Rattle.meaning.specs.Plain.{when◌then◌else◌}
 use Rattle.list_meaning.specs.Trace.{Calls, finished, stopped, call, calls_of}
 use Rattle.list_meaning.specs.Listing.{many_of, is_accepted, has_sent, ends_run, state_after, answers_after, lent_for}
 
@@ -37,7 +37,7 @@ unfoldable pub end_at : State → List Answer → Calls → Point
 end_at s h finished = record { state = s; answers = h }
 end_at s h (stopped place) = record { state = s; answers = h }
 end_at s h (call c rest) =
-    if ends_run s c then record { state = state_after s c; answers = [] }
+    when ends_run s c then record { state = state_after s c; answers = [] }
     else end_at (state_after s c) (answers_after s h c) rest
 
 -- where the listing of an input ends

@@ -2,19 +2,15 @@
 use Prim.Native.Nat.{ℕ, ◌≤◌}
 use mathlib.Core.Path.{◌≡◌, refl}
 use mathlib.Core.Bool.{Bool, true, false, ◌&&◌}
-use mathlib.Core.Logic.{◌⊎◌, inl, inr}
 use native.Mathlib.Omega.{arith}
 use borrow.Author.Tests.{leb-true}
-use denote.Enum.Declared.{tag_of}
-use Rattle.meaning.specs.Plain.{if◌then◌else◌, ◌≤?◌}
+use Rattle.meaning.specs.Plain.{when◌then◌else◌, ◌≤?◌}
 use Rattle.meaning.specs.Numbers.{ranges_hold, most_n, least_v, most_v}
 use Rattle.trace_record.specs.declared.Event.{Event}
 use Rattle.trace_record.specs.declared.Event.TheVariants.{Setup, Open, Close, Cell, Pause, Sustain, OpenPath, ClosePath}
 use Rattle.trace_record.specs.declared.Head.{Head}
 use Rattle.trace_record.specs.declared.Found.{Found}
 use Rattle.trace_record.specs.declared.Found.TheVariants.{Read, End, Unreadable}
-use Rattle.trace_record.specs.contracts.Event as Event·laws
-use Rattle.trace_record.specs.contracts.Found as Found·laws
 use Rattle.trace_record.specs.Trace.{GM, VO, VX, CA, SL, VS, PO, PX, Stands, event, finish, refusal, record_of, said_of}
 use Rattle.list_whole.specs.declared.Sizes.{Sizes}
 use Rattle.list_whole.specs.Fill.{sizes_at}
@@ -22,25 +18,15 @@ use Rattle.list_whole.specs.Fill.{sizes_at}
 abbrev pub no_sizes : Sizes
 no_sizes = record { n = 0; v = 0 }
 
-pub no_record : (f : Found) → ((tag_of Found·laws.the_type f ≡ 1) ⊎ (tag_of Found·laws.the_type f ≡ 2)) → no_sizes ≡ sizes_at (said_of f)
+pub no_record : (f : Found) → ((e : Event) (next : ℕ) → f ≡ Read e next → ⊥) → no_sizes ≡ sizes_at (said_of f)
 unfolding sizes_at
-no_record (Read e next) (inl h) = let z : ◌≡◌ {A = ℕ} 0 1 = h in cc
-no_record (Read e next) (inr h) = let z : ◌≡◌ {A = ℕ} 0 2 = h in cc
+no_record (Read e next) h = absurd (h e next refl)
 no_record End h = refl
 no_record (Unreadable place) h = refl
 
-pub later_tag : (k : ℕ) → ((k ≡ 1) ⊎ ((k ≡ 2) ⊎ ((k ≡ 3) ⊎ ((k ≡ 4) ⊎ ((k ≡ 5) ⊎ ((k ≡ 6) ⊎ (k ≡ 7))))))) → k ≡ 0 → ⊥
-later_tag k (inl h) z = omega arith
-later_tag k (inr (inl h)) z = omega arith
-later_tag k (inr (inr (inl h))) z = omega arith
-later_tag k (inr (inr (inr (inl h)))) z = omega arith
-later_tag k (inr (inr (inr (inr (inl h))))) z = omega arith
-later_tag k (inr (inr (inr (inr (inr (inl h)))))) z = omega arith
-later_tag k (inr (inr (inr (inr (inr (inr h)))))) z = omega arith
-
-pub no_setup : (e : Event) (next : ℕ) → (tag_of Event·laws.the_type e ≡ 0 → ⊥) → no_sizes ≡ sizes_at (event (record_of e) next)
+pub no_setup : (e : Event) (next : ℕ) → ((n v : ℕ) (head : Head) → e ≡ Setup n v head → ⊥) → no_sizes ≡ sizes_at (event (record_of e) next)
 unfolding sizes_at
-no_setup (Setup n v head) next h = absurd (h refl)
+no_setup (Setup n v head) next h = absurd (h n v head refl)
 no_setup (Open vci m f c) next h = refl
 no_setup (Close vci) next h = refl
 no_setup (Cell start) next h = refl
@@ -76,7 +62,7 @@ Small s = (s.n ≤ most_n) × (s.v ≤ most_v)
 no_small : Small no_sizes
 no_small = (omega arith, omega arith)
 
-setup_small : (N z : ℕ) (b : Bool) → ranges_hold N z ≡ b → Small (if b then record { n = N; v = z } else no_sizes)
+setup_small : (N z : ℕ) (b : Bool) → ranges_hold N z ≡ b → Small (when b then record { n = N; v = z } else no_sizes)
 setup_small N z true e = ranges_most N z e
 setup_small N z false e = no_small
 

@@ -1,4 +1,6 @@
 // A run over a trace: its lines go into a lent buffer, one fill after the other.
+#![tactic(auto)]
+
 ghost use Rattle.std.specs.Prelude.{◌≡◌, Bool, false, ◌+◌, ◌*◌, ◌≤◌, min, length};
 ghost use Rattle.meaning.specs.Numbers.{most_n, most_v};
 ghost use Rattle.trace_record.specs.Trace.{said_of};

@@ -1,7 +1,7 @@
 -- Document 01, "Lines": each line of the listing, over numbers.
 use Rattle.std.specs.Prelude.{ℕ, Bool, not, ◌||◌, List, [], ◌∷◌}
 use Rattle.meaning.specs.declared.Answer.{Answer}
-use Rattle.meaning.specs.Plain.{if◌then◌else◌, ◌=?◌}
+use Rattle.meaning.specs.Plain.{when◌then◌else◌, ◌=?◌}
 use Rattle.meaning.specs.Numbers.{empty, nothing, accepted, excess, unknown, dropped, tagged, lets_in}
 use Rattle.list_lines.specs.Text.{decimal_of, line, shown}
 
@@ -21,11 +21,11 @@ close_line c number = line ((99 ∷ 108 ∷ 111 ∷ 115 ∷ 101 ∷ []) ∷ deci
 -- (.. verdict 5, T ..)"
 unfoldable pub letter : ℕ → ℕ
 letter verdict =
-    if verdict =? accepted then 65
-    else if verdict =? excess then 88
-    else if verdict =? unknown then 85
-    else if verdict =? dropped then 72
-    else if verdict =? tagged then 84
+    when verdict =? accepted then 65
+    else when verdict =? excess then 88
+    else when verdict =? unknown then 85
+    else when verdict =? dropped then 72
+    else when verdict =? tagged then 84
     else 46
 
 -- a VCI is shown: `-` stands for it exactly after `.` and H
@@ -52,7 +52,7 @@ refused_line number = line ((115 ∷ 108 ∷ 111 ∷ 116 ∷ []) ∷ decimal_of 
 -- the line of a slot, given t as the slot left it and its answer
 unfoldable pub slot_line : ℕ → Answer → List ℕ
 slot_line t a =
-    if a.number =? 0 then served_line t a.verdict a.vci a.d a.space a.departing
+    when a.number =? 0 then served_line t a.verdict a.vci a.d a.space a.departing
     else refused_line a.number
 
 -- `stop 10 place`

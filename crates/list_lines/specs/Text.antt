@@ -1,10 +1,10 @@
 -- Document 01, "Trace and listing": words of a line as octets, in ASCII.
 --
---   decimalOf n    == n in decimal, without leading zeros
+--   decimal_of n    == n in decimal, without leading zeros
 --   line words     == the words, one space between, a line feed after
 --   shown b n      == n where the test b holds, otherwise `-`
 use Rattle.std.specs.Prelude.{ℕ, zero, suc, ◌+◌, ◌/◌, ◌%◌, Bool, List, [], ◌∷◌, ◌++◌}
-use Rattle.meaning.specs.Plain.{if◌then◌else◌, ◌<?◌}
+use Rattle.meaning.specs.Plain.{when◌then◌else◌, ◌<?◌}
 
 abbrev pub space : ℕ
 space = 32
@@ -22,7 +22,7 @@ digit n = 48 + n
 -- the decimal digits of n, where k of them are enough
 unfoldable pub decimal : ℕ → ℕ → List ℕ
 decimal zero n = []
-decimal (suc k) n = if n <? 10 then digit n ∷ [] else decimal k (n / 10) ++ (digit (n % 10) ∷ [])
+decimal (suc k) n = when n <? 10 then digit n ∷ [] else decimal k (n / 10) ++ (digit (n % 10) ∷ [])
 
 -- every number of a line has 32 bits or fewer: ten digits are enough
 unfoldable pub decimal_of : ℕ → List ℕ
@@ -34,4 +34,4 @@ line (w ∷ []) = w ++ (line_feed ∷ [])
 line (w ∷ v ∷ ws) = w ++ (space ∷ line (v ∷ ws))
 
 unfoldable pub shown : Bool → ℕ → List ℕ
-shown b n = if b then decimal_of n else (dash ∷ [])
+shown b n = when b then decimal_of n else (dash ∷ [])

@@ -1,4 +1,6 @@
 // The lines of the listing, each put into a lent buffer at a place. Every function answers the place behind its text.
+#![tactic(auto)]
+
 ghost use Rattle.std.specs.Prelude.{◌≡◌, [], ◌∷◌, ◌++◌, ◌+◌, ◌≤◌, ◌<◌, length};
 ghost use Rattle.list_lines.specs.Text.{decimal_of, shown};
 ghost use Rattle.list_lines.specs.Put.{Put, four_of};

@@ -5,7 +5,7 @@ use mathlib.Core.Bool.{Bool, false}
 use mathlib.Core.List.{List, ◌∷◌}
 use native.Mathlib.Omega.{arith}
 use Rattle.meaning.specs.declared.Answer.{Answer}
-use Rattle.meaning.specs.Plain.{if◌then◌else◌}
+use Rattle.meaning.specs.Plain.{when◌then◌else◌}
 use Rattle.meaning.specs.Numbers.{dropped, lets_in}
 use Rattle.meaning.specs.Work.{answer_of}
 use Rattle.list_meaning.specs.Listing.{many_of, is_accepted, is_excess, is_unknown}
@@ -13,7 +13,7 @@ use Rattle.list_meaning.specs.Listing.{many_of, is_accepted, is_excess, is_unkno
 module _ (a : Answer) (h : List Answer) where
   uncounted : (test : Answer → Bool) → test a ≡ false → many_of test (a ∷ h) ≡ many_of test h
   unfolding many_of
-  uncounted test e = ap (λ (b : Bool). many_of test h + (if b then 1 else 0)) e ∙ nothing_more
+  uncounted test e = ap (λ (b : Bool). many_of test h + (when b then 1 else 0)) e ∙ nothing_more
     where
       nothing_more : many_of test h + 0 ≡ many_of test h
       nothing_more = omega arith

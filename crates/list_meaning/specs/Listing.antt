@@ -2,10 +2,10 @@
 --
 --   recount h        == the end line's four counts, modulo 2^32, counted anew over the answers h of the slots
 --   lines_of s h cs   == the listing of the calls cs from state s on, after slots with the answers h (newest first)
---   listingOf input  == the listing of what the program is given
+--   listing_of input  == the listing of what the program is given
 use Rattle.std.specs.Prelude.{ℕ, ◌+◌, ◌-◌, ◌*◌, ◌%◌, Bool, false, not, List, [], ◌∷◌, ◌++◌, replicate}
 use Rattle.meaning.specs.declared.Answer.{Answer}
-use Rattle.meaning.specs.Plain.{if◌then◌else◌, ◌=?◌}
+use Rattle.meaning.specs.Plain.{when◌then◌else◌, ◌=?◌}
 use Rattle.meaning.specs.Numbers.{octets, per_entry, words_in, bit_words, empty, slot_numbers, excess, unknown, lets_in}
 use Rattle.meaning.specs.State.{State, state_of, with_words}
 use Rattle.meaning.specs.Header.{number_in}
@@ -19,7 +19,7 @@ use Rattle.list_meaning.specs.Trace.{Call, set_up, open_connection, close_connec
 -- how many of the answers pass a test
 unfoldable pub many_of : (Answer → Bool) → List Answer → ℕ
 many_of test [] = 0
-many_of test (a ∷ h) = many_of test h + (if test a then 1 else 0)
+many_of test (a ∷ h) = many_of test h + (when test a then 1 else 0)
 
 -- document 02 (iv): "the end line count[s] tagged cells as accepted"
 abbrev pub is_accepted : Answer → Bool
@@ -87,7 +87,7 @@ unfoldable pub lines_of : State → List Answer → Calls → List ℕ
 lines_of s h finished = end_of (recount h)
 lines_of s h (stopped place) = stop_line place ++ end_of (recount h)
 lines_of s h (call c rest) =
-    line_of s c ++ (if ends_run s c then end_of (recount []) else lines_of (state_after s c) (answers_after s h c) rest)
+    line_of s c ++ (when ends_run s c then end_of (recount []) else lines_of (state_after s c) (answers_after s h c) rest)
 
 -- memory as document 01 sizes it for the setup that comes first, with the 32 words of bits and the N arrival slots of document 02
 unfoldable pub lent_for : Calls → State

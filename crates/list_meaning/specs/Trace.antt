@@ -6,7 +6,7 @@
 --   Calls          == the calls of a trace, one after the other, and how it ends: at its end, or where it can't be read
 --   calls_of input  == the calls of what the program is given
 use Rattle.std.specs.Prelude.{ℕ, zero, suc, ◌+◌, Bool, List, [], length, take, drop}
-use Rattle.meaning.specs.Plain.{if◌then◌else◌, ◌<?◌}
+use Rattle.meaning.specs.Plain.{when◌then◌else◌, ◌<?◌}
 use Rattle.meaning.specs.Numbers.{octets}
 use Rattle.meaning.specs.Header.{Name, by_vci, by_vpi}
 use Rattle.meaning.specs.Words.{Second, without_second}
@@ -49,7 +49,7 @@ record_calls trace (PX vpi) rest = call (close_connection (by_vpi vpi)) rest
 -- more says that the input goes on behind the trace
 unfoldable pub calls_at : Bool → List ℕ → (ℕ → Calls) → ℕ → Stands → Calls
 calls_at more trace rest at (event r next) = record_calls trace r (rest next)
-calls_at more trace rest at finish = if more then stopped at else finished
+calls_at more trace rest at finish = when more then stopped at else finished
 calls_at more trace rest at (refusal number place) = stopped place
 
 -- the calls from a place on, of at most k records: k above the octets left is enough (`calls-enough`)

@@ -2,7 +2,7 @@
 use Rattle.std.proofs.Common.{◌≡◌, ℕ, ◌+◌, ◌≤◌, Bool, true, false, not, List, [], ◌++◌, sym, ap, ◌∙◌, append-nil, arith, eq-eqb, ne_eqb}
 use Rattle.meaning.specs.declared.Fresh.{Fresh}
 use Rattle.meaning.specs.declared.Served.{Served}
-use Rattle.meaning.specs.Plain.{if◌then◌else◌, ◌=?◌}
+use Rattle.meaning.specs.Plain.{when◌then◌else◌, ◌=?◌}
 use Rattle.meaning.specs.State.{state_of, with_record, with_words}
 use Rattle.meaning.specs.Header.{Name, number_in}
 use Rattle.meaning.specs.Operators.{second_operator}
@@ -95,7 +95,7 @@ module _ (run : Run) (N z : ℕ) (o : Options) (raw : Bool) (kind next : ℕ) (c
   e = rw (← is-raw, ← is-kind) (given ∙ sym (record_apart N z (asked_of raw kind o.splitvci o.splitpath) (state_of zeros cells links calendar words bits arrived) run.ctl))
 
   setup_text : SetUp → List ℕ
-  setup_text x = setup_line N z x.number ++ (if not (x.number =? 0) then end_of no_tally else [])
+  setup_text x = setup_line N z x.number ++ (when not (x.number =? 0) then end_of no_tally else [])
 
   setup_world : SetUp → World
   setup_world x = record { state = x.state; at = next; left = 0; done = not (x.number =? 0); tally = no_tally }
@@ -111,7 +111,7 @@ module _ (run : Run) (N z : ℕ) (o : Options) (raw : Bool) (kind next : ℕ) (c
         world =
             ap (λ (b : Bool). world_of (onward r.ctl next 0 b no_tally) cells' links' calendar' words' bits' arrived') (sym t)
             ∙ ap setup_world e;
-        put = put_is (sym (ap setup_text e) ∙ ap (λ (b : Bool). setup_line N z r.number ++ (if b then end_of no_tally else [])) t ∙ append-nil _) p;
+        put = put_is (sym (ap setup_text e) ∙ ap (λ (b : Bool). setup_line N z r.number ++ (when b then end_of no_tally else [])) t ∙ append-nil _) p;
         few = omega arith;
       }
 
@@ -127,6 +127,6 @@ module _ (run : Run) (N z : ℕ) (o : Options) (raw : Bool) (kind next : ℕ) (c
         world =
             ap (λ (b : Bool). world_of (onward r.ctl next 0 b no_tally) cells' links' calendar' words' bits' arrived') (sym t)
             ∙ ap setup_world e;
-        put = put_is (sym (ap setup_text e) ∙ ap (λ (b : Bool). setup_line N z r.number ++ (if b then end_of no_tally else [])) t) (put_then p p2);
+        put = put_is (sym (ap setup_text e) ∙ ap (λ (b : Bool). setup_line N z r.number ++ (when b then end_of no_tally else [])) t) (put_then p p2);
         few = omega arith;
       }

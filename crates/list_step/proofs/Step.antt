@@ -1,12 +1,10 @@
 -- The cases of a step: by what stands at the run's place.
 use Rattle.std.proofs.Common.{◌≡◌, ℕ, ◌+◌, ◌-◌, ◌≤◌, Bool, true, false, ◌⊎◌, List, [], length, take, drop, sym, refl, ap, ◌∙◌, subst, inl, inr, arith}
-use denote.Enum.Declared.{tag_of}
 use Rattle.meaning.specs.Numbers.{octets}
 use Rattle.list_lines.specs.Lines.{stop_line}
 use Rattle.trace_record.specs.declared.Event.{Event}
 use Rattle.trace_record.specs.declared.Event.TheVariants.{Cell}
 use Rattle.trace_record.specs.declared.Found.{Found}
-use Rattle.trace_record.specs.contracts.Found.{the_type}
 use Rattle.trace_record.specs.declared.Found.TheVariants.{Read, End, Unreadable}
 use Rattle.trace_record.specs.Trace.{CA, SL, finish, refusal, record_of, said_of}
 use Rattle.list_lines.proofs.Puts.{put_is, put_none, put_once}
@@ -16,13 +14,10 @@ use Rattle.list_whole.specs.Run.{World, Step, onward, world_of, called, paused, 
 use Rattle.list_whole.specs.Fill.{room, Did, CellWithin}
 
 -- what is neither a record nor unreadable is the end
-pub end_said : (f : Found) → ((tag_of the_type f ≡ 1) ⊎ (tag_of the_type f ≡ 2)) → ((tag_of the_type f ≡ 0) ⊎ (tag_of the_type f ≡ 1))
-    → finish ≡ said_of f
-end_said (Read e next) (inl h) k = let z : ◌≡◌ {A = ℕ} 0 1 = h in cc
-end_said (Read e next) (inr h) k = let z : ◌≡◌ {A = ℕ} 0 2 = h in cc
+pub end_said : (f : Found) → ((e : Event) (next : ℕ) → f ≡ Read e next → ⊥) → ((place : ℕ) → f ≡ Unreadable place → ⊥) → finish ≡ said_of f
+end_said (Read e next) h k = absurd (h e next refl)
 end_said End h k = refl
-end_said (Unreadable place) h (inl k) = let z : ◌≡◌ {A = ℕ} 2 0 = k in cc
-end_said (Unreadable place) h (inr k) = let z : ◌≡◌ {A = ℕ} 2 1 = k in cc
+end_said (Unreadable place) h k = absurd (k place refl)
 
 -- the end, where the input goes on and where it doesn't; a refusal
 pub more_step : (more : Bool) (trace : List ℕ) (w : World) → more ≡ true → ended w (stop_line w.at) ≡ stands_step more trace w finish

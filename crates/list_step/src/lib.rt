@@ -1,4 +1,6 @@
 // One step of a run with what it writes: a slot, or one record of the trace, or the end.
+#![tactic(auto)]
+
 ghost use Rattle.std.specs.Prelude.{◌≡◌, ◌+◌, ◌≤◌, true, false, [], length};
 ghost use Rattle.list_lines.specs.Put.{Put};
 ghost use Rattle.list_lines.specs.Lines.{stop_line};

@@ -5,7 +5,7 @@ use mathlib.Core.Bool.{Bool}
 use mathlib.Core.List.{List, [], ◌∷◌}
 use native.Mathlib.Nat.{mod-add-mod}
 use Rattle.meaning.specs.declared.Answer.{Answer}
-use Rattle.meaning.specs.Plain.{if◌then◌else◌}
+use Rattle.meaning.specs.Plain.{when◌then◌else◌}
 use Rattle.meaning.specs.Numbers.{slot_numbers}
 use Rattle.meaning.specs.State.{State}
 use Rattle.meaning.specs.Slot.{slot}
@@ -17,7 +17,7 @@ use Rattle.list_whole.specs.Run.{counted_if, counted, no_tally, tally_after}
 counted_many : (test : Answer → Bool) (a : Answer) (h : List Answer)
     → counted_if (test a) (many_of test h % slot_numbers) ≡ many_of test (a ∷ h) % slot_numbers
 unfolding counted_if many_of
-counted_many test a h = mod-add-mod (many_of test h) slot_numbers (if test a then 1 else 0)
+counted_many test a h = mod-add-mod (many_of test h) slot_numbers (when test a then 1 else 0)
 
 counted_recount : (a : Answer) (h : List Answer) → counted (recount h) a ≡ recount (a ∷ h)
 unfolding counted recount

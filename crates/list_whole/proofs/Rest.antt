@@ -8,7 +8,7 @@ use native.Mathlib.Omega.{arith}
 use lib.Dec.{ltb}
 use lib.ListN.{length}
 use Rattle.meaning.specs.declared.Answer.{Answer}
-use Rattle.meaning.specs.Plain.{if◌then◌else◌}
+use Rattle.meaning.specs.Plain.{when◌then◌else◌}
 use Rattle.meaning.specs.Header.{by_vci, by_vpi}
 use Rattle.meaning.specs.Words.{without_second}
 use Rattle.list_lines.specs.Lines.{stop_line}
@@ -24,7 +24,7 @@ use Rattle.list_whole.proofs.Recount.{recount_none, tally_recount}
 
 -- the lines of the calls from where a run stands, unless it is done
 abbrev rest_of : World → List Answer → Calls → List ℕ
-rest_of w h cs = if w.done then [] else lines_of w.state h cs
+rest_of w h cs = when w.done then [] else lines_of w.state h cs
 
 -- t is what the run from w still writes: the calls of the pause and of the records that follow, after slots with the
 -- answers h
@@ -43,7 +43,7 @@ pub record Left (more : Bool) (trace : List ℕ) (s : Step) (t : List ℕ) : Typ
 
 -- ---- a call
 
-split_if : (b : Bool) (l e m : List ℕ) → l ++ (if b then e else m) ≡ (l ++ (if b then e else [])) ++ (if b then [] else m)
+split_if : (b : Bool) (l e m : List ℕ) → l ++ (when b then e else m) ≡ (l ++ (when b then e else [])) ++ (when b then [] else m)
 split_if true l e m = sym (append-nil (l ++ e))
 split_if false l e m = ap (λ (x : List ℕ). x ++ m) (sym (append-nil l))
 
@@ -52,7 +52,7 @@ lines_called : (w : World) (h : List Answer) (c : Call) (at left : ℕ) (cs : Ca
     ≡ (called w c at left).text ++ rest_of (called w c at left).world (answers_after w.state h c) cs
 unfolding lines_of called
 lines_called w h c at left cs =
-    ap (λ (x : Tally). line_of w.state c ++ (if ends_run w.state c then end_of x else lines_of (state_after w.state c) (answers_after w.state h c) cs)) (sym recount_none)
+    ap (λ (x : Tally). line_of w.state c ++ (when ends_run w.state c then end_of x else lines_of (state_after w.state c) (answers_after w.state h c) cs)) (sym recount_none)
     ∙ split_if (ends_run w.state c) (line_of w.state c) (end_of no_tally) (lines_of (state_after w.state c) (answers_after w.state h c) cs)
 
 module _ (more : Bool) (trace : List ℕ) where
@@ -110,7 +110,7 @@ module _ (more : Bool) (trace : List ℕ) where
         record_left r next k (omega (arith, i.0, i.1))
     stands_left finish f k n = finish_left more
       where
-        finish_left : (b : Bool) → Left more trace (ended w (if b then stop_line w.at else [])) (lines_of w.state h (if b then stopped w.at else finished))
+        finish_left : (b : Bool) → Left more trace (ended w (when b then stop_line w.at else [])) (lines_of w.state h (when b then stopped w.at else finished))
         finish_left true = ended_left w h (suc k) (stop_line w.at) n counts
         finish_left false = ended_left w h (suc k) [] n counts
     stands_left (refusal number place) f k n = ended_left w h (suc k) (stop_line place) n counts
@@ -122,7 +122,7 @@ module _ (more : Bool) (trace : List ℕ) where
   idle_left w t d l r =
       let e : w.left ≡ suc (w.left - 1) = omega arith in
       let is : t ≡ lines_of w.state r.answers (pauses (suc (w.left - 1)) (calls_from r.fuel more trace w.at)) =
-      r.is ∙ ap (λ (b : Bool). if b then [] else lines_of w.state r.answers (pauses w.left (calls_from r.fuel more trace w.at))) d
+      r.is ∙ ap (λ (b : Bool). when b then [] else lines_of w.state r.answers (pauses w.left (calls_from r.fuel more trace w.at))) d
       ∙ ap (λ (n : ℕ). lines_of w.state r.answers (pauses n (calls_from r.fuel more trace w.at))) e in
       rw is (called_left w r.answers (serve []) w.at (w.left - 1) r.fuel r.enough r.counts)
 
@@ -136,7 +136,7 @@ module _ (more : Bool) (trace : List ℕ) where
       go zero n e = absurd (omega arith)
       go (suc k) n e =
           let is : t ≡ lines_of w.state r.answers (calls_at more trace (calls_from k more trace) w.at (stands_at trace w.at)) =
-          e ∙ ap (λ (b : Bool). if b then [] else lines_of w.state r.answers (pauses w.left (calls_from (suc k) more trace w.at))) d
+          e ∙ ap (λ (b : Bool). when b then [] else lines_of w.state r.answers (pauses w.left (calls_from (suc k) more trace w.at))) d
           ∙ ap (λ (n : ℕ). lines_of w.state r.answers (pauses n (calls_from (suc k) more trace w.at))) l in
           rw is (stands_left w r.answers d r.counts (stands_at trace w.at) (stands_fits trace w.at) k n)
 
@@ -168,4 +168,4 @@ module _ (more : Bool) (trace : List ℕ) where
       }
 
   pub done_left : (w : World) (t : List ℕ) → w.done ≡ true → Rest more trace w t → t ≡ []
-  done_left w t d r = r.is ∙ ap (λ (b : Bool). if b then [] else lines_of w.state r.answers (pauses w.left (calls_from r.fuel more trace w.at))) d
+  done_left w t d r = r.is ∙ ap (λ (b : Bool). when b then [] else lines_of w.state r.answers (pauses w.left (calls_from r.fuel more trace w.at))) d

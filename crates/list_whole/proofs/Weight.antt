@@ -7,7 +7,7 @@ use mathlib.Core.List.{List, []}
 use native.Mathlib.Omega.{arith}
 use lib.Dec.{ltb}
 use lib.ListN.{length}
-use Rattle.meaning.specs.Plain.{if◌then◌else◌}
+use Rattle.meaning.specs.Plain.{when◌then◌else◌}
 use Rattle.trace_record.specs.Trace.{TraceRecord, GM, VO, VX, CA, SL, VS, PO, PX, Stands, event, finish, refusal, stands_at}
 use Rattle.trace_record.specs.Fits.{Fits, stands_fits}
 use Rattle.list_meaning.specs.Trace.{serve}
@@ -19,7 +19,7 @@ use Rattle.list_whole.proofs.Ran.{sided, step_idle, step_read}
 -- what is left to do, of a trace of so many octets: a record leads on by at least an octet, and a pause has fewer than
 -- 65,536 slots
 unfoldable pub weight : ℕ → World → ℕ
-weight long w = if w.done then 0 else 1 + w.left + (long - w.at) * 65_536
+weight long w = when w.done then 0 else 1 + w.left + (long - w.at) * 65_536
 
 abbrev pub OnwardOn : ℕ → World → World → Type 0
 OnwardOn long w w' = ((w.at < w'.at) × (w'.at ≤ long)) ⊎ ((w'.at ≡ w.at) × (w'.left < w.left))

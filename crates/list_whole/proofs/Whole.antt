@@ -8,7 +8,7 @@ use native.Mathlib.Omega.{arith}
 use borrow.Author.Tests.{eq-eqb}
 use lib.Dec.{ltb}
 use lib.ListN.{length, take, replicate, length-take, length-replicate}
-use Rattle.meaning.specs.Plain.{if◌then◌else◌, ◌=?◌}
+use Rattle.meaning.specs.Plain.{when◌then◌else◌, ◌=?◌}
 use Rattle.meaning.specs.Numbers.{ranges_hold, kind_in_range, octets, per_entry, words_in, bit_words, splits_hold}
 use Rattle.meaning.specs.State.{State, state_of, lengths_hold, words_length, with_record}
 use Rattle.meaning.specs.Calls.{Kind, UNI, NNI, kind_number, kind_of, Options, SetUp, set_up_of, zeros, setup, fresh_state, asked_for}
@@ -65,7 +65,7 @@ setup_ranges N z o lent r = simp r
 -- the lines of a setup and of what follows, by what setup gives back
 setup_lines : (N z : ℕ) → Calls → SetUp → List ℕ
 setup_lines N z rest x =
-    setup_line N z x.number ++ (if not (x.number =? 0) then end_of (recount []) else lines_of x.state [] rest)
+    setup_line N z x.number ++ (when not (x.number =? 0) then end_of (recount []) else lines_of x.state [] rest)
 
 lines_setup : (s : State) (N z : ℕ) (o : Options) (rest : Calls)
     → lines_of s [] (call (set_up N z o) rest) ≡ setup_lines N z rest (setup_as N z o s)
@@ -79,7 +79,7 @@ refused_lines N z rest a b = refl
 module _ (cells links calendar words bits arrived : List ℕ) where
   setup_lines_lem : (N z : ℕ) (o : Options) (split : ranges_hold N z ≡ true → splits_hold z o.splitvci o.splitpath ≡ true) (rest : Calls) (b : Bool)
       → ranges_hold N z ≡ b
-      → LentFor (if b then record { n = N; v = z } else record { n = 0; v = 0 }) (world_of start_run cells links calendar words bits arrived)
+      → LentFor (when b then record { n = N; v = z } else record { n = 0; v = 0 }) (world_of start_run cells links calendar words bits arrived)
       → lines_of (state_of zeros cells links calendar words bits arrived) [] (call (set_up N z o) rest) ≡ lines_of (lent_for (call (set_up N z o) rest)) [] (call (set_up N z o) rest)
   unfolding lent_for
   setup_lines_lem N z o split rest true r s =
@@ -164,7 +164,7 @@ pub record Begun (input t u : List ℕ) (w : World) : Type 0 where
   pub cut : t ≡ u ++ later
   pub rest : Rest (goes_further input) (take limit input) w later
 
-fills_left : (input : List ℕ) {k : ℕ} {out out' u : List ℕ} {w w' : World} (t : List ℕ)
+fills_left : (input : List ℕ) {w : World} {out : List ℕ} {k : ℕ} {out' u : List ℕ} {w' : World} (t : List ℕ)
     → Rest (goes_further input) (take limit input) w t → Fills input w out k u w' out' → Begun input t u w'
 fills_left input t r no_fill = record { later = t; cut = refl; rest = r }
 fills_left input t r (fill_more {t = u} {out'' = out''} {w' = w'} used fs going f) =

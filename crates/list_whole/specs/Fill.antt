@@ -2,7 +2,7 @@
 -- no more.
 use Rattle.std.specs.Prelude.{ℕ, suc, ◌+◌, ◌*◌, ◌<◌, ◌≤◌, ◌≡◌, Bool, true, false, List, [], ◌++◌, ◌⊎◌, length, take}
 use Rattle.list_lines.specs.Put.{Put}
-use Rattle.meaning.specs.Plain.{if◌then◌else◌}
+use Rattle.meaning.specs.Plain.{when◌then◌else◌}
 use Rattle.meaning.specs.Numbers.{octets, per_entry, words_in, bit_words, ranges_hold}
 use Rattle.meaning.specs.Calls.{zeros}
 use Rattle.trace_record.specs.Trace.{TraceRecord, GM, VO, VX, CA, SL, VS, PO, PX, Stands, event, finish, refusal, stands_at}
@@ -71,7 +71,7 @@ start_run = record { ctl = zeros; at = 0; left = 0; done = false; tally = no_tal
 
 -- N and V for which memory is to be lent: those of the first record, where they are in their ranges
 unfoldable pub sizes_at : Stands → Sizes
-sizes_at (event (GM N z head) next) = if ranges_hold N z then record { n = N; v = z } else record { n = 0; v = 0 }
+sizes_at (event (GM N z head) next) = when ranges_hold N z then record { n = N; v = z } else record { n = 0; v = 0 }
 sizes_at (event (VO vci m F C) next) = record { n = 0; v = 0 }
 sizes_at (event (VX vci) next) = record { n = 0; v = 0 }
 sizes_at (event (CA start) next) = record { n = 0; v = 0 }

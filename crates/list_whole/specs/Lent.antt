@@ -1,7 +1,7 @@
 -- A run and the memories lent to it as one world, as contracts see them: as lent, before a call, and after it. One more lent
 -- memory changes these abbreviations and the parameter lists, and no other line of a contract.
 use Rattle.std.specs.Prelude.{ℕ, Bool, List}
-use Rattle.std.specs.Borrow.{Bor}
+use Rattle.std.specs.Borrow.{Bor, MutBor}
 use denote.Triple.Both.{Both}
 use Rattle.list_whole.specs.declared.Run.{Run}
 use Rattle.list_whole.specs.declared.Filled.{Filled}
@@ -14,50 +14,57 @@ Slice = Bor (List ℕ)
 abbrev pub Lent : Type 0
 Lent = Both Slice Slice
 
-abbrev pub world_here : Run → (cells links calendar words bits arrived : Slice) → World
+-- the same of a memory that the call may write
+abbrev pub SliceMut : Type 0
+SliceMut = MutBor (List ℕ)
+
+abbrev pub LentMut : Type 0
+LentMut = Both SliceMut SliceMut
+
+abbrev pub world_here : Run → (cells links calendar words bits arrived : SliceMut) → World
 world_here run cells links calendar words bits arrived = world_of run cells.now links.now calendar.now words.now bits.now arrived.now
 
-abbrev pub world_before : Run → (cells links calendar words bits arrived : Lent) → World
+abbrev pub world_before : Run → (cells links calendar words bits arrived : LentMut) → World
 world_before run cells links calendar words bits arrived =
     world_of run cells.entry.now links.entry.now calendar.entry.now words.entry.now bits.entry.now arrived.entry.now
 
-abbrev pub world_after : Run → (cells links calendar words bits arrived : Lent) → World
+abbrev pub world_after : Run → (cells links calendar words bits arrived : LentMut) → World
 world_after run cells links calendar words bits arrived =
     world_of run cells.exit.now links.exit.now calendar.exit.now words.exit.now bits.exit.now arrived.exit.now
 
 -- What a call that answers r promises of a step: with all memories lent; with the words alone, whatever the others hold; with
 -- none.
-abbrev pub DidLent : Step → (most : ℕ) → (cells links calendar words bits arrived out : Lent) → (used : ℕ) → Filled → Type 0
+abbrev pub DidLent : Step → (most : ℕ) → (cells links calendar words bits arrived out : LentMut) → (used : ℕ) → Filled → Type 0
 DidLent s most cells links calendar words bits arrived out used r =
     Did s most out.entry.now used (world_after r.run cells links calendar words bits arrived) out.exit.now r.used
 
-abbrev pub DidWords : (World → Step) → (most : ℕ) → Run → (words out : Lent) → (used : ℕ) → Filled → Type 0
+abbrev pub DidWords : (World → Step) → (most : ℕ) → Run → (words out : LentMut) → (used : ℕ) → Filled → Type 0
 DidWords s most run words out used r =
     (cells links calendar bits arrived : List ℕ) → Did (s (world_of run cells links calendar words.entry.now bits arrived)) most out.entry.now used
     (world_of r.run cells links calendar words.exit.now bits arrived) out.exit.now r.used
 
-abbrev pub DidAlone : (World → Step) → (most : ℕ) → Run → (out : Lent) → (used : ℕ) → Filled → Type 0
+abbrev pub DidAlone : (World → Step) → (most : ℕ) → Run → (out : LentMut) → (used : ℕ) → Filled → Type 0
 DidAlone s most run out used r =
     (cells links calendar words bits arrived : List ℕ) → Did (s (world_of run cells links calendar words bits arrived)) most out.entry.now used
     (world_of r.run cells links calendar words bits arrived) out.exit.now r.used
 
 -- the same of k steps, of some steps, and of as many as there is room for
-abbrev pub RanLent : Bool → (trace : List ℕ) → ℕ → Run → (cells links calendar words bits arrived out : Lent) → (used : ℕ) → Filled → Type 0
+abbrev pub RanLent : Bool → (trace : List ℕ) → ℕ → Run → (cells links calendar words bits arrived out : LentMut) → (used : ℕ) → Filled → Type 0
 RanLent more trace k run cells links calendar words bits arrived out used r =
     Ran more trace k (world_before run cells links calendar words bits arrived) out.entry.now used
     (world_after r.run cells links calendar words bits arrived) out.exit.now r.used
 
-abbrev pub AdvancedLent : Bool → (trace : List ℕ) → Run → (cells links calendar words bits arrived out : Lent) → (used : ℕ) → Filled → Type 0
+abbrev pub AdvancedLent : Bool → (trace : List ℕ) → Run → (cells links calendar words bits arrived out : LentMut) → (used : ℕ) → Filled → Type 0
 AdvancedLent more trace run cells links calendar words bits arrived out used r =
     Advanced more trace (world_before run cells links calendar words bits arrived) out.entry.now used
     (world_after r.run cells links calendar words bits arrived) out.exit.now r.used
 
-abbrev pub FillLent : Bool → (trace : List ℕ) → Run → (cells links calendar words bits arrived out : Lent) → Filled → Type 0
+abbrev pub FillLent : Bool → (trace : List ℕ) → Run → (cells links calendar words bits arrived out : LentMut) → Filled → Type 0
 FillLent more trace run cells links calendar words bits arrived out r =
     FillOf more trace (world_before run cells links calendar words bits arrived) out.entry.now
     (world_after r.run cells links calendar words bits arrived) out.exit.now r.used
 
-abbrev pub FilledLent : (input : Lent) → Run → (cells links calendar words bits arrived out : Lent) → Filled → Type 0
+abbrev pub FilledLent : (input : Lent) → Run → (cells links calendar words bits arrived out : LentMut) → Filled → Type 0
 FilledLent input run cells links calendar words bits arrived out r =
     FillPromise input.entry.now (world_before run cells links calendar words bits arrived) out.entry.now
     (world_after r.run cells links calendar words bits arrived) out.exit.now r.used

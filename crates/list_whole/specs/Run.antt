@@ -7,7 +7,7 @@
 use Rattle.std.specs.Prelude.{ℕ, zero, suc, ◌+◌, ◌-◌, ◌%◌, Bool, true, List, [], ◌++◌}
 use Rattle.meaning.specs.declared.Record.{Record}
 use Rattle.meaning.specs.declared.Answer.{Answer}
-use Rattle.meaning.specs.Plain.{if◌then◌else◌, ◌<?◌}
+use Rattle.meaning.specs.Plain.{when◌then◌else◌, ◌<?◌}
 use Rattle.meaning.specs.Numbers.{slot_numbers}
 use Rattle.meaning.specs.State.{State, state_of}
 use Rattle.meaning.specs.Header.{by_vci, by_vpi}
@@ -43,7 +43,7 @@ world_of r cells links calendar words bits arrived =
 
 -- "each modulo 2^32"
 unfoldable pub counted_if : Bool → ℕ → ℕ
-counted_if b n = (n + (if b then 1 else 0)) % slot_numbers
+counted_if b n = (n + (when b then 1 else 0)) % slot_numbers
 
 unfoldable pub counted : Tally → Answer → Tally
 counted t a =
@@ -71,7 +71,7 @@ pub record Step : Type 0 where
 unfoldable pub called : World → Call → (at left : ℕ) → Step
 called w c at left =
     record {
-      text = line_of w.state c ++ (if ends_run w.state c then end_of no_tally else []);
+      text = line_of w.state c ++ (when ends_run w.state c then end_of no_tally else []);
       world = record {
         state = state_after w.state c;
         at = at;
@@ -111,7 +111,7 @@ record_step trace w (PX vpi) next = called w (close_connection (by_vpi vpi)) nex
 -- line at that place where the input goes on
 unfoldable pub stands_step : Bool → List ℕ → World → Stands → Step
 stands_step more trace w (event r next) = record_step trace w r next
-stands_step more trace w finish = ended w (if more then stop_line w.at else [])
+stands_step more trace w finish = ended w (when more then stop_line w.at else [])
 stands_step more trace w (refusal number place) = ended w (stop_line place)
 
 -- the step of a run that has no slot of a pause left
@@ -120,8 +120,8 @@ read_step more trace w = stands_step more trace w (stands_at trace w.at)
 
 unfoldable pub step : Bool → List ℕ → World → Step
 step more trace w =
-    if w.done then record { text = []; world = w }
-    else if 0 <? w.left then called w (serve []) w.at (w.left - 1)
+    when w.done then record { text = []; world = w }
+    else when 0 <? w.left then called w (serve []) w.at (w.left - 1)
     else read_step more trace w
 
 unfoldable pub after : Bool → List ℕ → ℕ → World → World

@@ -1,11 +1,13 @@
 // How a run goes through a trace stands in specs/, and that its steps write the listing in proofs/; these structs pass by
 // value.
+#![tactic(auto)]
+
 use list_meaning::Tally;
 use meaning::Record;
 
 // Where a run stands: the control record, the place of the next record, the slots left of a pause, whether the end line
 // is written, and the counts.
-#[derive(Drop)]
+#[derive(Clone, Copy)]
 pub struct Run {
     pub ctl: Record,
     pub at: u32,
@@ -15,14 +17,14 @@ pub struct Run {
 }
 
 // What a fill leaves: the run, and how many octets of the buffer are used.
-#[derive(Drop)]
+#[derive(Clone, Copy)]
 pub struct Filled {
     pub run: Run,
     pub used: usize,
 }
 
 // N and V for which memory is to be lent.
-#[derive(Drop)]
+#[derive(Clone, Copy)]
 pub struct Sizes {
     pub n: u16,
     pub v: u16,

@@ -7,7 +7,7 @@ use lib.ListN.{length}
 use lib.Seq.{append_snoc}
 use borrow.Author.Tests.{ltb-true, lt-ltb, le-ltb, le-leb, lt-leb}
 use native.Mathlib.Omega.{arith}
-use Rattle.meaning.specs.Plain.{if◌then◌else◌, ◌<?◌, ◌≤?◌}
+use Rattle.meaning.specs.Plain.{when◌then◌else◌, ◌<?◌, ◌≤?◌}
 use Rattle.list_lines.specs.Put.{Put}
 use Rattle.list_lines.proofs.Puts.{put_is, put_then, put_none}
 use Rattle.mend_step.specs.declared.Stride.{Stride}
@@ -46,7 +46,7 @@ end_one p q st xs h = go st.kept
     same : q + (st.next - q) ≡ st.next
     same = omega (arith, h)
 
-    go : (b : Bool) → end_of p ((if b then keeps q (st.next - q) else skips q (st.next - q)) ∷ xs) ≡ end_of st.next xs
+    go : (b : Bool) → end_of p ((when b then keeps q (st.next - q) else skips q (st.next - q)) ∷ xs) ≡ end_of st.next xs
     go true = ap (λ (k : ℕ). end_of k xs) same
     go false = ap (λ (k : ℕ). end_of k xs) same
 
@@ -65,7 +65,7 @@ module _ (s : List ℕ) (n : ℕ) where
   none_from : (k p a b : ℕ) → p <? n && (record_room ≤? a && line_room ≤? b) ≡ false → fill_from s n k p a b ≡ []
   unfolding fill_from
   none_from zero p a b h = refl
-  none_from (suc k) p a b h = ap (λ (x : Bool). if x then piece_of p (step_at s n p) ∷ later k p a b else []) h
+  none_from (suc k) p a b h = ap (λ (x : Bool). when x then piece_of p (step_at s n p) ∷ later k p a b else []) h
 
   pub fill_fuel : (k j p a b : ℕ) → n - p ≤ k → n - p ≤ j → fill_from s n k p a b ≡ fill_from s n j p a b
   unfolding fill_from
@@ -77,7 +77,7 @@ module _ (s : List ℕ) (n : ℕ) where
     where
       go : (t : Bool) → p <? n && (record_room ≤? a && line_room ≤? b) ≡ t
           → ((q x y : ℕ) → n - q ≤ k → n - q ≤ j → fill_from s n k q x y ≡ fill_from s n j q x y)
-          → (if t then piece_of p (step_at s n p) ∷ later k p a b else []) ≡ (if t then piece_of p (step_at s n p) ∷ later j p a b else [])
+          → (when t then piece_of p (step_at s n p) ∷ later k p a b else []) ≡ (when t then piece_of p (step_at s n p) ∷ later j p a b else [])
       go true e more =
           let i = ltb-true p n (and_first (p <? n) (record_room ≤? a && line_room ≤? b) e) in
           let o = step_on s n p i in
@@ -108,7 +108,7 @@ module _ (s : List ℕ) (n : ℕ) where
       let o = step_on s n p h in
       let t : p <? n && (record_room ≤? a && line_room ≤? b) ≡ true = both (lt-ltb p n h) (both (le-leb record_room a l) (le-leb line_room b m)) in
       ap (λ (k : ℕ). fill_from s n k p a b) z
-      ∙ ap (λ (x : Bool). if x then piece_of p (step_at s n p) ∷ later (n - suc p) p a b else []) t
+      ∙ ap (λ (x : Bool). when x then piece_of p (step_at s n p) ∷ later (n - suc p) p a b else []) t
       ∙ ap (λ (xs : List Piece). piece_of p (step_at s n p) ∷ xs)
       (fill_fuel (n - suc p) (n - (step_at s n p).next) (step_at s n p).next (a - length (written_of s (piece_of p (step_at s n p) ∷ [])))
       (b - length (lines_of (piece_of p (step_at s n p) ∷ []))) (omega (arith, o)) (omega arith))

@@ -6,14 +6,13 @@ use mathlib.Core.List.{List, [], ◌∷◌, ◌++◌, append-nil, append_assoc}
 use lib.ListN.{length, take, drop}
 use borrow.Author.Tests.{eq-eqb, ne_eqb}
 use native.Mathlib.Omega.{arith}
-use denote.Enum.Declared.{tag_of}
-use Rattle.meaning.specs.Plain.{if◌then◌else◌, ◌=?◌}
+use Rattle.meaning.specs.Plain.{when◌then◌else◌, ◌=?◌}
 use Rattle.list_lines.specs.Text.{line}
 use Rattle.list_lines.proofs.Puts.{put_is, put_none}
 use Rattle.trace_record.specs.Trace.{stands_at, said_of}
+use Rattle.trace_record.specs.declared.Event.{Event}
 use Rattle.trace_record.specs.declared.Found.{Found}
-use Rattle.trace_record.specs.declared.Found.TheVariants.{Read, End, Unreadable}
-use Rattle.trace_record.specs.contracts.Found.{the_type}
+use Rattle.trace_record.specs.declared.Found.TheVariants.{Read}
 use Rattle.mend_step.specs.declared.Stride.{Stride}
 use Rattle.mend_step.specs.Salvage.{reading_of, reads_to, step_at, Piece, keeps, skips, piece_of, written_of}
 use Rattle.mend_step.proofs.Walk.{step_on}
@@ -23,10 +22,10 @@ use Rattle.mend_fill.specs.Fill.{fill_of, Took, begun, refuses, FillPromise}
 
 module _ (p : ℕ) (st : Stride) where
   kept_is : st.kept ≡ true → piece_of p st ≡ keeps p (st.next - p)
-  kept_is h = ap (λ (b : Bool). if b then keeps p (st.next - p) else skips p (st.next - p)) h
+  kept_is h = ap (λ (b : Bool). when b then keeps p (st.next - p) else skips p (st.next - p)) h
 
   skip_is : st.kept ≡ false → piece_of p st ≡ skips p (st.next - p)
-  skip_is h = ap (λ (b : Bool). if b then keeps p (st.next - p) else skips p (st.next - p)) h
+  skip_is h = ap (λ (b : Bool). when b then keeps p (st.next - p) else skips p (st.next - p)) h
 
   pub kept_writes : (s : List ℕ) → st.kept ≡ true → written_of s (piece_of p st ∷ []) ≡ take (st.next - p) (drop p s)
   kept_writes s h = ap (λ (x : Piece). written_of s (x ∷ [])) (kept_is h) ∙ append-nil (take (st.next - p) (drop p s))
@@ -49,14 +48,9 @@ line_of first long = sym (append_assoc (numeral first) (32 ∷ []) (numeral long
 
 -- ---- 17
 
-pub read_begun : (s : List ℕ) (q : ℕ) (f : Found) → said_of f ≡ stands_at s q → tag_of the_type f ≡ 0 → true ≡ begun (reads_to s q)
+pub read_begun : (s : List ℕ) (q : ℕ) (f : Found) (e : Event) (next : ℕ) → said_of f ≡ stands_at s q → f ≡ Read e next → true ≡ begun (reads_to s q)
 unfolding reads_to
-read_begun s q f h t = go f t ∙ ap (λ x. begun (reading_of x)) h
-  where
-    go : (g : Found) → tag_of the_type g ≡ 0 → true ≡ begun (reading_of (said_of g))
-    go (Read e next) t = refl
-    go End t = absurd (omega arith)
-    go (Unreadable place) t = absurd (omega arith)
+read_begun s q f e next h g = ap (λ (x : Found). begun (reading_of (said_of x))) (sym g) ∙ ap (λ x. begun (reading_of x)) h
 
 module _ (s : List ℕ) (p : ℕ) where
   pub refuses_later : (p ≡ 0 → ⊥) → false ≡ refuses s p
@@ -70,9 +64,9 @@ module _ (s : List ℕ) (p : ℕ) where
   module _ (n : ℕ) (out text : List ℕ) where
     pub fill_refused : refuses s p ≡ true → FillPromise s n p out text (record { number = 17; at = p; written = 0; listed = 0 }) out text
     fill_refused h =
-        let e = ap (λ (b : Bool). if b then [] else fill_of s n p (length out) (length text)) h in
+        let e = ap (λ (b : Bool). when b then [] else fill_of s n p (length out) (length text)) h in
         record {
-          number = sym (ap (λ (b : Bool). if b then 17 else 0) h);
+          number = sym (ap (λ (b : Bool). when b then 17 else 0) h);
           took = subst (λ (ps : List Piece). Took s p ps out text (record { number = 17; at = p; written = 0; listed = 0 }) out text) (sym e)
               (record { at = refl; written = put_none out 0; listed = put_none text 0; within = (omega arith, omega arith) });
         }
@@ -80,8 +74,8 @@ module _ (s : List ℕ) (p : ℕ) where
     pub fill_taken : {r : Filled} {out' text' : List ℕ} → refuses s p ≡ false → r.number ≡ 0
         → Took s p (fill_of s n p (length out) (length text)) out text r out' text' → FillPromise s n p out text r out' text'
     fill_taken {r} {out'} {text'} h e t =
-        let f = ap (λ (b : Bool). if b then [] else fill_of s n p (length out) (length text)) h in
+        let f = ap (λ (b : Bool). when b then [] else fill_of s n p (length out) (length text)) h in
         record {
-          number = e ∙ sym (ap (λ (b : Bool). if b then 17 else 0) h);
+          number = e ∙ sym (ap (λ (b : Bool). when b then 17 else 0) h);
           took = subst (λ (ps : List Piece). Took s p ps out text r out' text') (sym f) t;
         }

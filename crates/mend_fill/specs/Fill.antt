@@ -1,11 +1,11 @@
 -- What a fill of the two lent buffers promises: it takes pieces while there are some and the next surely has room, no fewer
 -- and no more; what they write and list stands at the buffers' starts, and every octet behind is kept.
 --
---   fillOf trace n p a b == the pieces that are taken from place p on, with room for a octets of records and b of lines
+--   fill_of trace n p a b == the pieces that are taken from place p on, with room for a octets of records and b of lines
 --   end_of p ps           == the place behind the pieces ps that begin at p
---   number_at, piecesAt   == what a fill answers and takes, 17 included
+--   number_at, pieces_at   == what a fill answers and takes, 17 included
 use Rattle.std.specs.Prelude.{ℕ, zero, suc, ◌+◌, ◌-◌, ◌≤◌, ◌≡◌, Bool, true, false, ◌&&◌, not, List, [], ◌∷◌, length}
-use Rattle.meaning.specs.Plain.{if◌then◌else◌, ◌<?◌, ◌≤?◌, ◌=?◌}
+use Rattle.meaning.specs.Plain.{when◌then◌else◌, ◌<?◌, ◌≤?◌, ◌=?◌}
 use Rattle.list_lines.specs.Put.{Put}
 use Rattle.trace_record.specs.Trace.{long_ca}
 use Rattle.mend_step.specs.Salvage.{Reading, none, up_to, reads_to, step_at, Piece, keeps, skips, piece_of, written_of}
@@ -22,7 +22,7 @@ line_room = 42
 unfoldable pub fill_from : List ℕ → ℕ → ℕ → ℕ → ℕ → ℕ → List Piece
 fill_from trace n zero p a b = []
 fill_from trace n (suc k) p a b =
-    if p <? n && (record_room ≤? a && line_room ≤? b)
+    when p <? n && (record_room ≤? a && line_room ≤? b)
     then piece_of p (step_at trace n p)
     ∷ fill_from trace n k (step_at trace n p).next (a - length (written_of trace (piece_of p (step_at trace n p) ∷ [])))
     (b - length (lines_of (piece_of p (step_at trace n p) ∷ [])))
@@ -53,10 +53,10 @@ unfoldable pub refuses : List ℕ → ℕ → Bool
 refuses trace p = p =? 0 && not (begun (reads_to trace 0))
 
 abbrev pub number_at : List ℕ → ℕ → ℕ
-number_at trace p = if refuses trace p then 17 else 0
+number_at trace p = when refuses trace p then 17 else 0
 
 abbrev pub pieces_at : List ℕ → ℕ → ℕ → ℕ → ℕ → List Piece
-pieces_at trace n p a b = if refuses trace p then [] else fill_of trace n p a b
+pieces_at trace n p a b = when refuses trace p then [] else fill_of trace n p a b
 
 pub record FillPromise (trace : List ℕ) (n p : ℕ) (out text : List ℕ) (r : Filled) (out' text' : List ℕ) : Type 0 where
   pub number : r.number ≡ number_at trace p

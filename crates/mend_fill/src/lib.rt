@@ -1,5 +1,7 @@
 // Mending a trace into two lent buffers: the kept records' octets into one, a line for each skipped stretch into the other.
 // What has no room is left for the next fill.
+#![tactic(auto)]
+
 ghost use Rattle.std.specs.Prelude.{◌≡◌, [], ◌∷◌, ◌++◌, ◌+◌, ◌-◌, ◌≤◌, ◌<◌, length, take, drop};
 ghost use Rattle.list_lines.specs.Put.{Put};
 ghost use Rattle.mend_step.specs.Salvage.{reads_to, step_at, piece_of, written_of};
@@ -10,7 +12,7 @@ use mend_step::Stride;
 use trace_record::Found;
 
 // What a fill did: its number (0, or 17 and nothing else), the place to go on at, and how many octets stand in each buffer.
-#[derive(Drop)]
+#[derive(Clone, Copy)]
 pub struct Filled {
     pub number: u16,
     pub at: usize,
@@ -19,7 +21,7 @@ pub struct Filled {
 }
 
 // Where two buffers are filled to.
-#[derive(Drop)]
+#[derive(Clone, Copy)]
 struct Places {
     written: usize,
     listed: usize,

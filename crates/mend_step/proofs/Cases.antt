@@ -4,17 +4,14 @@ use Prim.Native.Nat.{ℕ, zero, suc, ◌+◌, ◌-◌, ◌≤◌, ◌<◌}
 use mathlib.Core.Path.{◌≡◌, refl, sym, ap, ◌∙◌}
 use mathlib.Core.Bool.{Bool, true, false, ◌&&◌, ◌||◌}
 use mathlib.Core.List.{List}
-use mathlib.Core.Logic.{◌⊎◌, ⊎_elim}
 use lib.ListN.{length}
 use borrow.Author.Tests.{eq-eqb, ne_eqb, le-leb, lt-leb}
 use native.Mathlib.Omega.{arith}
-use denote.Enum.Declared.{tag_of}
-use Rattle.meaning.specs.Plain.{if◌then◌else◌, ◌≤?◌, ◌=?◌}
+use Rattle.meaning.specs.Plain.{when◌then◌else◌, ◌≤?◌, ◌=?◌}
 use Rattle.trace_record.specs.Trace.{be16, stands_at, said_of, mark_gm, mark_gr, mark_gn, mark_vo, mark_vx, mark_ca, mark_sl, mark_vs, mark_po, mark_px}
 use Rattle.trace_record.specs.declared.Event.{Event}
 use Rattle.trace_record.specs.declared.Found.{Found}
 use Rattle.trace_record.specs.declared.Found.TheVariants.{Read, End, Unreadable}
-use Rattle.trace_record.specs.contracts.Found.{the_type}
 use Rattle.mend_step.specs.declared.Stride.{Stride}
 use Rattle.mend_step.specs.Salvage.{Reading, none, up_to, reading_of, reads_to, is_mark, known_mark, followed, meets_rule, first_of, resume, step_of, step_at}
 use Rattle.mend_step.proofs.Shape.{Shape, reads_shape}
@@ -42,14 +39,14 @@ module _ (s : List ℕ) (e : ℕ) where
       k ∙ ap is_mark q ∙ sym (ap (λ (b : Bool). b && is_mark (be16 s e)) (le-leb (e + 2) (length s) h))
 
 module _ (s : List ℕ) (q : ℕ) where
-  tag_none : (f : Found) → (tag_of the_type f ≡ 1) ⊎ (tag_of the_type f ≡ 2) → reading_of (said_of f) ≡ none
-  tag_none (Read e next) h = ⊎_elim (λ t. absurd (omega arith)) (λ t. absurd (omega arith)) h
-  tag_none End h = refl
-  tag_none (Unreadable place) h = refl
+  no_record : (f : Found) → ((e : Event) (next : ℕ) → f ≡ Read e next → ⊥) → reading_of (said_of f) ≡ none
+  no_record (Read e next) h = absurd (h e next refl)
+  no_record End h = refl
+  no_record (Unreadable place) h = refl
 
-  pub answer_none : (f : Found) → said_of f ≡ stands_at s q → (tag_of the_type f ≡ 1) ⊎ (tag_of the_type f ≡ 2) → reads_to s q ≡ none
+  pub answer_none : (f : Found) → said_of f ≡ stands_at s q → ((e : Event) (next : ℕ) → f ≡ Read e next → ⊥) → reads_to s q ≡ none
   unfolding reads_to
-  answer_none f h t = ap reading_of (sym h) ∙ tag_none f t
+  answer_none f h t = ap reading_of (sym h) ∙ no_record f t
 
   pub answer_read : (f : Found) (e : Event) (next : ℕ) → said_of f ≡ stands_at s q → f ≡ Read e next → reads_to s q ≡ up_to next
   unfolding reads_to
@@ -96,14 +93,14 @@ module _ (s : List ℕ) (n q : ℕ) where
   unfolding first_of
   first_meets h e =
       more (length s - q) (suc (length s - (q + 1))) (omega arith)
-      ∙ ap (λ (b : Bool). if b then q else first_of s n (length s - (q + 1)) (suc q)) e
+      ∙ ap (λ (b : Bool). when b then q else first_of s n (length s - (q + 1)) (suc q)) e
 
   pub first_skips : q < length s → meets_rule s n q ≡ false → first_of s n (length s - q) q ≡ first_of s n (length s - (q + 1)) (q + 1)
   unfolding first_of
   first_skips h e =
       let z : suc q ≡ q + 1 = omega arith in
       more (length s - q) (suc (length s - (q + 1))) (omega arith)
-      ∙ ap (λ (b : Bool). if b then q else first_of s n (length s - (q + 1)) (suc q)) e
+      ∙ ap (λ (b : Bool). when b then q else first_of s n (length s - (q + 1)) (suc q)) e
       ∙ ap (first_of s n (length s - (q + 1))) z
 
 module _ (s : List ℕ) (n p : ℕ) where

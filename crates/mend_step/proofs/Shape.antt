@@ -7,7 +7,7 @@ use mathlib.Core.List.{List}
 use lib.ListN.{length, get_or}
 use borrow.Author.Tests.{leb-true, eqb-true, eqb-false, ne_eqb, le-leb}
 use native.Mathlib.Omega.{arith}
-use Rattle.meaning.specs.Plain.{if◌then◌else◌, ◌<?◌, ◌≤?◌, ◌=?◌}
+use Rattle.meaning.specs.Plain.{when◌then◌else◌, ◌<?◌, ◌≤?◌, ◌=?◌}
 use Rattle.trace_record.specs.Trace.{TraceRecord, SL, Stands, unreadable}
 use Rattle.trace_record.specs.Trace.{be16, whole, setup_at, open_at, sustain_at, close_at, open_path_at, close_path_at, cell_at, pause_at, first_at, later_at, stands_at}
 use Rattle.trace_record.specs.Trace.{mark_octets, mark_gm, mark_gr, mark_gn, mark_vo, mark_vx, mark_ca, mark_sl, mark_vs, mark_po, mark_px}
@@ -40,7 +40,7 @@ pub record Shape (s : List ℕ) (p e : ℕ) : Type 0 where
   pub within : e ≤ length s
   pub kind : Kind (be16 s p) (be16 s (p + 2)) p e
 
-choose : (P : Stands → Type 0) (b : Bool) {x y : Stands} → (b ≡ true → P x) → (b ≡ false → P y) → P (if b then x else y)
+choose : (P : Stands → Type 0) (b : Bool) {x y : Stands} → (b ≡ true → P x) → (b ≡ false → P y) → P (when b then x else y)
 choose P true t f = t refl
 choose P false t f = f refl
 
@@ -156,7 +156,7 @@ module _ (s : List ℕ) (p : ℕ) where
   later_whole (ca h q) = so_long long_ca _ q (ap (later_at s p) h)
   later_whole (sl h q n) =
       let r = SL (be16 s (p + 2)) in
-      so_long long_sl r q (ap (later_at s p) h ∙ ap (λ (b : Bool). if b then unreadable p else whole s p long_sl r) (ne_eqb (be16 s (p + 2)) 0 n))
+      so_long long_sl r q (ap (later_at s p) h ∙ ap (λ (b : Bool). when b then unreadable p else whole s p long_sl r) (ne_eqb (be16 s (p + 2)) 0 n))
   later_whole (vo h q) = so_long long_vo _ q (ap (later_at s p) h)
   later_whole (vx h q) = so_long long_vx _ q (ap (later_at s p) h)
   later_whole (vs h q) = so_long long_vs _ q (ap (later_at s p) h)

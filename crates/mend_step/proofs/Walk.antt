@@ -6,7 +6,7 @@ use mathlib.Core.List.{List, [], ◌∷◌, ◌++◌}
 use lib.ListN.{length}
 use borrow.Author.Tests.{ltb-true, ltb-false, lt-ltb, le-ltb}
 use native.Mathlib.Omega.{arith}
-use Rattle.meaning.specs.Plain.{if◌then◌else◌, ◌<?◌}
+use Rattle.meaning.specs.Plain.{when◌then◌else◌, ◌<?◌}
 use Rattle.mend_step.specs.declared.Stride.{Stride}
 use Rattle.mend_step.specs.Salvage.{Reading, none, up_to, reads_to, meets_rule, first_of, resume, step_of, step_at, Piece, piece_of, walk_from}
 use Rattle.mend_step.proofs.Shape.{Shape, reads_shape, kind_long}
@@ -19,7 +19,7 @@ module _ (s : List ℕ) (n : ℕ) where
   first_after m zero q h l = h
   first_after m (suc k) q h l = go (meets_rule s n q) (first_after m k (suc q) h (omega arith))
     where
-      go : (b : Bool) → m ≤ first_of s n k (suc q) → m ≤ (if b then q else first_of s n k (suc q))
+      go : (b : Bool) → m ≤ first_of s n k (suc q) → m ≤ (when b then q else first_of s n k (suc q))
       go true i = l
       go false i = i
 
@@ -28,7 +28,7 @@ module _ (s : List ℕ) (n : ℕ) where
   first_within zero q h l = omega arith
   first_within (suc k) q h l = go (meets_rule s n q) (first_within k (suc q) h (omega arith))
     where
-      go : (b : Bool) → first_of s n k (suc q) ≤ n → (if b then q else first_of s n k (suc q)) ≤ n
+      go : (b : Bool) → first_of s n k (suc q) ≤ n → (when b then q else first_of s n k (suc q)) ≤ n
       go true i = omega arith
       go false i = i
 
@@ -58,14 +58,14 @@ first_least s n zero q t h l u f g = omega arith
 first_least s n (suc k) q t h l u f g =
     go (q <? t) refl (λ i. first_least s n k (suc q) t (omega arith) i u (λ j x y. f j (omega arith) y) g)
   where
-    go : (b : Bool) → (q <? t) ≡ b → (suc q ≤ t → first_of s n k (suc q) ≡ t) → (if meets_rule s n q then q else first_of s n k (suc q)) ≡ t
+    go : (b : Bool) → (q <? t) ≡ b → (suc q ≤ t → first_of s n k (suc q) ≡ t) → (when meets_rule s n q then q else first_of s n k (suc q)) ≡ t
     go true e more =
         let i = ltb-true q t e in
-        ap (λ (b : Bool). if b then q else first_of s n k (suc q)) (f q (omega arith) i) ∙ more (omega (arith, i))
+        ap (λ (b : Bool). when b then q else first_of s n k (suc q)) (f q (omega arith) i) ∙ more (omega (arith, i))
     go false e more =
         let i = ltb-false q t e in
         let same : q ≡ t = omega (arith, i, l) in
-        ap (λ (b : Bool). if b then q else first_of s n k (suc q)) (ap (meets_rule s n) same ∙ g (omega arith)) ∙ same
+        ap (λ (b : Bool). when b then q else first_of s n k (suc q)) (ap (meets_rule s n) same ∙ g (omega arith)) ∙ same
 
 -- ---- the pieces of the steps from p to the end of an input of n octets, s its front
 
@@ -78,11 +78,11 @@ module _ (s : List ℕ) (n : ℕ) where
   unfolding walk_from
   walk_is p [] w zero h = refl
   walk_is p [] w (suc k) h =
-      ap (λ (b : Bool). if b then piece_of p (step_at s n p) ∷ walk_from s n k (step_at s n p).next else []) (le-ltb p n (omega arith))
+      ap (λ (b : Bool). when b then piece_of p (step_at s n p) ∷ walk_from s n k (step_at s n p).next else []) (le-ltb p n (omega arith))
   walk_is p (x ∷ xs) w zero h = absurd (omega (arith, w.0))
   walk_is p (x ∷ xs) w (suc k) h =
       let i = step_on s n p w.0 in
-      ap (λ (b : Bool). if b then piece_of p (step_at s n p) ∷ walk_from s n k (step_at s n p).next else []) (lt-ltb p n w.0)
+      ap (λ (b : Bool). when b then piece_of p (step_at s n p) ∷ walk_from s n k (step_at s n p).next else []) (lt-ltb p n w.0)
       ∙ ap (λ (y : Piece). y ∷ walk_from s n k (step_at s n p).next) (sym w.1)
       ∙ ap (λ (ys : List Piece). x ∷ ys) (walk_is (step_at s n p).next xs w.2 k (omega (arith, i)))
 
@@ -92,7 +92,7 @@ module _ (s : List ℕ) (n : ℕ) where
   walks (suc k) p f l h = go (p <? n) refl (λ m. walks k m f)
     where
       go : (b : Bool) → (p <? n) ≡ b → ((m : ℕ) → m ≤ n → n - m ≤ k → Walks s n m (walk_from s n k m))
-          → Walks s n p (if b then piece_of p (step_at s n p) ∷ walk_from s n k (step_at s n p).next else [])
+          → Walks s n p (when b then piece_of p (step_at s n p) ∷ walk_from s n k (step_at s n p).next else [])
       go true e more =
           let i = ltb-true p n e in
           let j = step_on s n p i in

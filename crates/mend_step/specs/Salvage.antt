@@ -3,18 +3,18 @@
 -- An input has n octets, and `trace` is all of it or its front: of what lies beyond the front it is known that it is there.
 -- So a place in the front is the end only where it is n.
 --
---   readsTo trace p      == the end of the record that the reader reads at place p, or none
---   knownMark trace e    == whether a mark stands at place e
---   meetsRule trace n q  == whether q is a place to resume at
+--   reads_to trace p      == the end of the record that the reader reads at place p, or none
+--   known_mark trace e    == whether a mark stands at place e
+--   meets_rule trace n q  == whether q is a place to resume at
 --   resume trace n p     == the least place after p that meets the rule, or the input's end
---   stepAt trace n p     == whether a record is kept at p, and the place after it or after the stretch
---   takenAt trace n p    == one step: the end, a kept record or a stretch, and the place behind it
+--   step_at trace n p     == whether a record is kept at p, and the place after it or after the stretch
+--   taken_at trace n p    == one step: the end, a kept record or a stretch, and the place behind it
 --   walk trace n         == the pieces, in order: each kept record and each stretch, by first octet and length
---   salvageFront trace n == the refusal 17, or the pieces;  salvage trace == that of a trace known to its end
---   salvageInput input   == what the program does with an input of any length
---   written_of trace ps   == what is written of the pieces ps;  stretchesOf ps == what is listed of them
+--   salvage_front trace n == the refusal 17, or the pieces;  salvage trace == that of a trace known to its end
+--   salvage_input input   == what the program does with an input of any length
+--   written_of trace ps   == what is written of the pieces ps;  stretches_of ps == what is listed of them
 use Rattle.std.specs.Prelude.{ℕ, zero, suc, ◌+◌, ◌-◌, Bool, true, false, ◌&&◌, ◌||◌, List, [], ◌∷◌, ◌++◌, length, take, drop}
-use Rattle.meaning.specs.Plain.{if◌then◌else◌, ◌<?◌, ◌≤?◌, ◌=?◌}
+use Rattle.meaning.specs.Plain.{when◌then◌else◌, ◌<?◌, ◌≤?◌, ◌=?◌}
 use Rattle.trace_record.specs.Trace.{Stands, event, finish, refusal, stands_at, be16, mark_octets}
 use Rattle.trace_record.specs.Trace.{mark_gm, mark_gr, mark_gn, mark_vo, mark_vx, mark_ca, mark_sl, mark_vs, mark_po, mark_px}
 use Rattle.mend_step.specs.declared.Stride.{Stride}
@@ -68,7 +68,7 @@ meets_rule trace n q = followed trace n (reads_to trace q)
 -- "resumes at the first later octet where ..": the first of the k places from q, or the input's end
 unfoldable pub first_of : List ℕ → ℕ → ℕ → ℕ → ℕ
 first_of trace n zero q = n
-first_of trace n (suc k) q = if meets_rule trace n q then q else first_of trace n k (suc q)
+first_of trace n (suc k) q = when meets_rule trace n q then q else first_of trace n k (suc q)
 
 unfoldable pub resume : List ℕ → ℕ → ℕ → ℕ
 resume trace n p = first_of trace n (length trace - suc p) (suc p)
@@ -82,7 +82,7 @@ step_at trace n p = step_of trace n p (reads_to trace p)
 
 unfoldable pub taken_at : List ℕ → ℕ → ℕ → Taken
 taken_at trace n p =
-    if n ≤? p then record { end = true; kept = false; next = p }
+    when n ≤? p then record { end = true; kept = false; next = p }
     else record { end = false; kept = (step_at trace n p).kept; next = (step_at trace n p).next }
 
 -- "It writes the readable records and lists .. each skipped stretch by first octet and length"
@@ -91,12 +91,12 @@ pub data Piece : Type 0 where
   skips : (first long : ℕ) → Piece
 
 abbrev pub piece_of : ℕ → Stride → Piece
-piece_of p s = if s.kept then keeps p (s.next - p) else skips p (s.next - p)
+piece_of p s = when s.kept then keeps p (s.next - p) else skips p (s.next - p)
 
 unfoldable pub walk_from : List ℕ → ℕ → ℕ → ℕ → List Piece
 walk_from trace n zero p = []
 walk_from trace n (suc k) p =
-    if p <? n then piece_of p (step_at trace n p) ∷ walk_from trace n k (step_at trace n p).next
+    when p <? n then piece_of p (step_at trace n p) ∷ walk_from trace n k (step_at trace n p).next
     else []
 
 -- a piece has an octet, so there are no more pieces than octets

@@ -1,4 +1,6 @@
 // Mending a damaged trace: from a place to the next, over a kept record or a skipped stretch.
+#![tactic(auto)]
+
 ghost use Rattle.std.specs.Prelude.{◌≡◌, ◌+◌, ◌≤◌, ◌<◌, length};
 ghost use Rattle.trace_record.specs.Trace.{be16};
 ghost use Rattle.mend_step.specs.Salvage.{is_mark, known_mark, meets_rule, resume, step_at, taken_at};
@@ -6,14 +8,14 @@ ghost use Rattle.mend_step.specs.Salvage.{is_mark, known_mark, meets_rule, resum
 use trace_record::{Found, event_at};
 
 // A record is kept or a stretch skipped, and the walk goes on at `next`.
-#[derive(Drop)]
+#[derive(Clone, Copy)]
 pub struct Stride {
     pub kept: bool,
     pub next: usize,
 }
 
 // One step through an input: its end, a record that is kept or a stretch that is skipped, and the place behind it.
-#[derive(Drop)]
+#[derive(Clone, Copy)]
 pub struct Taken {
     pub end: bool,
     pub kept: bool,

@@ -8,7 +8,7 @@ use mathlib.Core.List.{List, [], ◌∷◌, ◌++◌}
 use lib.ListN.{length}
 use borrow.Author.Tests.{leb-true, eqb-true, le-leb, ltb-true, ltb-false}
 use native.Mathlib.Omega.{arith}
-use Rattle.meaning.specs.Plain.{if◌then◌else◌, ◌<?◌, ◌≤?◌, ◌=?◌}
+use Rattle.meaning.specs.Plain.{when◌then◌else◌, ◌<?◌, ◌≤?◌, ◌=?◌}
 use Rattle.trace_record.specs.Trace.{be16, long_gm, mark_gr, mark_gn}
 use Rattle.mend_step.specs.declared.Stride.{Stride}
 use Rattle.mend_step.specs.Salvage.{Reading, none, up_to, reads_to, among, meets_rule, first_of, resume, step_of, step_at, Piece, keeps, skips, piece_of, walk_from, walk}
@@ -55,11 +55,11 @@ module _ (s : List ℕ) where
       go l (first z m q) = simp (le-leb long_gm (length s) (omega arith), first_among m)
       go l (later i z m q) = absurd (omega arith)
 
-  pub begins_tells : (n : ℕ) → salvage_front s n ≡ (if begins s then mended (walk s n) else refused 17)
+  pub begins_tells : (n : ℕ) → salvage_front s n ≡ (when begins s then mended (walk s n) else refused 17)
   unfolding salvage_front
   begins_tells n = go (reads_to s 0) refl (begins s) refl
     where
-      go : (r : Reading) → reads_to s 0 ≡ r → (b : Bool) → begins s ≡ b → salvage_of s n r ≡ (if b then mended (walk s n) else refused 17)
+      go : (r : Reading) → reads_to s 0 ≡ r → (b : Bool) → begins s ≡ b → salvage_of s n r ≡ (when b then mended (walk s n) else refused 17)
       go none e true f = absurd (let x : none ≡ up_to 6 = sym e ∙ begins_reads f in let z : ◌≡◌ {A = ℕ} 0 1 = cc in omega arith)
       go none e false f = refl
       go (up_to m) e true f = refl
@@ -74,7 +74,7 @@ module _ (s : List ℕ) (n : ℕ) where
   first_ends (suc k) q h = go (meets_rule s n q) (first_ends k (suc q) (omega arith))
     where
       go : (b : Bool) → (first_of s n k (suc q) ≤ length s) ⊎ (first_of s n k (suc q) ≡ n)
-          → ((if b then q else first_of s n k (suc q)) ≤ length s) ⊎ ((if b then q else first_of s n k (suc q)) ≡ n)
+          → ((when b then q else first_of s n k (suc q)) ≤ length s) ⊎ ((when b then q else first_of s n k (suc q)) ≡ n)
       go true i = inl (omega arith)
       go false i = i
 
@@ -109,7 +109,7 @@ module _ (s : List ℕ) (n : ℕ) where
     walk_from_ends (suc k) p = go (p <? n) refl (walk_from_ends k (step_at s n p).next)
       where
         go : (b : Bool) → (p <? n) ≡ b → Ends long n (walk_from s n k (step_at s n p).next)
-            → Ends long n (if b then piece_of p (step_at s n p) ∷ walk_from s n k (step_at s n p).next else [])
+            → Ends long n (when b then piece_of p (step_at s n p) ∷ walk_from s n k (step_at s n p).next else [])
         go true e f = step_ends p (walk_from s n k (step_at s n p).next) (ltb-true p n e) f
         go false e f = tt
 

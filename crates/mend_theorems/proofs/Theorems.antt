@@ -8,7 +8,7 @@ use lib.ListN.{length, get_or, length-append, get_or-append}
 use lib.Seq.{get_or-append-add}
 use borrow.Author.Tests.{eq-eqb}
 use native.Mathlib.Omega.{arith}
-use Rattle.meaning.specs.Plain.{if◌then◌else◌, ◌=?◌}
+use Rattle.meaning.specs.Plain.{when◌then◌else◌, ◌=?◌}
 use Rattle.mend_step.specs.declared.Stride.{Stride}
 use Rattle.mend_step.specs.Salvage.{Reading, none, up_to, reads_to, known_mark, followed, meets_rule, first_of, resume, step_of, step_at}
 use Rattle.mend_step.specs.Salvage.{Piece, keeps, skips, piece_of, walk_from, walk, Salvage, refused, mended, salvage_of, salvage_front, salvage}
@@ -19,11 +19,11 @@ use Rattle.mend_theorems.proofs.Moved.{records_le, records_moved, packed_same}
 
 -- ---- S1: each piece begins where the one before ended, none is empty, the last ends where the input does
 
-piece_first : (p l : ℕ) (b : Bool) → first_octet (if b then keeps p l else skips p l) ≡ p
+piece_first : (p l : ℕ) (b : Bool) → first_octet (when b then keeps p l else skips p l) ≡ p
 piece_first p l true = refl
 piece_first p l false = refl
 
-piece_long : (p l : ℕ) (b : Bool) → long_of (if b then keeps p l else skips p l) ≡ l
+piece_long : (p l : ℕ) (b : Bool) → long_of (when b then keeps p l else skips p l) ≡ l
 piece_long p l true = refl
 piece_long p l false = refl
 

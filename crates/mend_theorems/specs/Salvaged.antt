@@ -1,16 +1,16 @@
 -- REQUEST (xii) of document 02: mending a damaged trace. To be read first; proofs/Top.antt proves each line of it.
 --
 -- crates/mend_step/specs/Salvage.antt says what is done with a trace: salvage trace, or, where `trace` is the front of an input
--- of n octets, salvageFront trace n; salvageInput is the program's. It is the refusal 17, or pieces ps: kept records and
+-- of n octets, salvage_front trace n; salvage_input is the program's. It is the refusal 17, or pieces ps: kept records and
 -- skipped stretches by first octet and length, in order. written_of trace ps is what is written. Promises.antt has the words.
 use Rattle.std.specs.Prelude.{ℕ, ◌+◌, ◌≤◌, ◌<◌, ◌≡◌, List, ◌∷◌, ◌++◌, length, take}
-use Rattle.meaning.specs.Plain.{if◌then◌else◌}
+use Rattle.meaning.specs.Plain.{when◌then◌else◌}
 use Rattle.mend_step.specs.Salvage.{Piece, skips, walk, Salvage, refused, mended, salvage_front, salvage, limit, salvage_input, written_of}
 use Rattle.mend_theorems.specs.Promises.{Cut, octets_of, Ends, begins, Readable, packed, Damaged, DamagedIn}
 
 -- "Refusals: 17, no readable GM at the start, and nothing is written": 17 in no other case
 abbrev pub Refused17 : Type 0
-Refused17 = (trace : List ℕ) (n : ℕ) → salvage_front trace n ≡ (if begins trace then mended (walk trace n) else refused 17)
+Refused17 = (trace : List ℕ) (n : ℕ) → salvage_front trace n ≡ (when begins trace then mended (walk trace n) else refused 17)
 
 -- S1: "Every octet of the input is in exactly one kept record or one listed stretch": the pieces, in order, cut the input,
 -- and none is empty; put together they are the trace

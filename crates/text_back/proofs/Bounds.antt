@@ -8,7 +8,7 @@ use native.Mathlib.Omega.{arith}
 use borrow.Author.Tests.{eq-eqb, ne_eqb}
 use lib.ListN.{length, get_or, take, drop, length-drop}
 use lib.Seq.{get_or-take, get_or-drop, length-take-le}
-use Rattle.meaning.specs.Plain.{next, if◌then◌else◌, ◌<?◌, ◌≤?◌, ◌=?◌}
+use Rattle.meaning.specs.Plain.{next, when◌then◌else◌, ◌<?◌, ◌≤?◌, ◌=?◌}
 use Rattle.meaning.specs.Numbers.{octets}
 use Rattle.trace_record.specs.Trace.{TraceRecord, GM, VO, VX, CA, SL, VS, PO, PX, Stands, event, finish, refusal, unreadable}
 use Rattle.trace_record.specs.Trace.{be16, be32, whole, setup_at, open_at, sustain_at, close_at, open_path_at, close_path_at, cell_at, pause_at, first_at, later_at, stands_at}
@@ -39,7 +39,7 @@ Sized (event r n) = Bounded r
 Sized finish = 0 ≤ 0
 Sized (refusal number place) = 0 ≤ 0
 
-choose : (P : Stands → Type 0) (b : Bool) {x y : Stands} → P x → P y → P (if b then x else y)
+choose : (P : Stands → Type 0) (b : Bool) {x y : Stands} → P x → P y → P (when b then x else y)
 choose P true t f = t
 choose P false t f = f
 

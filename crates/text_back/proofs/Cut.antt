@@ -6,14 +6,14 @@ use mathlib.Core.List.{List, [], ◌∷◌, ◌++◌, append_assoc, append-nil}
 use native.Mathlib.Decide.{dec_lt}
 use native.Mathlib.Omega.{arith}
 use borrow.Author.Tests.{eqb-true, eqb-false}
-use Rattle.meaning.specs.Plain.{if◌then◌else◌, ◌=?◌}
+use Rattle.meaning.specs.Plain.{when◌then◌else◌, ◌=?◌}
 use Rattle.text_meaning.specs.Events.{Event, told, pause, full, sl_of, fulls, rest_of, octets_of, octets_all, join, merge}
 use Rattle.text_trip.proofs.Merge.{join_join}
 use Rattle.text_trip.proofs.Settled.{single_octets}
 
 -- k full pauses, and the rest unless it is none
 unfoldable pub pauses : ℕ → ℕ → List Event
-pauses zero r = if r =? 0 then [] else (pause r ∷ [])
+pauses zero r = when r =? 0 then [] else (pause r ∷ [])
 pauses (suc k) r = pause full ∷ pauses k r
 
 unfoldable pub cut : List Event → List Event
@@ -29,7 +29,7 @@ all_append [] ys = refl
 all_append (x ∷ xs) ys = ap (λ (z : List ℕ). octets_of x ++ z) (all_append xs ys) ∙ sym (append_assoc (octets_of x) (octets_all xs) (octets_all ys))
 
 rest_octets : (r : ℕ) → r < full → (b : Bool) → (r =? 0) ≡ b
-    → octets_all (if b then [] else (pause r ∷ [])) ≡ (if b then [] else sl_of r)
+    → octets_all (when b then [] else (pause r ∷ [])) ≡ (when b then [] else sl_of r)
 unfolding octets_all
 rest_octets r h true e = refl
 rest_octets r h false e =
@@ -54,7 +54,7 @@ cut_octets (pause n ∷ es) =
 
 -- ---- the same pauses, once merged
 
-merge_rest : (r : ℕ) (es : List Event) (b : Bool) → (r =? 0) ≡ b → 0 < r → merge ((if b then [] else (pause r ∷ [])) ++ es) ≡ join r (merge es)
+merge_rest : (r : ℕ) (es : List Event) (b : Bool) → (r =? 0) ≡ b → 0 < r → merge ((when b then [] else (pause r ∷ [])) ++ es) ≡ join r (merge es)
 unfolding merge
 merge_rest r es true e h = let z = eqb-true r 0 e in absurd (omega arith)
 merge_rest r es false e h = refl

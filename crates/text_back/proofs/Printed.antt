@@ -8,7 +8,7 @@ use native.Mathlib.Omega.{arith}
 use borrow.Author.Tests.{le-leb, lt-leb, le-ltb, eq-eqb, ne_eqb, eqb-true, eqb-false}
 use lib.ListN.{length, get_or, take, drop, length-append, length-drop}
 use lib.Seq.{drop-drop, drop-append_seam, take_at}
-use Rattle.meaning.specs.Plain.{next, if◌then◌else◌, ◌<?◌, ◌≤?◌, ◌=?◌}
+use Rattle.meaning.specs.Plain.{next, when◌then◌else◌, ◌<?◌, ◌≤?◌, ◌=?◌}
 use Rattle.list_lines.specs.Text.{line as Text·line}
 use Rattle.trace_record.specs.Trace.{TraceRecord, GM, VO, VX, CA, SL, VS, PO, PX, Stands, event, finish, refusal, stands_at}
 use Rattle.trace_record.specs.Fits.{Fits, stands_fits}
@@ -51,15 +51,15 @@ events_one : (k : ℕ) (text : List ℕ) (p : ℕ) (e : Event) (q : ℕ) (es : L
     → events_from k text q ≡ good es → events_from (suc k) text p ≡ good (e ∷ es)
 unfolding events_from events_at onto
 events_one k text p e q es h l on =
-    ap (λ (b : Bool). if b then good [] else events_at (events_from k text) p (line_at text p)) (never (1 ≤? p) (length text ≤? p) (lt-leb (length text) p h))
+    ap (λ (b : Bool). when b then good [] else events_at (events_from k text) p (line_at text p)) (never (1 ≤? p) (length text ≤? p) (lt-leb (length text) p h))
     ∙ ap (events_at (events_from k text) p) l
     ∙ ap (onto e) on
 
 events_end : (k : ℕ) (text : List ℕ) (p : ℕ) → 0 < p → length text ≤ p → events_from (suc k) text p ≡ good []
 unfolding events_from
 events_end k text p h l =
-    ap (λ (b : Bool). if b && length text ≤? p then good [] else events_at (events_from k text) p (line_at text p)) (le-leb 1 p h)
-    ∙ ap (λ (b : Bool). if b then good [] else events_at (events_from k text) p (line_at text p)) (le-leb (length text) p l)
+    ap (λ (b : Bool). when b && length text ≤? p then good [] else events_at (events_from k text) p (line_at text p)) (le-leb 1 p h)
+    ∙ ap (λ (b : Bool). when b then good [] else events_at (events_from k text) p (line_at text p)) (le-leb (length text) p l)
 
 -- first here and there
 same_first : (p at : ℕ) → (p ≡ 0 → at ≡ 0) → (at ≡ 0 → p ≡ 0) → (b : Bool) → (at =? 0) ≡ b → (p =? 0) ≡ b
@@ -142,7 +142,7 @@ module _ (s : List ℕ) (b : (i : ℕ) → get_or s i 0 < 256) where
   printed_written es output r f h =
       ap (λ (q : Said). write_said q output) (printed_events es r)
       ∙ ap (λ (o : List ℕ). laid o output) ((trip s b es r).0 f)
-      ∙ ap (λ (t : Bool). if t then wrote 14 0 output else wrote 0 (length s) (s ++ drop (length s) output)) (le-ltb (length output) (length s) h)
+      ∙ ap (λ (t : Bool). when t then wrote 14 0 output else wrote 0 (length s) (s ++ drop (length s) output)) (le-ltb (length output) (length s) h)
 
   -- and no other: where it gives the trace back, each SL directly followed by an SL is full
   pub written_settled : (es : List Event) (output : List ℕ) → read s ≡ good es
@@ -153,7 +153,7 @@ module _ (s : List ℕ) (b : (i : ℕ) → get_or s i 0 < 256) where
       let e : laid o output ≡ wrote 0 (length s) (s ++ drop (length s) output) = sym (ap (λ (q : Said). write_said q output) (printed_events es r)) ∙ w in
       (trip s b es r).1 (laid_is o output (length output <? length o) e)
     where
-      laid_is : (o output : List ℕ) (t : Bool) → (if t then wrote 14 0 output else wrote 0 (length o) (o ++ drop (length o) output)) ≡ wrote 0 (length s) (s ++ drop (length s) output) → o ≡ s
+      laid_is : (o output : List ℕ) (t : Bool) → (when t then wrote 14 0 output else wrote 0 (length o) (o ++ drop (length o) output)) ≡ wrote 0 (length s) (s ++ drop (length s) output) → o ≡ s
       laid_is o output true e = let z : ◌≡◌ {A = ℕ} 14 0 = ap (λ (x : Wrote). x.answer.number) e in absurd (omega arith)
       laid_is o output false e =
           let l : length o ≡ length s = ap (λ (x : Wrote). x.answer.place) e in

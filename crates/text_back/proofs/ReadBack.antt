@@ -9,7 +9,7 @@ use native.Mathlib.Omega.{arith}
 use borrow.Author.Tests.{eqb-false, leb-true, le-leb}
 use lib.ListN.{length, take, drop, length-append, length-drop, take-append-drop}
 use lib.Seq.{drop-drop, drop-append_seam}
-use Rattle.meaning.specs.Plain.{if◌then◌else◌, ◌=?◌}
+use Rattle.meaning.specs.Plain.{when◌then◌else◌, ◌=?◌}
 use Rattle.meaning.specs.Numbers.{octets}
 use Rattle.trace_record.proofs.Cases.{stands_end}
 use Rattle.list_lines.specs.Put.{puts, Put}
@@ -97,7 +97,7 @@ singles_append : (xs ys : List Event) → Singles xs → Singles ys → Singles 
 singles_append [] ys h k = k
 singles_append (x ∷ xs) ys h k = (h.0, singles_append xs ys h.1 k)
 
-rest_singles : (r : ℕ) → r < full → (b : Bool) → (r =? 0) ≡ b → Singles (if b then [] else (pause r ∷ []))
+rest_singles : (r : ℕ) → r < full → (b : Bool) → (r =? 0) ≡ b → Singles (when b then [] else (pause r ∷ []))
 rest_singles r h true e = omega arith
 rest_singles r h false e = let z = eqb-false r 0 e in (pause_single r (omega arith) (omega arith), omega arith)
 

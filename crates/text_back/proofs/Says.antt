@@ -7,7 +7,7 @@ use mathlib.Core.List.{List, [], ◌∷◌, ◌++◌, append_assoc, append-nil}
 use native.Mathlib.Omega.{arith}
 use borrow.Author.Tests.{eqb-true, eqb-false, le-leb, eq-eqb}
 use lib.ListN.{length}
-use Rattle.meaning.specs.Plain.{Out, refused, next, ◌andThen◌, if◌then◌else◌, ◌≤?◌, ◌=?◌}
+use Rattle.meaning.specs.Plain.{Out, refused, next, ◌and_then◌, when◌then◌else◌, ◌≤?◌, ◌=?◌}
 use Rattle.meaning.specs.Numbers.{octets}
 use Rattle.list_lines.specs.Text.{space, line_feed}
 use Rattle.meaning.specs.Words.{second_of}
@@ -30,7 +30,7 @@ holds_then : {A B : Type 0} (P : A → Type 0) (Q : B → Type 0) (x : Out A) (f
 holds_then P Q refused f h k = omega arith
 holds_then P Q (next a) f h k = k a h
 
-choose : {A : Type 0} (P : A → Type 0) (b : Bool) {x y : A} → (b ≡ true → P x) → (b ≡ false → P y) → P (if b then x else y)
+choose : {A : Type 0} (P : A → Type 0) (b : Bool) {x y : A} → (b ≡ true → P x) → (b ≡ false → P y) → P (when b then x else y)
 choose P true t f = t refl
 choose P false t f = f refl
 
@@ -99,6 +99,10 @@ data Filled : List Field → List ℕ → List ℕ → Type 0 where
   with32 : {fs : List Field} {o d : List ℕ} (n : ℕ) → Filled fs (o ++ of_field n32 n) d → Filled (n32 ∷ fs) o d
   with_cell : {fs : List Field} {o d : List ℕ} (c : List ℕ) → length c ≡ octets → Filled fs (o ++ c) d → Filled (cell ∷ fs) o d
 
+-- no field is left
+ended : {o d : List ℕ} → Filled [] o d → o ≡ d
+ended end = refl
+
 record Fields (fs : List Field) (o s : List ℕ) (p : Part) : Type 0 where
   pub filled : Filled fs o p.done
   pub left : Left s p.rest
@@ -143,7 +147,7 @@ fields_said (cell ∷ fs) o s = cell_field fs o s (λ c. fields_said fs (o ++ c)
 -- ---- lines
 
 abbrev pub place_of : Bool → ℕ
-place_of first = if first then 0 else 1
+place_of first = when first then 0 else 1
 
 -- what a line says, and that it leads on
 record Says (first : Bool) (s : List ℕ) (t : Told) : Type 0 where
@@ -153,29 +157,29 @@ record Says (first : Bool) (s : List ℕ) (t : Told) : Type 0 where
 module _ (s : List ℕ) where
   setup_said : (m : ℕ) (head : Head) → head_mark head ≡ m → (d : List ℕ) → Filled (n16 ∷ n16 ∷ []) (of16 m) d → Sayable 0 (told d)
   unfolding allowed_at record_octets
-  setup_said m head e d (with16 N (with16 z end)) =
-      record { given = GM N z head; says = ap (λ (k : ℕ). told (of16 k ++ (of16 N ++ of16 z))) e; allowed = refl }
+  setup_said m head e d (with16 N (with16 z w)) =
+      record { given = GM N z head; says = ap (λ (k : ℕ). told (of16 k ++ (of16 N ++ of16 z))) e ∙ ap told (ended w); allowed = refl }
 
   open_said : (d : List ℕ) → Filled (n16 ∷ n8 ∷ n32 ∷ n32 ∷ []) (of16 mark_vo) d → Sayable 1 (told d)
   unfolding allowed_at record_octets
-  open_said d (with16 v (with8 m (with32 F (with32 C end)))) = record { given = VO v m F C; says = refl; allowed = refl }
+  open_said d (with16 v (with8 m (with32 F (with32 C w)))) = record { given = VO v m F C; says = ap told (ended w); allowed = refl }
 
   path_said : (d : List ℕ) → Filled (n16 ∷ n8 ∷ n32 ∷ n32 ∷ []) (of16 mark_po) d → Sayable 1 (told d)
   unfolding allowed_at record_octets
-  path_said d (with16 v (with8 m (with32 F (with32 C end)))) = record { given = PO v m F C; says = refl; allowed = refl }
+  path_said d (with16 v (with8 m (with32 F (with32 C w)))) = record { given = PO v m F C; says = ap told (ended w); allowed = refl }
 
   sustain_said : (d : List ℕ) → Filled (n16 ∷ n8 ∷ n32 ∷ n32 ∷ n8 ∷ n32 ∷ n32 ∷ n8 ∷ []) (of16 mark_vs) d → Sayable 1 (told d)
   unfolding allowed_at record_octets
-  sustain_said d (with16 v (with8 m (with32 F (with32 C (with8 m2 (with32 F2 (with32 C2 (with8 tag end)))))))) =
-      record { given = VS v m F C (second_of m2 F2 C2 tag); says = refl; allowed = refl }
+  sustain_said d (with16 v (with8 m (with32 F (with32 C (with8 m2 (with32 F2 (with32 C2 (with8 tag w)))))))) =
+      record { given = VS v m F C (second_of m2 F2 C2 tag); says = ap told (ended w); allowed = refl }
 
   close_said : (d : List ℕ) → Filled (n16 ∷ []) (of16 mark_vx) d → Sayable 1 (told d)
   unfolding allowed_at record_octets
-  close_said d (with16 v end) = record { given = VX v; says = refl; allowed = refl }
+  close_said d (with16 v w) = record { given = VX v; says = ap told (ended w); allowed = refl }
 
   path_close_said : (d : List ℕ) → Filled (n16 ∷ []) (of16 mark_px) d → Sayable 1 (told d)
   unfolding allowed_at record_octets
-  path_close_said d (with16 v end) = record { given = PX v; says = refl; allowed = refl }
+  path_close_said d (with16 v w) = record { given = PX v; says = ap told (ended w); allowed = refl }
 
   cell_said : (d : List ℕ) → Filled (cell ∷ []) (of16 mark_ca) d → Sayable 1 (told d)
   unfolding allowed_at record_octets
@@ -183,7 +187,7 @@ module _ (s : List ℕ) where
 
   -- a count that was read, and its line feed
   count_said : (t : List ℕ) → length t < length s → (n : Number) → Left t n.rest → (b : Bool) → (n.value =? 0) ≡ b
-      → Holds (Says false s) ((if b then refused else expect line_feed n.rest) and_then λ u. next (tells (pause n.value) u))
+      → Holds (Says false s) ((when b then refused else expect line_feed n.rest) and_then λ u. next (tells (pause n.value) u))
   unfolding allowed_at
   count_said t l n h true z = omega arith
   count_said t l n h false z =

@@ -8,7 +8,7 @@ use native.Mathlib.Omega.{arith}
 use borrow.Author.Tests.{leb-true, ne_eqb}
 use lib.ListN.{length, take, drop, length-drop}
 use lib.Seq.{take_at}
-use Rattle.meaning.specs.Plain.{Out, refused, next, if◌then◌else◌, ◌<?◌, ◌≤?◌, ◌=?◌}
+use Rattle.meaning.specs.Plain.{Out, refused, next, when◌then◌else◌, ◌<?◌, ◌≤?◌, ◌=?◌}
 use Rattle.text_meaning.specs.Events.{Event, octets_all, merge}
 use Rattle.text_meaning.specs.Grammar.{Told, line}
 use Rattle.text_meaning.specs.Writing.{Placed, behind, line_at, Said, good, bad, onto, events_at, events_from, events, Wrote, wrote, laid, write_said, write_text}
@@ -50,7 +50,7 @@ module _ (text : List ℕ) where
   fine_line k p refused h on = omega arith
   fine_line k p (next l) h on = fine_onto p l.place l.event (events_from k text l.place) h.sayable h.later (on l.place)
 
-  fine_or : (p : ℕ) (s : Said) (b c : Bool) → (1 ≤? p) ≡ b → Fine p s → Fine p (if b && c then good [] else s)
+  fine_or : (p : ℕ) (s : Said) (b c : Bool) → (1 ≤? p) ≡ b → Fine p s → Fine p (when b && c then good [] else s)
   fine_or p s false c e f = f
   fine_or p s true false e f = f
   fine_or zero s true true e f = let z = leb-true 1 0 e in absurd (omega arith)
@@ -70,9 +70,9 @@ text_begun text es e = subst (Fine 0) e (fine_from text (length text + 1) 0)
 
 -- of what was laid into an output, the octets are those that it says
 laid_front : (o output : List ℕ) (b : Bool) → (length output <? length o) ≡ b
-    → (if b then wrote 14 0 output else wrote 0 (length o) (o ++ drop (length o) output)).answer.number ≡ 0
-    → take (if b then wrote 14 0 output else wrote 0 (length o) (o ++ drop (length o) output)).answer.place
-    (if b then wrote 14 0 output else wrote 0 (length o) (o ++ drop (length o) output)).output ≡ o
+    → (when b then wrote 14 0 output else wrote 0 (length o) (o ++ drop (length o) output)).answer.number ≡ 0
+    → take (when b then wrote 14 0 output else wrote 0 (length o) (o ++ drop (length o) output)).answer.place
+    (when b then wrote 14 0 output else wrote 0 (length o) (o ++ drop (length o) output)).output ≡ o
 laid_front o output true e z = let y : ◌≡◌ {A = ℕ} 14 0 = z in absurd (omega arith)
 laid_front o output false e z = take_at o (drop (length o) output) (length o) refl
 

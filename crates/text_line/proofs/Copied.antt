@@ -8,7 +8,7 @@ use native.Mathlib.Omega.{arith}
 use borrow.Author.Tests.{eqb-true}
 use lib.ListN.{length, take}
 use lib.Seq.{length-take-le}
-use Rattle.meaning.specs.Plain.{Out, refused, next, if◌then◌else◌, ◌=?◌}
+use Rattle.meaning.specs.Plain.{Out, refused, next, when◌then◌else◌, ◌=?◌}
 use Rattle.list_lines.specs.Put.{puts, Put}
 use Rattle.list_lines.proofs.Puts.{put_front}
 use Rattle.text_meaning.specs.Events.{told, pause}
@@ -21,7 +21,7 @@ module _ (own : List ℕ) (l : Line) where
   none_taken e = sym (ap (λ (k : ℕ). take k own) e)
 
   record_by : (b d : Bool) → (l.next =? 0) ≡ b → (l.long =? 0) ≡ d → (l.next ≡ 0 → l.long ≡ 0)
-      → record_in (if b then refused else next (placed (if d then pause l.count else told (take l.long own)) l.next)) ≡ take l.long own
+      → record_in (when b then refused else next (placed (when d then pause l.count else told (take l.long own)) l.next)) ≡ take l.long own
   unfolding record_in
   record_by true d e f h = none_taken (h (eqb-true l.next 0 e))
   record_by false true e f h = none_taken (eqb-true l.long 0 f)
@@ -41,7 +41,7 @@ module _ (own : List ℕ) (l : Line) where
     found_same =
         let n : r ≡ l.long = omega (arith, p.next, h) in
         let e : take l.long rec' ≡ take l.long own = sym (ap (λ (k : ℕ). take k rec') n) ∙ put_front p (omega arith) in
-        ap (λ (o : List ℕ). if l.next =? 0 then refused else next (placed (if l.long =? 0 then pause l.count else told o) l.next)) e
+        ap (λ (o : List ℕ). when l.next =? 0 then refused else next (placed (when l.long =? 0 then pause l.count else told o) l.next)) e
 
     pub put_record : (x : Out Placed) → line_found own l ≡ x → (l.next ≡ 0 → l.long ≡ 0) → rec' ≡ puts rec 0 (record_in x)
     put_record x e z = p.list ∙ ap (puts rec 0) (sym (record_taken z) ∙ ap record_in e)

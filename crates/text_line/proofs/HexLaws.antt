@@ -9,7 +9,7 @@ use borrow.Author.Tests.{eq-eqb, ne_eqb}
 use lib.Dec.{eqb}
 use lib.ListN.{length, get_or, take, drop, set, length-set}
 use lib.Seq.{take-suc-set}
-use Rattle.meaning.specs.Plain.{Out, refused, next, if◌then◌else◌}
+use Rattle.meaning.specs.Plain.{Out, refused, next, when◌then◌else◌}
 use Rattle.text_meaning.specs.Grammar.{Part, part, nibble_of, hexes}
 use Rattle.text_line.specs.Found.{nibble_at}
 use Rattle.text_line.proofs.OctetLaws.{here, nibble_inside}
@@ -37,7 +37,7 @@ high_none k o [] e = refl
 high_none k o (x ∷ []) e = refl
 high_none k o (x ∷ y ∷ t) e = simp (eq-eqb (nibble_of x) 16 e)
 
-either : {A : Type 0} (b : Bool) (x : A) → (if b then x else x) ≡ x
+either : {A : Type 0} (b : Bool) (x : A) → (when b then x else x) ≡ x
 either true x = refl
 either false x = refl
 

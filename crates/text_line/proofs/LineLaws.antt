@@ -7,7 +7,7 @@ use native.Mathlib.Decide.{ℕ_discrete}
 use native.Mathlib.Omega.{arith}
 use borrow.Author.Tests.{eq-eqb, ne_eqb}
 use lib.ListN.{length, take, drop, length-drop}
-use Rattle.meaning.specs.Plain.{Out, refused, next, if◌then◌else◌, ◌=?◌}
+use Rattle.meaning.specs.Plain.{Out, refused, next, when◌then◌else◌, ◌=?◌}
 use Rattle.text_meaning.specs.Shapes.{Field, Shape, fields, slots, of16, find, shape_of}
 use Rattle.text_meaning.specs.Events.{Event, told, pause}
 use Rattle.text_meaning.specs.Grammar.{Part, part, Told, tells, fields_at, slots_at, shaped_line, line}
@@ -84,11 +84,11 @@ module _ (s rec : List ℕ) (p : ℕ) where
       is = line_slots (p =? 0) (drop p s) e ∙ sym f
 
       go : Dec (q ≡ 0) → line_found rec (line_of 0 v q) ≡ line_at s p
-      go (yes z) = ap (λ (b : Bool). if b then refused else next (placed (pause v) q)) (eq-eqb q 0 z) ∙ sym (ap (behind (length s)) (is ∙ ap (λ (b : Bool). if b then refused else next (tells (pause v) (drop q s))) (eq-eqb q 0 z)))
+      go (yes z) = ap (λ (b : Bool). when b then refused else next (placed (pause v) q)) (eq-eqb q 0 z) ∙ sym (ap (behind (length s)) (is ∙ ap (λ (b : Bool). when b then refused else next (tells (pause v) (drop q s))) (eq-eqb q 0 z)))
       go (no z) =
-          ap (λ (b : Bool). if b then refused else next (placed (pause v) q)) (ne_eqb q 0 z)
+          ap (λ (b : Bool). when b then refused else next (placed (pause v) q)) (ne_eqb q 0 z)
           ∙ ap (λ (k : ℕ). next (placed (pause v) k)) (back q h)
-          ∙ sym (ap (behind (length s)) (is ∙ ap (λ (b : Bool). if b then refused else next (tells (pause v) (drop q s))) (ne_eqb q 0 z)))
+          ∙ sym (ap (behind (length s)) (is ∙ ap (λ (b : Bool). when b then refused else next (tells (pause v) (drop q s))) (ne_eqb q 0 z)))
 
   pub fields_line : (end q : ℕ) {fs : List Field} → q ≤ length s → ((q ≡ 0 → ⊥) → 0 < end) → shape_of (p =? 0) (mark_of (drop p s)) ≡ next (fields fs)
       → part_found s rec end q ≡ fields_at fs (of16 (mark_of (drop p s))) (drop 2 (drop p s)) → line_found rec (line_of end 0 q) ≡ line_at s p
@@ -100,10 +100,10 @@ module _ (s rec : List ℕ) (p : ℕ) where
 
       go : Dec (q ≡ 0) → line_found rec (line_of end 0 q) ≡ line_at s p
       go (yes z) =
-          ap (λ (b : Bool). if b then refused else next (placed (if end =? 0 then pause 0 else told (take end rec)) q)) (eq-eqb q 0 z)
+          ap (λ (b : Bool). when b then refused else next (placed (when end =? 0 then pause 0 else told (take end rec)) q)) (eq-eqb q 0 z)
           ∙ sym (ap (behind (length s)) (is ∙ sym (and_refused (λ (w : Part). next (tells (told w.done) w.rest)) (part_none s rec end q f z))))
       go (no z) =
-          ap (λ (b : Bool). if b then refused else next (placed (if end =? 0 then pause 0 else told (take end rec)) q)) (ne_eqb q 0 z)
-          ∙ ap (λ (b : Bool). next (placed (if b then pause 0 else told (take end rec)) q)) (ne_eqb end 0 (λ w. let m = l z in omega arith))
+          ap (λ (b : Bool). when b then refused else next (placed (when end =? 0 then pause 0 else told (take end rec)) q)) (ne_eqb q 0 z)
+          ∙ ap (λ (b : Bool). next (placed (when b then pause 0 else told (take end rec)) q)) (ne_eqb end 0 (λ w. let m = l z in omega arith))
           ∙ ap (λ (k : ℕ). next (placed (told (take end rec)) k)) (back q h)
           ∙ sym (ap (behind (length s)) (is ∙ sym (and_next (λ (w : Part). next (tells (told w.done) w.rest)) (found_some q f z) refl)))

@@ -10,13 +10,13 @@ use borrow.Author.Tests.{eq-eqb, ne_eqb, le-leb, lt-leb, lt-ltb, le-ltb, eqb-tru
 use lib.Dec.{eqb}
 use lib.ListN.{length, get_or, take, drop, set, drop_of_length-le}
 use lib.Seq.{drop-cons}
-use Rattle.meaning.specs.Plain.{Out, refused, next, ◌andThen◌, if◌then◌else◌, ◌=?◌}
+use Rattle.meaning.specs.Plain.{Out, refused, next, ◌and_then◌, when◌then◌else◌, ◌=?◌}
 use Rattle.text_meaning.specs.Grammar.{Number, number_of, Part, part, expect, digit_of, digits, within, number, nibble_of, hexes}
 use Rattle.text_line.specs.Found.{digit_at, nibble_at, rest_found, number_found, part_found, mark_of}
 
 -- an answer of place 0, and any other
-found_none : {A : Type 0} (x : A) {o : Out A} (p : ℕ) → (if p =? 0 then refused else next x) ≡ o → p ≡ 0 → o ≡ refused
-found_none x p e z = sym e ∙ ap (λ (b : Bool). if b then refused else next x) (eq-eqb p 0 z)
+found_none : {A : Type 0} (x : A) {o : Out A} (p : ℕ) → (when p =? 0 then refused else next x) ≡ o → p ≡ 0 → o ≡ refused
+found_none x p e z = sym e ∙ ap (λ (b : Bool). when b then refused else next x) (eq-eqb p 0 z)
 
 pub rest_none : (s : List ℕ) (p : ℕ) {o : Out (List ℕ)} → rest_found s p ≡ o → p ≡ 0 → o ≡ refused
 rest_none s p e z = found_none (drop p s) p e z
@@ -27,11 +27,11 @@ number_none s v p e z = found_none (number_of v (drop p s)) p e z
 pub part_none : (s rec : List ℕ) (at p : ℕ) {o : Out Part} → part_found s rec at p ≡ o → p ≡ 0 → o ≡ refused
 part_none s rec at p e z = found_none (part (take at rec) (drop p s)) p e z
 
-pub found_some : {A : Type 0} {x : A} {o : Out A} (p : ℕ) → (if p =? 0 then refused else next x) ≡ o → (p ≡ 0 → ⊥) → o ≡ next x
-found_some {x = x} p e z = sym e ∙ ap (λ (b : Bool). if b then refused else next x) (ne_eqb p 0 z)
+pub found_some : {A : Type 0} {x : A} {o : Out A} (p : ℕ) → (when p =? 0 then refused else next x) ≡ o → (p ≡ 0 → ⊥) → o ≡ next x
+found_some {x = x} p e z = sym e ∙ ap (λ (b : Bool). when b then refused else next x) (ne_eqb p 0 z)
 
-pub is_found : {A : Type 0} {x y : A} {o : Out A} (p : ℕ) → (p ≡ 0 → ⊥) → x ≡ y → next y ≡ o → (if p =? 0 then refused else next x) ≡ o
-is_found {x = x} p z f e = ap (λ (b : Bool). if b then refused else next x) (ne_eqb p 0 z) ∙ ap next f ∙ e
+pub is_found : {A : Type 0} {x y : A} {o : Out A} (p : ℕ) → (p ≡ 0 → ⊥) → x ≡ y → next y ≡ o → (when p =? 0 then refused else next x) ≡ o
+is_found {x = x} p z f e = ap (λ (b : Bool). when b then refused else next x) (ne_eqb p 0 z) ∙ ap next f ∙ e
 
 -- a reading after another
 pub and_refused : {A B : Type 0} {o : Out A} (f : A → Out B) → o ≡ refused → refused ≡ (o and_then f)
@@ -92,7 +92,7 @@ unfolding digits
 digits_go v x t e = simp (ne_eqb (digit_of x) 10 e)
 
 grow_one : (v x : ℕ) (t : List ℕ) (b : Bool) → v * 10 + digit_of x ≤ (digits (v * 10 + digit_of x) t).value
-    → v ≤ (if b then number_of v (x ∷ t) else digits (v * 10 + digit_of x) t).value
+    → v ≤ (when b then number_of v (x ∷ t) else digits (v * 10 + digit_of x) t).value
 grow_one v x t true h = omega arith
 grow_one v x t false h = omega arith
 

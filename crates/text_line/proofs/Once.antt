@@ -8,7 +8,7 @@ use native.Mathlib.Omega.{arith}
 use borrow.Author.Tests.{eqb-true, eqb-false}
 use lib.ListN.{length, take}
 use lib.Seq.{length-take-le}
-use Rattle.meaning.specs.Plain.{Out, refused, next, if◌then◌else◌, ◌=?◌}
+use Rattle.meaning.specs.Plain.{Out, refused, next, when◌then◌else◌, ◌=?◌}
 use Rattle.list_lines.specs.Put.{puts}
 use Rattle.text_meaning.specs.Events.{Event, told, pause}
 use Rattle.text_meaning.specs.Writing.{Placed, placed, line_at}
@@ -30,7 +30,7 @@ next_in (next l) = l.place
 
 module _ (rec : List ℕ) (l : Line) {p long : ℕ} (w : LineWithin p long l) (room : 55 ≤ length rec) where
   abbrev found : Bool → Bool → Out Placed
-  found b d = if b then refused else next (placed (if d then pause l.count else told (take l.long rec)) l.next)
+  found b d = when b then refused else next (placed (when d then pause l.count else told (take l.long rec)) l.next)
 
   next_by : (b d : Bool) → (l.next =? 0) ≡ b → l.next ≡ next_in (found b d)
   unfolding next_in

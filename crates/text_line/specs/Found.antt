@@ -1,13 +1,13 @@
 -- What the answers of the line's parser mean in the words of the grammar. A place of 0 means that nothing stands there: no
 -- place behind an octet is 0.
 --
---   digitAt s, nibbleAt s  == the value of the digit that s begins with; 10, or 16, where it begins with none
---   fieldNamed k           == the field of the code's number k
+--   digit_at s, nibble_at s  == the value of the digit that s begins with; 10, or 16, where it begins with none
+--   field_named k           == the field of the code's number k
 --   decode k code          == k fields, by the digits of a number to the base 16, the lowest first
---   lineFound rec r        == what the line r means, where rec holds its octets
---   recordIn l             == the octets of the record that a line says
+--   line_found rec r        == what the line r means, where rec holds its octets
+--   record_in l             == the octets of the record that a line says
 use Rattle.std.specs.Prelude.{ℕ, zero, suc, ◌+◌, ◌*◌, ◌/◌, ◌%◌, ◌≤◌, ◌<◌, ◌≡◌, List, [], ◌∷◌, take, drop}
-use Rattle.meaning.specs.Plain.{Out, refused, next, if◌then◌else◌, ◌=?◌}
+use Rattle.meaning.specs.Plain.{Out, refused, next, when◌then◌else◌, ◌=?◌}
 use Rattle.text_meaning.specs.Shapes.{Field, n8, n16, n32, cell, wide, Shape, fields, slots}
 use Rattle.text_meaning.specs.Events.{Event, told, pause}
 use Rattle.text_meaning.specs.Grammar.{Number, number_of, Part, part, Told, tells, digit_of, nibble_of}
@@ -23,19 +23,19 @@ nibble_at [] = 16
 nibble_at (x ∷ s) = nibble_of x
 
 abbrev pub rest_found : List ℕ → ℕ → Out (List ℕ)
-rest_found text p = if p =? 0 then refused else next (drop p text)
+rest_found text p = when p =? 0 then refused else next (drop p text)
 
 abbrev pub number_found : List ℕ → ℕ → ℕ → Out Number
-number_found text v p = if p =? 0 then refused else next (number_of v (drop p text))
+number_found text v p = when p =? 0 then refused else next (number_of v (drop p text))
 
 abbrev pub part_found : List ℕ → List ℕ → ℕ → ℕ → Out Part
-part_found text rec at p = if p =? 0 then refused else next (part (take at rec) (drop p text))
+part_found text rec at p = when p =? 0 then refused else next (part (take at rec) (drop p text))
 
 abbrev pub slots_found : List ℕ → ℕ → ℕ → Out Told
-slots_found text n p = if p =? 0 then refused else next (tells (pause n) (drop p text))
+slots_found text n p = when p =? 0 then refused else next (tells (pause n) (drop p text))
 
 abbrev pub field_named : ℕ → Field
-field_named kind = if kind =? 1 then n8 else if kind =? 2 then n16 else if kind =? 4 then n32 else cell
+field_named kind = when kind =? 1 then n8 else when kind =? 2 then n16 else when kind =? 4 then n32 else cell
 
 unfoldable pub decode : ℕ → ℕ → List Field
 decode zero code = []
@@ -48,7 +48,7 @@ span (f ∷ fs) = wide f + span fs
 
 -- a shape's number: 0 none, 16 a count of slots, else how many fields and then each of them
 abbrev pub shape_named : ℕ → Out Shape
-shape_named n = if n =? 0 then refused else if n =? 16 then next slots else next (fields (decode (n % 16) (n / 16)))
+shape_named n = when n =? 0 then refused else when n =? 16 then next slots else next (fields (decode (n % 16) (n / 16)))
 
 -- the mark that s begins with; no mark is 0
 unfoldable pub mark_of : List ℕ → ℕ
@@ -58,8 +58,8 @@ mark_of (a ∷ b ∷ s) = a * 256 + b
 
 unfoldable pub line_found : List ℕ → Line → Out Placed
 line_found rec r =
-    if r.next =? 0 then refused
-    else next (placed (if r.long =? 0 then pause r.count else told (take r.long rec)) r.next)
+    when r.next =? 0 then refused
+    else next (placed (when r.long =? 0 then pause r.count else told (take r.long rec)) r.next)
 
 -- the octets of the record that a line says: a pause has none here, and a line that isn't good has none
 abbrev octets_in : Event → List ℕ

@@ -7,14 +7,14 @@ ghost use Rattle.text_line.specs.Found.{digit_at, nibble_at, rest_found, number_
 ghost use Rattle.text_line.specs.Found.{field_named, decode, span, FieldsWithin};
 
 // A number, and the place behind it, which is 0 where no number stands.
-#[derive(Drop)]
+#[derive(Clone, Copy)]
 pub(crate) struct Value {
     pub(crate) value: u64,
     pub(crate) next: usize,
 }
 
 // Where the octets of a record's fields end, and the place behind its line, which is 0 where none stands.
-#[derive(Drop)]
+#[derive(Clone, Copy)]
 pub(crate) struct Reach {
     pub(crate) end: usize,
     pub(crate) next: usize,

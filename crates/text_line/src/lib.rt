@@ -1,4 +1,6 @@
 // One line of a text that says a trace: a record's octets, or a count of slots.
+#![tactic(auto)]
+
 ghost use Rattle.std.specs.Prelude.{◌≡◌, ◌+◌, ◌/◌, ◌%◌, ◌≤◌, ◌<◌, length, drop};
 ghost use Rattle.text_meaning.specs.Shapes.{shape_of};
 ghost use Rattle.text_meaning.specs.Writing.{line_at};
@@ -9,7 +11,7 @@ mod field;
 
 // A line: a record of `long` octets, or where `long` is 0 a pause of `count` slots; and the place behind it, which is 0
 // where no line stands.
-#[derive(Drop)]
+#[derive(Clone, Copy)]
 pub struct Line {
     pub long: usize,
     pub count: u32,

@@ -1,12 +1,12 @@
 -- Document 02 (viii): what a text and a trace say, and the octets that say it.
 --
 --   Event            == a record, by its octets; or a pause, which is any number of empty slots
---   octetsOf e       == the octets of an event
+--   octets_of e       == the octets of an event
 --   merge es         == the events with adjoining pauses added together
---   octetsAll es     == the octets of events, one after the other
---   eventOf trace r  == the event of a record that the reader found in a trace
+--   octets_all es     == the octets of events, one after the other
+--   event_of trace r  == the event of a record that the reader found in a trace
 use Rattle.std.specs.Prelude.{ℕ, zero, suc, ◌+◌, ◌/◌, ◌%◌, List, [], ◌∷◌, ◌++◌, take, drop}
-use Rattle.meaning.specs.Plain.{if◌then◌else◌, ◌=?◌}
+use Rattle.meaning.specs.Plain.{when◌then◌else◌, ◌=?◌}
 use Rattle.meaning.specs.Numbers.{octets}
 use Rattle.trace_record.specs.Trace.{TraceRecord, GM, VO, VX, CA, SL, VS, PO, PX, head_mark, mark_vo, mark_vx, mark_ca, mark_sl, mark_vs, mark_po, mark_px}
 use Rattle.text_meaning.specs.Shapes.{of16, of32}
@@ -29,7 +29,7 @@ fulls (suc k) = sl_of full ++ fulls k
 
 -- what is left when the full ones are written: nothing, or one record
 unfoldable pub rest_of : ℕ → List ℕ
-rest_of r = if r =? 0 then [] else sl_of r
+rest_of r = when r =? 0 then [] else sl_of r
 
 -- "Adjoining pauses go into as few SL records as possible, the full ones of 65,535 first"
 unfoldable pub octets_of : Event → List ℕ

@@ -6,7 +6,7 @@
 --   fields_at fs o s   == the fields fs, a space before each and a line feed after the last, put behind the octets o
 --   line first s      == one line
 use Rattle.std.specs.Prelude.{ℕ, zero, suc, ◌+◌, ◌-◌, ◌*◌, Bool, true, false, ◌&&◌, List, [], ◌∷◌, ◌++◌}
-use Rattle.meaning.specs.Plain.{Out, refused, next, ◌andThen◌, if◌then◌else◌, ◌<?◌, ◌≤?◌, ◌=?◌}
+use Rattle.meaning.specs.Plain.{Out, refused, next, ◌and_then◌, when◌then◌else◌, ◌<?◌, ◌≤?◌, ◌=?◌}
 use Rattle.meaning.specs.Numbers.{octets}
 use Rattle.list_lines.specs.Text.{space, line_feed}
 use Rattle.text_meaning.specs.Shapes.{Field, n8, n16, n32, cell, top, of16, of_field, Shape, fields, slots, shape_of}
@@ -31,34 +31,34 @@ part o s = record { done = o; rest = s }
 -- the very octet x
 unfoldable pub expect : ℕ → List ℕ → Out (List ℕ)
 expect x [] = refused
-expect x (y ∷ s) = if y =? x then next s else refused
+expect x (y ∷ s) = when y =? x then next s else refused
 
 -- "0".."9" is 48 to 57: the digit's value, or 10 where the octet is none
 unfoldable pub digit_of : ℕ → ℕ
-digit_of x = if 48 ≤? x && x <? 58 then x - 48 else 10
+digit_of x = when 48 ≤? x && x <? 58 then x - 48 else 10
 
 -- all digits that follow, v being the value of those before
 unfoldable pub digits : ℕ → List ℕ → Number
 digits v [] = number_of v []
-digits v (x ∷ s) = if digit_of x =? 10 then number_of v (x ∷ s) else digits (v * 10 + digit_of x) s
+digits v (x ∷ s) = when digit_of x =? 10 then number_of v (x ∷ s) else digits (v * 10 + digit_of x) s
 
 -- decimal = "0" / ("1".."9") *("0".."9"), at most top
 unfoldable pub within : ℕ → Number → Out Number
-within most n = if n.value ≤? most then next n else refused
+within most n = when n.value ≤? most then next n else refused
 
 unfoldable pub number : ℕ → List ℕ → Out Number
 number most [] = refused
 number most (x ∷ s) =
-    if digit_of x =? 10 then refused
-    else if digit_of x =? 0 then next (number_of 0 s)
+    when digit_of x =? 10 then refused
+    else when digit_of x =? 0 then next (number_of 0 s)
     else within most (digits (digit_of x) s)
 
 -- "0".."9", "A".."F" from 65, "a".."f" from 97: the digit's value, or 16 where the octet is none
 unfoldable pub nibble_of : ℕ → ℕ
 nibble_of x =
-    if 48 ≤? x && x <? 58 then x - 48
-    else if 65 ≤? x && x <? 71 then x - 55
-    else if 97 ≤? x && x <? 103 then x - 87
+    when 48 ≤? x && x <? 58 then x - 48
+    else when 65 ≤? x && x <? 71 then x - 55
+    else when 97 ≤? x && x <? 103 then x - 87
     else 16
 
 -- "106 hex digits of either case": k octets, the first digit of each being the high half
@@ -67,8 +67,8 @@ hexes zero o s = next (part o s)
 hexes (suc k) o [] = refused
 hexes (suc k) o (x ∷ []) = refused
 hexes (suc k) o (x ∷ y ∷ s) =
-    if nibble_of x =? 16 then refused
-    else if nibble_of y =? 16 then refused
+    when nibble_of x =? 16 then refused
+    else when nibble_of y =? 16 then refused
     else hexes k (o ++ ((nibble_of x * 16 + nibble_of y) ∷ [])) s
 
 -- one field, put behind the octets o
@@ -95,7 +95,7 @@ tells e s = record { event = e; rest = s }
 unfoldable pub slots_at : List ℕ → Out Told
 slots_at s =
     expect space s and_then λ t. number (top n32) t and_then λ n.
-    if n.value =? 0 then refused else expect line_feed n.rest and_then λ u. next (tells (pause n.value) u)
+    when n.value =? 0 then refused else expect line_feed n.rest and_then λ u. next (tells (pause n.value) u)
 
 unfoldable pub shaped_line : ℕ → Out Shape → List ℕ → Out Told
 shaped_line mark refused s = refused

@@ -3,11 +3,11 @@
 --
 --   Field          == one field: a number of 8, 16 or 32 bits, or the 53 octets of a cell
 --   wide f         == how many octets of a record a field fills
---   ofField f n    == those octets of a number, high octet first
+--   of_field f n    == those octets of a number, high octet first
 --   heads, laters  == the rows of the marks that stand first and only first, and of those that never do
 --   shape_of b m    == the shape of mark m, where b says whether it stands first; refused where there is none
 use Rattle.std.specs.Prelude.{ℕ, ◌+◌, ◌/◌, ◌%◌, Bool, true, false, List, [], ◌∷◌, ◌++◌, map}
-use Rattle.meaning.specs.Plain.{Out, refused, next, if◌then◌else◌, ◌=?◌}
+use Rattle.meaning.specs.Plain.{Out, refused, next, when◌then◌else◌, ◌=?◌}
 use Rattle.meaning.specs.Numbers.{octets}
 use Rattle.trace_record.specs.Trace.{mark_gm, mark_gr, mark_gn, mark_vo, mark_vx, mark_ca, mark_sl, mark_vs, mark_po, mark_px}
 
@@ -80,7 +80,7 @@ laters =
 
 unfoldable pub find : ℕ → List Row → Out Shape
 find m [] = refused
-find m (r ∷ rows) = if m =? r.mark then next r.shape else find m rows
+find m (r ∷ rows) = when m =? r.mark then next r.shape else find m rows
 
 abbrev pub rows_of : Bool → List Row
 rows_of true = heads

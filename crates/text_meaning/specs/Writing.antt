@@ -2,9 +2,9 @@
 --
 --   line_at text p     == the event of the line that starts at place p, and the place behind it
 --   events text       == the events of a text, or the least place at which no line stands
---   writeText text o  == what writing a text into the output o answers and leaves
+--   write_text text o  == what writing a text into the output o answers and leaves
 use Rattle.std.specs.Prelude.{ℕ, zero, suc, ◌+◌, ◌-◌, ◌&&◌, List, [], ◌∷◌, ◌++◌, length, drop}
-use Rattle.meaning.specs.Plain.{Out, refused, next, if◌then◌else◌, ◌<?◌, ◌≤?◌, ◌=?◌}
+use Rattle.meaning.specs.Plain.{Out, refused, next, when◌then◌else◌, ◌<?◌, ◌≤?◌, ◌=?◌}
 use Rattle.text_meaning.specs.declared.Written.{Written}
 use Rattle.text_meaning.specs.Events.{Event, octets_all, merge}
 use Rattle.text_meaning.specs.Grammar.{Told, line}
@@ -43,7 +43,7 @@ events_at on p (next l) = onto l.event (on l.place)
 unfoldable pub events_from : ℕ → List ℕ → ℕ → Said
 events_from zero text p = bad p
 events_from (suc k) text p =
-    if 1 ≤? p && length text ≤? p then good [] else events_at (events_from k text) p (line_at text p)
+    when 1 ≤? p && length text ≤? p then good [] else events_at (events_from k text) p (line_at text p)
 
 unfoldable pub events : List ℕ → Said
 events text = events_from (length text + 1) text 0
@@ -59,7 +59,7 @@ wrote number place output = record { answer = record { number = number; place = 
 -- "after it 14, output too short"; otherwise the octets, and behind them what stood there
 unfoldable pub laid : List ℕ → List ℕ → Wrote
 laid octets output =
-    if length output <? length octets then wrote 14 0 output
+    when length output <? length octets then wrote 14 0 output
     else wrote 0 (length octets) (octets ++ drop (length octets) output)
 
 -- "Neither changes an octet of the output."

@@ -1,17 +1,14 @@
 -- What a fill has made so far, and that a place without a record ends it.
 use Prim.Native.Nat.{ℕ, ◌+◌, ◌≤◌}
 use mathlib.Core.Path.{◌≡◌, refl, sym, subst}
-use mathlib.Core.Logic.{◌⊎◌, inl, inr}
 use mathlib.Core.List.{List, []}
 use lib.ListN.{length}
 use native.Mathlib.Omega.{arith}
-use denote.Enum.Declared.{tag_of}
 use Rattle.meaning.specs.Numbers.{octets}
 use Rattle.trace_record.specs.declared.Event.{Event}
 use Rattle.trace_record.specs.declared.Event.TheVariants.{Cell}
 use Rattle.trace_record.specs.declared.Found.{Found}
 use Rattle.trace_record.specs.declared.Found.TheVariants.{Read, End, Unreadable}
-use Rattle.trace_record.specs.contracts.Found.{the_type}
 use Rattle.trace_record.specs.Trace.{Stands, record_of, said_of}
 use Rattle.list_lines.specs.Put.{Put}
 use Rattle.text_print.specs.Print.{CellWithin}
@@ -25,13 +22,12 @@ pub record Made (trace : List ℕ) (at : ℕ) (out₀ : List ℕ) (place : ℕ) 
   pub within : used ≤ length out₀
   pub same : length out ≡ length out₀
 
-no_record_of : (f : Found) → ((tag_of the_type f ≡ 1) ⊎ (tag_of the_type f ≡ 2)) → NoRecord (said_of f)
-no_record_of (Read e next) (inl h) = let z : ◌≡◌ {A = ℕ} 0 1 = h in absurd (omega arith)
-no_record_of (Read e next) (inr h) = let z : ◌≡◌ {A = ℕ} 0 2 = h in absurd (omega arith)
+no_record_of : (f : Found) → ((e : Event) (next : ℕ) → f ≡ Read e next → ⊥) → NoRecord (said_of f)
+no_record_of (Read e next) h = absurd (h e next refl)
 no_record_of End h = omega arith
 no_record_of (Unreadable place) h = omega arith
 
-pub no_record : (f : Found) (x : Stands) → said_of f ≡ x → ((tag_of the_type f ≡ 1) ⊎ (tag_of the_type f ≡ 2)) → NoRecord x
+pub no_record : (f : Found) (x : Stands) → said_of f ≡ x → ((e : Event) (next : ℕ) → f ≡ Read e next → ⊥) → NoRecord x
 no_record f x e h = subst NoRecord e (no_record_of f h)
 
 -- the octets of a cell that an event names

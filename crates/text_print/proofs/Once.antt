@@ -8,7 +8,7 @@ use mathlib.Core.List.{List, [], ◌++◌}
 use lib.ListN.{length}
 use native.Mathlib.Omega.{arith}
 use borrow.Author.Tests.{le-leb, lt-leb}
-use Rattle.meaning.specs.Plain.{if◌then◌else◌, ◌≤?◌}
+use Rattle.meaning.specs.Plain.{when◌then◌else◌, ◌≤?◌}
 use Rattle.trace_record.specs.Trace.{TraceRecord, Stands, event, finish, refusal, stands_at}
 use Rattle.list_lines.specs.Put.{Put}
 use Rattle.list_lines.proofs.Puts.{put_once}
@@ -34,7 +34,7 @@ module _ (trace : List ℕ) (long : ℕ) where
 
   unfoldable on_from : ℕ → List ℕ → ℕ → Far
   on_from zero text at = far text at
-  on_from (suc k) text at = if length text + line_room ≤? long then on_at (on_from k) text at (stands_at trace at) else far text at
+  on_from (suc k) text at = when length text + line_room ≤? long then on_at (on_from k) text at (stands_at trace at) else far text at
 
   on_by : (text : List ℕ) (at : ℕ) (f g : List ℕ → ℕ → Far) → ((t : List ℕ) (n : ℕ) → at < n → n ≤ length trace → f t n ≡ g t n)
       → (x : Stands) → stands_at trace at ≡ x → on_at f text at x ≡ on_at g text at x
@@ -49,7 +49,7 @@ module _ (trace : List ℕ) (long : ℕ) where
   on_past text at f h finish e = refl
   on_past text at f h (refusal number place) e = refl
 
-  either : (b : Bool) {x y : Far} → x ≡ y → x ≡ (if b then y else x)
+  either : (b : Bool) {x y : Far} → x ≡ y → x ≡ (when b then y else x)
   either true e = e
   either false e = refl
 
@@ -58,7 +58,7 @@ module _ (trace : List ℕ) (long : ℕ) where
   unfolding on_from
   on_enough zero text at h = either (length text + line_room ≤? long) (on_past text at (on_from zero) (omega arith) (stands_at trace at) refl)
   on_enough (suc k) text at h =
-      ap (λ (x : Far). if length text + line_room ≤? long then x else far text at)
+      ap (λ (x : Far). when length text + line_room ≤? long then x else far text at)
       (on_by text at (on_from k) (on_from (suc k)) (λ t n l m. on_enough k t n (omega arith)) (stands_at trace at) refl)
 
   on_step : (k : ℕ) (text : List ℕ) (at : ℕ) (r : TraceRecord) (n : ℕ) → length trace < k + at → length text + line_room ≤ long
@@ -67,7 +67,7 @@ module _ (trace : List ℕ) (long : ℕ) where
   on_step zero text at r n h room e = let w = read_within trace at r n e in absurd (omega (arith, h, w.1, w.2))
   on_step (suc k) text at r n h room e =
       let w = read_within trace at r n e in
-      ap (λ (b : Bool). if b then on_at (on_from k) text at (stands_at trace at) else far text at) (le-leb (length text + line_room) long room)
+      ap (λ (b : Bool). when b then on_at (on_from k) text at (stands_at trace at) else far text at) (le-leb (length text + line_room) long room)
       ∙ ap (on_at (on_from k) text at) e
       ∙ on_enough k (text ++ line_of trace r) n (omega (arith, h, w.1))
 
@@ -77,7 +77,7 @@ module _ (trace : List ℕ) (long : ℕ) where
   over_by f text at finish h = refl
   over_by f text at (refusal number place) h = refl
 
-  off : (b : Bool) {x y : Far} → x ≡ y → (if b then x else y) ≡ y
+  off : (b : Bool) {x y : Far} → x ≡ y → (when b then x else y) ≡ y
   off true e = e
   off false e = refl
 
@@ -88,7 +88,7 @@ module _ (trace : List ℕ) (long : ℕ) where
   on_over (suc k) text at h =
       ⊎_elim
       (λ (n : NoRecord (stands_at trace at)). off (length text + line_room ≤? long) (over_by (on_from k) text at (stands_at trace at) n))
-      (λ (l : long < length text + line_room). ap (λ (b : Bool). if b then on_at (on_from k) text at (stands_at trace at) else far text at) (lt-leb (length text + line_room) long l)) h
+      (λ (l : long < length text + line_room). ap (λ (b : Bool). when b then on_at (on_from k) text at (stands_at trace at) else far text at) (lt-leb (length text + line_room) long l)) h
 
   lines_on : (k : ℕ) {at : ℕ} {text : List ℕ} {at' : ℕ} → length trace < k + at → Lines trace long at text at'
       → (at ≤ at') × (on_from k [] at ≡ on_from k text at')

@@ -10,7 +10,7 @@ use native.Mathlib.Omega.{arith}
 use lib.Dec.{ltb}
 use lib.ListN.{length, get_or}
 use borrow.Author.Tests.{lt-ltb, le-ltb, le-leb, lt-leb, eq-eqb, ne_eqb, ltb-true, ltb-false}
-use Rattle.meaning.specs.Plain.{Out, refused, next, if◌then◌else◌, ◌<?◌, ◌≤?◌, ◌=?◌}
+use Rattle.meaning.specs.Plain.{Out, refused, next, when◌then◌else◌, ◌<?◌, ◌≤?◌, ◌=?◌}
 use Rattle.list_lines.specs.Text.{decimal, decimal_of}
 use Rattle.text_meaning.specs.Grammar.{Number, number_of, Part, part, digit_of, digits, within, number, nibble_of, hexes}
 use Rattle.text_print.specs.Print.{hex_digit, hex_pair, hex_of}

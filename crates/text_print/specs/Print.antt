@@ -2,11 +2,11 @@
 -- fields in order, one space between, a line feed after, numbers in decimal without leading zeros, a cell as 106 hex digits
 -- of either case": small letters here.
 --
---   hexOf octets       == octets as hex digits, the high half of each first
+--   hex_of octets       == octets as hex digits, the high half of each first
 --   line_of trace r     == the line of a record that the reader found in a trace
 --   text_of trace       == the lines of all records, up to the end or to the first that can't be read
 use Rattle.std.specs.Prelude.{ℕ, zero, suc, ◌+◌, ◌/◌, ◌%◌, ◌≤◌, List, [], ◌∷◌, ◌++◌, length, take, drop}
-use Rattle.meaning.specs.Plain.{if◌then◌else◌, ◌<?◌}
+use Rattle.meaning.specs.Plain.{when◌then◌else◌, ◌<?◌}
 use Rattle.meaning.specs.Numbers.{octets}
 use Rattle.trace_record.specs.Trace.{TraceRecord, GM, VO, VX, CA, SL, VS, PO, PX, Stands, event, finish, refusal, stands_at}
 use Rattle.trace_record.specs.Trace.{head_mark, mark_vo, mark_vx, mark_ca, mark_sl, mark_vs, mark_po, mark_px}
@@ -15,7 +15,7 @@ use Rattle.text_meaning.specs.Shapes.{of16}
 
 -- "0".."9" from 48, "a".."f" from 97
 abbrev pub hex_digit : ℕ → ℕ
-hex_digit x = if x <? 10 then 48 + x else 87 + x
+hex_digit x = when x <? 10 then 48 + x else 87 + x
 
 abbrev pub hex_pair : ℕ → List ℕ
 hex_pair x = hex_digit (x / 16) ∷ hex_digit (x % 16) ∷ []

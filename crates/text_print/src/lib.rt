@@ -1,4 +1,6 @@
 // The text of a trace, a line a record: lines go into a lent buffer, one fill after the other.
+#![tactic(auto)]
+
 ghost use Rattle.std.specs.Prelude.{◌≡◌, List, [], ◌∷◌, ◌++◌, ℕ, ◌+◌, ◌≤◌, ◌<◌, length, take, drop};
 ghost use Rattle.list_lines.specs.Put.{Put};
 ghost use Rattle.trace_record.specs.Trace.{record_of, head_mark};
@@ -13,7 +15,7 @@ ghost use Rattle.text_print.specs.Fill.{FillPromise};
 use trace_record::{Event, Found, Head};
 
 // Where a fill ended: the place in the trace, and how many octets of the buffer it used.
-#[derive(Drop)]
+#[derive(Clone, Copy)]
 pub struct Printed {
     pub at: usize,
     pub used: usize,

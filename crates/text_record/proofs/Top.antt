@@ -9,7 +9,7 @@ use lib.ListN.{length, get_or, take, drop, replicate, length-replicate, length-d
 use lib.Seq.{length-take-le}
 use borrow.Author.Tests.{leb-true, leb-false, eqb-true, eqb-false, le-leb, eq-eqb, ne_eqb}
 use native.Mathlib.Omega.{arith}
-use Rattle.meaning.specs.Plain.{if◌then◌else◌, ◌≤?◌, ◌=?◌}
+use Rattle.meaning.specs.Plain.{when◌then◌else◌, ◌≤?◌, ◌=?◌}
 use Rattle.meaning.specs.Numbers.{octets}
 use Rattle.trace_record.specs.Trace.{Stands, event, stands_at, mark_ca, long_ca}
 use Rattle.trace_record.specs.Fits.{Fits, stands_fits}
@@ -83,7 +83,7 @@ never_read trace at (CA cell) a q =
 
 -- the tests of a number that is 0, 10 or 14
 abbrev number_by : Bool → Bool → ℕ
-number_by a b = if a then (if b then 0 else 14) else 10
+number_by a b = when a then (when b then 0 else 14) else 10
 
 tested : (a b : Bool) → number_by a b ≡ 0 → (a ≡ true) × (b ≡ true)
 tested true true h = (refl, refl)

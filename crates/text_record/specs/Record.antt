@@ -2,10 +2,10 @@
 -- reader would read it.
 --
 --   Given            == a record, by its mark, with its numbers in document 01's order; a CA with its 53 octets
---   recordOctets r   == its octets: its mark and its fields, numbers high octet first
---   givenEvent r     == what it says
---   allowedAt at r   == the reader reads such a record at place at
---   recordAt at r    == the record as the reader names it there: a CA by the place where its octets start
+--   record_octets r   == its octets: its mark and its fields, numbers high octet first
+--   given_event r     == what it says
+--   allowed_at at r   == the reader reads such a record at place at
+--   record_at at r    == the record as the reader names it there: a CA by the place where its octets start
 use Rattle.std.specs.Prelude.{ℕ, ◌+◌, ◌≡◌, Bool, ◌&&◌, List, [], ◌∷◌, ◌++◌, length}
 use Rattle.meaning.specs.Plain.{◌≤?◌, ◌=?◌}
 use Rattle.meaning.specs.Numbers.{octets}

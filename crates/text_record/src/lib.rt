@@ -1,5 +1,7 @@
 // Writing a trace, one record at a time: each function writes its record at a place of a lent output. It answers 0 and where
 // the next record starts; or 10 or 14, and the place as it came.
+#![tactic(auto)]
+
 ghost use Rattle.std.specs.Prelude.{[], ◌∷◌, ◌≡◌, ◌+◌, ◌-◌, ◌≤◌, length};
 ghost use Rattle.list_lines.specs.Put.{Put};
 ghost use Rattle.text_record.specs.Record.{Given, Later, GM as Record-as-GM, VO as Record-as-VO, VX as Record-as-VX, CA as Record-as-CA, SL as Record-as-SL};

@@ -8,7 +8,7 @@ use native.Mathlib.Omega.{arith}
 use borrow.Author.Tests.{eqb-true, eqb-false}
 use lib.Dec.{eqb}
 use lib.ListN.{length, length-append}
-use Rattle.meaning.specs.Plain.{if◌then◌else◌}
+use Rattle.meaning.specs.Plain.{when◌then◌else◌}
 use Rattle.text_meaning.specs.Events.{pause, full, sl_of, fulls, rest_of, octets_of}
 use Rattle.text_trip.specs.Fewest.{sum_of, Held, records}
 
@@ -17,7 +17,7 @@ unfolding fulls
 fulls_long zero = refl
 fulls_long (suc k) = let h = fulls_long k in omega arith
 
-rest_long_lem : (r : ℕ) (b : Bool) → length (if b then [] else sl_of r) ≡ 4 * (if b then 0 else 1)
+rest_long_lem : (r : ℕ) (b : Bool) → length (when b then [] else sl_of r) ≡ 4 * (when b then 0 else 1)
 rest_long_lem r true = refl
 rest_long_lem r false = refl
 
@@ -33,7 +33,7 @@ held : (ns : List ℕ) → Held ns → sum_of ns ≤ full * length ns
 held [] h = omega arith
 held (n ∷ ns) h = let e = held ns h.1 in let l : n ≤ 65_535 = h.0 in omega arith
 
-rounded : (n k : ℕ) (b : Bool) → eqb (n % full) 0 ≡ b → n ≤ full * k → n / full + (if b then 0 else 1) ≤ k
+rounded : (n k : ℕ) (b : Bool) → eqb (n % full) 0 ≡ b → n ≤ full * k → n / full + (when b then 0 else 1) ≤ k
 rounded n k true e h = omega arith
 rounded n k false e h = let z = eqb-false (n % full) 0 e in omega arith
 

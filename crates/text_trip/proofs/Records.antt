@@ -9,7 +9,7 @@ use native.Mathlib.Omega.{arith}
 use borrow.Author.Tests.{leb-true, eqb-true, eqb-false}
 use lib.ListN.{length, get_or, take, drop, take-append-drop}
 use lib.Seq.{drop-cons, drop-drop}
-use Rattle.meaning.specs.Plain.{if◌then◌else◌, ◌<?◌, ◌≤?◌, ◌=?◌}
+use Rattle.meaning.specs.Plain.{when◌then◌else◌, ◌<?◌, ◌≤?◌, ◌=?◌}
 use Rattle.meaning.specs.Numbers.{octets}
 use Rattle.trace_record.specs.Trace.{Stands, event, finish, refusal}
 use Rattle.trace_record.specs.Trace.{be16, be32, whole, setup_at, open_at, sustain_at, close_at, open_path_at, close_path_at, cell_at, pause_at, first_at, later_at, stands_at}
@@ -68,7 +68,7 @@ module _ (s : List ℕ) (b : (i : ℕ) → get_or s i 0 < 256) where
     Same finish = at ≡ length s
     Same (refusal number place) = 0 ≤ 0
 
-    choose : (P : Stands → Type 0) (t : Bool) {x y : Stands} → (t ≡ true → P x) → (t ≡ false → P y) → P (if t then x else y)
+    choose : (P : Stands → Type 0) (t : Bool) {x y : Stands} → (t ≡ true → P x) → (t ≡ false → P y) → P (when t then x else y)
     choose P true t f = t refl
     choose P false t f = f refl
 

@@ -6,7 +6,7 @@ use mathlib.Core.Bool.{Bool, true, false, ◌&&◌}
 use mathlib.Core.List.{List, [], ◌∷◌, ◌++◌, append_assoc, append-nil}
 use native.Mathlib.Omega.{arith}
 use lib.ListN.{length}
-use Rattle.meaning.specs.Plain.{Out, refused, next, if◌then◌else◌, ◌≤?◌}
+use Rattle.meaning.specs.Plain.{Out, refused, next, when◌then◌else◌, ◌≤?◌}
 use Rattle.text_meaning.specs.Events.{Event, told, pause, full, fulls, rest_of, octets_of, octets_all, join, merge}
 use Rattle.text_meaning.specs.Writing.{Placed, line_at, Said, good, bad, onto, events_at, events_from, events}
 use Rattle.text_trip.proofs.Merge.{join_none, join_join, join_full, pause_rest}
@@ -34,7 +34,7 @@ stream_line k text p f refused on = refl
 stream_line k text p f (next l) on = on l.place (step f l.event) ∙ finish_onto f l.event (events_from k text l.place)
 
 stream_or : (text : List ℕ) (f : Flow) (b : Bool) (x : Streamed) (y : Said) → x ≡ finish f y
-    → (if b then whole (ending f) else x) ≡ finish f (if b then good [] else y)
+    → (when b then whole (ending f) else x) ≡ finish f (when b then good [] else y)
 unfolding finish flowed
 stream_or text f true x y e = refl
 stream_or text f false x y e = e

@@ -4,7 +4,7 @@
 --   Held ns      == each of them is a count that an SL can hold
 --   records n    == how many SL records a pause of n slots is written in
 use Rattle.std.specs.Prelude.{ℕ, ◌+◌, ◌/◌, ◌%◌, ◌≤◌, List, [], ◌∷◌}
-use Rattle.meaning.specs.Plain.{if◌then◌else◌, ◌=?◌}
+use Rattle.meaning.specs.Plain.{when◌then◌else◌, ◌=?◌}
 use Rattle.text_meaning.specs.Events.{full}
 
 abbrev pub sum_of : List ℕ → ℕ
@@ -16,4 +16,4 @@ Held [] = 0 ≤ 0
 Held (n ∷ ns) = (n ≤ full) × Held ns
 
 unfoldable pub records : ℕ → ℕ
-records n = n / full + (if n % full =? 0 then 0 else 1)
+records n = n / full + (when n % full =? 0 then 0 else 1)

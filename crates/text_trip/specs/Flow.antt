@@ -5,7 +5,7 @@
 --   ending f      == the octets when nothing follows
 --   stream text   == the octets of a text, or the place of its first line that isn't good
 use Rattle.std.specs.Prelude.{ℕ, zero, suc, ◌+◌, ◌/◌, ◌%◌, ◌&&◌, List, [], ◌++◌, length}
-use Rattle.meaning.specs.Plain.{Out, refused, next, if◌then◌else◌, ◌<?◌, ◌≤?◌}
+use Rattle.meaning.specs.Plain.{Out, refused, next, when◌then◌else◌, ◌<?◌, ◌≤?◌}
 use Rattle.text_meaning.specs.declared.Written.{Written}
 use Rattle.text_meaning.specs.Events.{Event, told, pause, full, fulls, rest_of}
 use Rattle.text_meaning.specs.Writing.{Placed, line_at}
@@ -35,7 +35,7 @@ stream_at on p f (next l) = on l.place (step f l.event)
 unfoldable pub stream_from : ℕ → List ℕ → ℕ → Flow → Streamed
 stream_from zero text p f = stopped p
 stream_from (suc k) text p f =
-    if 1 ≤? p && length text ≤? p then whole (ending f) else stream_at (stream_from k text) p f (line_at text p)
+    when 1 ≤? p && length text ≤? p then whole (ending f) else stream_at (stream_from k text) p f (line_at text p)
 
 unfoldable pub stream : List ℕ → Streamed
 stream text = stream_from (length text + 1) text 0 (flow [] 0)
@@ -43,4 +43,4 @@ stream text = stream_from (length text + 1) text 0 (flow [] 0)
 -- 10 at the place, 14, or 0 and how many octets
 unfoldable pub judged : ℕ → Streamed → Written
 judged room (stopped p) = record { number = 10; place = p }
-judged room (whole o) = if room <? length o then record { number = 14; place = 0 } else record { number = 0; place = length o }
+judged room (whole o) = when room <? length o then record { number = 14; place = 0 } else record { number = 0; place = length o }

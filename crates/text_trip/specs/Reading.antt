@@ -1,6 +1,6 @@
 -- What the reader reads in a whole trace: the events of its records up to its end, over the very reader of crate trace_record.
 --
---   readFrom k trace at  == the events from place at on, of at most k records, or the place that can't be read
+--   read_from k trace at  == the events from place at on, of at most k records, or the place that can't be read
 --   read trace           == those of a whole trace
 use Rattle.std.specs.Prelude.{ℕ, zero, suc, ◌+◌, List, [], length}
 use Rattle.trace_record.specs.Trace.{Stands, event, finish, refusal, stands_at}

@@ -8,7 +8,7 @@ use native.Mathlib.Numerals.{add-one}
 use native.Mathlib.Omega.{arith}
 use borrow.Author.Tests.{eq-eqb, ne_eqb}
 use lib.ListN.{length, length-append}
-use Rattle.meaning.specs.Plain.{if◌then◌else◌, ◌=?◌}
+use Rattle.meaning.specs.Plain.{when◌then◌else◌, ◌=?◌}
 use Rattle.text_meaning.specs.Events.{Event, told, pause, full, sl_of, fulls, rest_of}
 use Rattle.text_trip.specs.Flow.{flow, step}
 use Rattle.text_write.specs.Adds.{adds, rest_long, adds_long, leaves}
@@ -34,19 +34,19 @@ fulls_long (suc k) = length-append (sl_of full) (fulls k) ∙ ap (λ (n : ℕ). 
 
 pub rest_none : (r : ℕ) → r ≡ 0 → rest_of r ≡ []
 unfolding rest_of
-rest_none r h = ap (λ (b : Bool). if b then [] else sl_of r) (eq-eqb r 0 h)
+rest_none r h = ap (λ (b : Bool). when b then [] else sl_of r) (eq-eqb r 0 h)
 
 pub rest_some : (r : ℕ) → (r ≡ 0 → ⊥) → rest_of r ≡ sl_of r
 unfolding rest_of
-rest_some r h = ap (λ (b : Bool). if b then [] else sl_of r) (ne_eqb r 0 h)
+rest_some r h = ap (λ (b : Bool). when b then [] else sl_of r) (ne_eqb r 0 h)
 
 pub long_none : (r : ℕ) → r ≡ 0 → rest_long r ≡ 0
 unfolding rest_long
-long_none r h = ap (λ (b : Bool). if b then 0 else 4) (eq-eqb r 0 h)
+long_none r h = ap (λ (b : Bool). when b then 0 else 4) (eq-eqb r 0 h)
 
 pub long_some : (r : ℕ) → (r ≡ 0 → ⊥) → rest_long r ≡ 4
 unfolding rest_long
-long_some r h = ap (λ (b : Bool). if b then 0 else 4) (ne_eqb r 0 h)
+long_some r h = ap (λ (b : Bool). when b then 0 else 4) (ne_eqb r 0 h)
 
 pub rest_long_lem : (r : ℕ) → length (rest_of r) ≡ rest_long r
 rest_long_lem r = go (ℕ_discrete r 0)
@@ -59,28 +59,28 @@ rest_long_lem r = go (ℕ_discrete r 0)
 module _ (rest n : ℕ) (o : List ℕ) where
   pub adds_pause : length o ≡ 0 → adds rest n o ≡ fulls ((rest + n) / full)
   unfolding adds
-  adds_pause h = ap (λ (b : Bool). if b then fulls ((rest + n) / full) else rest_of rest ++ o) (eq-eqb (length o) 0 h)
+  adds_pause h = ap (λ (b : Bool). when b then fulls ((rest + n) / full) else rest_of rest ++ o) (eq-eqb (length o) 0 h)
 
   pub adds_told : (length o ≡ 0 → ⊥) → adds rest n o ≡ rest_of rest ++ o
   unfolding adds
-  adds_told h = ap (λ (b : Bool). if b then fulls ((rest + n) / full) else rest_of rest ++ o) (ne_eqb (length o) 0 h)
+  adds_told h = ap (λ (b : Bool). when b then fulls ((rest + n) / full) else rest_of rest ++ o) (ne_eqb (length o) 0 h)
 
 module _ (rest n long : ℕ) where
   pub long_pause : long ≡ 0 → adds_long rest n long ≡ 4 * ((rest + n) / full)
   unfolding adds_long
-  long_pause h = ap (λ (b : Bool). if b then 4 * ((rest + n) / full) else rest_long rest + long) (eq-eqb long 0 h)
+  long_pause h = ap (λ (b : Bool). when b then 4 * ((rest + n) / full) else rest_long rest + long) (eq-eqb long 0 h)
 
   pub long_told : (long ≡ 0 → ⊥) → adds_long rest n long ≡ rest_long rest + long
   unfolding adds_long
-  long_told h = ap (λ (b : Bool). if b then 4 * ((rest + n) / full) else rest_long rest + long) (ne_eqb long 0 h)
+  long_told h = ap (λ (b : Bool). when b then 4 * ((rest + n) / full) else rest_long rest + long) (ne_eqb long 0 h)
 
   pub leaves_pause : long ≡ 0 → leaves rest n long ≡ (rest + n) % full
   unfolding leaves
-  leaves_pause h = ap (λ (b : Bool). if b then (rest + n) % full else 0) (eq-eqb long 0 h)
+  leaves_pause h = ap (λ (b : Bool). when b then (rest + n) % full else 0) (eq-eqb long 0 h)
 
   pub leaves_told : (long ≡ 0 → ⊥) → leaves rest n long ≡ 0
   unfolding leaves
-  leaves_told h = ap (λ (b : Bool). if b then (rest + n) % full else 0) (ne_eqb long 0 h)
+  leaves_told h = ap (λ (b : Bool). when b then (rest + n) % full else 0) (ne_eqb long 0 h)
 
 pub adds_long_lem : (rest n : ℕ) (o : List ℕ) → length (adds rest n o) ≡ adds_long rest n (length o)
 adds_long_lem rest n o = go (ℕ_discrete (length o) 0)
@@ -95,7 +95,7 @@ adds_long_lem rest n o = go (ℕ_discrete (length o) 0)
 
 -- the event of a line by its record's octets, of which a pause has none
 abbrev pub event_by : ℕ → ℕ → List ℕ → Event
-event_by long n o = if long =? 0 then pause n else told o
+event_by long n o = when long =? 0 then pause n else told o
 
 pub step_adds : (before : List ℕ) (rest n long : ℕ) (o : List ℕ) → length o ≡ long
     → step (flow before rest) (event_by long n o) ≡ flow (before ++ adds rest n o) (leaves rest n long)
@@ -107,10 +107,10 @@ step_adds before rest n long o e = go (ℕ_discrete long 0)
 
     go : Dec (long ≡ 0) → step (flow before rest) (event_by long n o) ≡ flow (before ++ adds rest n o) (leaves rest n long)
     go (yes h) =
-        ap (λ (b : Bool). step (flow before rest) (if b then pause n else told o)) (eq-eqb long 0 h)
+        ap (λ (b : Bool). step (flow before rest) (when b then pause n else told o)) (eq-eqb long 0 h)
         ∙ both (sym (adds_pause rest n o (e ∙ h))) (sym (leaves_pause rest n long h))
     go (no h) =
-        ap (λ (b : Bool). step (flow before rest) (if b then pause n else told o)) (ne_eqb long 0 h)
+        ap (λ (b : Bool). step (flow before rest) (when b then pause n else told o)) (ne_eqb long 0 h)
         ∙ both (sym (adds_told rest n o (λ z. h (sym e ∙ z)))) (sym (leaves_told rest n long h))
 
 pub leaves_less : (rest n long : ℕ) → rest < full → leaves rest n long < full

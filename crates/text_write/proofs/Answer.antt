@@ -7,7 +7,7 @@ use native.Mathlib.Decide.{dec_lt}
 use native.Mathlib.Omega.{arith}
 use borrow.Author.Tests.{lt-ltb, le-ltb}
 use lib.ListN.{length, drop}
-use Rattle.meaning.specs.Plain.{if◌then◌else◌}
+use Rattle.meaning.specs.Plain.{when◌then◌else◌}
 use Rattle.text_meaning.specs.declared.Written.{Written}
 use Rattle.text_meaning.specs.Writing.{Said, good, bad, events, Wrote, wrote, laid, write_said, write_text}
 use Rattle.text_trip.specs.Flow.{Streamed, whole, stopped, stream, judged}
@@ -33,11 +33,11 @@ said w out = wrote w.number w.place out
 
 pub laid_short : (o out : List ℕ) → length out < length o → laid o out ≡ wrote 14 0 out
 unfolding laid
-laid_short o out h = ap (λ (b : Bool). if b then wrote 14 0 out else wrote 0 (length o) (o ++ drop (length o) out)) (lt-ltb (length out) (length o) h)
+laid_short o out h = ap (λ (b : Bool). when b then wrote 14 0 out else wrote 0 (length o) (o ++ drop (length o) out)) (lt-ltb (length out) (length o) h)
 
 pub laid_fits : (o out : List ℕ) → length o ≤ length out → laid o out ≡ wrote 0 (length o) (o ++ drop (length o) out)
 unfolding laid
-laid_fits o out h = ap (λ (b : Bool). if b then wrote 14 0 out else wrote 0 (length o) (o ++ drop (length o) out)) (le-ltb (length out) (length o) h)
+laid_fits o out h = ap (λ (b : Bool). when b then wrote 14 0 out else wrote 0 (length o) (o ++ drop (length o) out)) (le-ltb (length out) (length o) h)
 
 refuses : (t : Streamed) (out : List ℕ) → ((judged (length out) t).number ≡ 0 → ⊥) → said (judged (length out) t) out ≡ final_of t out
 unfolding said final_of judged

@@ -7,7 +7,7 @@ use native.Mathlib.Decide.{dec_lt}
 use native.Mathlib.Omega.{arith}
 use borrow.Author.Tests.{lt-ltb, le-ltb}
 use lib.ListN.{length, length-append}
-use Rattle.meaning.specs.Plain.{Out, refused, next, if◌then◌else◌, ◌≤?◌}
+use Rattle.meaning.specs.Plain.{Out, refused, next, when◌then◌else◌, ◌≤?◌}
 use Rattle.text_meaning.specs.declared.Written.{Written}
 use Rattle.text_meaning.specs.Events.{Event, told, pause, full, fulls, rest_of}
 use Rattle.text_meaning.specs.Writing.{Placed, line_at}
@@ -20,7 +20,7 @@ pub record Fit (most : ℕ) (s : Streamed) : Type 0 where
   pub fits : length octets ≤ most
 
 abbrev says : ℕ → List ℕ → Bool → Written
-says most o b = if b then record { number = 14; place = 0 } else record { number = 0; place = length o }
+says most o b = when b then record { number = 14; place = 0 } else record { number = 0; place = length o }
 
 pub judged_short : (most : ℕ) (o : List ℕ) → most < length o → judged most (whole o) ≡ record { number = 14; place = 0 }
 unfolding judged
@@ -74,7 +74,7 @@ line_grows k text p f refused on e = absurd (never e)
 line_grows k text p f (next l) on e = omega (arith, step_grows f l.event, on l.place (step f l.event) e)
 
 ends_or : (f : Flow) (b : Bool) (x : Streamed) {o : List ℕ} → (x ≡ whole o → length f.octets ≤ length o)
-    → (if b then whole (ending f) else x) ≡ whole o → length f.octets ≤ length o
+    → (when b then whole (ending f) else x) ≡ whole o → length f.octets ≤ length o
 ends_or f true x h e = end_grows f e
 ends_or f false x h e = h e
 

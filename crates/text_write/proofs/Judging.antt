@@ -8,7 +8,7 @@ use native.Mathlib.Omega.{arith}
 use borrow.Author.Tests.{eq-eqb, ne_eqb, lt-ltb, le-ltb}
 use lib.ListN.{length, take, length-append}
 use lib.Seq.{length-take-le}
-use Rattle.meaning.specs.Plain.{refused, next, if◌then◌else◌, ◌<?◌}
+use Rattle.meaning.specs.Plain.{refused, next, when◌then◌else◌, ◌<?◌}
 use Rattle.text_meaning.specs.Events.{full, rest_of}
 use Rattle.text_meaning.specs.Writing.{placed, line_at}
 use Rattle.text_line.specs.declared.Line.{Line}
@@ -26,11 +26,11 @@ use Rattle.text_write.proofs.Fit.{judged_short, judged_fits, judged_bad}
 module _ (text rec : List ℕ) (p : ℕ) (l : Line) (e : line_found rec l ≡ line_at text p) where
   pub line_none : l.next ≡ 0 → line_at text p ≡ refused
   unfolding line_found
-  line_none z = sym e ∙ ap (λ (b : Bool). if b then refused else next (placed (event_by l.long l.count (take l.long rec)) l.next)) (eq-eqb l.next 0 z)
+  line_none z = sym e ∙ ap (λ (b : Bool). when b then refused else next (placed (event_by l.long l.count (take l.long rec)) l.next)) (eq-eqb l.next 0 z)
 
   line_some : (l.next ≡ 0 → ⊥) → line_at text p ≡ next (placed (event_by l.long l.count (take l.long rec)) l.next)
   unfolding line_found
-  line_some z = sym e ∙ ap (λ (b : Bool). if b then refused else next (placed (event_by l.long l.count (take l.long rec)) l.next)) (ne_eqb l.next 0 z)
+  line_some z = sym e ∙ ap (λ (b : Bool). when b then refused else next (placed (event_by l.long l.count (take l.long rec)) l.next)) (ne_eqb l.next 0 z)
 
   pub line_more : {rest rest' : ℕ} {o : List ℕ} → Reached text p rest o → p < length text → LineWithin p (length text) l → (l.next ≡ 0 → ⊥)
       → 55 ≤ length rec → rest' ≡ leaves rest l.count l.long → rest' < full

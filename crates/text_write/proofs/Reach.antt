@@ -7,7 +7,7 @@ use mathlib.Core.List.{List, [], ◌∷◌, ◌++◌}
 use native.Mathlib.Omega.{arith}
 use borrow.Author.Tests.{le-leb, lt-leb}
 use lib.ListN.{length}
-use Rattle.meaning.specs.Plain.{refused, next, if◌then◌else◌, ◌≤?◌}
+use Rattle.meaning.specs.Plain.{refused, next, when◌then◌else◌, ◌≤?◌}
 use Rattle.text_meaning.specs.Events.{Event, full, rest_of}
 use Rattle.text_meaning.specs.Grammar.{line}
 use Rattle.text_meaning.specs.Writing.{placed, behind, line_at}
@@ -30,8 +30,8 @@ and_false false = refl
 
 -- the end is tested before a line is read
 ends : (text : List ℕ) (p : ℕ) (f : Flow) (x : Streamed) (b : Bool) → (1 ≤? p && length text ≤? p) ≡ b
-    → (if 1 ≤? p && length text ≤? p then whole (ending f) else x) ≡ (if b then whole (ending f) else x)
-ends text p f x b e = ap (λ (c : Bool). if c then whole (ending f) else x) e
+    → (when 1 ≤? p && length text ≤? p then whole (ending f) else x) ≡ (when b then whole (ending f) else x)
+ends text p f x b e = ap (λ (c : Bool). when c then whole (ending f) else x) e
 
 reads_on : (k : ℕ) (text : List ℕ) (p : ℕ) (f : Flow) → (1 ≤? p && length text ≤? p) ≡ false
     → stream_from (suc k) text p f ≡ stream_at (stream_from k text) p f (line_at text p)

@@ -5,7 +5,7 @@ use mathlib.Core.Bool.{Bool, true, false}
 use native.Mathlib.Decide.{dec_lt}
 use native.Mathlib.Omega.{arith}
 use borrow.Author.Tests.{lt-ltb, le-ltb}
-use Rattle.meaning.specs.Plain.{if◌then◌else◌, ◌<?◌}
+use Rattle.meaning.specs.Plain.{when◌then◌else◌, ◌<?◌}
 use Rattle.text_write.specs.declared.Room.{Room}
 use Rattle.text_write.specs.Room.{room_of, less_of}
 
@@ -23,15 +23,15 @@ room_left most long h = room_is (le-ltb most long h) refl
 
 pub less_over : (r : Room) (n : ℕ) → r.over ≡ true → r ≡ less_of r n
 unfolding less_of
-less_over r n e = sym (ap (λ (b : Bool). if b then r else if r.left <? n then room true 0 else room false (r.left - n)) e)
+less_over r n e = sym (ap (λ (b : Bool). when b then r else when r.left <? n then room true 0 else room false (r.left - n)) e)
 
 less_short : (n left : ℕ) → left < n → less_of (room false left) n ≡ room true 0
 unfolding less_of
-less_short n left h = ap (λ (b : Bool). if b then room true 0 else room false (left - n)) (lt-ltb left n h)
+less_short n left h = ap (λ (b : Bool). when b then room true 0 else room false (left - n)) (lt-ltb left n h)
 
 less_fits : (n left : ℕ) → n ≤ left → less_of (room false left) n ≡ room false (left - n)
 unfolding less_of
-less_fits n left h = ap (λ (b : Bool). if b then room true 0 else room false (left - n)) (le-ltb left n h)
+less_fits n left h = ap (λ (b : Bool). when b then room true 0 else room false (left - n)) (le-ltb left n h)
 
 -- a room that is not over
 pub not_over : (r : Room) → r.over ≡ false → r ≡ room false r.left

@@ -1,4 +1,6 @@
 // A whole text written as a trace: everything is judged before the first octet is written.
+#![tactic(auto)]
+
 ghost use Rattle.std.specs.Prelude.{◌≡◌, ◌+◌, ◌*◌, ◌≤◌, ◌<◌, length};
 ghost use Rattle.list_lines.specs.Put.{Put};
 ghost use Rattle.text_meaning.specs.Events.{full, sl_of, rest_of, fulls as Events·fulls};
@@ -10,7 +12,7 @@ ghost use Rattle.text_write.specs.Adds.{adds, rest_long, adds_long, leaves as Ad
 use text_meaning::Written;
 
 // Whether the output is too short, and where it isn't, how many octets of it are left.
-#[derive(Drop)]
+#[derive(Clone, Copy)]
 struct Room {
     over: bool,
     left: usize,

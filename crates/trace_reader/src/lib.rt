@@ -1,11 +1,13 @@
 // The trace reader: the lent trace together with its place in it. Each function is thin: it takes the reader apart, and
 // the crate trace_record does the work on a plain slice and a number.
+#![tactic(auto)]
+
 ghost use Rattle.trace_reader.specs.Promises.{make_promise, next_promise, on_promise, here_promise};
 ghost use Rattle.trace_record.specs.Promises.{event_promise};
 
 use trace_record::Found;
 
-#[derive(Drop)]
+#[derive(Clone, Copy)]
 pub struct Reader<'a> {
     trace: &'a [u8],
     at: usize,

@@ -7,7 +7,7 @@ use Prim.Native.Nat.{ℕ, ◌+◌, ◌≤◌, ◌<◌}
 use lib.ListN.{length}
 use borrow.Author.Tests.{ne_eqb, eq-eqb, le-leb, lt-leb, lt-ltb, le-ltb}
 use native.Mathlib.Omega.{arith}
-use Rattle.meaning.specs.Plain.{if◌then◌else◌, ◌≤?◌, ◌=?◌}
+use Rattle.meaning.specs.Plain.{when◌then◌else◌, ◌≤?◌, ◌=?◌}
 use Rattle.meaning.specs.Words.{second_of}
 use Rattle.trace_record.specs.Trace.{TraceRecord, SL, VS, Stands, event, finish, unreadable}
 use Rattle.trace_record.specs.Trace.{be16, whole, setup_at, open_at, sustain_at, close_at, open_path_at, close_path_at, cell_at, pause_at, first_at, later_at, stands_at}
@@ -35,7 +35,7 @@ never false = refl
 
 -- an SL of 0, and a short one, can't be read
 module _ (s : List ℕ) (at : ℕ) where
-  either : (b : Bool) (x : Stands) → x ≡ (if b then x else x)
+  either : (b : Bool) (x : Stands) → x ≡ (when b then x else x)
   either true x = refl
   either false x = refl
 

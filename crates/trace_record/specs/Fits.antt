@@ -4,7 +4,7 @@ use Rattle.std.specs.Prelude.{ℕ, ◌+◌, ◌≤◌, ◌<◌, ◌≡◌, refl,
 use Rattle.std.proofs.Math.ListN.{length}
 use borrow.Author.Tests.{leb-true, eqb-true, eqb-false}
 use Rattle.std.proofs.Common.{arith}
-use Rattle.meaning.specs.Plain.{if◌then◌else◌, ◌<?◌, ◌≤?◌, ◌=?◌}
+use Rattle.meaning.specs.Plain.{when◌then◌else◌, ◌<?◌, ◌≤?◌, ◌=?◌}
 use Rattle.trace_record.specs.Trace.{TraceRecord, GM, VO, VX, CA, SL, VS, PO, PX, Stands, event, finish, refusal, unreadable}
 use Rattle.trace_record.specs.Trace.{be16, whole, setup_at, open_at, sustain_at, close_at, open_path_at, close_path_at, cell_at, pause_at, first_at, later_at, stands_at}
 use Rattle.trace_record.specs.Trace.{mark_octets, mark_gm, mark_gr, mark_gn, mark_vo, mark_vx, mark_ca, mark_sl, mark_vs, mark_po, mark_px}
@@ -37,7 +37,7 @@ Fits trace at finish = (0 < at) × (at ≡ length trace)
 Fits trace at (refusal number place) = (number ≡ 10) × (place ≡ at)
 
 -- by cases on a test
-choose : (P : Stands → Type 0) (b : Bool) {x y : Stands} → (b ≡ true → P x) → (b ≡ false → P y) → P (if b then x else y)
+choose : (P : Stands → Type 0) (b : Bool) {x y : Stands} → (b ≡ true → P x) → (b ≡ false → P y) → P (when b then x else y)
 choose P true t f = t refl
 choose P false t f = f refl
 

@@ -1,12 +1,12 @@
 -- Document 01, "Trace and listing": the records of a trace, and what stands at a place of it.
 --
 --   TraceRecord          == a record, by its mark, with its numbers in document 01's order
---   headOptions head     == what a trace that begins so chooses at setup; headMark head == its mark
+--   head_options head     == what a trace that begins so chooses at setup; head_mark head == its mark
 --   Stands               == what stands at a place: a record and the next place, the end, or a refusal with its place
---   standsAt trace at    == what stands at place at of a trace
+--   stands_at trace at    == what stands at place at of a trace
 --   said_of r             == document 01's number and values of the reader's answer r, by case
 use Rattle.std.specs.Prelude.{ℕ, ◌+◌, ◌*◌, Bool, true, false, ◌&&◌, List, length, get_or}
-use Rattle.meaning.specs.Plain.{if◌then◌else◌, ◌<?◌, ◌≤?◌, ◌=?◌}
+use Rattle.meaning.specs.Plain.{when◌then◌else◌, ◌<?◌, ◌≤?◌, ◌=?◌}
 use Rattle.meaning.specs.Words.{Second, second_of}
 use Rattle.meaning.specs.Calls.{Kind, UNI, NNI, Options, options_of}
 pub use Rattle.trace_record.specs.Marks.{mark_octets, mark_gm, mark_gr, mark_gn, mark_vo, mark_vx, mark_ca, mark_sl, mark_vs, mark_po, mark_px}
@@ -70,7 +70,7 @@ be32 trace i = be16 trace i * 65_536 + be16 trace (i + 2)
 
 -- "a short record .. is refused with 10": a record of so many octets that starts at place at
 unfoldable pub whole : List ℕ → ℕ → ℕ → TraceRecord → Stands
-whole trace at long r = if at + long ≤? length trace then event r (at + long) else unreadable at
+whole trace at long r = when at + long ≤? length trace then event r (at + long) else unreadable at
 
 unfoldable pub setup_at : List ℕ → ℕ → Head → Stands
 setup_at trace at head = whole trace at long_gm (GM (be16 trace (at + 2)) (be16 trace (at + 4)) head)
@@ -103,36 +103,36 @@ cell_at trace at = whole trace at long_ca (CA (at + mark_octets))
 -- "a count (16) of empty slots, at least 1 .. an SL of 0 .. is refused with 10"
 unfoldable pub pause_at : List ℕ → ℕ → Stands
 pause_at trace at =
-    if be16 trace (at + 2) =? 0 then unreadable at
+    when be16 trace (at + 2) =? 0 then unreadable at
     else whole trace at long_sl (SL (be16 trace (at + 2)))
 
 -- "GM .. first and only first .. An unknown mark .. a first record that isn't GM or a later GM is refused with 10"; so is
 -- a later GR or GN
 unfoldable pub first_at : List ℕ → ℕ → ℕ → Stands
 first_at trace at mark =
-    if mark =? mark_gm then setup_at trace at Gm
-    else if mark =? mark_gr then setup_at trace at Gr
-    else if mark =? mark_gn then setup_at trace at Gn
+    when mark =? mark_gm then setup_at trace at Gm
+    else when mark =? mark_gr then setup_at trace at Gr
+    else when mark =? mark_gn then setup_at trace at Gn
     else unreadable at
 
 unfoldable pub later_at : List ℕ → ℕ → ℕ → Stands
 later_at trace at mark =
-    if mark =? mark_ca then cell_at trace at
-    else if mark =? mark_sl then pause_at trace at
-    else if mark =? mark_vo then open_at trace at
-    else if mark =? mark_vx then close_at trace at
-    else if mark =? mark_vs then sustain_at trace at
-    else if mark =? mark_po then open_path_at trace at
-    else if mark =? mark_px then close_path_at trace at
+    when mark =? mark_ca then cell_at trace at
+    else when mark =? mark_sl then pause_at trace at
+    else when mark =? mark_vo then open_at trace at
+    else when mark =? mark_vx then close_at trace at
+    else when mark =? mark_vs then sustain_at trace at
+    else when mark =? mark_po then open_path_at trace at
+    else when mark =? mark_px then close_path_at trace at
     else unreadable at
 
 -- What stands at a place. First is place 0. The place after the last octet of a trace that isn't empty is its end.
 -- "A place past the trace's end is refused with 10 and that place"; so is an empty trace, at place 0.
 unfoldable pub stands_at : List ℕ → ℕ → Stands
 stands_at trace at =
-    if 1 ≤? at && at =? length trace then finish
-    else if length trace <? at + mark_octets then unreadable at
-    else if at =? 0 then first_at trace at (be16 trace at)
+    when 1 ≤? at && at =? length trace then finish
+    else when length trace <? at + mark_octets then unreadable at
+    else when at =? 0 then first_at trace at (be16 trace at)
     else later_at trace at (be16 trace at)
 
 -- "For any answer that is an enum, a definition gives this paper's number and values for each case."

@@ -1,10 +1,12 @@
 // Reading a trace: what stands at a place of it, on a plain slice and a number.
+#![tactic(auto)]
+
 ghost use Rattle.std.specs.Prelude.{◌≡◌, ◌+◌, ◌≤◌, ◌<◌, length};
 ghost use Rattle.trace_record.specs.Trace.{be16, be32, setup_at, open_at, sustain_at, close_at, open_path_at, close_path_at, cell_at, pause_at, first_at, later_at, said_of};
 ghost use Rattle.trace_record.specs.Promises.{event_promise, place_promise};
 
 // The mark of the first record: GM; GR, whose trace is raw; GN, whose trace is of the NNI.
-#[derive(Drop)]
+#[derive(Clone, Copy)]
 pub enum Head {
     Gm,
     Gr,
@@ -13,7 +15,7 @@ pub enum Head {
 
 // A record of a trace. Open is a VO; Sustain is a VS, with the second bucket's m, F and C and the tagging flag; OpenPath and
 // ClosePath are PO and PX. A cell's 53 octets start at octet `start` of the trace.
-#[derive(Drop)]
+#[derive(Clone, Copy)]
 pub enum Event {
     Setup {
         n: u16,
@@ -57,7 +59,7 @@ pub enum Event {
 }
 
 // What stands at a place: a record, and where the next one starts; the end; or nothing that can be read (10).
-#[derive(Drop)]
+#[derive(Clone, Copy)]
 pub enum Found {
     Read { event: Event, next: usize },
     End,

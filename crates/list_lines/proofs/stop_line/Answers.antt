@@ -1,0 +1,11 @@
+-- `list_lines::stop_line` puts the stop line: the words, then the place.
+use native.Mathlib.Omega.{arith}
+use Rattle.list_lines.proofs.Words.{stop_words}
+use Rattle.list_lines.proofs.Puts.{put_is, put_then}
+use Rattle.list_lines.proofs.stop_line.Goals as goal
+
+pub returns : goal.returns
+returns c =
+    let n1 = c.before in
+    let t = n1.before in
+    record { put = put_is (stop_words _) (put_then t.text-a.ensures n1.number.ensures.put); upper_bound = omega (arith, t.text-a.ensures.next, n1.number.ensures.upper_bound) }

@@ -1,0 +1,12 @@
+-- `list_step::serve` serves one slot and puts its line: the slot's promise and the line's, joined by `serve_did`.
+use Rattle.list_step.proofs.Did.{serve_did}
+use Rattle.list_step.proofs.serve.Goals as goal
+
+pub slot_line-end-requires : goal.slot_line-end-requires
+slot_line-end-requires c = c.requires
+
+pub returns : goal.returns
+returns c =
+    let l = c.slot_line-end in
+    let s = c.slot-served in
+    serve_did _ _ _ _ _ _ _ _ _ _ _ _ _ _ _ _ _ _ _ _ _ _ s.ensures c.counted-tally.ensures l.ensures.put l.ensures.upper_bound

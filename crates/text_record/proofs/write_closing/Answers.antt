@@ -1,0 +1,14 @@
+-- `text_record::write_closing`: a closing is written at a later place, and where its 4 octets fit.
+use borrow.Author.Rules.{rules}
+use Rattle.text_record.proofs.Cases.{not_first, but_first, its_long, refused, too_short, written}
+use Rattle.list_lines.proofs.Puts.{put_is, put_then}
+use Rattle.text_record.proofs.write_closing.Goals as goal
+
+pub returns-then-at-eq0 : goal.returns-then-at-eq0
+returns-then-at-eq0 c = λ g l. refused _ _ g (not_first l _ (search rules))
+
+pub returns-then-room-lt4 : goal.returns-then-room-lt4
+returns-then-room-lt4 c = λ g l. too_short _ _ g 4 (its_long l) (but_first l _ (search rules)) (search rules)
+
+pub returns : goal.returns
+returns c = λ g l. written _ _ g 4 (its_long l) (but_first l _ (search rules)) (search rules) (put_is l.octets_are (put_then c.two-a.ensures c.two-next.ensures))
