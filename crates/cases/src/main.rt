@@ -1,18 +1,23 @@
 // A table of cases: each file c00, c01, .. is an input; its name and its listing are written. A new case is a new file and
 // its lines in stdout.
+#![tactic(auto)]
+
+use std::fs::File;
+use std::io::Write;
 
 // Runs case k, and answers whether there is such a file.
-fn one_case(k: u8) -> bool {
+fn one_case(rt: &HostRuntime, k: u8) -> bool {
     let name = [b'c', b'0' + k / 10 % 10, b'0' + k % 10];
-    let fd = os::open_read(&name);
-    if fd < 0 {
+    let path = str::from_utf8(&name).unwrap();
+    let Ok(mut file) = File::open(rt, path) else {
         return false;
-    }
+    };
     let mut input = [0u8; 65537];
-    let long = io::read_full(fd, &mut input);
-    libc::close(fd);
-    io::write_all(1, &name);
-    io::write_all(1, b"\n");
+    let long = input_read::read_full(&mut file, &mut input);
+    drop(file);
+    let mut to = rt.stdout();
+    let _ = to.write_all(&name);
+    let _ = to.write_all(b"\n");
     let mut cells = [0u8; 54272];
     let mut links = [0u16; 1024];
     let mut calendar = [0u16; 2048];
@@ -21,7 +26,7 @@ fn one_case(k: u8) -> bool {
     let mut arrived = [0u32; 1024];
     let mut out = [0u8; 65536];
     list_write::list(
-        1,
+        &mut to,
         &input[..long],
         &mut cells,
         &mut links,
@@ -34,10 +39,10 @@ fn one_case(k: u8) -> bool {
     true
 }
 
-fn main() {
+fn main(rt: HostRuntime) {
     let mut k = 0u8;
     while k < 100 {
-        if one_case(k) {
+        if one_case(&rt, k) {
             k += 1;
         } else {
             k = 100;

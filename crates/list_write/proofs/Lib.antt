@@ -1,2 +1,3 @@
 pub mod Parts
 pub mod Once
+pub mod Made

@@ -1,10 +1,13 @@
 -- What it means that a listing was handed over: fill after fill from where a run begins, each handed to the writer before the
--- next is made. Which octets were then written, and what the writer answers, is outside every contract.
+-- next is made. Which octets the system then writes, and what the writer answers, is outside every contract.
 --
---   frontOf z w   == the world w with those parts of the memories that N and V of z ask for;  behindOf z w == the other parts;
+--   front_of z w   == the world w with those parts of the memories that N and V of z ask for;  behind_of z w == the other parts;
 --                    the words of bits are 32 whatever N is, and are lent whole
 --   Handed        == so many fills were handed over, and what they left
 --   Listed        == the same out of the front parts of larger memories
+--   Written       == which octets the writer took
+use Rattle.std.specs.declared.option.Option.{Option}
+use Rattle.std.specs.Io.KnownBytes.{Appends}
 use Rattle.std.specs.Prelude.{ℕ, ◌*◌, ◌<◌, ◌≤◌, ◌≡◌, Bool, true, List, [], ◌++◌, length, take, drop}
 use Rattle.meaning.specs.Numbers.{most_n, most_v, octets, per_entry, words_in, bit_words}
 use Rattle.meaning.specs.State.{State, state_of}
@@ -13,7 +16,7 @@ use Rattle.list_whole.specs.declared.Run.{Run}
 use Rattle.list_whole.specs.declared.Sizes.{Sizes}
 use Rattle.list_whole.specs.Run.{World}
 use Rattle.list_whole.specs.Fill.{Fills, start_run, sizes_of}
-use Rattle.list_whole.specs.Lent.{Lent, world_before, world_after}
+use Rattle.list_whole.specs.Lent.{world_before, world_after, Lent, LentMut}
 
 -- what a call leaves: the memories after it hold, with the run that is named, this world
 abbrev pub Left : Type 0
@@ -73,12 +76,16 @@ pub record Listed (input : List ℕ) (w : World) (out : List ℕ) (left : Left) 
   pub kept : behind_of (sizes_of input) (left start_run) ≡ behind_of (sizes_of input) w
 
 -- both of what is lent from where a run begins, for contracts
-abbrev pub HandedLent : (input cells links calendar words bits arrived out : Lent) → Bool → Type 0
+abbrev pub HandedLent : (input : Lent) (cells links calendar words bits arrived out : LentMut) → Bool → Type 0
 HandedLent input cells links calendar words bits arrived out answer =
     Handed input.entry.now (world_before start_run cells links calendar words bits arrived) out.entry.now
     (λ (run : Run). world_after run cells links calendar words bits arrived) out.exit.now answer
 
-abbrev pub ListedLent : (input cells links calendar words bits arrived out : Lent) → Bool → Type 0
+abbrev pub ListedLent : (input : Lent) (cells links calendar words bits arrived out : LentMut) → Bool → Type 0
 ListedLent input cells links calendar words bits arrived out answer =
     Listed input.entry.now (world_before start_run cells links calendar words bits arrived) out.entry.now
     (λ (run : Run). world_after run cells links calendar words bits arrived) out.exit.now answer
+
+-- yes is said only where the writer took the whole listing: where it says which octets it holds, they grew by it
+abbrev pub Written : (before after : Option (List ℕ)) → (input : Lent) → Bool → Type 0
+Written before after input answer = answer ≡ true → Appends before after (listing_of input.entry.now)

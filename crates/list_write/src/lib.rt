@@ -1,15 +1,18 @@
-// The listing of an input, handed to a file descriptor one buffer after the other. What is handed over, in which order and
+// The listing of an input, handed to a writer one buffer after the other. What is handed over, in which order and
 // what is left in the lent memories is promised; whether the operating system takes it is outside every contract.
+#![tactic(auto)]
+
 ghost use Rattle.std.specs.Prelude.{◌≤◌, length};
-ghost use Rattle.list_write.specs.Listed.{HandedLent, Ample, ListedLent};
+ghost use Rattle.list_write.specs.Listed.{HandedLent, Ample, ListedLent, Written};
 ghost use Rattle.list_whole.specs.Lent.{world_here};
 ghost use Rattle.list_whole.specs.Fill.{room, LentFor, start_run, sizes_of};
 
 use meaning::{PATHS, WORDS_PER_CONNECTION};
+use std::io::Write;
 
 // Fills the buffer and writes it out, until the listing is whole, or until a write fails.
-fn hand_over(
-    fd: i32,
+fn hand_over<W: Write>(
+    to: &mut W,
     input: &[u8],
     cells: &mut [u8],
     links: &mut [u16],
@@ -21,7 +24,8 @@ fn hand_over(
 ) -> bool
     requires lent_for { LentFor (sizes_of input.now) (world_here start_run cells links calendar words bits arrived) }
     requires room_in_bounds { room ≤ length out.old }
-    ensures { HandedLent input cells links calendar words bits arrived out result }
+    ensures handed { HandedLent input cells links calendar words bits arrived out result }
+    ensures written { Written (W.contents to.old) (W.contents to.new) input result }
 {
     let mut run = list_fill::start();
     while !run.done {
@@ -29,7 +33,7 @@ fn hand_over(
             input, run, cells, links, calendar, words, bits, arrived, out,
         );
         let used = filled.used;
-        if !io::write_all(fd, &out[..used]) {
+        if to.write_all(&out[..used]).is_err() {
             return false;
         }
         run = filled.run;
@@ -38,8 +42,8 @@ fn hand_over(
 }
 
 // Lends those parts of its memory that N and V of the first record ask for.
-fn lend(
-    fd: i32,
+fn lend<W: Write>(
+    to: &mut W,
     input: &[u8],
     cells: &mut [u8],
     links: &mut [u16],
@@ -51,7 +55,8 @@ fn lend(
 ) -> bool
     requires ample { Ample (world_here start_run cells links calendar words bits arrived) }
     requires room_in_bounds { room ≤ length out.old }
-    ensures { ListedLent input cells links calendar words bits arrived out result }
+    ensures listed { ListedLent input cells links calendar words bits arrived out result }
+    ensures written { Written (W.contents to.old) (W.contents to.new) input result }
 {
     let sizes = list_fill::sizes_of(input);
     let n = sizes.n as usize;
@@ -60,7 +65,7 @@ fn lend(
     let ends = 2 * n;
     let many = WORDS_PER_CONNECTION * (v + PATHS as usize);
     hand_over(
-        fd,
+        to,
         input,
         &mut cells[..octets],
         &mut links[..n],
@@ -74,8 +79,8 @@ fn lend(
 
 // Writes the listing of an input, out of memory that is long enough for every N and V, and answers whether all of it was
 // written.
-pub fn list(
-    fd: i32,
+pub fn list<W: Write>(
+    to: &mut W,
     input: &[u8],
     cells: &mut [u8; 54272],
     links: &mut [u16; 1024],
@@ -85,7 +90,8 @@ pub fn list(
     arrived: &mut [u32; 1024],
     out: &mut [u8; 65536],
 ) -> bool
-    ensures { ListedLent input cells links calendar words bits arrived out result }
+    ensures listed { ListedLent input cells links calendar words bits arrived out result }
+    ensures written { Written (W.contents to.old) (W.contents to.new) input result }
 {
-    lend(fd, input, cells, links, calendar, words, bits, arrived, out)
+    lend(to, input, cells, links, calendar, words, bits, arrived, out)
 }

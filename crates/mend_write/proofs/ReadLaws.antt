@@ -5,7 +5,7 @@ use mathlib.Core.Bool.{Bool, true, false, ◌&&◌}
 use mathlib.Core.List.{List, [], ◌∷◌, ◌++◌, append-nil, append_assoc}
 use borrow.Author.Tests.{lt-ltb, le-leb, ne_eqb}
 use native.Mathlib.Omega.{arith}
-use Rattle.meaning.specs.Plain.{if◌then◌else◌, ◌<?◌, ◌≤?◌, ◌=?◌}
+use Rattle.meaning.specs.Plain.{when◌then◌else◌, ◌<?◌, ◌≤?◌, ◌=?◌}
 use Rattle.mend_write.specs.declared.Counted.{Counted}
 use Rattle.mend_write.specs.Reads.{chunk, most, Got, failed, octets, fits, stop, ended, counted, Reads}
 

@@ -7,7 +7,12 @@ use mathlib.Core.List.{List, [], ◌∷◌, ◌++◌, append-nil, append_assoc}
 use lib.ListN.{length, take}
 use borrow.Author.Tests.{ltb-true, lt-ltb, le-ltb, le-leb, lt-leb}
 use native.Mathlib.Omega.{arith}
-use Rattle.meaning.specs.Plain.{if◌then◌else◌, ◌<?◌, ◌≤?◌, ◌=?◌}
+use Rattle.std.specs.declared.option.Option.{Option}
+use Rattle.std.specs.Prelude.{Result, Ok, Err, OnOk}
+use Rattle.std.specs.Result.{is_err, is_ok}
+use Rattle.std.specs.Io.KnownBytes.{Appends}
+use Rattle.std.proofs.KnownBytes.{Appends-nil, Appends-trans, Keeps-refl}
+use Rattle.meaning.specs.Plain.{when◌then◌else◌, ◌<?◌, ◌≤?◌, ◌=?◌}
 use Rattle.list_lines.proofs.Puts.{put_front}
 use Rattle.mend_step.specs.Salvage.{reads_to, step_at, Piece, piece_of, walk_from, walk, written_of}
 use Rattle.mend_step.proofs.Walk.{step_on}
@@ -16,21 +21,30 @@ use Rattle.mend_fill.specs.declared.Filled.{Filled}
 use Rattle.mend_fill.specs.Lines.{lines_of}
 use Rattle.mend_fill.specs.Fill.{record_room, line_room, fill_from, fill_of, end_of, Took, begun, refuses, FillPromise}
 use Rattle.mend_fill.proofs.FillLaws.{and_first, and_last, lines_append, end_one, one_more}
-use Rattle.mend_write.specs.Handed.{Fills, no_fill, then_fill, Handed, mends, MendPromise}
+use Rattle.mend_write.specs.Handed.{Fills, no_fill, then_fill, Handed, mends, MendPromise, Taken, stop_17, Written}
+
+-- a write that didn't fail took all
+pub took : {T E : Type 0} (r : Result T E) (failed : Bool) (P : Type 0) → failed ≡ is_err r → failed ≡ false → OnOk r P → P
+took (Ok x) failed P e f p = p
+took (Err x) failed P e f p = let z : true ≡ false = sym e ∙ f in let y : ◌≡◌ {A = ℕ} 0 1 = cc in absurd (omega arith)
+
+pub took_well : {T E : Type 0} (r : Result T E) (good : Bool) (P : Type 0) → good ≡ is_ok r → good ≡ true → OnOk r P → P
+took_well (Ok x) good P e f p = p
+took_well (Err x) good P e f p = let z : false ≡ true = sym e ∙ f in let y : ◌≡◌ {A = ℕ} 0 1 = cc in absurd (omega arith)
 
 module _ (s : List ℕ) (n : ℕ) where
   walk_fuel : (k j p : ℕ) → n - p ≤ k → n - p ≤ j → walk_from s n k p ≡ walk_from s n j p
   unfolding walk_from
   walk_fuel zero zero p h l = refl
   walk_fuel zero (suc j) p h l =
-      sym (ap (λ (b : Bool). if b then piece_of p (step_at s n p) ∷ walk_from s n j (step_at s n p).next else []) (le-ltb p n (omega arith)))
+      sym (ap (λ (b : Bool). when b then piece_of p (step_at s n p) ∷ walk_from s n j (step_at s n p).next else []) (le-ltb p n (omega arith)))
   walk_fuel (suc k) zero p h l =
-      ap (λ (b : Bool). if b then piece_of p (step_at s n p) ∷ walk_from s n k (step_at s n p).next else []) (le-ltb p n (omega arith))
+      ap (λ (b : Bool). when b then piece_of p (step_at s n p) ∷ walk_from s n k (step_at s n p).next else []) (le-ltb p n (omega arith))
   walk_fuel (suc k) (suc j) p h l = go (p <? n) refl (λ q. walk_fuel k j q)
     where
       go : (b : Bool) → (p <? n) ≡ b → ((q : ℕ) → n - q ≤ k → n - q ≤ j → walk_from s n k q ≡ walk_from s n j q)
-          → (if b then piece_of p (step_at s n p) ∷ walk_from s n k (step_at s n p).next else [])
-          ≡ (if b then piece_of p (step_at s n p) ∷ walk_from s n j (step_at s n p).next else [])
+          → (when b then piece_of p (step_at s n p) ∷ walk_from s n k (step_at s n p).next else [])
+          ≡ (when b then piece_of p (step_at s n p) ∷ walk_from s n j (step_at s n p).next else [])
       go true e more =
           let o = step_on s n p (ltb-true p n e) in
           ap (λ (xs : List Piece). piece_of p (step_at s n p) ∷ xs) (more (step_at s n p).next (omega (arith, o)) (omega (arith, o)))
@@ -42,7 +56,7 @@ module _ (s : List ℕ) (n : ℕ) where
   walk_one : (k p : ℕ) → p < n → walk_from s n (suc k) p ≡ piece_of p (step_at s n p) ∷ walk_from s n k (step_at s n p).next
   unfolding walk_from
   walk_one k p h =
-      ap (λ (b : Bool). if b then piece_of p (step_at s n p) ∷ walk_from s n k (step_at s n p).next else []) (lt-ltb p n h)
+      ap (λ (b : Bool). when b then piece_of p (step_at s n p) ∷ walk_from s n k (step_at s n p).next else []) (lt-ltb p n h)
 
   fill_walk : (k p a b : ℕ) → n - p ≤ k → walk_from s n k p ≡ fill_from s n k p a b ++ to (end_of p (fill_from s n k p a b))
   unfolding fill_from
@@ -59,7 +73,7 @@ module _ (s : List ℕ) (n : ℕ) where
 
       go : (t : Bool) → p <? n && (record_room ≤? a && line_room ≤? b) ≡ t
           → (p < (step_at s n p).next → walk_from s n k (step_at s n p).next ≡ ys ++ to (end_of (step_at s n p).next ys))
-          → P (if t then piece_of p (step_at s n p) ∷ ys else [])
+          → P (when t then piece_of p (step_at s n p) ∷ ys else [])
       go true e more =
           let i = ltb-true p n (and_first (p <? n) (record_room ≤? a && line_room ≤? b) e) in
           let o = step_on s n p i in
@@ -79,7 +93,7 @@ module _ (s : List ℕ) (n : ℕ) where
       ys = fill_from s n k (step_at s n p).next (a - length (written_of s (piece_of p (step_at s n p) ∷ []))) (b - length (lines_of (piece_of p (step_at s n p) ∷ [])))
 
       go : (t : Bool) → p <? n && (record_room ≤? a && line_room ≤? b) ≡ t → (step_at s n p).next ≤ end_of (step_at s n p).next ys
-          → p ≤ end_of p (if t then piece_of p (step_at s n p) ∷ ys else [])
+          → p ≤ end_of p (when t then piece_of p (step_at s n p) ∷ ys else [])
       go true e more =
           let o = step_on s n p (ltb-true p n (and_first (p <? n) (record_room ≤? a && line_room ≤? b) e)) in
           omega (arith, o, more, end_one p p (step_at s n p) ys o)
@@ -122,7 +136,7 @@ module _ (s : List ℕ) (n : ℕ) where
       → Took s p (fill_of s n p (length out) (length text)) out text r out' text'
   promised {p} {out} {text} {out'} {text'} {r} h f =
       subst (λ (qs : List Piece). Took s p qs out text r out' text')
-      (ap (λ (b : Bool). if b then [] else fill_of s n p (length out) (length text)) (not_refused p h)) f.took
+      (ap (λ (b : Bool). when b then [] else fill_of s n p (length out) (length text)) (not_refused p h)) f.took
 
   pub fill_leads : {p : ℕ} {out text out' text' : List ℕ} {r : Filled} → begun (reads_to s 0) ≡ true → FillPromise s n p out text r out' text'
       → p < n → record_room ≤ length out → line_room ≤ length text → p < r.at
@@ -181,6 +195,62 @@ module _ (s : List ℕ) (n : ℕ) where
         fills = d.fills;
         all = λ e. absurd (let y : ◌≡◌ {A = ℕ} 0 1 = cc in omega arith);
         some = λ _. fills_some d.fills h;
+      }
+
+  -- ---- which octets were taken
+
+  -- so far what the fills put
+  pub record Going (out₀ text₀ : List ℕ) (a a' b b' : Option (List ℕ)) (at : ℕ) (out text : List ℕ) : Type 0 where
+    pub sofar : Sofar out₀ text₀ at out text
+    pub mended : Appends a a' sofar.w
+    pub listed : Appends b b' sofar.l
+
+  pub going_none : (out₀ text₀ : List ℕ) (a b : Option (List ℕ)) → Going out₀ text₀ a a b b 0 out₀ text₀
+  unfolding sofar_none
+  going_none out₀ text₀ a b = record { sofar = sofar_none out₀ text₀; mended = Appends-nil a; listed = Appends-nil b }
+
+  pub going_more : {out₀ text₀ out text out' text' : List ℕ} {a a' b b' : Option (List ℕ)} {at : ℕ} {r : Filled} (a'' b'' : Option (List ℕ))
+      → begun (reads_to s 0) ≡ true
+      → Going out₀ text₀ a a' b b' at out text → at < n → FillPromise s n at out text r out' text'
+      → Appends a' a'' (take r.written out') → Appends b' b'' (take r.listed text')
+      → Going out₀ text₀ a a'' b b'' r.at out' text'
+  unfolding sofar_more
+  going_more a'' b'' h d on f p q =
+      record {
+        sofar = sofar_more h d.sofar on f;
+        mended = Appends-trans _ _ _ _ _ d.mended p;
+        listed = Appends-trans _ _ _ _ _ d.listed q;
+      }
+
+  pub going_all : {out₀ text₀ out text : List ℕ} {a a' b b' : Option (List ℕ)} {at : ℕ} → Going out₀ text₀ a a' b b' at out text → n ≤ at
+      → Taken s n a a' b b'
+  unfolding sofar_all
+  going_all {a = a} {a'} {b} {b'} d h =
+      let w = (sofar_all d.sofar h).all refl in
+      record { mended = subst (Appends a a') w.1 d.mended; listed = subst (Appends b b') w.2 d.listed }
+
+  pub no_yes : (a a' b b' : Option (List ℕ)) → begun (reads_to s 0) ≡ true → Written s n false a a' b b'
+  no_yes a a' b b' h =
+      record {
+        taken = λ e. absurd (let y : ◌≡◌ {A = ℕ} 0 1 = cc in omega arith);
+        said = λ e. absurd (let y : ◌≡◌ {A = ℕ} 0 1 = cc in omega arith);
+        kept = λ e. absurd (let x : true ≡ false = sym h ∙ e in let y : ◌≡◌ {A = ℕ} 0 1 = cc in omega arith);
+      }
+
+  pub all_taken : {r : Bool} {a a' b b' : Option (List ℕ)} → begun (reads_to s 0) ≡ true → (r ≡ true → Taken s n a a' b b') → Written s n r a a' b b'
+  all_taken h t =
+      record {
+        taken = λ e _. t e;
+        said = λ _ e. absurd (let x : true ≡ false = sym h ∙ e in let y : ◌≡◌ {A = ℕ} 0 1 = cc in omega arith);
+        kept = λ e. absurd (let x : true ≡ false = sym h ∙ e in let y : ◌≡◌ {A = ℕ} 0 1 = cc in omega arith);
+      }
+
+  pub said_17 : {r : Bool} {a b b' : Option (List ℕ)} → begun (reads_to s 0) ≡ false → (r ≡ true → Appends b b' stop_17) → Written s n r a a b b'
+  said_17 {a = a} h t =
+      record {
+        taken = λ _ e. absurd (let x : true ≡ false = sym e ∙ h in let y : ◌≡◌ {A = ℕ} 0 1 = cc in omega arith);
+        said = λ e _. t e;
+        kept = λ _. Keeps-refl a;
       }
 
   -- ---- whether it is mended

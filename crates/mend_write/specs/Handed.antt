@@ -1,7 +1,9 @@
 -- What it means that a mended trace and its list were handed over: fill after fill from place 0, each from where the one
 -- before left the place and the buffers; what they put, and in which order, is fixed, and so is what is left in the
--- buffers. Which octets then were written is outside every contract.
-use Rattle.std.specs.Prelude.{ℕ, suc, ◌≤◌, ◌<◌, ◌≡◌, Bool, true, false, ◌&&◌, List, [], ◌++◌, length, take}
+-- buffers. Which octets the system then writes is outside every contract.
+use Rattle.std.specs.Prelude.{ℕ, suc, ◌≤◌, ◌<◌, ◌≡◌, Bool, true, false, ◌&&◌, List, [], ◌∷◌, ◌++◌, length, take}
+use Rattle.std.specs.declared.option.Option.{Option}
+use Rattle.std.specs.Io.KnownBytes.{Appends, Keeps}
 use Rattle.meaning.specs.Plain.{◌≤?◌}
 use Rattle.mend_step.specs.Salvage.{reads_to, walk, written_of}
 use Rattle.mend_fill.specs.declared.Filled.{Filled}
@@ -38,3 +40,19 @@ pub record MendPromise (trace : List ℕ) (n : ℕ) (out text : List ℕ) (r : B
   pub kept : mends trace out text ≡ false → (out' ≡ out) × (text' ≡ text)
   -- a buffer too short is a no; at 17 the answer is whether that line was written
   pub short : begun (reads_to trace 0) ≡ true → mends trace out text ≡ false → r ≡ false
+
+-- ---- which octets the two writers took, where they say which they hold: before and after, of the one and of the other
+
+pub record Taken (trace : List ℕ) (n : ℕ) (a a' b b' : Option (List ℕ)) : Type 0 where
+  pub mended : Appends a a' (written_of trace (walk trace n))
+  pub listed : Appends b b' (lines_of (walk trace n))
+
+-- `stop 17`
+abbrev pub stop_17 : List ℕ
+stop_17 = 115 ∷ 116 ∷ 111 ∷ 112 ∷ 32 ∷ 49 ∷ 55 ∷ 10 ∷ []
+
+-- yes is said only where they took all of the mended trace and all lines; at 17 the first takes nothing
+pub record Written (trace : List ℕ) (n : ℕ) (r : Bool) (a a' b b' : Option (List ℕ)) : Type 0 where
+  pub taken : r ≡ true → begun (reads_to trace 0) ≡ true → Taken trace n a a' b b'
+  pub said : r ≡ true → begun (reads_to trace 0) ≡ false → Appends b b' stop_17
+  pub kept : begun (reads_to trace 0) ≡ false → Keeps a a'

@@ -4,7 +4,7 @@
 --   counted total gots == the count, where total octets came before and the reads from now on answer gots
 --   Reads before r     == r is the count that some answers lead to
 use Rattle.std.specs.Prelude.{ℕ, ◌+◌, ◌≡◌, Bool, true, false, ◌&&◌, List, [], ◌∷◌}
-use Rattle.meaning.specs.Plain.{if◌then◌else◌, ◌<?◌, ◌≤?◌, ◌=?◌}
+use Rattle.meaning.specs.Plain.{when◌then◌else◌, ◌<?◌, ◌≤?◌, ◌=?◌}
 use Rattle.mend_write.specs.declared.Counted.{Counted}
 
 -- one read brings so many octets at most; a total that one more could bring to 2^64 is not counted on
@@ -34,7 +34,7 @@ unfoldable pub counted : ℕ → List Got → Counted
 counted total [] = stop total
 counted total (failed ∷ gots) = stop total
 counted total (octets n ∷ gots) =
-    if total <? most then (if n =? 0 then ended total else counted (total + n) gots)
+    when total <? most then (when n =? 0 then ended total else counted (total + n) gots)
     else stop total
 
 pub record Reads (before : ℕ) (r : Counted) : Type 0 where

@@ -1,10 +1,14 @@
-// A mended trace and the list of its stretches, handed to two file descriptors one buffer after the other. Which octets an
-// operating system is handed is outside every contract, so these functions are kept short enough to judge by eye.
+// A mended trace and the list of its stretches, handed to two writers one buffer after the other. What they
+// took is promised where they say which octets they hold; what an operating system does with them is outside every contract.
+#![tactic(auto)]
+
 ghost use Rattle.std.specs.Prelude.{◌≡◌, true, ◌≤◌, length};
 ghost use Rattle.mend_step.specs.Salvage.{reads_to};
 ghost use Rattle.mend_fill.specs.Fill.{record_room, line_room, begun};
-ghost use Rattle.mend_write.specs.Handed.{Handed, MendPromise};
+ghost use Rattle.mend_write.specs.Handed.{Handed, MendPromise, Taken, Written};
 ghost use Rattle.mend_write.specs.Reads.{Reads};
+
+use std::io::{Read, Write};
 
 // As `mend_fill` has them: the longest record, the longest line.
 const RECORD_ROOM: usize = 55;
@@ -12,9 +16,9 @@ const RECORD_ROOM: usize = 55;
 const LINE_ROOM: usize = 42;
 
 // Fills both buffers and writes them out, until the input's end is reached, or until a write fails.
-fn hand_over(
-    mended: i32,
-    list: i32,
+fn hand_over<M: Write, L: Write>(
+    mended: &mut M,
+    list: &mut L,
     trace: &[u8],
     total: usize,
     out: &mut [u8],
@@ -22,7 +26,9 @@ fn hand_over(
 ) -> bool
     requires trace_value { begun (reads_to trace.now 0) ≡ true }
     requires record_room_in_bounds { (record_room ≤ length out.old) × (line_room ≤ length text.old) }
-    ensures { Handed trace.now total out.old text.old result out.new text.new }
+    ensures handed { Handed trace.now total out.old text.old result out.new text.new }
+    ensures written { result ≡ true → Taken trace.now total (M.contents mended.old) (M.contents mended.new)
+        (L.contents list.old) (L.contents list.new) }
 {
     let mut at = 0usize;
     while at < total {
@@ -30,10 +36,10 @@ fn hand_over(
         let written = f.written;
         let listed = f.listed;
         at = f.at;
-        if !io::write_all(mended, &out[..written]) {
+        if mended.write_all(&out[..written]).is_err() {
             return false;
         }
-        if !io::write_all(list, &text[..listed]) {
+        if list.write_all(&text[..listed]).is_err() {
             return false;
         }
     }
@@ -42,18 +48,20 @@ fn hand_over(
 
 // Mends an input of `total` octets, of which `trace` is all or the front, by way of two lent buffers, and answers whether
 // all of it was written. Buffers that a record or a line might not fit are not used, and nothing is written.
-pub fn mend(
-    mended: i32,
-    list: i32,
+pub fn mend<M: Write, L: Write>(
+    mended: &mut M,
+    list: &mut L,
     trace: &[u8],
     total: usize,
     out: &mut [u8],
     text: &mut [u8],
 ) -> bool
-    ensures { MendPromise trace.now total out.old text.old result out.new text.new }
+    ensures promise { MendPromise trace.now total out.old text.old result out.new text.new }
+    ensures written { Written trace.now total result (M.contents mended.old) (M.contents mended.new)
+        (L.contents list.old) (L.contents list.new) }
 {
     if !mend_fill::begins(trace) {
-        return io::write_all(list, b"stop 17\n");
+        return list.write_all(b"stop 17\n").is_ok();
     }
     if out.len() < RECORD_ROOM {
         return false;
@@ -71,7 +79,7 @@ const CHUNK: usize = 65536;
 const MOST: usize = 18446744073709486079;
 
 // An input counted to its end; not good where a read failed.
-#[derive(Drop)]
+#[derive(Clone, Copy)]
 pub struct Counted {
     pub good: bool,
     pub total: usize,
@@ -79,17 +87,15 @@ pub struct Counted {
 
 // Reads on to the input's end, and counts what it reads beside the octets that were read before. An input of 2^64 octets
 // would not be good either.
-pub fn count_on(fd: i32, before: usize) -> Counted
+pub fn count_on<R: Read>(from: &mut R, before: usize) -> Counted
     ensures { Reads before result }
 {
     let mut chunk = [0u8; CHUNK];
     let mut total = before;
     while total < MOST {
-        let got = libc::read(fd, &mut chunk);
-        if got < 0 {
+        let Ok(more) = from.read(&mut chunk) else {
             return Counted { good: false, total };
-        }
-        let more = io::count(got, &chunk);
+        };
         if more == 0 {
             return Counted { good: true, total };
         }

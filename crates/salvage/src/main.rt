@@ -3,10 +3,13 @@
 //
 // 524,288 octets are kept; what lies beyond is read and counted, as part of the last stretch. A read that fails, or an input
 // that goes on after its end, ends the program with nothing written; a write that fails ends it there.
-fn main() {
+#![tactic(auto)]
+
+fn main(rt: HostRuntime) {
+    let mut from = rt.stdin();
     let mut input = [0u8; 524288];
-    let long = io::read_full(0, &mut input);
-    let counted = mend_write::count_on(0, long);
+    let long = input_read::read_full(&mut from, &mut input);
+    let counted = mend_write::count_on(&mut from, long);
     if !counted.good {
         return;
     }
@@ -18,5 +21,12 @@ fn main() {
     }
     let mut out = [0u8; 65536];
     let mut text = [0u8; 65536];
-    mend_write::mend(1, 2, &input[..long], counted.total, &mut out, &mut text);
+    mend_write::mend(
+        &mut rt.stdout(),
+        &mut rt.stderr(),
+        &input[..long],
+        counted.total,
+        &mut out,
+        &mut text,
+    );
 }

@@ -4,17 +4,29 @@
 //
 // Text and trace have up to 524,288 octets each. It reads one octet more, which shows whether the text goes on. A read that
 // fails, or an input that goes on after its end, ends the program with nothing written; a write that fails ends it there.
-fn main() {
+#![tactic(auto)]
+
+use std::io::Read;
+
+fn main(rt: HostRuntime) {
+    let mut from = rt.stdin();
     let mut input = [0u8; 524289];
-    let long = io::read_full(0, &mut input);
+    let long = input_read::read_full(&mut from, &mut input);
     if long < 524289 {
         let mut next = [0u8; 1];
-        if libc::read(0, &mut next) != 0 {
+        if !matches!(from.read(&mut next), Ok(0)) {
             return;
         }
     }
     let mut trace = [0u8; 524288];
     let mut line = [0u8; 64];
     let mut out = [0u8; 65536];
-    text_scribe::hand_over(1, 2, &input[..long], &mut trace, &mut line, &mut out);
+    text_scribe::hand_over(
+        &mut rt.stdout(),
+        &mut rt.stderr(),
+        &input[..long],
+        &mut trace,
+        &mut line,
+        &mut out,
+    );
 }

@@ -2,12 +2,17 @@
 //
 // It reads one octet more than it lists, which shows whether the input goes on. A read that fails, or an input that goes on
 // after its end, ends the program with nothing written; a write that fails ends it there.
-fn main() {
+#![tactic(auto)]
+
+use std::io::Read;
+
+fn main(rt: HostRuntime) {
+    let mut from = rt.stdin();
     let mut input = [0u8; 65537];
-    let long = io::read_full(0, &mut input);
+    let long = input_read::read_full(&mut from, &mut input);
     if long < 65537 {
         let mut next = [0u8; 1];
-        if libc::read(0, &mut next) != 0 {
+        if !matches!(from.read(&mut next), Ok(0)) {
             return;
         }
     }
@@ -19,7 +24,7 @@ fn main() {
     let mut arrived = [0u32; 1024];
     let mut out = [0u8; 65536];
     list_write::list(
-        1,
+        &mut rt.stdout(),
         &input[..long],
         &mut cells,
         &mut links,

@@ -6,7 +6,7 @@ use mathlib.Core.List.{List, []}
 use native.Mathlib.Omega.{arith}
 use borrow.Author.Tests.{le-leb, le-ltb, eq-eqb}
 use lib.ListN.{length, get_or, take}
-use Rattle.meaning.specs.Plain.{if◌then◌else◌, ◌<?◌, ◌=?◌}
+use Rattle.meaning.specs.Plain.{when◌then◌else◌, ◌<?◌, ◌=?◌}
 use Rattle.trace_record.specs.Trace.{Stands, event, finish, refusal, stands_at}
 use Rattle.trace_record.specs.Fits.{Fits, stands_fits}
 use Rattle.list_lines.specs.Lines.{stop_line}
@@ -55,12 +55,12 @@ module _ (s : List ℕ) where
 
   no_stop : (es : List Event) → read s ≡ good es → stop_of s (length s) ≡ []
   unfolding read end_of stop_of
-  no_stop es h = ap (λ (b : Bool). if b then [] else stop_line (end_of s)) (at_its_end (ends_from (length s + 1) 0 es h))
+  no_stop es h = ap (λ (b : Bool). when b then [] else stop_line (end_of s)) (at_its_end (ends_from (length s + 1) 0 es h))
 
 -- a text that the program takes says what it says
 said_whole : (text : List ℕ) → length text ≤ limit → said_of text ≡ events text
 unfolding said_of
-said_whole text h = ap (λ (b : Bool). if b then goes_further limit (events (take limit text)) else events text) (le-ltb limit (length text) h)
+said_whole text h = ap (λ (b : Bool). when b then goes_further limit (events (take limit text)) else events text) (le-ltb limit (length text) h)
 
 pub there_and_back : (s : List ℕ) → ((i : ℕ) → get_or s i 0 < 256) → (es : List Event) (room : ℕ) → read s ≡ good es → Settled es
     → length (text_of s) ≤ limit → length s ≤ room → ThereAndBack s room
@@ -71,6 +71,6 @@ there_and_back s b es room r f l h =
     let t : (room <? length (octets_all (merge es))) ≡ false = ap (λ (x : List ℕ). room <? length x) o ∙ le-ltb room (length s) h in
     record {
       printed = no_stop s es r;
-      written = ap (λ (x : Said). trace_of x room) q ∙ ap (λ (c : Bool). if c then [] else octets_all (merge es)) t ∙ o;
-      silent = ap (λ (x : Said). error_of x room) q ∙ ap (λ (c : Bool). if c then short_line else []) t;
+      written = ap (λ (x : Said). trace_of x room) q ∙ ap (λ (c : Bool). when c then [] else octets_all (merge es)) t ∙ o;
+      silent = ap (λ (x : Said). error_of x room) q ∙ ap (λ (c : Bool). when c then short_line else []) t;
     }

@@ -2,17 +2,22 @@
 -- what stands made in the two memories.
 use Prim.Native.Nat.{ℕ, suc, ◌+◌, ◌-◌, ◌≤◌, ◌<◌, min}
 use mathlib.Core.Path.{◌≡◌, refl, sym, ap, subst, ◌∙◌}
-use mathlib.Core.Bool.{Bool, true, false, not}
+use mathlib.Core.Bool.{Bool, true, false}
 use mathlib.Core.List.{List, [], ◌++◌, append-nil}
 use native.Mathlib.Decide.{dec_lt}
 use native.Mathlib.Omega.{arith}
 use lib.ListN.{length, take, drop, length-take, length-drop, take-append-drop}
 use lib.Seq.{take_all, take-add, length-take-le}
+use Rattle.std.specs.declared.option.Option.{Option}
+use Rattle.std.specs.Prelude.{Result, Ok, Err, OnOk}
+use Rattle.std.specs.Result.{is_err}
+use Rattle.std.specs.Io.KnownBytes.{Appends}
+use Rattle.std.proofs.KnownBytes.{Appends-trans}
 use Rattle.list_lines.specs.Put.{Put}
 use Rattle.list_lines.proofs.Puts.{put_is, put_front}
 use Rattle.text_scribe.specs.declared.Scribed.{Scribed}
-use Rattle.text_scribe.specs.Scribe.{line_room, said_of, trace_of, ScribePromise}
-use Rattle.text_scribe.specs.Handed.{Fills, no_fill, then_fill, Passed, Handed}
+use Rattle.text_scribe.specs.Scribe.{line_room, said_of, trace_of, error_of, ScribePromise}
+use Rattle.text_scribe.specs.Handed.{Fills, no_fill, then_fill, Passed, Handed, Taken}
 
 never : {A : Type 0} → false ≡ true → A
 never e = let z : ◌≡◌ {A = ℕ} 0 1 = cc in absurd (omega arith)
@@ -76,6 +81,11 @@ module _ (all out₀ : List ℕ) where
     sofar_more =
         record { count = suc s.count; sent = s.sent ++ take used out'; fills = fills; is = on; within = omega (arith, e, less) }
 
+    -- what the writer took, with what this fill put
+    pub taken_more : (a a' a'' : Option (List ℕ)) → Appends a a' (take at all) → Appends a' a'' (take used out') → Appends a a'' (take end all)
+    taken_more a a' a'' v w =
+        subst (Appends a a'') (ap (λ (l : List ℕ). l ++ take used out') (sym s.is) ∙ on) (Appends-trans _ _ _ _ _ v w)
+
     -- it was the last, since a write failed
     pub sofar_cut : Passed all out₀ false out'
     sofar_cut =
@@ -89,22 +99,22 @@ module _ (all out₀ : List ℕ) where
           some = λ _. omega arith;
         }
 
+pub taken_whole : (all : List ℕ) (at : ℕ) (a a' : Option (List ℕ)) → length all ≤ at → Appends a a' (take at all) → Appends a a' all
+taken_whole all at a a' h w = subst (Appends a a') (take_all at all h) w
+
+-- a write that didn't fail took all
+pub took : {T E : Type 0} (r : Result T E) (failed : Bool) (P : Type 0) → failed ≡ is_err r → failed ≡ false → OnOk r P → P
+took (Ok x) failed P e f p = p
+took (Err x) failed P e f p = never (sym (sym e ∙ f))
+
 -- ---- both outputs
-
-over : (b : Bool) → not b ≡ false → b ≡ true
-over true e = refl
-over false e = sym e
-
-off : (b : Bool) → not b ≡ true → b ≡ false
-off true e = sym e
-off false e = refl
 
 module _ {input whole line out whole' line' middle : List ℕ} {r : Scribed} {good : Bool} (p : ScribePromise input whole line r whole' line')
     (n : (r.trace ≤ length whole) × (r.line ≤ line_room)) (t : Passed (take r.trace whole') out good middle) where
   trace : Passed (trace_of (said_of input) (length whole)) out good middle
   trace = subst (λ (l : List ℕ). Passed l out good middle) (put_front p.trace n.0) t
 
-  pub handed_cut : not good ≡ true → Handed input whole line out false whole' line' middle
+  pub handed_cut : good ≡ false → Handed input whole line out false whole' line' middle
   handed_cut e =
       record {
         made = r;
@@ -112,11 +122,11 @@ module _ {input whole line out whole' line' middle : List ℕ} {r : Scribed} {go
         good = good;
         middle = middle;
         trace = trace;
-        error = λ g. never (sym (off good e) ∙ g);
+        error = λ g. never (sym e ∙ g);
         cut = λ _. (refl, refl);
       }
 
-  pub handed_on : {answer : Bool} {out' : List ℕ} → not good ≡ false → line_room ≤ length line → Passed (take r.line line') middle answer out'
+  pub handed_on : {answer : Bool} {out' : List ℕ} → good ≡ true → line_room ≤ length line → Passed (take r.line line') middle answer out'
       → Handed input whole line out answer whole' line' out'
   handed_on {answer} {out'} e room q =
       record {
@@ -126,5 +136,13 @@ module _ {input whole line out whole' line' middle : List ℕ} {r : Scribed} {go
         middle = middle;
         trace = trace;
         error = λ _. subst (λ (l : List ℕ). Passed l middle answer out') (put_front p.error (omega (arith, n.1, room))) q;
-        cut = λ g. never (sym g ∙ over good e);
+        cut = λ g. never (sym g ∙ e);
+      }
+
+  pub taken_both : (a a' b b' : Option (List ℕ)) → line_room ≤ length line → Appends a a' (take r.trace whole') → Appends b b' (take r.line line')
+      → Taken input (length whole) a a' b b'
+  taken_both a a' b b' room v w =
+      record {
+        trace = subst (Appends a a') (put_front p.trace n.0) v;
+        error = subst (Appends b b') (put_front p.error (omega (arith, n.1, room))) w;
       }

@@ -7,7 +7,7 @@ use native.Mathlib.Decide.{dec_lt}
 use native.Mathlib.Omega.{arith}
 use borrow.Author.Tests.{lt-ltb, le-ltb}
 use lib.ListN.{length, take, drop}
-use Rattle.meaning.specs.Plain.{if◌then◌else◌}
+use Rattle.meaning.specs.Plain.{when◌then◌else◌}
 use Rattle.list_lines.specs.Text.{line}
 use Rattle.list_lines.specs.Lines.{stop_line}
 use Rattle.list_lines.specs.Put.{Put, puts}
@@ -25,11 +25,11 @@ use Rattle.text_scribe.specs.Scribe.{limit, goes_further, said_of, short_line, t
 
 within : (input : List ℕ) → length input ≤ limit → said_of input ≡ events input
 unfolding said_of
-within input h = ap (λ (b : Bool). if b then goes_further limit (events (take limit input)) else events input) (le-ltb limit (length input) h)
+within input h = ap (λ (b : Bool). when b then goes_further limit (events (take limit input)) else events input) (le-ltb limit (length input) h)
 
 beyond : (input : List ℕ) → limit < length input → said_of input ≡ goes_further limit (events (take limit input))
 unfolding said_of
-beyond input h = ap (λ (b : Bool). if b then goes_further limit (events (take limit input)) else events input) (lt-ltb limit (length input) h)
+beyond input h = ap (λ (b : Bool). when b then goes_further limit (events (take limit input)) else events input) (lt-ltb limit (length input) h)
 
 pub said_within : (input out : List ℕ) → length input ≤ limit → write_text input out ≡ write_said (said_of input) out
 unfolding write_text
@@ -72,15 +72,15 @@ module _ (input out : List ℕ) (w : Written) (h : limit < length input) (e : w 
 traces_short : (es : List Event) (room : ℕ) → room < length (octets_all (merge es)) → (trace_of (good es) room ≡ []) × (error_of (good es) room ≡ short_line)
 unfolding trace_of error_of
 traces_short es room h = (
-  ap (λ (b : Bool). if b then [] else octets_all (merge es)) (lt-ltb room (length (octets_all (merge es))) h),
-  ap (λ (b : Bool). if b then short_line else []) (lt-ltb room (length (octets_all (merge es))) h),
+  ap (λ (b : Bool). when b then [] else octets_all (merge es)) (lt-ltb room (length (octets_all (merge es))) h),
+  ap (λ (b : Bool). when b then short_line else []) (lt-ltb room (length (octets_all (merge es))) h),
 )
 
 traces_fits : (es : List Event) (room : ℕ) → length (octets_all (merge es)) ≤ room → (trace_of (good es) room ≡ octets_all (merge es)) × (error_of (good es) room ≡ [])
 unfolding trace_of error_of
 traces_fits es room h = (
-  ap (λ (b : Bool). if b then [] else octets_all (merge es)) (le-ltb room (length (octets_all (merge es))) h),
-  ap (λ (b : Bool). if b then short_line else []) (le-ltb room (length (octets_all (merge es))) h),
+  ap (λ (b : Bool). when b then [] else octets_all (merge es)) (le-ltb room (length (octets_all (merge es))) h),
+  ap (λ (b : Bool). when b then short_line else []) (le-ltb room (length (octets_all (merge es))) h),
 )
 
 -- the three answers

@@ -2,10 +2,10 @@
 --
 --   limit              == the octets of a text that it takes
 --   said_of input       == the events of the input, or the first line that isn't good and wholly within the limit
---   traceOf s room     == what goes to the first output, where its buffer has that much room
---   errorOf s room     == what goes to the second: nothing, or one line
+--   trace_of s room     == what goes to the first output, where its buffer has that much room
+--   error_of s room     == what goes to the second: nothing, or one line
 use Rattle.std.specs.Prelude.{ℕ, List, [], ◌∷◌, length, take}
-use Rattle.meaning.specs.Plain.{if◌then◌else◌, ◌<?◌}
+use Rattle.meaning.specs.Plain.{when◌then◌else◌, ◌<?◌}
 use Rattle.list_lines.specs.Text.{line}
 use Rattle.list_lines.specs.Lines.{stop_line}
 use Rattle.list_lines.specs.Put.{Put}
@@ -26,18 +26,18 @@ goes_further n (good es) = bad n
 goes_further n (bad p) = bad p
 
 unfoldable pub said_of : List ℕ → Said
-said_of input = if limit <? length input then goes_further limit (events (take limit input)) else events input
+said_of input = when limit <? length input then goes_further limit (events (take limit input)) else events input
 
 -- `stop 14`
 unfoldable pub short_line : List ℕ
 short_line = line ((115 ∷ 116 ∷ 111 ∷ 112 ∷ []) ∷ (49 ∷ 52 ∷ []) ∷ [])
 
 unfoldable pub trace_of : Said → ℕ → List ℕ
-trace_of (good es) room = if room <? length (octets_all (merge es)) then [] else octets_all (merge es)
+trace_of (good es) room = when room <? length (octets_all (merge es)) then [] else octets_all (merge es)
 trace_of (bad p) room = []
 
 unfoldable pub error_of : Said → ℕ → List ℕ
-error_of (good es) room = if room <? length (octets_all (merge es)) then short_line else []
+error_of (good es) room = when room <? length (octets_all (merge es)) then short_line else []
 error_of (bad p) room = stop_line p
 
 -- both stand at the start of their buffers, and r says how long they are; every other octet is kept

@@ -1,18 +1,22 @@
-// A text of limited length written as a trace, with the line that says why it wasn't, and both handed to two file descriptors
+// A text of limited length written as a trace, with the line that says why it wasn't, and both handed to two writers
 // one buffer after the other. What is handed over, in which order and what is left in the lent buffers is promised; whether
 // the operating system takes it is outside every contract.
-ghost use Rattle.std.specs.Prelude.{◌≡◌, ◌+◌, ◌-◌, ◌≤◌, ◌<◌, min, length};
+#![tactic(auto)]
+
+ghost use Rattle.std.specs.Prelude.{◌≡◌, true, ◌+◌, ◌-◌, ◌≤◌, ◌<◌, min, length};
+ghost use Rattle.std.specs.Io.KnownBytes.{Appends};
 ghost use Rattle.text_meaning.specs.Writing.{wrote, write_said};
 ghost use Rattle.text_scribe.specs.Scribe.{limit, line_room, said_of, ScribePromise};
-ghost use Rattle.text_scribe.specs.Handed.{Passed, Handed};
+ghost use Rattle.text_scribe.specs.Handed.{Passed, Handed, Taken};
 
+use std::io::Write;
 use text_meaning::Written;
 
 // The octets of a text that are taken.
 const LIMIT: usize = 524288;
 
 // How many octets of the two buffers are to be handed over.
-#[derive(Drop)]
+#[derive(Clone, Copy)]
 pub struct Scribed {
     pub trace: usize,
     pub line: usize,
@@ -76,16 +80,17 @@ fn part_end(at: usize, long: usize, room: usize) -> usize
 }
 
 // Fills the buffer with what comes next and writes it out, until all is handed over, or until a write fails.
-fn pass(to: i32, all: &[u8], out: &mut [u8]) -> bool
+fn pass<W: Write>(to: &mut W, all: &[u8], out: &mut [u8]) -> bool
     requires { 0 < length out.old }
-    ensures { Passed all.now out.old result out.new }
+    ensures passed { Passed all.now out.old result out.new }
+    ensures written { result ≡ true → Appends (W.contents to.old) (W.contents to.new) all.now }
 {
     let mut at = 0usize;
     while at < all.len() {
         let end = part_end(at, all.len(), out.len());
         let used = list_lines::text(out, 0, &all[at..end]);
         at = end;
-        if !io::write_all(to, &out[..used]) {
+        if to.write_all(&out[..used]).is_err() {
             return false;
         }
     }
@@ -93,16 +98,18 @@ fn pass(to: i32, all: &[u8], out: &mut [u8]) -> bool
 }
 
 // Makes both, and hands them over.
-fn hand(
-    trace: i32,
-    error: i32,
+fn hand<W: Write, E: Write>(
+    trace: &mut W,
+    error: &mut E,
     input: &[u8],
     whole: &mut [u8],
     line: &mut [u8],
     out: &mut [u8],
 ) -> bool
     requires { (line_room ≤ length line.old) × (0 < length out.old) }
-    ensures { Handed input.now whole.old line.old out.old result whole.new line.new out.new }
+    ensures handed { Handed input.now whole.old line.old out.old result whole.new line.new out.new }
+    ensures written { result ≡ true → Taken input.now (length whole.old) (W.contents trace.old) (W.contents trace.new)
+        (E.contents error.old) (E.contents error.new) }
 {
     let made = scribe(input, whole, line);
     let long = made.trace;
@@ -113,17 +120,19 @@ fn hand(
     pass(error, &line[..end], out)
 }
 
-// Makes the trace of a text, or the line that says why there is none, and hands the one to one descriptor, the other to the
+// Makes the trace of a text, or the line that says why there is none, and hands the one to one writer, the other to the
 // other, by way of a buffer. Answers whether all of it was written.
-pub fn hand_over(
-    trace: i32,
-    error: i32,
+pub fn hand_over<W: Write, E: Write>(
+    trace: &mut W,
+    error: &mut E,
     input: &[u8],
     whole: &mut [u8],
     line: &mut [u8; 64],
     out: &mut [u8; 65536],
 ) -> bool
-    ensures { Handed input.now whole.old line.old out.old result whole.new line.new out.new }
+    ensures handed { Handed input.now whole.old line.old out.old result whole.new line.new out.new }
+    ensures written { result ≡ true → Taken input.now (length whole.old) (W.contents trace.old) (W.contents trace.new)
+        (E.contents error.old) (E.contents error.new) }
 {
     hand(trace, error, input, whole, line, out)
 }

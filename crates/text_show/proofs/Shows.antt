@@ -6,12 +6,15 @@ use mathlib.Core.List.{List, []}
 use lib.ListN.{length, take}
 use native.Mathlib.Omega.{arith}
 use lib.Seq.{take_all, length-take-le}
-use Rattle.meaning.specs.Plain.{if◌then◌else◌}
+use Rattle.std.specs.declared.option.Option.{Option}
+use Rattle.std.specs.Io.KnownBytes.{Appends}
+use Rattle.std.proofs.KnownBytes.{Appends-nil}
+use Rattle.meaning.specs.Plain.{when◌then◌else◌}
 use Rattle.list_lines.specs.Lines.{stop_line}
 use Rattle.list_lines.specs.Put.{Put}
-use Rattle.list_lines.proofs.Puts.{put_none}
-use Rattle.text_print.specs.Print.{line_room}
-use Rattle.text_show.specs.Shown.{limit, at_end, stop_of, Handed, Shown, ShowPromise}
+use Rattle.list_lines.proofs.Puts.{put_none, put_front}
+use Rattle.text_print.specs.Print.{line_room, text_of}
+use Rattle.text_show.specs.Shown.{limit, at_end, stop_of, Handed, Shown, ShowPromise, Taken}
 
 never : {A : Type 0} → false ≡ true → A
 never e = let z : ◌≡◌ {A = ℕ} 0 1 = cc in absurd (omega arith)
@@ -45,7 +48,7 @@ module _ {trace out out' : List ℕ} {at : ℕ} (total : ℕ) (good : Bool) (d :
   shown_end e h =
       let w = d.whole (over good e) in
       let s : stop_of trace total ≡ [] =
-      ap (λ (n : ℕ). if at_end n total then [] else stop_line n) (sym w.1) ∙ ap (λ (b : Bool). if b then [] else stop_line at) h in
+      ap (λ (n : ℕ). when at_end n total then [] else stop_line n) (sym w.1) ∙ ap (λ (b : Bool). when b then [] else stop_line at) h in
       record {
         good = good;
         at = at;
@@ -64,7 +67,7 @@ module _ {trace out out' : List ℕ} {at : ℕ} (total : ℕ) (good : Bool) (d :
   shown_stop answer e h p =
       let w = d.whole (over good e) in
       let s : stop_of trace total ≡ stop_line at =
-      ap (λ (n : ℕ). if at_end n total then [] else stop_line n) (sym w.1) ∙ ap (λ (b : Bool). if b then [] else stop_line at) h in
+      ap (λ (n : ℕ). when at_end n total then [] else stop_line n) (sym w.1) ∙ ap (λ (b : Bool). when b then [] else stop_line at) h in
       record {
         good = good;
         at = at;
@@ -75,6 +78,24 @@ module _ {trace out out' : List ℕ} {at : ℕ} (total : ℕ) (good : Bool) (d :
         told = (λ _. sym s, λ g. never (sym g ∙ over good e));
         whole = λ _. over good e;
       }
+
+  -- ---- which octets the writers took
+
+  stop_here : not good ≡ false → (b : Bool) → at_end at total ≡ b → stop_of trace total ≡ (when b then [] else stop_line at)
+  unfolding stop_of
+  stop_here e b h =
+      ap (λ (n : ℕ). when at_end n total then [] else stop_line n) (sym (d.whole (over good e)).1)
+      ∙ ap (λ (x : Bool). when x then [] else stop_line at) h
+
+  pub taken_end : {a a' b : Option (List ℕ)} → not good ≡ false → at_end at total ≡ true → (good ≡ true → Appends a a' (text_of trace))
+      → Taken trace total a a' b b
+  taken_end {b = b} e h w = record { lines = w (over good e); stop = subst (Appends b b) (sym (stop_here e true h)) (Appends-nil b) }
+
+  pub taken_stop : {a a' b b' : Option (List ℕ)} {out'' : List ℕ} {used : ℕ} → not good ≡ false → at_end at total ≡ false
+      → (good ≡ true → Appends a a' (text_of trace))
+      → Put out' 0 (stop_line at) out'' used → used ≤ length out' → Appends b b' (take used out'') → Taken trace total a a' b b'
+  taken_stop {b = b} {b'} e h w p l v =
+      record { lines = w (over good e); stop = subst (Appends b b') (put_front p l ∙ sym (stop_here e false h)) v }
 
 pub front_long : (input : List ℕ) → limit < length input → length (take limit input) ≡ limit
 front_long input h = length-take-le limit input (omega arith)
@@ -91,3 +112,7 @@ module _ (input out out' : List ℕ) (answer : Bool) (h : line_room ≤ length o
 
   pub show_all : length input ≤ limit → Shown input (length input) out answer out' → ShowPromise input out answer out'
   show_all l d = show_front (subst (λ (x : List ℕ). Shown x (length input) out answer out') (sym (take_all limit input l)) d)
+
+pub taken_all : (input : List ℕ) (a a' b b' : Option (List ℕ)) → length input ≤ limit → Taken input (length input) a a' b b'
+    → Taken (take limit input) (length input) a a' b b'
+taken_all input a a' b b' l t = subst (λ (x : List ℕ). Taken x (length input) a a' b b') (sym (take_all limit input l)) t

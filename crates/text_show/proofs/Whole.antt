@@ -1,11 +1,16 @@
 -- Fill after fill is the text: what a fill puts is what the text has from there, and where no record stands the text ends.
 use Prim.Native.Nat.{ℕ, zero, suc, ◌+◌, ◌≤◌, ◌<◌}
-use mathlib.Core.Path.{◌≡◌, refl, sym, ap, ◌∙◌}
-use mathlib.Core.Bool.{true, false}
+use mathlib.Core.Path.{◌≡◌, refl, sym, ap, subst, ◌∙◌}
+use mathlib.Core.Bool.{Bool, true, false}
 use mathlib.Core.Logic.{◌⊎◌, ⊎_elim}
-use mathlib.Core.List.{List, [], ◌++◌, append_assoc}
+use mathlib.Core.List.{List, [], ◌++◌, append_assoc, append-nil}
 use lib.ListN.{length, take}
 use native.Mathlib.Omega.{arith}
+use Rattle.std.specs.declared.option.Option.{Option}
+use Rattle.std.specs.Prelude.{Result, Ok, Err, OnOk}
+use Rattle.std.specs.Result.{is_err, is_ok}
+use Rattle.std.specs.Io.KnownBytes.{Appends}
+use Rattle.std.proofs.KnownBytes.{Appends-nil, Appends-trans}
 use Rattle.trace_record.specs.Trace.{TraceRecord, Stands, event, finish, refusal, stands_at}
 use Rattle.list_lines.proofs.Puts.{put_front}
 use Rattle.text_print.specs.declared.Printed.{Printed}
@@ -140,3 +145,35 @@ module _ (trace : List ℕ) where
         within = d.within;
         whole = λ _. (text_over trace long at n, sym (d.ends ∙ end_over long at n), s);
       }
+
+  -- ---- which octets the writer took: so far what the fills put
+
+  pub record Going (a a' : Option (List ℕ)) (out : List ℕ) (at : ℕ) (out' : List ℕ) : Type 0 where
+    pub sofar : Sofar out at out'
+    pub lines : Appends a a' sofar.text
+
+  pub going_none : (a : Option (List ℕ)) (out : List ℕ) → Going a a out 0 out
+  unfolding sofar_none
+  going_none a out = record { sofar = sofar_none out; lines = Appends-nil a }
+
+  pub going_more : {a a' : Option (List ℕ)} (a'' : Option (List ℕ)) {out out' out'' : List ℕ} {at : ℕ} {r : Printed} → Going a a' out at out'
+      → standing (stands_at trace at) ≡ true → FillPromise trace at out' r out'' → Appends a' a'' (take r.used out'') → Going a a'' out r.at out''
+  unfolding sofar_more
+  going_more a'' d s p w = record { sofar = sofar_more d.sofar s p; lines = Appends-trans _ _ _ _ _ d.lines w }
+
+  pub going_all : {a a' : Option (List ℕ)} {out out' : List ℕ} {at : ℕ} → Going a a' out at out' → standing (stands_at trace at) ≡ false
+      → Appends a a' (text_of trace)
+  going_all {a} {a'} {at = at} d s =
+      let n = none_stands (stands_at trace at) s in
+      let e : text_of trace ≡ d.sofar.text =
+      d.sofar.begins ∙ ap (λ (x : List ℕ). d.sofar.text ++ x) (text_over trace long at n) ∙ append-nil d.sofar.text in
+      subst (Appends a a') (sym e) d.lines
+
+-- a write that didn't fail took all
+pub took : {T E : Type 0} (r : Result T E) (failed : Bool) (P : Type 0) → failed ≡ is_err r → failed ≡ false → OnOk r P → P
+took (Ok x) failed P e f p = p
+took (Err x) failed P e f p = let z : true ≡ false = sym e ∙ f in let y : ◌≡◌ {A = ℕ} 0 1 = cc in absurd (omega arith)
+
+pub took_well : {T E : Type 0} (r : Result T E) (good : Bool) (P : Type 0) → good ≡ is_ok r → good ≡ true → OnOk r P → P
+took_well (Ok x) good P e f p = p
+took_well (Err x) good P e f p = let z : false ≡ true = sym e ∙ f in let y : ◌≡◌ {A = ℕ} 0 1 = cc in absurd (omega arith)

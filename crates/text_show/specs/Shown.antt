@@ -1,13 +1,16 @@
 -- What it means that the text of an input was handed over: fill after fill from place 0, each from where the one before left
 -- the place and the buffer, and each handed to the writer before the next is made; then, where the lines end before the input
--- does, the refusal. Which octets were then written is outside every contract.
+-- does, the refusal. Which octets the system then writes is outside every contract.
 --
 --   end_of trace       == the place where the lines of a trace end: no record stands there
---   stopOf trace n    == what is said of the place where they end, where the input has n octets
+--   stop_of trace n    == what is said of the place where they end, where the input has n octets
 --   Fills             == so many fills, what they put and what they left
 --   Shown             == the fills that were handed over, and the refusal behind them
+--   Taken             == which octets the writers took
 use Rattle.std.specs.Prelude.{ℕ, zero, suc, ◌+◌, ◌≤◌, ◌<◌, ◌≡◌, Bool, true, false, ◌&&◌, List, [], ◌++◌, length, take}
-use Rattle.meaning.specs.Plain.{if◌then◌else◌, ◌≤?◌, ◌=?◌}
+use Rattle.std.specs.declared.option.Option.{Option}
+use Rattle.std.specs.Io.KnownBytes.{Appends}
+use Rattle.meaning.specs.Plain.{when◌then◌else◌, ◌≤?◌, ◌=?◌}
 use Rattle.trace_record.specs.Trace.{Stands, event, finish, refusal, stands_at}
 use Rattle.list_lines.specs.Lines.{stop_line}
 use Rattle.list_lines.specs.Put.{Put}
@@ -43,7 +46,7 @@ abbrev pub at_end : ℕ → ℕ → Bool
 at_end at total = 1 ≤? at && at =? total
 
 unfoldable pub stop_of : List ℕ → ℕ → List ℕ
-stop_of trace total = if at_end (end_of trace) total then [] else stop_line (end_of trace)
+stop_of trace total = when at_end (end_of trace) total then [] else stop_line (end_of trace)
 
 -- text is what count fills put, one after the other; each was made where a record stood
 pub data Fills (trace out : List ℕ) : (count : ℕ) (text : List ℕ) (at : ℕ) (out' : List ℕ) → Type 0 where
@@ -79,3 +82,9 @@ pub record Shown (trace : List ℕ) (total : ℕ) (out : List ℕ) (answer : Boo
 pub record ShowPromise (input out : List ℕ) (answer : Bool) (out' : List ℕ) : Type 0 where
   pub shown : line_room ≤ length out → Shown (take limit input) (length input) out answer out'
   pub short : length out < line_room → (answer ≡ false) × (out' ≡ out)
+
+-- Yes is said only where both writers took all: where they say which octets they hold, those of the one grew by the text, and
+-- those of the other by the refusal. Before and after, of the one and of the other.
+pub record Taken (trace : List ℕ) (total : ℕ) (a a' b b' : Option (List ℕ)) : Type 0 where
+  pub lines : Appends a a' (text_of trace)
+  pub stop : Appends b b' (stop_of trace total)

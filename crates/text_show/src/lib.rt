@@ -1,13 +1,17 @@
-// The text of a trace, handed to a file descriptor one buffer after the other, and a refusal handed to another. What is handed
+// The text of a trace, handed to a writer one buffer after the other, and a refusal handed to another. What is handed
 // over, in which order and what is left in the lent buffer is promised; whether the operating system takes it is outside
 // every contract.
-ghost use Rattle.std.specs.Prelude.{◌≡◌, ◌≤◌, length};
+#![tactic(auto)]
+
+ghost use Rattle.std.specs.Prelude.{◌≡◌, ◌≤◌, true, length, take};
+ghost use Rattle.std.specs.Io.KnownBytes.{Appends};
 ghost use Rattle.trace_record.specs.Trace.{stands_at};
 ghost use Rattle.list_lines.specs.Put.{Put};
 ghost use Rattle.list_lines.specs.Lines.{stop_line};
-ghost use Rattle.text_print.specs.Print.{line_room};
-ghost use Rattle.text_show.specs.Shown.{limit, standing, at_end, Handed, Shown, ShowPromise};
+ghost use Rattle.text_print.specs.Print.{line_room, text_of};
+ghost use Rattle.text_show.specs.Shown.{limit, standing, at_end, Handed, Shown, ShowPromise, Taken};
 
+use std::io::Write;
 use trace_record::Found;
 
 // As `text_print` has it: no line is longer.
@@ -17,7 +21,7 @@ const LINE_ROOM: usize = 128;
 const LIMIT: usize = 524288;
 
 // Where the lines end, and whether every write took all.
-#[derive(Drop)]
+#[derive(Clone, Copy)]
 struct Reached {
     good: bool,
     at: usize,
@@ -35,16 +39,17 @@ fn stands(trace: &[u8], at: usize) -> bool
 }
 
 // Fills the buffer and writes it out, until no record stands there, or until a write fails.
-fn hand_over(to: i32, trace: &[u8], out: &mut [u8]) -> Reached
+fn hand_over<W: Write>(to: &mut W, trace: &[u8], out: &mut [u8]) -> Reached
     requires { line_room ≤ length out.old }
-    ensures { Handed trace.now out.old result.good result.at out.new }
+    ensures handed { Handed trace.now out.old result.good result.at out.new }
+    ensures written { result.good ≡ true → Appends (W.contents to.old) (W.contents to.new) (text_of trace.now) }
 {
     let mut at = 0usize;
     while stands(trace, at) {
         let f = text_print::fill(trace, at, out);
         let used = f.used;
         at = f.at;
-        if !io::write_all(to, &out[..used]) {
+        if to.write_all(&out[..used]).is_err() {
             return Reached { good: false, at };
         }
     }
@@ -62,9 +67,17 @@ fn at_end(at: usize, total: usize) -> bool
 }
 
 // The lines of a trace, then `stop 10 PLACE` where they end before the input of `total` octets does.
-fn tell(to: i32, beside: i32, trace: &[u8], total: usize, out: &mut [u8]) -> bool
+fn tell<W: Write, E: Write>(
+    to: &mut W,
+    beside: &mut E,
+    trace: &[u8],
+    total: usize,
+    out: &mut [u8],
+) -> bool
     requires { (line_room ≤ length out.old) × (length trace.now ≤ limit) }
-    ensures { Shown trace.now total out.old result out.new }
+    ensures shown { Shown trace.now total out.old result out.new }
+    ensures written { result ≡ true → Taken trace.now total (W.contents to.old) (W.contents to.new)
+        (E.contents beside.old) (E.contents beside.new) }
 {
     let reached = hand_over(to, trace, out);
     let at = reached.at;
@@ -75,13 +88,15 @@ fn tell(to: i32, beside: i32, trace: &[u8], total: usize, out: &mut [u8]) -> boo
         return true;
     }
     let used = list_lines::stop_line(out, 0, at as u32);
-    io::write_all(beside, &out[..used])
+    beside.write_all(&out[..used]).is_ok()
 }
 
-// Hands the text of an input to one descriptor, and to another `stop 10 PLACE` where a record can't be read. Of an input that
+// Hands the text of an input to one writer, and to another `stop 10 PLACE` where a record can't be read. Of an input that
 // is longer than 524,288 octets only those are read. Answers whether all of it was written.
-pub fn show(to: i32, beside: i32, input: &[u8], out: &mut [u8]) -> bool
-    ensures { ShowPromise input.now out.old result out.new }
+pub fn show<W: Write, E: Write>(to: &mut W, beside: &mut E, input: &[u8], out: &mut [u8]) -> bool
+    ensures promise { ShowPromise input.now out.old result out.new }
+    ensures written { result ≡ true → Taken (take limit input.now) (length input.now) (W.contents to.old) (W.contents to.new)
+        (E.contents beside.old) (E.contents beside.new) }
 {
     if out.len() < LINE_ROOM {
         return false;
