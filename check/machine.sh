@@ -12,18 +12,18 @@ if [ "$(uname -m)" = x86_64 ]; then
   x86='' x86_link=() x86_run=() x86_load=() x86_packages=(valgrind) x86_counts=valgrind
 else
   x86=x86_64-linux-gnu-
-  x86_packages=(gcc-x86-64-linux-gnu g++-x86-64-linux-gnu) x86_counts='' # the emulator counts
+  x86_packages=(gcc-x86-64-linux-gnu g++-x86-64-linux-gnu qemu-user) x86_counts='' # the emulator counts
   # The loader and the libraries are those of the compiler, by their full path. Functions stand where nm says, so that
   # their instructions can be counted. Segments fit pages of 64 KiB: else the emulator promises pages of 4 KiB where the
   # machine's are greater, and an unreadable one of these does not fault.
   x86_lib=$(dirname "$(realpath "$(${x86}gcc -print-file-name=libc.so.6 2>/dev/null || echo none)")")
   x86_link=("-Wl,--dynamic-linker=$x86_lib/ld-linux-x86-64.so.2" "-Wl,-rpath=$x86_lib" -Wl,--disable-new-dtags
     -no-pie -Wl,-z,max-page-size=65536)
-  # The kit has an emulator beside its compiler, and the loader and C library that its programs are linked with.
-  x86_kit=$(dirname "$(dirname "$(rt doc 2>/dev/null || true)")")/on/$(uname -m)/toolchain
+  # The kit has the loader and the C library that its programs are linked with.
+  x86_kit=$(dirname "$(rt doc 2>/dev/null || true)")/toolchain
   x86_load=("$x86_kit/lib/ld-linux-x86-64.so.2" --library-path "$x86_kit/lib")
-  # A plain processor: the archive asks for no other, and the C library then takes loops that are emulated faster.
-  x86_run=("$(command -v qemu-x86_64 || echo "$x86_kit/bin/qemu-x86_64")" -cpu qemu64)
+  # x86-64-v2 and no more: the programs ask for it, and the C library then takes loops that are emulated faster.
+  x86_run=("$(command -v qemu-x86_64 || echo qemu-x86_64)" -cpu Nehalem)
   # What is tested does not depend on the emulator's settings in the environment.
   unset "${!QEMU_@}"
 fi

@@ -5,11 +5,11 @@ In README.md, docs/ARCHITECTURE.md, docs/COVERAGE.md, docs/ARGUMENT.md and docs/
   crate::function             a function, struct or constant of crates/crate/src
   crate/Module.name           a definition or law of crates/crate/specs/Module.antt or crates/crate/proofs/Module.antt
   Module.name                 a definition of crates/meaning/specs/Module.antt
-  crate/edit_in_words         crates/crate/must-fail/edit_in_words.edit, or by-hand/edit_in_words.edit beside it
+  crate/edit_in_words         crates/crate/must-fail/edit_in_words.edit, or crates/crate/by-hand/edit_in_words.edit
   path/to/file.antt           below crates/, or from the top
 and every must-fail edit must be cited in docs/COVERAGE.md, which also says how many public functions have a `requires`;
 every public function must have an `ensures`. Every edit must still apply: each of its `old:` texts stands once in its file. (The gate
-tries those of must-fail/; check/edits those of must-fail/by-hand/.) Prints what is missing; the exit status is 0 where nothing is.
+tries those of must-fail/; check/edits those of by-hand/.) Prints what is missing; the exit status is 0 where nothing is.
 """
 import glob
 import os
@@ -53,7 +53,7 @@ def stands(name):
         return any(defines(t, m.group(3)) for t in modules(m.group(1) or 'meaning', m.group(2)))
     m = re.fullmatch(r'(\w+)/([a-z0-9]+(?:_[a-z0-9]+)+)', name)
     if m and m.group(1) in crates:
-        return any(os.path.isfile(f'crates/{m.group(1)}/must-fail/{part}{m.group(2)}.edit') for part in ('', 'by-hand/'))
+        return any(os.path.isfile(f'crates/{m.group(1)}/{part}/{m.group(2)}.edit') for part in ('must-fail', 'by-hand'))
     if re.fullmatch(r'[\w./-]+\.(?:antt|rt|edit|md|py|h|c|txt)', name) and '/' in name:
         return any(os.path.exists(p) for p in (name, 'crates/' + name, 'docs/' + name))
     return None
@@ -86,7 +86,7 @@ for document in DOCUMENTS:
             if there is False:
                 missing.append(f'{document}:{number}: `{name}` is not in the tree')
 cited = set(re.findall(r'`(\w+/[a-z0-9_]+)`', text('docs/COVERAGE.md')))
-gate, by_hand = glob.glob('crates/*/must-fail/*.edit'), glob.glob('crates/*/must-fail/by-hand/*.edit')
+gate, by_hand = glob.glob('crates/*/must-fail/*.edit'), glob.glob('crates/*/by-hand/*.edit')
 missing += [f'{f}: {applies(f)}' for f in sorted(gate + by_hand) if applies(f)]
 edits = sorted(f'{f.split("/")[1]}/{os.path.basename(f)[:-5]}' for f in gate + by_hand)
 missing += [f'docs/COVERAGE.md does not cite the edit {e}' for e in edits if e not in cited]

@@ -1,28 +1,58 @@
 """Is this code of 32 bits? Two rules: one for a function's MIR with all that it calls, one for its machine code.
 
-narrow.py mir FUNCTION <MIR       the functions looked at, or what is wide in them
+narrow.py mir FUNCTION FILE..     the functions looked at, or what is wide in them (FILE: mir.json of a built library)
 narrow.py code FUNCTION <LISTING  the instructions and their number, or what is wide in them (LISTING: objdump -dr --no-show-raw-insn)
 The status is 0 where all is narrow, 1 where something is wide, 2 where the function is not there.
 """
+import json
 import re
 import sys
 
-# MIR: types, numbers and casts by their width. Anything but numbers of at most 32 bits and yes or no is wide.
-TYPES = re.compile(r'\(local \(?(\w+)')
-NARROW = {'tyInt', 'tyBool', 'tyUnit'}
-WIDTHS = re.compile(r'\((?:tyInt|int|cast \w+ \w+) (\d+)')
+# MIR: types, numbers and casts by their width. Anything but numbers of at most 32 bits and yes or no is wide, and so is a call of
+# what is no plain function by its name.
+NARROW = ('Bool', 'Unit')
+
+
+def width_of(number):
+    """The bits of what stands under Int: a type's width, or a literal with its own."""
+    return number['width'] if isinstance(number, dict) else number
 
 
 def wide_in_mir(body):
-    wide = [t for t in TYPES.findall(body) if t not in NARROW]
-    return wide + [m.group(0)[1:] for m in WIDTHS.finditer(body) if int(m.group(1)) > 32]
+    """What is wide in a function, and what it calls."""
+    wide, calls = [], []
+
+    def look(part):
+        if isinstance(part, dict):
+            for word, inside in part.items():
+                if word == 'Int' and width_of(inside) > 32:
+                    wide.append(f'Int {width_of(inside)}')
+                if word == 'Cast' and inside[-1] not in range(33):
+                    wide.append(f'a cast to {inside[-1]}')
+                if word == 'Call':
+                    called = inside[0].get('Fn') if isinstance(inside[0], dict) else None
+                    if called and called[1] == {'types': [], 'dicts': []}:
+                        calls.append(called[0])
+                    else:
+                        wide.append(f'a call of {json.dumps(inside[0])[:80]}')
+                look(inside)
+        elif isinstance(part, list):
+            for inside in part:
+                look(inside)
+
+    for local in body['locals']:
+        if local['ty'] not in NARROW and set(local['ty']) != {'Int'}:
+            wide.append(json.dumps(local['ty']))
+    look([local['ty'] for local in body['locals']])
+    look(body['body'])
+    return wide, calls
 
 
-def mir(function, text):
-    bodies = {part.split('"')[1]: part for part in text.split('(fn-def ')[1:]}
-    # the program's own closing reference is in no body
-    last = list(bodies)[-1]
-    bodies[last] = bodies[last].rsplit('(fnRef', 1)[0]
+def mir(function, files):
+    bodies = {}
+    for file in files:
+        with open(file, encoding='utf-8') as text:
+            bodies.update(json.load(text))
     todo, seen, wide = [function], [], []
     while todo:
         name = todo.pop()
@@ -30,8 +60,9 @@ def mir(function, text):
             return 2, [f'{name} is not there']
         if name not in seen:
             seen.append(name)
-            wide += [f'{name}: {w}' for w in wide_in_mir(bodies[name])]
-            todo += re.findall(r'fnRef "([^"]+)"', bodies[name])
+            found, calls = wide_in_mir(bodies[name])
+            wide += [f'{name}: {w}' for w in found]
+            todo += calls
     return (1, wide) if wide else (0, seen)
 
 
@@ -76,7 +107,6 @@ def code(function, text):
 
 
 if __name__ == '__main__':
-    rule = {'mir': mir, 'code': code}[sys.argv[1]]
-    status, said = rule(sys.argv[2], sys.stdin.read())
+    status, said = mir(sys.argv[2], sys.argv[3:]) if sys.argv[1] == 'mir' else code(sys.argv[2], sys.stdin.read())
     print('\n'.join(said))
     sys.exit(status)
