@@ -9,8 +9,8 @@ cell of the VC that was let in being the k-th of it to leave: each bin and each 
   python3 docs/make_summary.py             makes the picture anew, and prints the blocks of the page
   python3 docs/make_summary.py --check     exit 1 unless page and picture are what comes out
 
-It needs gcc, target/staticlib/libclurimoon.a and target/bin/spacer; CLURIMOON_ARCHIVE, CLURIMOON_LIBS and CLURIMOON_SPACER name
-others.
+It needs gcc, target/staticlib/libclurimoon.a and target/bin/spacer (check/build); CLURIMOON_ARCHIVE, CLURIMOON_LIBS and
+CLURIMOON_SPACER name others.
 """
 import os
 import pathlib
