@@ -9,10 +9,11 @@ use lib.ListN.{length, get_or, drop}
 use lib.Bits.{bit_xor}
 use borrow.Author.Tests.{ltb-true, ltb-false}
 use Rattle.base_hec.specs.declared.Checked.{Checked}
+use Rattle.base_hec.specs.declared.Checked.TheVariants.{Clean, Mended, Dropped}
 use Rattle.base_hec.specs.Check.{head_of, hec_of, syndrome_of}
 use Rattle.base_hec.specs.WrongBit.{wrong_bit, flipped}
 use Rattle.base_hec.specs.Modes.{Octets, passes, drops, checked}
-use Rattle.base_hec.specs.Word.{checked_of, mended_word, erred_word, checked_word, octets_of, arriving_of}
+use Rattle.base_hec.specs.Word.{mended_word, erred_word, checked_word, octets_of, arriving_of}
 use Rattle.base_hec.proofs.Flip.{length_flipped, payload_flipped, octets_flipped, head_flipped, fifth_stays, head_stays, fifth_flipped}
 
 five : (a b c d e a' b' c' d' e' : ℕ) (t : List ℕ) → a ≡ a' → b ≡ b' → c ≡ c' → d ≡ d' → e ≡ e'
@@ -44,14 +45,14 @@ module _ (l : List ℕ) (long : 5 ≤ length l) (octets : Octets l) where
       ∙ ap (λ (x : List ℕ). octets_of h f ++ x) (payload_flipped i l below)
 
   mended_cell : (i : ℕ) → i < 40 → passes (flipped i l) 1 ≡ arriving_of (mended_word i (head_of l) (get_or l 4 0)) l
-  unfolding mended_word arriving_of
+  unfolding mended_word
   mended_cell i below = go (ltb i 32) refl
     where
       go : (b : Bool) → ltb i 32 ≡ b
           → passes (flipped i l) 1
           ≡ arriving_of
-          (cond b (checked_of true (bit_xor (head_of l) (2 ^ (31 - i))) (get_or l 4 0) 1)
-          (checked_of true (head_of l) (bit_xor (get_or l 4 0) (2 ^ (39 - i))) 1))
+          (cond b (Mended (bit_xor (head_of l) (2 ^ (31 - i))) (get_or l 4 0))
+          (Mended (head_of l) (bit_xor (get_or l 4 0) (2 ^ (39 - i)))))
           l
       go true e =
           let h : i < 32 = ltb-true i 32 e in
@@ -64,29 +65,29 @@ module _ (l : List ℕ) (long : 5 ≤ length l) (octets : Octets l) where
 
   erred_cell : (mode i : ℕ)
       → cond (eqb mode 0 && ltb i 40) (passes (flipped i l) 1) (drops 1) ≡ arriving_of (erred_word mode (head_of l) (get_or l 4 0) i) l
-  unfolding erred_word arriving_of
+  unfolding erred_word
   erred_cell mode i = go (eqb mode 0) (ltb i 40) refl
     where
       go : (a b : Bool) → ltb i 40 ≡ b
           → cond (a && b) (passes (flipped i l) 1) (drops 1)
-          ≡ arriving_of (cond (a && b) (mended_word i (head_of l) (get_or l 4 0)) (checked_of false 0 0 1)) l
+          ≡ arriving_of (cond (a && b) (mended_word i (head_of l) (get_or l 4 0)) Dropped) l
       go true true e = mended_cell i (ltb-true i 40 e)
       go true false e = refl
       go false b e = refl
 
   -- What `base_hec::check` answers of a lent cell's numbers is what the definition lets through.
   pub checked_cell : (mode : ℕ) → checked mode l ≡ arriving_of (checked_word mode (head_of l) (get_or l 4 0)) l
-  unfolding checked checked_word arriving_of syndrome_of hec_of
+  unfolding checked checked_word syndrome_of hec_of
   checked_cell mode = go (eqb (wrong_bit (syndrome_of l)) 40)
     where
       go : (b : Bool)
           → cond b (passes l 0)
           (cond (eqb mode 0 && ltb (wrong_bit (syndrome_of l)) 40) (passes (flipped (wrong_bit (syndrome_of l)) l) 1) (drops 1))
           ≡ arriving_of
-          (cond b (checked_of true (head_of l) (get_or l 4 0) 0)
+          (cond b Clean
           (erred_word mode (head_of l) (get_or l 4 0) (wrong_bit (syndrome_of l))))
           l
-      go true = ap (λ (x : List ℕ). passes x 0) (sym (unpacked l long octets))
+      go true = refl
       go false = erred_cell mode (wrong_bit (syndrome_of l))
 
   -- the same as a caller meets it: h is the first four octets as read, r the answer

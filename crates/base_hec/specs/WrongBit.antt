@@ -4,8 +4,9 @@
 --   one_bit i        == the syndrome of an error in bit i alone
 --   wrong_bit s      == the bit whose error alone has syndrome s; `no_error` where s is 0, `several` where no bit has it
 --   wrong_bits       == the same as a table of 256 entries, one for each syndrome
+--   named b         == that bit where b is one of the forty
 --   flipped i l     == l with bit i of its header changed
-use Rattle.std.specs.Prelude.{ℕ, zero, suc, ◌-◌, ◌/◌, ◌%◌, ◌^◌, cond, List, [], ◌∷◌, eqb, get_or, set}
+use Rattle.std.specs.Prelude.{ℕ, zero, suc, ◌-◌, ◌/◌, ◌%◌, ◌^◌, cond, Option, Some, None, List, [], ◌∷◌, ltb, eqb, get_or, set}
 use Rattle.std.specs.Int.Bits.{bit_xor}
 use Rattle.base_hec.specs.Check.{remainder}
 
@@ -27,6 +28,9 @@ first_with (suc n) i s = cond (eqb (one_bit i) s) i (first_with n (suc i) s)
 
 unfoldable pub wrong_bit : ℕ → ℕ
 wrong_bit s = cond (eqb s 0) no_error (first_with 40 0 s)
+
+abbrev pub named : ℕ → Option ℕ
+named bit = cond (ltb bit no_error) (Some bit) None
 
 unfoldable pub flipped : ℕ → List ℕ → List ℕ
 flipped i l = set l (i / 8) (bit_xor (get_or l (i / 8) 0) (2 ^ (7 - i % 8)))

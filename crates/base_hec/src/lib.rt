@@ -1,20 +1,32 @@
 // Header error control by ITU-T I.432, on numbers: the first four octets of a header as one, the fifth as another.
 #![tactic(auto)]
 
-ghost use Rattle.std.specs.Prelude.{◌≡◌, ◌≤◌, ◌<◌, length, get_or};
+ghost use Rattle.std.specs.Prelude.{◌≡◌, ◌≤◌, ◌<◌, ℕ, List, length, get_or};
 ghost use Rattle.base_hec.specs.Check.{check_of, head_of};
 ghost use Rattle.base_hec.specs.Modes.{checked};
-ghost use Rattle.base_hec.specs.Word.{mended_word, erred_word, checked_word, arriving_of};
+ghost use Rattle.base_hec.specs.Word.{mended_word, checked_word, arriving_of};
 
 mod syndromes;
 
-// What the check answers: through unless the cell is dropped; the header as mended; the mode from now on.
+// What the check answers: the header is clean; or a bit was wrong, and this is the header as mended; or the cell is dropped.
 #[derive(Clone, Copy)]
-pub struct Checked {
-    pub through: bool,
-    pub head: u32,
-    pub fifth: u8,
-    pub mode: u16,
+pub enum Checked {
+    Clean,
+    Mended { head: u32, fifth: u8 },
+    Dropped,
+}
+
+impl Checked {
+    // The mode from now on: 0, correction, after a clean header, and 1, detection, after any error.
+    pub fn mode(self) -> u16
+        ensures { (cell : List ℕ) → result ≡ (arriving_of self cell).mode }
+    {
+        match self {
+            Checked::Clean => 0,
+            Checked::Mended { .. } => 1,
+            Checked::Dropped => 1,
+        }
+    }
 }
 
 // The octet 5 that belongs to the first four. By shifts, 22 instructions and no memory: a table would be copied on each call.
@@ -23,7 +35,7 @@ pub struct Checked {
 pub fn check_of(head: u32) -> u8
     ensures { result ≡ check_of head }
 {
-    let w = head as u64;
+    let w = u64::from(head);
     let a = w ^ ((w ^ (w << 1) ^ (w << 2)) >> 8);
     let b = a ^ ((a ^ (a << 2) ^ (a << 4)) >> 16);
     let q = b ^ ((b ^ (b << 4)) >> 28);
@@ -37,74 +49,35 @@ pub fn mended(bit: u8, head: u32, fifth: u8) -> Checked
     ensures { result ≡ mended_word bit head fifth }
 {
     if bit < 32 {
-        let place = 31 - bit;
-        let wrong = 1u32 << place;
-        return Checked {
-            through: true,
-            head: head ^ wrong,
-            fifth: fifth,
-            mode: 1,
-        };
-    }
-    let low_place = 39 - bit;
-    let low_wrong = 1u8 << low_place;
-    let last = fifth ^ low_wrong;
-    Checked {
-        through: true,
-        head: head,
-        fifth: last,
-        mode: 1,
+        let head = head ^ (1 << (31 - bit));
+        Checked::Mended { head, fifth }
+    } else {
+        let fifth = fifth ^ (1 << (39 - bit));
+        Checked::Mended { head, fifth }
     }
 }
 
-// A header with an error: mended where one bit is wrong and the mode is correction, and else dropped.
-fn erred(mode: u16, head: u32, fifth: u8, bit: u8) -> Checked
-    ensures { result ≡ erred_word mode head fifth bit }
-{
-    if mode == 0 {
-        if bit < 40 {
-            return mended(bit, head, fifth);
-        }
-    }
-    Checked {
-        through: false,
-        head: 0,
-        fifth: 0,
-        mode: 1,
-    }
-}
-
-// The check of one header. A clean one is the common case, and needs no table.
+// The check of one header. A clean one is the common case, and needs no table. One with an error is mended where one bit is wrong and
+// the mode is correction, and else dropped.
 pub fn check(mode: u16, head: u32, fifth: u8) -> Checked
     ensures { result ≡ checked_word mode head fifth }
 {
     let syndrome = check_of(head) ^ fifth;
     if syndrome == 0 {
-        return Checked {
-            through: true,
-            head: head,
-            fifth: fifth,
-            mode: 0,
-        };
+        return Checked::Clean;
     }
-    erred(mode, head, fifth, syndromes::wrong_bit(syndrome))
+    match syndromes::wrong_bit(syndrome) {
+        Some(bit) if mode == 0 => mended(bit, head, fifth),
+        _ => Checked::Dropped,
+    }
 }
 
-fn wide(x: u8) -> u32
-    ensures { (result ≡ x) × (result < 256) }
-{
-    x as u32
-}
-
-// The first four octets as one number, octet 1 highest. Read in two halves, or the compiler, seeing that `check_of` shifts
-// octet 4 out of one use, reads them one by one: eight instructions more.
+// The first four octets as one number, octet 1 highest.
 pub fn head_of(cell: &[u8]) -> u32
     requires { 4 ≤ length cell.now }
     ensures { result ≡ head_of cell.now }
 {
-    let high = wide(cell[0]) * 256 + wide(cell[1]);
-    let low = wide(cell[2]) * 256 + wide(cell[3]);
-    high * 65536 + low
+    u32::from_be_bytes([cell[0], cell[1], cell[2], cell[3]])
 }
 
 // The check of a lent cell, which stays as it is: what is let through is the header of the answer and the lent payload.

@@ -1,6 +1,6 @@
 // The table of 256 entries, one for each syndrome.
 ghost use Rattle.std.specs.Prelude.{◌≡◌};
-ghost use Rattle.base_hec.specs.WrongBit.{wrong_bit};
+ghost use Rattle.base_hec.specs.WrongBit.{wrong_bit, named};
 
 // The wrong bit that each syndrome names: 0 to 39, 40 for no error, 41 for more than one.
 const WRONG_BITS: [u8; 256] = [
@@ -17,8 +17,10 @@ const WRONG_BITS: [u8; 256] = [
     41, 41, 41, 41, 41, 41, 41, 41, 41, 41, 41, 41, 41, 41, 41, 41,
 ];
 
-pub fn wrong_bit(syndrome: u8) -> u8
-    ensures { result ≡ wrong_bit syndrome }
+// The one bit that is wrong, where the syndrome names one.
+pub fn wrong_bit(syndrome: u8) -> Option<u8>
+    ensures { result ≡ named (wrong_bit syndrome) }
 {
-    WRONG_BITS[syndrome as usize]
+    let bit = WRONG_BITS[usize::from(syndrome)];
+    if bit < 40 { Some(bit) } else { None }
 }

@@ -5,9 +5,7 @@ use Rattle.base_hec.proofs.check_cell.Goals as goal
 
 pub returns : goal.returns
 returns c =
-    let known = c.shared_slice_known-2-1 in
     let h = c.head_of in
-    let from = c.before in
-    let w = answered from.args.cell.now (omega arith) (λ k. omega (arith, known.given k)) from.args.mode h.result c.check.result
+    let w = answered c.args.cell.now (omega arith) (λ k. omega (arith, c.type_inv.cell k)) c.args.mode h.result c.check.result
     h.ensures c.check.ensures in
     record { numbers = w.0; octets = w.1 }

@@ -10,7 +10,7 @@ returns-then-bit-lt32 c =
     mended_first a.bit a.head a.fifth ((1 * 2 ^ (31 - a.bit)) % 2 ^ 32) c.if-bit-lt32.true
     (one_bit 32 (31 - a.bit) (omega arith))
 
-pub returns : goal.returns
-returns c =
+pub returns-else-bit-lt32 : goal.returns-else-bit-lt32
+returns-else-bit-lt32 c =
     let a = c.args in
     mended_last a.bit a.head a.fifth ((1 * 2 ^ (39 - a.bit)) % 2 ^ 8) c.if-bit-lt32.false (one_bit 8 (39 - a.bit) (omega arith))
