@@ -1,8 +1,8 @@
 -- Rule 6 as plain facts about m, F and C, both ways, and that it says nothing of S.
-use Rattle.std.proofs.Common.{◌≡◌, ℕ, ◌-◌, ◌/◌, ◌^◌, ◌<◌, ◌≤◌, Bool, true, false, ◌&&◌, refl, ltb-true, lt-ltb, le-leb, leb-true}
+use Rattle.std.proofs.Common.{◌≡◌, ◌∙◌, ℕ, ◌-◌, ◌/◌, ◌^◌, ◌<◌, ◌≤◌, Bool, true, false, ◌&&◌, refl, ltb-true, lt-ltb, le-leb, leb-true}
 use Rattle.meaning.specs.Plain.{◌≤?◌, ◌<?◌}
 use Rattle.meaning.specs.Numbers.{most_m, most_f}
-use Rattle.meaning.specs.Bucket.{Bucket, with_s, obeys_rules}
+use Rattle.meaning.specs.Bucket.{Bucket, bucket_of, with_s, obeys_rules}
 
 -- the five rules, one a field
 pub record Obeys (N m F C : ℕ) : Type 0 where
@@ -52,3 +52,15 @@ facts_rules N b o =
       le-leb _ _ o.C_least,
       lt-ltb _ _ o.delay_low,
     )
+
+-- the first four, tested in that order, are v
+module _ (N m F C : ℕ) (v : Bool) (w : v ≡ (m ≤? most_m && 2 ^ m ≤? F && F ≤? most_f && F ≤? C)) where
+  in_turn : (v && (C - F) / 2 ^ m <? N) ≡ obeys_rules N (bucket_of m F C 0)
+  unfolding obeys_rules
+  in_turn = rw w refl
+
+  pub rules_last : (n : ℕ) → n ≡ N → v ≡ true → ((C - F) / 2 ^ m <? n) ≡ obeys_rules N (bucket_of m F C 0)
+  rules_last n p t = rw p (rw t at in_turn)
+
+  pub rules_stop : v ≡ false → v ≡ obeys_rules N (bucket_of m F C 0)
+  rules_stop f = f ∙ (rw f at in_turn)

@@ -14,58 +14,30 @@ pub fn rate(m: u32) -> u32
 }
 
 // "m from 0 to 15; F from L to 16,777,216; C of at least F, with floor((C-F)/L) at most N-1", judged in that order: L is
-// taken only of an m in its range, and C-F only where it is none below 0.
+// taken only of an m in its range, and C-F only where it is none below 0. Judged first in a function of its own, what this and
+// the next ask alike would cost the slot two instructions.
 pub fn obeys_rules(n: u16, m: u32, f: u32, c: u32) -> bool
     ensures { result ≡ obeys_rules n (bucket_of m f c 0) }
 {
-    if m > 15 {
-        return false;
-    }
-    if f < rate(m) {
-        return false;
-    }
-    if f > 16777216 {
-        return false;
-    }
-    if c < f {
-        return false;
-    }
-    (c - f) >> m < n as u32
+    m <= 15 && rate(m) <= f && f <= 16_777_216 && f <= c && (c - f) >> m < u32::from(n)
 }
 
 // A second bucket: "m (0 to 15), F (1 to 2^24), C (F to 2^30)", a flag of 0 or 1; or none, of which all are 0.
 pub fn obeys_second(m: u32, f: u32, c: u32, tag: u32) -> bool
     ensures { result ≡ second_obeys (bucket_of m f c 0) tag }
 {
-    if f == 0 {
-        if m != 0 {
-            return false;
-        }
-        if c != 0 {
-            return false;
-        }
-        return tag == 0;
+    match f {
+        0 => m == 0 && c == 0 && tag == 0,
+        1..=16_777_216 => m <= 15 && f <= c && c <= 1_073_741_824 && tag <= 1,
+        _ => false,
     }
-    if m > 15 {
-        return false;
-    }
-    if f > 16777216 {
-        return false;
-    }
-    if c < f {
-        return false;
-    }
-    if c > 1073741824 {
-        return false;
-    }
-    tag <= 1
 }
 
 // The slots from last to t, on the clock that wraps.
 fn elapsed_slots(t: u32, last: u32) -> u32
-    ensures { result ≡ (t + 2 ^ 32 - last) % 2 ^ 32 }
+    ensures { result ≡ elapsed t last }
 {
-    std::num::wrapping_sub_u32(t, last)
+    t.wrapping_sub(last)
 }
 
 // S/L rounded up: after so many slots S is 0. A rest that fills no slot takes one more. S/L plus one fits for every S, where

@@ -1,22 +1,8 @@
 -- `leaf_bucket::fallen_to` meets its contract: the wrapping difference is what has elapsed; as many slots as empty the bucket
 -- use S up, and the product of fewer stays below S, so that the shift loses no bit of 32.
 use Rattle.std.proofs.Common.{◌≡◌, ◌*◌, ◌%◌, ◌^◌, ◌<◌, mod-eq_of_lt, arith, pow_pos, rules}
-use Rattle.meaning.specs.Numbers.{slot_numbers}
-use Rattle.meaning.specs.Bucket.{elapsed}
 use Rattle.leaf_bucket.proofs.RoundedUp.{emptied, left_over}
 use Rattle.leaf_bucket.proofs.fallen_to.Goals as goal
-
--- the difference on the wrapping clock is what has elapsed
-slots_elapsed : (c : goal.Then-slots-slots_to_empty)
-    → c.elapsed_slots-slots.result ≡ elapsed c.args.t c.args.last
-unfolding elapsed slot_numbers
-slots_elapsed c = c.elapsed_slots-slots.ensures
-
--- the difference on the wrapping clock is what has elapsed
-slots_elapsed_2 : (c : goal.Else-slots-slots_to_empty)
-    → c.elapsed_slots-slots.result ≡ elapsed c.args.t c.args.last
-unfolding elapsed slot_numbers
-slots_elapsed_2 c = c.elapsed_slots-slots.ensures
 
 -- fewer slots than empty the bucket: their product is below S
 product_below : (c : goal.Else-slots-slots_to_empty)
@@ -39,7 +25,7 @@ pub returns-then-slots-slots_to_empty : goal.returns-then-slots-slots_to_empty
 returns-then-slots-slots_to_empty c =
     let a = c.args in
     let k = c.elapsed_slots-slots.result in
-    rw (← slots_elapsed c) (omega (arith, emptied a.s (2 ^ a.m) k (pow_pos a.m) (omega arith)))
+    rw (← c.elapsed_slots-slots.ensures) (omega (arith, emptied a.s (2 ^ a.m) k (pow_pos a.m) (omega arith)))
 
 pub returns-else-slots-slots_to_empty : goal.returns-else-slots-slots_to_empty
-returns-else-slots-slots_to_empty c = rw (← slots_elapsed_2 c) (omega (arith, exact c, product_below c))
+returns-else-slots-slots_to_empty c = rw (← c.elapsed_slots-slots.ensures) (omega (arith, exact c, product_below c))
