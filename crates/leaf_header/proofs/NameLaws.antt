@@ -11,8 +11,8 @@ use native.Mathlib.Nat.{mod-eq_of_lt}
 use borrow.Author.Tests.{eqb-true, leb-true, lt-ltb, le-ltb, le-leb, lt-leb, eq-eqb, ne_eqb}
 use lib.Bits.{bit_and, and_mask}
 use lib.ListN.{get_or}
-use Rattle.meaning.specs.Plain.{when◌then◌else◌, ◌<?◌, ◌≤?◌, ◌=?◌}
-use Rattle.meaning.specs.Numbers.{most_v, paths, kind_in_range}
+use Rattle.meaning.specs.Plain.{when◌then◌else◌, ◌≤?◌, ◌=?◌}
+use Rattle.meaning.specs.Numbers.{most_v, kind_in_range}
 use Rattle.meaning.specs.Header.{Header, vpi_high, header_of, header_at, no_user_cell, connection, names_connection}
 use Rattle.meaning.proofs.NamesLaws.{vc_number, vc_named, path_number, path_named}
 use Rattle.leaf_header.specs.Name.{name_of, no_name, name_at, word_at, name_in, mask_for, Reads, number_for, numbered}
@@ -31,49 +31,43 @@ unfolding name_in
 in_nni kind head ne = rw (ne_eqb kind 0 ne)
 
 -- ---- four octets, the first with GFC at the UNI, the last with PTI and CLP
-abbrev word : ℕ → ℕ → ℕ → ℕ → ℕ
-word a b c d = a * 16777216 + b * 65536 + c * 256 + d
-
-module _ (l : List ℕ) (i a b c d : ℕ)
-    (p : (a ≡ get_or l i 0) × (a < 256))
-    (q : (b ≡ get_or l (i + 1) 0) × (b < 256))
-    (r : (c ≡ get_or l (i + 2) 0) × (c < 256))
-    (s : (d ≡ get_or l (i + 3) 0) × (d < 256)) where
-  pub word_is : word a b c d ≡ word_at l i
-  unfolding word_at
-  word_is = rw (← p.0, ← q.0, ← r.0, ← s.0)
-
+module _ (l : List ℕ) (i : ℕ)
+    (p : get_or l i 0 < 256)
+    (q : get_or l (i + 1) 0 < 256)
+    (r : get_or l (i + 2) 0 < 256)
+    (s : get_or l (i + 3) 0 < 256) where
   name_uni : (kind : ℕ) → kind ≡ 0
-      → (word a b c d / 16 % 16777216 ≡ name_at kind l i) × Reads kind (header_at kind l i) (word a b c d / 16 % 16777216)
-  unfolding name_at kind_in_range name_of header_at header_of vpi_high
+      → (word_at l i / 16 % 16777216 ≡ name_at kind l i) × Reads kind (header_at kind l i) (word_at l i / 16 % 16777216)
+  unfolding word_at name_at kind_in_range name_of header_at header_of vpi_high
   name_uni kind e =
-      rw (e, ← p.0, ← q.0, ← r.0, ← s.0) (
-        omega (arith, p.1, q.1, r.1, s.1),
-        λ _. (omega (arith, p.1, q.1, r.1, s.1), omega (arith, p.1, q.1, r.1, s.1)),
+      rw e (
+        omega (arith, p, q, r, s),
+        λ _. (omega (arith, p, q, r, s), omega (arith, p, q, r, s)),
       )
 
   name_nni : (kind : ℕ) → kind ≡ 1
-      → (word a b c d / 16 ≡ name_at kind l i) × Reads kind (header_at kind l i) (word a b c d / 16)
-  unfolding name_at kind_in_range name_of header_at header_of vpi_high
+      → (word_at l i / 16 ≡ name_at kind l i) × Reads kind (header_at kind l i) (word_at l i / 16)
+  unfolding word_at name_at kind_in_range name_of header_at header_of vpi_high
   name_nni kind e =
-      rw (e, ← p.0, ← q.0, ← r.0, ← s.0) (
-        omega (arith, p.1, q.1, r.1, s.1),
-        λ _. (omega (arith, p.1, q.1, r.1, s.1), omega (arith, p.1, q.1, r.1, s.1)),
+      rw e (
+        omega (arith, p, q, r, s),
+        λ _. (omega (arith, p, q, r, s), omega (arith, p, q, r, s)),
       )
 
   name_both : (kind : ℕ) → kind_in_range kind ≡ true
-      → (name_in kind (word a b c d) ≡ name_at kind l i) × Reads kind (header_at kind l i) (name_in kind (word a b c d))
+      → (name_in kind (word_at l i) ≡ name_at kind l i) × Reads kind (header_at kind l i) (name_in kind (word_at l i))
   name_both kind k = go (ℕ_discrete kind 0)
     where
-      go : Dec (kind ≡ 0) → (name_in kind (word a b c d) ≡ name_at kind l i) × Reads kind (header_at kind l i) (name_in kind (word a b c d))
-      go (yes e) = rw (← in_uni kind (word a b c d) e) (name_uni kind e)
-      go (no ne) = rw (← in_nni kind (word a b c d) ne) (name_nni kind (omega (arith, ne, kind_low kind k)))
+      go : Dec (kind ≡ 0) → (name_in kind (word_at l i) ≡ name_at kind l i) × Reads kind (header_at kind l i) (name_in kind (word_at l i))
+      go (yes e) = rw (← in_uni kind (word_at l i) e) (name_uni kind e)
+      go (no ne) = rw (← in_nni kind (word_at l i) ne) (name_nni kind (omega (arith, ne, kind_low kind k)))
 
-  pub word_names : (kind : ℕ) → kind_in_range kind ≡ true → name_in kind (word a b c d) ≡ name_at kind l i
-  word_names kind k = (name_both kind k).0
+  -- w is that word
+  pub word_names : (w : ℕ) → w ≡ word_at l i → (kind : ℕ) → kind_in_range kind ≡ true → name_in kind w ≡ name_at kind l i
+  word_names w e kind k = ap (name_in kind) e ∙ (name_both kind k).0
 
-  pub word_reads : (kind : ℕ) → Reads kind (header_at kind l i) (name_in kind (word a b c d))
-  word_reads kind k = (name_both kind k).1 k
+  pub word_reads : (w : ℕ) → w ≡ word_at l i → (kind : ℕ) → Reads kind (header_at kind l i) (name_in kind w)
+  word_reads w e kind k = rw e ((name_both kind k).1 k)
 
 -- ---- the name by a mask: at the UNI it cuts GFC, at the NNI it keeps all, as a header's number has 28 bits before PTI and CLP
 pub name_by : (kind mask head : ℕ) → kind_in_range kind ≡ true → mask ≡ mask_for kind → head < 4294967296
