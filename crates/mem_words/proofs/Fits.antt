@@ -1,16 +1,14 @@
 -- The ranges of a connection's words for refusal 3, as they are tested one after the other, and as plain facts once they fit.
-use Prim.Native.Nat.{ℕ, ◌*◌, ◌≤◌, ◌<◌}
-use mathlib.Core.Path.{◌≡◌, sym, ◌∙◌}
-use mathlib.Core.Bool.{true, false, ◌&&◌}
-use mathlib.Core.List.{List}
+use Prim.Native.Nat.{ℕ, ◌≤◌, ◌<◌}
+use mathlib.Core.Path.{◌≡◌, refl, sym, ◌∙◌}
+use mathlib.Core.Bool.{Bool, true, false, ◌&&◌}
 use native.Mathlib.Omega.{arith}
 use native.Mathlib.Decide.{ℕ_discrete}
 use borrow.Author.Tests.{lt-leb, eq-eqb, ne_eqb, leb-true, eqb-true}
-use lib.ListN.{get_or}
 use Rattle.meaning.specs.Plain.{◌≤?◌, ◌=?◌}
-use Rattle.meaning.specs.Numbers.{words_per_connection, most_m, most_f, most_second_c}
+use Rattle.meaning.specs.Numbers.{most_m, most_f, most_second_c}
 use Rattle.meaning.specs.Bucket.{Bucket, bucket_of, obeys_rules, obeys_second, is_none}
-use Rattle.meaning.specs.Words.{Connection, connection_at, bucket_fits, second_obeys, second_in_range, buckets_fit, open_word_fits, connection_fits}
+use Rattle.meaning.specs.Words.{Connection, bucket_fits, second_obeys, second_in_range, buckets_fit, open_word_fits, connection_fits}
 pub use Rattle.meaning.proofs.WordsLaws.{opened_at}
 use Rattle.leaf_bucket.proofs.Rules.{Obeys, rules_any_S, rules_facts, both}
 use Rattle.leaf_bucket.proofs.SecondRules.{second_none, second_some}
@@ -88,22 +86,12 @@ pub connection_open_breaks : (N : ℕ) (conn : Connection) → 1 < conn.opened �
 unfolding connection_fits open_word_fits
 connection_open_breaks N conn h = simp (ne_eqb conn.opened 0 (λ e. omega arith), lt-leb _ _ h)
 
-pub connection_bucket_breaks : (N : ℕ) (conn : Connection) → conn.opened ≡ 1 → bucket_fits N conn.bucket ≡ false → false ≡ connection_fits N conn
-unfolding connection_fits open_word_fits buckets_fit
-connection_bucket_breaks N conn h e = simp (h, e)
+-- v is what the two buckets are judged to be
+module _ (N : ℕ) (conn : Connection) (v : Bool) (one : conn.opened ≡ 1) (w : v ≡ (bucket_fits N conn.bucket && second_in_range conn.second conn.tag)) where
+  pub connection_last : v ≡ true → (conn.waiting ≤? N) ≡ connection_fits N conn
+  unfolding connection_fits open_word_fits buckets_fit
+  connection_last t = rw (one, sym w ∙ t) refl
 
-pub connection_second_breaks : (N : ℕ) (conn : Connection)
-    → conn.opened ≡ 1
-    → bucket_fits N conn.bucket ≡ true
-    → second_in_range conn.second conn.tag ≡ false
-    → false ≡ connection_fits N conn
-unfolding connection_fits open_word_fits buckets_fit
-connection_second_breaks N conn h e f = simp (h, e, f)
-
-pub connection_open_fits : (N : ℕ) (conn : Connection)
-    → conn.opened ≡ 1
-    → bucket_fits N conn.bucket ≡ true
-    → second_in_range conn.second conn.tag ≡ true
-    → (conn.waiting ≤? N) ≡ connection_fits N conn
-unfolding connection_fits open_word_fits buckets_fit
-connection_open_fits N conn h e f = simp (h, e, f)
+  pub connection_stop : v ≡ false → v ≡ connection_fits N conn
+  unfolding connection_fits open_word_fits buckets_fit
+  connection_stop f = f ∙ rw (one, sym w ∙ f) refl

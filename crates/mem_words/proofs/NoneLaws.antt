@@ -1,12 +1,12 @@
 -- Words told to be 0 by one test: the bits of several, taken together, are none exactly when each is 0.
-use Prim.Native.Nat.{ℕ, ◌+◌, ◌≤◌}
+use Prim.Native.Nat.{ℕ}
 use mathlib.Core.Path.{◌≡◌, sym, ◌∙◌}
 use mathlib.Core.Logic.{◌≢◌}
-use mathlib.Core.Bool.{Bool, true, false, ◌&&◌}
+use mathlib.Core.Bool.{true, false, ◌&&◌}
 use native.Mathlib.Omega.{arith}
 use native.Mathlib.Decide.{ℕ_discrete}
 use borrow.Author.Tests.{eq-eqb, ne_eqb, eqb-true, le-leb}
-use lib.Bits.{bit_or, bit_and, or_add_and, and_le_l, and_le_r}
+use lib.Bits.{bit_or, or_add_and, and_le_l, and_le_r}
 use Rattle.meaning.specs.Plain.{◌=?◌}
 use Rattle.meaning.specs.Bucket.{is_none}
 use Rattle.meaning.specs.Words.{Connection, second_obeys, second_in_range}

@@ -5,7 +5,7 @@ ghost use Rattle.std.specs.Prelude.{◌≡◌, ◌+◌, ◌*◌, ◌≤◌, leng
 ghost use Rattle.meaning.specs.State.{HasConnection};
 ghost use Rattle.meaning.specs.Bucket.{bucket_of};
 ghost use Rattle.meaning.specs.Words.{second_of, connection_at, write_connection, bucket_fits, second_in_range, connection_fits};
-ghost use Rattle.mem_words.specs.Connections.{has_none, bare_connection, first_written, second_written};
+ghost use Rattle.mem_words.specs.Connections.{has_none, bare_connection};
 
 use leaf_bucket::{obeys_rules, obeys_second};
 use meaning::{
@@ -18,12 +18,9 @@ pub fn bucket_fits(n: u16, words: &[u32], conn: u16) -> bool
     requires { HasConnection conn words.now }
     ensures { result ≡ bucket_fits n (connection_at words.now conn).bucket }
 {
-    let base = WORDS_PER_CONNECTION * (conn as usize);
+    let base = WORDS_PER_CONNECTION * usize::from(conn);
     let c = words[base + AT_C];
-    if !obeys_rules(n, words[base + AT_M], words[base + AT_F], c) {
-        return false;
-    }
-    words[base + AT_S] <= c
+    obeys_rules(n, words[base + AT_M], words[base + AT_F], c) && words[base + AT_S] <= c
 }
 
 // Whether a connection has no second bucket, and all words of one are 0: the common case. Told by two tests of several words at once: as
@@ -32,11 +29,9 @@ pub fn none_second(words: &[u32], conn: u16) -> bool
     requires { HasConnection conn words.now }
     ensures { result ≡ has_none (connection_at words.now conn) }
 {
-    let base = WORDS_PER_CONNECTION * (conn as usize);
-    if words[base + AT_SECOND_M] | words[base + AT_SECOND_F] | words[base + AT_SECOND_C] != 0 {
-        return false;
-    }
-    words[base + AT_SECOND_S] | words[base + AT_TAG] == 0
+    let base = WORDS_PER_CONNECTION * usize::from(conn);
+    words[base + AT_SECOND_M] | words[base + AT_SECOND_F] | words[base + AT_SECOND_C] == 0
+        && words[base + AT_SECOND_S] | words[base + AT_TAG] == 0
 }
 
 // A second bucket's words and the flag, as the peak bucket's.
@@ -44,17 +39,14 @@ pub fn second_fits(words: &[u32], conn: u16) -> bool
     requires { HasConnection conn words.now }
     ensures { result ≡ second_in_range (connection_at words.now conn).second (connection_at words.now conn).tag }
 {
-    let base = WORDS_PER_CONNECTION * (conn as usize);
+    let base = WORDS_PER_CONNECTION * usize::from(conn);
     let c = words[base + AT_SECOND_C];
-    if !obeys_second(
+    obeys_second(
         words[base + AT_SECOND_M],
         words[base + AT_SECOND_F],
         c,
         words[base + AT_TAG],
-    ) {
-        return false;
-    }
-    words[base + AT_SECOND_S] <= c
+    ) && words[base + AT_SECOND_S] <= c
 }
 
 // The words of a closed connection fit whatever they hold, but for the open word; those of an open one by their ranges.
@@ -62,49 +54,14 @@ pub fn connection_fits(n: u16, words: &[u32], conn: u16) -> bool
     requires { HasConnection conn words.now }
     ensures { result ≡ connection_fits n (connection_at words.now conn) }
 {
-    let base = WORDS_PER_CONNECTION * (conn as usize);
-    let opened = words[base];
-    if opened == 0 {
-        return true;
+    let base = WORDS_PER_CONNECTION * usize::from(conn);
+    match words[base] {
+        0 => true,
+        1 => bucket_fits(n, words, conn)
+            && second_fits(words, conn)
+            && words[base + AT_WAITING] <= u32::from(n),
+        _ => false,
     }
-    if opened > 1 {
-        return false;
-    }
-    if !bucket_fits(n, words, conn) {
-        return false;
-    }
-    if !second_fits(words, conn) {
-        return false;
-    }
-    words[base + AT_WAITING] <= n as u32
-}
-
-// The second bucket of a connection set: m, F and C and the flag as given, S 0.
-fn write_second(words: &mut [u32], conn: u16, m: u32, f: u32, c: u32, tag: u32)
-    requires { HasConnection conn words.old }
-    ensures { words.new ≡ second_written words.old conn (second_of m f c tag) }
-{
-    let base = WORDS_PER_CONNECTION * (conn as usize);
-    words[base + AT_SECOND_M] = m;
-    words[base + AT_SECOND_F] = f;
-    words[base + AT_SECOND_C] = c;
-    words[base + AT_SECOND_S] = 0;
-    words[base + AT_TAG] = tag;
-}
-
-// The first words of a connection set: its open word, the peak bucket with S 0, last, waiting 0.
-fn write_first(words: &mut [u32], conn: u16, opened: u32, m: u32, f: u32, c: u32, last: u32)
-    requires { HasConnection conn words.old }
-    ensures { words.new ≡ first_written words.old conn opened (bucket_of m f c 0) last }
-{
-    let base = WORDS_PER_CONNECTION * (conn as usize);
-    words[base] = opened;
-    words[base + AT_M] = m;
-    words[base + AT_F] = f;
-    words[base + AT_C] = c;
-    words[base + AT_S] = 0;
-    words[base + AT_LAST] = last;
-    words[base + AT_WAITING] = 0;
 }
 
 // All words of a connection set as an opening or a closing has them: nothing in its buckets, and no cell waits.
@@ -124,6 +81,17 @@ pub fn write_connection(
     requires { HasConnection conn words.old }
     ensures { words.new ≡ write_connection words.old conn (bare_connection opened (bucket_of m f c 0) last (second_of m2 f2 c2 tag)) }
 {
-    write_first(words, conn, opened, m, f, c, last);
-    write_second(words, conn, m2, f2, c2, tag);
+    let base = WORDS_PER_CONNECTION * usize::from(conn);
+    words[base] = opened;
+    words[base + AT_M] = m;
+    words[base + AT_F] = f;
+    words[base + AT_C] = c;
+    words[base + AT_S] = 0;
+    words[base + AT_LAST] = last;
+    words[base + AT_WAITING] = 0;
+    words[base + AT_SECOND_M] = m2;
+    words[base + AT_SECOND_F] = f2;
+    words[base + AT_SECOND_C] = c2;
+    words[base + AT_SECOND_S] = 0;
+    words[base + AT_TAG] = tag;
 }

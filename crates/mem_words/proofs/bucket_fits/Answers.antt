@@ -4,10 +4,10 @@ use Rattle.meaning.specs.Words.{connection_at}
 use Rattle.mem_words.proofs.Fits.{bucket_breaks, bucket_obeys}
 use Rattle.mem_words.proofs.bucket_fits.Goals as goal
 
-pub returns-then-not-obeys_rules : goal.returns-then-not-obeys_rules
+pub returns-then-obeys_rules : goal.returns-then-obeys_rules
 unfolding connection_at
-returns-then-not-obeys_rules c = bucket_breaks _ _ (sym c.obeys_rules.ensures ∙ c.if-not-obeys_rules.true)
+returns-then-obeys_rules c = rw (← c.from-base.ensures) (bucket_obeys _ _ (sym c.obeys_rules.ensures ∙ c.if-obeys_rules.true))
 
-pub returns : goal.returns
+pub returns-else-obeys_rules : goal.returns-else-obeys_rules
 unfolding connection_at
-returns c = bucket_obeys _ _ (sym c.obeys_rules.ensures ∙ c.if-not-obeys_rules.false)
+returns-else-obeys_rules c = c.if-obeys_rules.false ∙ rw (← c.from-base.ensures) (bucket_breaks _ _ (sym c.obeys_rules.ensures ∙ c.if-obeys_rules.false))

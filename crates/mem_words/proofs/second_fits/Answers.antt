@@ -4,10 +4,10 @@ use Rattle.meaning.specs.Words.{connection_at}
 use Rattle.mem_words.proofs.Fits.{second_breaks, second_obeys_lem}
 use Rattle.mem_words.proofs.second_fits.Goals as goal
 
-pub returns-then-not-obeys_second : goal.returns-then-not-obeys_second
+pub returns-then-obeys_second : goal.returns-then-obeys_second
 unfolding connection_at
-returns-then-not-obeys_second c = second_breaks _ _ (sym c.obeys_second.ensures ∙ c.if-not-obeys_second.true)
+returns-then-obeys_second c = rw (← c.from-base.ensures) (second_obeys_lem _ _ (sym c.obeys_second.ensures ∙ c.if-obeys_second.true))
 
-pub returns : goal.returns
+pub returns-else-obeys_second : goal.returns-else-obeys_second
 unfolding connection_at
-returns c = second_obeys_lem _ _ (sym c.obeys_second.ensures ∙ c.if-not-obeys_second.false)
+returns-else-obeys_second c = c.if-obeys_second.false ∙ rw (← c.from-base.ensures) (second_breaks _ _ (sym c.obeys_second.ensures ∙ c.if-obeys_second.false))
