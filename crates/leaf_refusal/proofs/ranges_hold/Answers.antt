@@ -1,30 +1,21 @@
--- `leaf_refusal::ranges_hold` meets its contract: each return answers one of the four bounds, those before it being met.
-use borrow.Author.Tests.{le-leb, lt-leb}
+-- `leaf_refusal::ranges_hold` meets its contract: each of its two ranges is tested as the contract has it.
+use Rattle.std.proofs.Common.{arith, ◌∙◌}
 use Rattle.meaning.specs.Numbers.{ranges_hold}
+use Rattle.leaf_refusal.proofs.Within.{within}
 use Rattle.leaf_refusal.proofs.ranges_hold.Goals as goal
 
-pub returns-then-n-lt1 : goal.returns-then-n-lt1
+pub returns-then-contains : goal.returns-then-contains
 unfolding ranges_hold
-returns-then-n-lt1 c = simp (lt-leb 1 _ c.if-n-lt1.true)
+returns-then-contains c =
+    let n = c.new.ensures in
+    let v = c.new-then-contains.ensures in
+    let first = c.contains.ensures.value ∙ within c.new.result 1 1024 c.args.n n.start n.end n.exhausted in
+    let second = c.contains-then-contains.ensures.value ∙ within c.new-then-contains.result 2 1024 c.args.v v.start v.end v.exhausted in
+    grind (arith, first, second, c.if-contains.true)
 
-pub returns-then-n-gt1024 : goal.returns-then-n-gt1024
+pub returns-else-contains : goal.returns-else-contains
 unfolding ranges_hold
-returns-then-n-gt1024 c = simp (le-leb 1 _ c.if-n-lt1.false, lt-leb _ 1024 c.if-n-gt1024.true)
-
-pub returns-then-v-lt2 : goal.returns-then-v-lt2
-unfolding ranges_hold
-returns-then-v-lt2 c =
-    simp (
-      le-leb 1 _ c.if-n-lt1.false,
-      le-leb _ 1024 c.if-n-gt1024.false,
-      lt-leb 2 _ c.if-v-lt2.true,
-    )
-
-pub returns : goal.returns
-unfolding ranges_hold
-returns c =
-    simp (
-      le-leb 1 _ c.if-n-lt1.false,
-      le-leb _ 1024 c.if-n-gt1024.false,
-      le-leb 2 _ c.if-v-lt2.false,
-    )
+returns-else-contains c =
+    let n = c.new.ensures in
+    let first = c.contains.ensures.value ∙ within c.new.result 1 1024 c.args.n n.start n.end n.exhausted in
+    grind (arith, first, c.if-contains.false)
