@@ -14,7 +14,7 @@ use Rattle.meaning.specs.Bits.{is_free_space, is_marked, all_free}
 use Rattle.meaning.specs.State.{state_of, words_length, lengths_hold, State, with_record}
 use Rattle.meaning.specs.Words.{connection_at, connection_fits}
 use Rattle.meaning.specs.Lists.{is_empty, entry_at}
-use Rattle.meaning.specs.Calls.{SetUp, set_up_of, zeros, raw_number, Kind, UNI, NNI, kind_number, kind_of, Options, options_of, setup, fresh_record, fresh_state, Asked, chosen}
+use Rattle.meaning.specs.Calls.{SetUp, set_up_of, zeros, raw_number, Kind, UNI, NNI, kind_number, Options, setup, fresh_record, fresh_state, Asked, chosen}
 use Rattle.meaning.specs.Promises.{setup_promise}
 use Rattle.meaning.specs.Audit.{Chain, count, joined, AuditHolds}
 use Rattle.leaf_refusal.proofs.Ranges.{InRange, ranges_facts}

@@ -1,4 +1,3 @@
-pub mod Fills
 pub mod Fulls
 pub mod Refusals
 pub mod Counts

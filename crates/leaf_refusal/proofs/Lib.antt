@@ -1,3 +1,4 @@
 pub mod Two
 pub mod Ranges
 pub mod Within
+pub mod Numbers
