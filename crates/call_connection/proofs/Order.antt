@@ -1,5 +1,4 @@
--- The first of the refusals worked out is the one that document 01's order gives; and once none of those that open and
--- close share is given, the connection's words are lent.
+-- Once none of the refusals that open and close share is given: the connection's words are lent, and an open one's m is in its range.
 use Prim.Native.Nat.{ℕ, ◌≤◌}
 use mathlib.Core.Path.{◌≡◌, refl}
 use mathlib.Core.Bool.{Bool, true, false, not, ◌&&◌}
@@ -19,37 +18,11 @@ use Rattle.meaning.proofs.NamesLaws.{number_low}
 use Rattle.leaf_bucket.proofs.Rules.{both}
 use Rattle.leaf_refusal.proofs.Ranges.{ranges_facts}
 use Rattle.mem_words.proofs.Fits.{bucket_facts}
-use Rattle.leaf_refusal.specs.Order.{refuse_of, first_of}
-
--- refusals 1, twice, 2, 4 and 16
-abbrev pub early : Bool → Bool → Bool → Bool → Bool → ℕ
-early a s b d o =
-    first_of (first_of (first_of (first_of (refuse_of 1 (not a)) (refuse_of 1 (not s))) (refuse_of 2 (not b))) (refuse_of 4 (not d)))
-    (refuse_of 16 (not o))
 
 -- "1, 2, 4, 16, 3"
 abbrev in_order : Bool → Bool → Bool → Bool → Bool → Bool → ℕ
 in_order a s b d o e =
     when not a then 1 else when not s then 1 else when not b then 2 else when not d then 4 else when not o then 16 else when not e then 3 else 0
-
-order_early : (a s b d o e : Bool) → (early a s b d o ≡ 0 → ⊥) → early a s b d o ≡ in_order a s b d o e
-order_early true true true true true e h = absurd (h refl)
-order_early true true true true false e h = refl
-order_early true true true false o e h = refl
-order_early true true false d o e h = refl
-order_early true false b d o e h = refl
-order_early false s b d o e h = refl
-
-early_none : (a s b d o : Bool) → early a s b d o ≡ 0 → (a ≡ true) × (b ≡ true) × (d ≡ true) × (s ≡ true) × (o ≡ true)
-early_none true true true true true h = (refl, refl, refl, refl, refl)
-early_none true true true true false h = absurd (omega arith)
-early_none true true true false o h = absurd (omega arith)
-early_none true true false d o h = absurd (omega arith)
-early_none true false b d o h = absurd (omega arith)
-early_none false s b d o h = absurd (omega arith)
-
-order_late : (a s b d o e : Bool) → early a s b d o ≡ 0 → refuse_of 3 (not e) ≡ in_order a s b d o e
-order_late a s b d o e h = let p = early_none a s b d o h in rw (p.0, p.1, p.2, p.3, p.4)
 
 shared_zero : (a s b d o e : Bool) → in_order a s b d o e ≡ 0 → (a ≡ true) × (b ≡ true) × (d ≡ true) × (e ≡ true)
 shared_zero true true true true true true h = (refl, refl, refl, refl)
@@ -84,24 +57,9 @@ module _ (r : Record) (words : List ℕ) (who : ℕ) (name : Name) where
   abbrev fits : Bool
   fits = connection_fits r.n (connection_at words numbered)
 
-  abbrev pub early_refusal : ℕ
-  early_refusal = early in_range split is_long is_named is_owned
-
-  pub shared_early : (early_refusal ≡ 0 → ⊥) → early_refusal ≡ shared_refusal r words who name
-  unfolding shared_refusal
-  shared_early h = order_early in_range split is_long is_named is_owned fits h
-
-  pub shared_late : early_refusal ≡ 0 → refuse_of 3 (not fits) ≡ shared_refusal r words who name
-  unfolding shared_refusal
-  shared_late h = order_late in_range split is_long is_named is_owned fits h
-
   -- V in its range and such a connection: what its number needs
   abbrev Named : Type 0
   Named = (r.v ≤ most_v) × (named r.v name ≡ true)
-
-  pub early_named : early_refusal ≡ 0 → Named
-  early_named h =
-      let p = early_none in_range split is_long is_named is_owned h in ((ranges_facts r.n r.v p.0).V_most, p.2)
 
   pub shared_named : shared_refusal r words who name ≡ 0 → Named
   unfolding shared_refusal
@@ -109,16 +67,13 @@ module _ (r : Record) (words : List ℕ) (who : ℕ) (name : Name) where
       let p = shared_zero in_range split is_long is_named is_owned fits h in ((ranges_facts r.n r.v p.0).V_most, p.2)
 
   -- words of the right length, and a number below V + 256
-  lent : is_long ≡ true → is_named ≡ true → HasConnection numbered words
-  unfolding words_length
-  lent p q = omega (arith, eqb-true (length words) (words_in r.v) p, number_low r.v name q)
-
-  pub early_lent : early_refusal ≡ 0 → HasConnection numbered words
-  early_lent h = let p = early_none in_range split is_long is_named is_owned h in lent p.1 p.2
+  pub lent : length words ≡ words_in r.v → is_named ≡ true → HasConnection numbered words
+  lent p q = omega (arith, p, number_low r.v name q)
 
   pub shared_lent : shared_refusal r words who name ≡ 0 → HasConnection numbered words
-  unfolding shared_refusal
-  shared_lent h = let p = shared_zero in_range split is_long is_named is_owned fits h in lent p.1 p.2
+  unfolding shared_refusal words_length
+  shared_lent h =
+      let p = shared_zero in_range split is_long is_named is_owned fits h in lent (eqb-true (length words) (words_in r.v) p.1) p.2
 
   m_low : shared_refusal r words who name ≡ 0 → ((connection_at words numbered).opened ≡ 0 → ⊥)
       → (connection_at words numbered).bucket.m ≤ 15

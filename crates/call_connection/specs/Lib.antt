@@ -1,3 +1,4 @@
 pub mod Names
+pub mod Rates
 pub mod NotYet
 pub mod Own

@@ -1,7 +1,8 @@
--- How a call names a connection, as its code has it: whether it is a path, and its VPI or VCI.
-use Rattle.std.specs.Prelude.{ℕ, Bool, true, false}
+-- How a call names a connection, as its code has it.
 use Rattle.meaning.specs.Header.{Name, by_vci, by_vpi}
+use Rattle.call_connection.specs.declared.Name as code
+use Rattle.call_connection.specs.declared.Name.TheVariants.{Vc, Path}
 
-abbrev pub name_of : Bool → ℕ → Name
-name_of true number = by_vpi number
-name_of false number = by_vci number
+abbrev pub name_of : code.Name → Name
+name_of (Vc vci) = by_vci vci
+name_of (Path vpi) = by_vpi vpi

@@ -16,10 +16,12 @@ ghost use Rattle.call_tallied.specs.Promise.{tallied_promise};
 ghost use Rattle.clurimoon.specs.Places.{place_promise};
 
 use call_burst::BurstEnd;
+use call_connection::{NO_SECOND, Name, Peak, Second};
 use call_line::Place;
 use call_tallied::BurstTallied;
 use call_tally::{Bin, Tallied, Tally};
 use call_time::{Tat, Timed};
+use leaf_refusal::given_number;
 use meaning::{Fresh, Record, Served, Wait};
 
 #[unsafe(no_mangle)]
@@ -56,7 +58,15 @@ pub extern "C" fn clurimoon_open(
 ) -> u16
     ensures { open_promise ctl words.old owner (by_vci vci) m f c without_second result words.new }
 {
-    call_connection::open(ctl, words, owner, vci, m, f, c)
+    let peak = Peak { m, f, c };
+    given_number(call_connection::open(
+        ctl,
+        words,
+        owner,
+        Name::Vc(vci),
+        peak,
+        NO_SECOND,
+    ))
 }
 
 #[unsafe(no_mangle)]
@@ -75,14 +85,28 @@ pub extern "C" fn clurimoon_open_sustained(
 ) -> u16
     ensures { open_promise ctl words.old owner (by_vci vci) m f c (second_of m2 f2 c2 tag) result words.new }
 {
-    call_connection::open_sustained(ctl, words, owner, vci, m, f, c, m2, f2, c2, tag)
+    let peak = Peak { m, f, c };
+    let second = Second {
+        m: m2,
+        f: f2,
+        c: c2,
+        tag,
+    };
+    given_number(call_connection::open(
+        ctl,
+        words,
+        owner,
+        Name::Vc(vci),
+        peak,
+        second,
+    ))
 }
 
 #[unsafe(no_mangle)]
 pub extern "C" fn clurimoon_close(ctl: Record, words: &mut [u32], owner: u16, vci: u16) -> u16
     ensures { close_promise ctl words.old owner (by_vci vci) result words.new }
 {
-    call_connection::close(ctl, words, owner, vci)
+    given_number(call_connection::close(ctl, words, owner, Name::Vc(vci)))
 }
 
 // A whole path, by its VPI, with a second bucket or none.
@@ -102,14 +126,28 @@ pub extern "C" fn clurimoon_open_path(
 ) -> u16
     ensures { open_promise ctl words.old owner (by_vpi vpi) m f c (second_of m2 f2 c2 tag) result words.new }
 {
-    call_connection::open_path(ctl, words, owner, vpi, m, f, c, m2, f2, c2, tag)
+    let peak = Peak { m, f, c };
+    let second = Second {
+        m: m2,
+        f: f2,
+        c: c2,
+        tag,
+    };
+    given_number(call_connection::open(
+        ctl,
+        words,
+        owner,
+        Name::Path(vpi),
+        peak,
+        second,
+    ))
 }
 
 #[unsafe(no_mangle)]
 pub extern "C" fn clurimoon_close_path(ctl: Record, words: &mut [u32], owner: u16, vpi: u16) -> u16
     ensures { close_promise ctl words.old owner (by_vpi vpi) result words.new }
 {
-    call_connection::close_path(ctl, words, owner, vpi)
+    given_number(call_connection::close(ctl, words, owner, Name::Path(vpi)))
 }
 
 #[unsafe(no_mangle)]

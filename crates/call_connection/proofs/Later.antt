@@ -1,16 +1,18 @@
 -- The refusals that are open's or close's own come after the shared ones, and in their order; then the words change.
-use Prim.Native.Nat.{ℕ}
-use mathlib.Core.Path.{◌≡◌, refl}
+use Prim.Native.Nat.{ℕ, ◌*◌}
+use mathlib.Core.Path.{◌≡◌, refl, sym, ◌∙◌, ap}
 use mathlib.Core.Bool.{Bool, true, false, not, ◌&&◌}
 use mathlib.Core.List.{List}
 use native.Mathlib.Omega.{arith}
 use borrow.Author.Tests.{eq-eqb, ne_eqb}
+use lib.ListN.{get_or}
 use Rattle.meaning.specs.declared.Record.{Record}
 use Rattle.meaning.specs.Plain.{when◌then◌else◌, ◌=?◌}
 use Rattle.meaning.specs.Header.{Name, number_in}
 use Rattle.meaning.specs.Bucket.{bucket_of, obeys_rules}
 use Rattle.meaning.specs.Words.{Connection, Second, connection_at, write_connection, second_obeys, opened_connection, closed_connection, debt}
 use Rattle.meaning.specs.Calls.{Called, called_of, shared_refusal, open_call, close_call}
+use Rattle.mem_words.proofs.Fits.{opened_at}
 use Rattle.leaf_refusal.specs.Order.{refuse_of, first_of}
 use Rattle.call_connection.specs.NotYet.{not_yet}
 use Rattle.call_connection.specs.Own.{own_refusal}
@@ -26,6 +28,13 @@ module _ (r : Record) (words : List ℕ) (who : ℕ) (name : Name) (given : shar
   close_shared = simp (ne_eqb (shared_refusal r words who name) 0 given)
 
 -- ---- open
+-- its own refusals, by the open word, which stands first among the words of the connection
+pub own_at : (N : ℕ) (words : List ℕ) (k c m F C : ℕ) (x : Second) → k ≡ c
+    → own_refusal N (get_or words (12 * k) 0) m F C x ≡ own_refusal N (connection_at words c).opened m F C x
+own_at N words k c m F C x e =
+    ap (λ (j : ℕ). own_refusal N (get_or words (12 * j) 0) m F C x) e
+    ∙ ap (λ (o : ℕ). own_refusal N o m F C x) (sym (opened_at words c))
+
 -- c is the connection's number
 module _ (r : Record) (words : List ℕ) (who : ℕ) (name : Name) (c : ℕ) (is : c ≡ number_in r.v name) (m F C : ℕ) (x : Second) where
   -- "already open"
@@ -80,6 +89,22 @@ module _ (r : Record) (words : List ℕ) (who : ℕ) (name : Name) (c : ℕ) (is
   open_done e h = rw (eq-eqb (shared_refusal r words who name) 0 e, ← is) (three_none already against beyond h)
 
 -- ---- close
+-- the test of the open word, and the word where it stands
+tested : (x : ℕ) → not (x =? 0) ≡ true → x ≡ 0 → ⊥
+tested x h z = grind (arith, h, eq-eqb x 0 z)
+
+untested : (x : ℕ) → not (x =? 0) ≡ false → x ≡ 0
+untested x h = grind (arith, h, ne_eqb x 0)
+
+module _ (words : List ℕ) (k c : ℕ) (is : k ≡ c) where
+  pub open_at : not (get_or words (12 * k) 0 =? 0) ≡ true → (connection_at words c).opened ≡ 0 → ⊥
+  open_at h z =
+      tested (get_or words (12 * k) 0) h (ap (λ (j : ℕ). get_or words (12 * j) 0) is ∙ (sym (opened_at words c) ∙ z))
+
+  pub closed_at : not (get_or words (12 * k) 0 =? 0) ≡ false → (connection_at words c).opened ≡ 0
+  closed_at h =
+      opened_at words c ∙ (ap (λ (j : ℕ). get_or words (12 * j) 0) (sym is) ∙ untested (get_or words (12 * k) 0) h)
+
 -- 8 is given exactly where one of its two halves is
 halves_given : (a b : Bool) → (first_of (refuse_of 8 (not a)) (refuse_of 8 (not b)) ≡ 0 → ⊥)
     → (first_of (refuse_of 8 (not a)) (refuse_of 8 (not b)) ≡ 8) × (not (a && b) ≡ true)
