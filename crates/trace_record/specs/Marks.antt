@@ -2,6 +2,8 @@
 -- VS, (vi) GN, PO and PX.
 use Rattle.std.specs.Prelude.{ℕ, ◌+◌}
 use Rattle.meaning.specs.Numbers.{octets}
+use Rattle.trace_record.specs.declared.mark.Mark.{Mark}
+use Rattle.trace_record.specs.declared.mark.Mark.TheVariants.{Gm, Gr, Gn, Vo, Vs, Vx, Po, Px, Ca, Sl}
 
 -- "Every record begins with a two-octet mark in letters": the two letters' octets, as a number of 16 bits
 abbrev pub mark_octets : ℕ
@@ -36,6 +38,19 @@ mark_ca = 0x4341
 
 abbrev pub mark_sl : ℕ
 mark_sl = 0x534c
+
+-- the letters of each mark that the reader knows
+abbrev pub letters_of : Mark → ℕ
+letters_of Gm = mark_gm
+letters_of Gr = mark_gr
+letters_of Gn = mark_gn
+letters_of Vo = mark_vo
+letters_of Vs = mark_vs
+letters_of Vx = mark_vx
+letters_of Po = mark_po
+letters_of Px = mark_px
+letters_of Ca = mark_ca
+letters_of Sl = mark_sl
 
 -- the octets of a record, mark included: GM, GR and GN 16 and 16 bits; VO and PO 16, 8, 32 and 32; VS those of
 -- VO and 8, 32, 32 and 8; VX and PX 16; CA 53 octets; SL 16

@@ -2,8 +2,13 @@
 #![tactic(auto)]
 
 ghost use Rattle.std.specs.Prelude.{◌≡◌, ◌+◌, ◌≤◌, ◌<◌, length};
-ghost use Rattle.trace_record.specs.Trace.{be16, be32, setup_at, open_at, sustain_at, close_at, open_path_at, close_path_at, cell_at, pause_at, first_at, later_at, said_of};
+ghost use Rattle.trace_record.specs.Marks.{letters_of};
+ghost use Rattle.trace_record.specs.Trace.{head_mark, be16, be32, setup_at, open_at, sustain_at, close_at, open_path_at, close_path_at, cell_at, pause_at, first_at, later_at, said_of};
 ghost use Rattle.trace_record.specs.Promises.{event_promise, place_promise};
+
+pub mod mark;
+
+pub use mark::Mark;
 
 // The mark of the first record: GM; GR, whose trace is raw; GN, whose trace is of the NNI.
 #[derive(Clone, Copy)]
@@ -11,6 +16,19 @@ pub enum Head {
     Gm,
     Gr,
     Gn,
+}
+
+impl Head {
+    // The mark of a trace that begins so.
+    pub fn mark(self) -> Mark
+        ensures { letters_of result ≡ head_mark self }
+    {
+        match self {
+            Head::Gm => Mark::Gm,
+            Head::Gr => Mark::Gr,
+            Head::Gn => Mark::Gn,
+        }
+    }
 }
 
 // A record of a trace. Open is a VO; Sustain is a VS, with the second bucket's m, F and C and the tagging flag; OpenPath and

@@ -1,0 +1,47 @@
+// The mark with which every record of a trace begins: two letters.
+
+ghost use Rattle.std.specs.Prelude.{◌≡◌, ◌↔◌};
+ghost use Rattle.trace_record.specs.Marks.{letters_of};
+
+// GM, GR and GN begin a trace; the others stand behind. Each is numbered by its two letters, high octet first.
+#[derive(Clone, Copy, PartialEq, Eq)]
+pub enum Mark {
+    Gm = 0x474d,
+    Gr = 0x4752,
+    Gn = 0x474e,
+    Vo = 0x564f,
+    Vs = 0x5653,
+    Vx = 0x5658,
+    Po = 0x504f,
+    Px = 0x5058,
+    Ca = 0x4341,
+    Sl = 0x534c,
+}
+
+impl Mark {
+    // The two letters, high octet first.
+    pub fn letters(self) -> u16
+        ensures { result ≡ letters_of self }
+    {
+        self as u16
+    }
+
+    // The mark that two letters are: none but the ten. Cells first: they are the most frequent.
+    pub fn of_letters(letters: u16) -> Option<Mark>
+        ensures { (m : Mark) → (result ≡ Some m) ↔ (letters ≡ letters_of m) }
+    {
+        Some(match letters {
+            0x4341 => Mark::Ca,
+            0x534c => Mark::Sl,
+            0x564f => Mark::Vo,
+            0x5658 => Mark::Vx,
+            0x474d => Mark::Gm,
+            0x4752 => Mark::Gr,
+            0x474e => Mark::Gn,
+            0x5653 => Mark::Vs,
+            0x504f => Mark::Po,
+            0x5058 => Mark::Px,
+            _ => return None,
+        })
+    }
+}
