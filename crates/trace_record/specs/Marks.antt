@@ -1,6 +1,6 @@
 -- Document 01, "Trace and listing": the marks of a trace's records, and how long each record is. Document 02 (i) adds GR, (iv)
 -- VS, (vi) GN, PO and PX.
-use Rattle.std.specs.Prelude.{ℕ, ◌+◌}
+use Rattle.std.specs.Prelude.{ℕ, ◌+◌, Bool, true, false}
 use Rattle.meaning.specs.Numbers.{octets}
 use Rattle.trace_record.specs.declared.mark.Mark.{Mark}
 use Rattle.trace_record.specs.declared.mark.Mark.TheVariants.{Gm, Gr, Gn, Vo, Vs, Vx, Po, Px, Ca, Sl}
@@ -52,6 +52,19 @@ letters_of Px = mark_px
 letters_of Ca = mark_ca
 letters_of Sl = mark_sl
 
+-- "GM .. first and only first", and in its place GR or GN
+abbrev pub is_head : Mark → Bool
+is_head Gm = true
+is_head Gr = true
+is_head Gn = true
+is_head Vo = false
+is_head Vs = false
+is_head Vx = false
+is_head Po = false
+is_head Px = false
+is_head Ca = false
+is_head Sl = false
+
 -- the octets of a record, mark included: GM, GR and GN 16 and 16 bits; VO and PO 16, 8, 32 and 32; VS those of
 -- VO and 8, 32, 32 and 8; VX and PX 16; CA 53 octets; SL 16
 abbrev pub long_gm : ℕ
@@ -77,3 +90,16 @@ long_ca = mark_octets + octets
 
 abbrev pub long_sl : ℕ
 long_sl = mark_octets + 2
+
+-- the octets of a record of each mark
+abbrev pub record_long : Mark → ℕ
+record_long Gm = long_gm
+record_long Gr = long_gm
+record_long Gn = long_gm
+record_long Vo = long_vo
+record_long Vs = long_vs
+record_long Vx = long_vx
+record_long Po = long_po
+record_long Px = long_px
+record_long Ca = long_ca
+record_long Sl = long_sl

@@ -11,6 +11,8 @@ use Rattle.meaning.specs.Words.{Second, second_of}
 use Rattle.meaning.specs.Calls.{Kind, UNI, NNI, Options, options_of}
 pub use Rattle.trace_record.specs.Marks.{mark_octets, mark_gm, mark_gr, mark_gn, mark_vo, mark_vx, mark_ca, mark_sl, mark_vs, mark_po, mark_px}
 pub use Rattle.trace_record.specs.Marks.{long_gm, long_vo, long_vx, long_ca, long_sl, long_vs, long_po, long_px}
+use Rattle.trace_record.specs.Marks.{letters_of, is_head}
+use Rattle.trace_record.specs.declared.mark.Mark.{Mark}
 use Rattle.trace_record.specs.declared.Head.{Head}
 use Rattle.trace_record.specs.declared.Head.TheVariants.{Gm, Gr, Gn}
 use Rattle.trace_record.specs.declared.Event.{Event}
@@ -125,6 +127,10 @@ later_at trace at mark =
     else when mark =? mark_po then open_path_at trace at
     else when mark =? mark_px then close_path_at trace at
     else unreadable at
+
+-- the record of a mark that stands where such a record may
+unfoldable pub record_at : List ℕ → ℕ → Mark → Stands
+record_at trace at mark = when is_head mark then first_at trace at (letters_of mark) else later_at trace at (letters_of mark)
 
 -- What stands at a place. First is place 0. The place after the last octet of a trace that isn't empty is its end.
 -- "A place past the trace's end is refused with 10 and that place"; so is an empty trace, at place 0.

@@ -2,8 +2,8 @@
 #![tactic(auto)]
 
 ghost use Rattle.std.specs.Prelude.{◌≡◌, ◌+◌, ◌≤◌, ◌<◌, length};
-ghost use Rattle.trace_record.specs.Marks.{letters_of};
-ghost use Rattle.trace_record.specs.Trace.{head_mark, be16, be32, setup_at, open_at, sustain_at, close_at, open_path_at, close_path_at, cell_at, pause_at, first_at, later_at, said_of};
+ghost use Rattle.trace_record.specs.Marks.{letters_of, mark_octets};
+ghost use Rattle.trace_record.specs.Trace.{head_mark, be16, be32, record_at, said_of};
 ghost use Rattle.trace_record.specs.Promises.{event_promise, place_promise};
 
 pub mod mark;
@@ -84,285 +84,104 @@ pub enum Found {
     Unreadable { place: usize },
 }
 
-// The two letters of each mark, high octet first.
-const GM: u16 = 0x474d;
-
-const GR: u16 = 0x4752;
-
-const GN: u16 = 0x474e;
-
-const VO: u16 = 0x564f;
-
-const VS: u16 = 0x5653;
-
-const VX: u16 = 0x5658;
-
-const PO: u16 = 0x504f;
-
-const PX: u16 = 0x5058;
-
-const CA: u16 = 0x4341;
-
-const SL: u16 = 0x534c;
-
-// The octets of a mark, and of each record with its mark.
+// The octets of a mark.
 const MARK_LONG: usize = 2;
-
-const GM_LONG: usize = 6;
-
-const VO_LONG: usize = 13;
-
-const VS_LONG: usize = 23;
-
-const VX_LONG: usize = 4;
-
-const PO_LONG: usize = 13;
-
-const PX_LONG: usize = 4;
-
-const CA_LONG: usize = 55;
-
-const SL_LONG: usize = 4;
-
-// An octet widened here needs no proof of its own where it is read.
-fn wide(x: u8) -> u16
-    ensures { (result ≡ x) × (result < 256) }
-{
-    x as u16
-}
 
 // High octet first, in both widths.
 fn u16_at(s: &[u8], i: usize) -> u16
     requires { i + 2 ≤ length s.now }
     ensures { result ≡ be16 s.now i }
 {
-    let high = wide(s[i]);
-    let low = wide(s[i + 1]);
-    high * 256 + low
+    u16::from_be_bytes([s[i], s[i + 1]])
 }
 
 fn u32_at(s: &[u8], i: usize) -> u32
     requires { i + 4 ≤ length s.now }
     ensures { result ≡ be32 s.now i }
 {
-    let high = u16_at(s, i) as u32;
-    let low = u16_at(s, i + 2) as u32;
-    high * 65536 + low
+    u32::from_be_bytes([s[i], s[i + 1], s[i + 2], s[i + 3]])
 }
 
-// Each record is measured before it is read: a short one is refused where it starts.
-fn setup_at(s: &[u8], at: usize, head: Head) -> Found
-    requires { at ≤ length s.now }
-    ensures { said_of result ≡ setup_at s.now at head }
+// The record of a mark that stands at a place. It is measured before it is read: a short one is refused where it starts, and so is
+// a pause of no slots. A cell is not copied: the answer names where its octets start.
+fn record_at(s: &[u8], at: usize, mark: Mark) -> Found
+    requires { at + mark_octets ≤ length s.now }
+    ensures { said_of result ≡ record_at s.now at mark }
 {
-    if s.len() - at < GM_LONG {
+    let long = mark.record_long();
+    if s.len() - at < long {
         return Found::Unreadable { place: at };
     }
-    let n = u16_at(s, at + 2);
-    let v = u16_at(s, at + 4);
-    Found::Read {
-        event: Event::Setup { n, v, head },
-        next: at + GM_LONG,
-    }
-}
-
-fn open_at(s: &[u8], at: usize) -> Found
-    requires { at ≤ length s.now }
-    ensures { said_of result ≡ open_at s.now at }
-{
-    if s.len() - at < VO_LONG {
-        return Found::Unreadable { place: at };
-    }
-    let vci = u16_at(s, at + 2);
-    let m = s[at + 4];
-    let f = u32_at(s, at + 5);
-    let c = u32_at(s, at + 9);
-    Found::Read {
-        event: Event::Open { vci, m, f, c },
-        next: at + VO_LONG,
-    }
-}
-
-// A VS is a VO with ten octets more: the second bucket and the flag.
-fn sustain_at(s: &[u8], at: usize) -> Found
-    requires { at ≤ length s.now }
-    ensures { said_of result ≡ sustain_at s.now at }
-{
-    if s.len() - at < VS_LONG {
-        return Found::Unreadable { place: at };
-    }
-    let vci = u16_at(s, at + 2);
-    let m = s[at + 4];
-    let f = u32_at(s, at + 5);
-    let c = u32_at(s, at + 9);
-    let m2 = s[at + 13];
-    let f2 = u32_at(s, at + 14);
-    let c2 = u32_at(s, at + 18);
-    let tag = s[at + 22];
-    Found::Read {
-        event: Event::Sustain {
-            vci,
-            m,
-            f,
-            c,
-            m2,
-            f2,
-            c2,
-            tag,
-        },
-        next: at + VS_LONG,
-    }
-}
-
-fn close_at(s: &[u8], at: usize) -> Found
-    requires { at ≤ length s.now }
-    ensures { said_of result ≡ close_at s.now at }
-{
-    if s.len() - at < VX_LONG {
-        return Found::Unreadable { place: at };
-    }
-    let vci = u16_at(s, at + 2);
-    Found::Read {
-        event: Event::Close { vci },
-        next: at + VX_LONG,
-    }
-}
-
-// A PO is a VO with the VPI.
-fn open_path_at(s: &[u8], at: usize) -> Found
-    requires { at ≤ length s.now }
-    ensures { said_of result ≡ open_path_at s.now at }
-{
-    if s.len() - at < PO_LONG {
-        return Found::Unreadable { place: at };
-    }
-    let vpi = u16_at(s, at + 2);
-    let m = s[at + 4];
-    let f = u32_at(s, at + 5);
-    let c = u32_at(s, at + 9);
-    Found::Read {
-        event: Event::OpenPath { vpi, m, f, c },
-        next: at + PO_LONG,
-    }
-}
-
-fn close_path_at(s: &[u8], at: usize) -> Found
-    requires { at ≤ length s.now }
-    ensures { said_of result ≡ close_path_at s.now at }
-{
-    if s.len() - at < PX_LONG {
-        return Found::Unreadable { place: at };
-    }
-    let vpi = u16_at(s, at + 2);
-    Found::Read {
-        event: Event::ClosePath { vpi },
-        next: at + PX_LONG,
-    }
-}
-
-// A cell is not copied: the answer names where its octets start.
-fn cell_at(s: &[u8], at: usize) -> Found
-    requires { at ≤ length s.now }
-    ensures { said_of result ≡ cell_at s.now at }
-{
-    if s.len() - at < CA_LONG {
-        return Found::Unreadable { place: at };
-    }
-    Found::Read {
-        event: Event::Cell {
+    // a VCI, a VPI, a count of slots or N: every record has a number behind its mark, but a cell, which is longer
+    let number = u16_at(s, at + MARK_LONG);
+    let event = match mark {
+        Mark::Ca => Event::Cell {
             start: at + MARK_LONG,
         },
-        next: at + CA_LONG,
-    }
-}
-
-// A pause has at least one slot.
-fn pause_at(s: &[u8], at: usize) -> Found
-    requires { at ≤ length s.now }
-    ensures { said_of result ≡ pause_at s.now at }
-{
-    if s.len() - at < SL_LONG {
-        return Found::Unreadable { place: at };
-    }
-    let slots = u16_at(s, at + 2);
-    if slots == 0 {
-        return Found::Unreadable { place: at };
-    }
+        Mark::Sl if number == 0 => return Found::Unreadable { place: at },
+        Mark::Sl => Event::Pause { slots: number },
+        Mark::Vo => Event::Open {
+            vci: number,
+            m: s[at + 4],
+            f: u32_at(s, at + 5),
+            c: u32_at(s, at + 9),
+        },
+        Mark::Vx => Event::Close { vci: number },
+        Mark::Vs => Event::Sustain {
+            vci: number,
+            m: s[at + 4],
+            f: u32_at(s, at + 5),
+            c: u32_at(s, at + 9),
+            m2: s[at + 13],
+            f2: u32_at(s, at + 14),
+            c2: u32_at(s, at + 18),
+            tag: s[at + 22],
+        },
+        Mark::Po => Event::OpenPath {
+            vpi: number,
+            m: s[at + 4],
+            f: u32_at(s, at + 5),
+            c: u32_at(s, at + 9),
+        },
+        Mark::Px => Event::ClosePath { vpi: number },
+        Mark::Gm => Event::Setup {
+            n: number,
+            v: u16_at(s, at + 4),
+            head: Head::Gm,
+        },
+        Mark::Gr => Event::Setup {
+            n: number,
+            v: u16_at(s, at + 4),
+            head: Head::Gr,
+        },
+        Mark::Gn => Event::Setup {
+            n: number,
+            v: u16_at(s, at + 4),
+            head: Head::Gn,
+        },
+    };
     Found::Read {
-        event: Event::Pause { slots },
-        next: at + SL_LONG,
+        event,
+        next: at + long,
     }
 }
 
-// GM, GR or GN is first and only first.
-fn first_at(s: &[u8], at: usize, mark: u16) -> Found
-    requires { at ≤ length s.now }
-    ensures { said_of result ≡ first_at s.now at mark }
-{
-    if mark == GM {
-        return setup_at(s, at, Head::Gm);
-    }
-    if mark == GR {
-        return setup_at(s, at, Head::Gr);
-    }
-    if mark == GN {
-        return setup_at(s, at, Head::Gn);
-    }
-    Found::Unreadable { place: at }
-}
-
-// Cells first: they are the most frequent.
-fn later_at(s: &[u8], at: usize, mark: u16) -> Found
-    requires { at ≤ length s.now }
-    ensures { said_of result ≡ later_at s.now at mark }
-{
-    if mark == CA {
-        return cell_at(s, at);
-    }
-    if mark == SL {
-        return pause_at(s, at);
-    }
-    if mark == VO {
-        return open_at(s, at);
-    }
-    if mark == VX {
-        return close_at(s, at);
-    }
-    if mark == VS {
-        return sustain_at(s, at);
-    }
-    if mark == PO {
-        return open_path_at(s, at);
-    }
-    if mark == PX {
-        return close_path_at(s, at);
-    }
-    Found::Unreadable { place: at }
-}
-
-// What stands at a place, for every trace and every number.
+// What stands at a place, for every trace and every number. GM, GR or GN is first and only first.
 pub fn event_at(trace: &[u8], at: usize) -> Found
     ensures { event_promise trace.now at result }
 {
     let long = trace.len();
-    if at == long {
-        // an empty trace has no first record
-        if long == 0 {
-            return Found::Unreadable { place: at };
-        }
+    // an empty trace has no first record, and no end
+    if at == long && at != 0 {
         return Found::End;
     }
-    if long < at {
+    if long < at || long - at < MARK_LONG {
         return Found::Unreadable { place: at };
     }
-    if long - at < MARK_LONG {
-        return Found::Unreadable { place: at };
+    match Mark::of_letters(u16_at(trace, at)) {
+        Some(mark) if mark.is_head() == (at == 0) => record_at(trace, at, mark),
+        _ => Found::Unreadable { place: at },
     }
-    let mark = u16_at(trace, at);
-    if at == 0 {
-        return first_at(trace, at, mark);
-    }
-    later_at(trace, at, mark)
 }
 
 // Where a reader goes on after an answer: at the end, and where nothing can be read, it stays.

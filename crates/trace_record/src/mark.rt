@@ -1,7 +1,7 @@
 // The mark with which every record of a trace begins: two letters.
 
 ghost use Rattle.std.specs.Prelude.{◌≡◌, ◌↔◌};
-ghost use Rattle.trace_record.specs.Marks.{letters_of};
+ghost use Rattle.trace_record.specs.Marks.{letters_of, is_head, record_long};
 
 // GM, GR and GN begin a trace; the others stand behind. Each is numbered by its two letters, high octet first.
 #[derive(Clone, Copy, PartialEq, Eq)]
@@ -43,5 +43,25 @@ impl Mark {
             0x5058 => Mark::Px,
             _ => return None,
         })
+    }
+
+    // Whether a trace begins so: such a mark is first and only first.
+    pub fn is_head(self) -> bool
+        ensures { result ≡ is_head self }
+    {
+        matches!(self, Mark::Gm | Mark::Gr | Mark::Gn)
+    }
+
+    // The octets of a record, with its mark.
+    pub fn record_long(self) -> usize
+        ensures { result ≡ record_long self }
+    {
+        match self {
+            Mark::Gm | Mark::Gr | Mark::Gn => 6,
+            Mark::Vo | Mark::Po => 13,
+            Mark::Vs => 23,
+            Mark::Vx | Mark::Px | Mark::Sl => 4,
+            Mark::Ca => 55,
+        }
     }
 }
