@@ -6,13 +6,13 @@ use mathlib.Core.Bool.{Bool, true, false, ◌&&◌}
 use mathlib.Core.List.{List}
 use Prim.Native.Nat.{ℕ, ◌+◌, ◌≤◌, ◌<◌}
 use lib.ListN.{length}
-use borrow.Author.Tests.{ne_eqb, eq-eqb, le-leb, lt-leb, lt-ltb, le-ltb}
+use borrow.Author.Tests.{ne_eqb, eq-eqb, le-leb, lt-leb, ltb-false, le-ltb}
 use native.Mathlib.Omega.{arith}
 use Rattle.std.proofs.Math.Bool.{and-false, beq}
 use Rattle.meaning.specs.Words.{second_of}
-use Rattle.meaning.specs.Plain.{when◌then◌else◌, ◌≤?◌, ◌=?◌}
+use Rattle.meaning.specs.Plain.{when◌then◌else◌, ◌<?◌, ◌≤?◌, ◌=?◌}
 use Rattle.trace_record.specs.Trace.{TraceRecord, SL, VS, Stands, event, finish, unreadable}
-use Rattle.trace_record.specs.Trace.{record_of, record_at, be16, whole, setup_at, open_at, sustain_at, close_at, open_path_at, close_path_at, cell_at, pause_at, first_at, later_at, stands_at}
+use Rattle.trace_record.specs.Trace.{record_of, record_at, MarkAt, be16, whole, setup_at, open_at, sustain_at, close_at, open_path_at, close_path_at, cell_at, pause_at, first_at, later_at, stands_at}
 use Rattle.trace_record.specs.Trace.{mark_gm, mark_gr, mark_gn, mark_vo, mark_vx, mark_ca, mark_sl, mark_vs, mark_po, mark_px, long_sl}
 use Rattle.trace_record.specs.Trace.{long_gm, long_vo, long_vs, long_vx, long_po, long_px, long_ca}
 use Rattle.trace_record.specs.Marks.{letters_of, is_head, record_long}
@@ -166,27 +166,32 @@ module _ (s : List ℕ) (at : ℕ) where
         go (inl e) = ap (λ (b : Bool). b && at =? length s) (lt-leb 1 at (omega (arith, e.1)))
         go (inr f) = simp (ne_eqb at (length s) f) (and-false (1 ≤? at))
 
-    pub stands_short : length s < at + 2 → unreadable at ≡ stands_at s at
+    stands_short : length s <? at + 2 ≡ true → unreadable at ≡ stands_at s at
     unfolding stands_at
-    stands_short h = simp (off, lt-ltb (length s) (at + 2) h)
+    stands_short h = simp (off, h)
 
-    module _ (h : at + 2 ≤ length s) where
-      stands_marked : stood s at (be16 s at) (at =? 0) ≡ stands_at s at
-      unfolding stands_at
-      stands_marked = simp (off, le-ltb (length s) (at + 2) h)
+    stands_marked : at + 2 ≤ length s → stood s at (be16 s at) (at =? 0) ≡ stands_at s at
+    unfolding stands_at
+    stands_marked h = simp (off, le-ltb (length s) (at + 2) h)
 
-      pub stands_unknown : {m : ℕ} → m ≡ be16 s at → ((k : Mark) → m ≡ letters_of k → ⊥) → unreadable at ≡ stands_at s at
-      stands_unknown e u = no_mark s at (be16 s at) (λ k q. u k (e ∙ q)) (at =? 0) ∙ stands_marked
+    pub stands_none : ((k : Mark) → MarkAt s at k → ⊥) → unreadable at ≡ stands_at s at
+    stands_none u = go (length s <? at + 2) refl
+      where
+        go : (b : Bool) → length s <? at + 2 ≡ b → unreadable at ≡ stands_at s at
+        go true t = stands_short t
+        go false f =
+            let h = ltb-false (length s) (at + 2) f in
+            no_mark s at (be16 s at) (λ k q. u k (h, q)) (at =? 0) ∙ stands_marked h
 
-      module _ (k : Mark) (e : letters_of k ≡ be16 s at) where
-        here : stood s at (letters_of k) (at =? 0) ≡ stands_at s at
-        here = ap (λ (m : ℕ). stood s at m (at =? 0)) e ∙ stands_marked
+    module _ (k : Mark) (m : MarkAt s at k) where
+      here : stood s at (letters_of k) (at =? 0) ≡ stands_at s at
+      here = ap (λ (n : ℕ). stood s at n (at =? 0)) (sym m.1) ∙ stands_marked m.0
 
-        pub stands_record : beq (is_head k) (at =? 0) ≡ true → record_at s at k ≡ stands_at s at
-        stands_record b = placed s at k (at =? 0) b ∙ here
+      pub stands_record : beq (is_head k) (at =? 0) ≡ true → record_at s at k ≡ stands_at s at
+      stands_record b = placed s at k (at =? 0) b ∙ here
 
-        pub stands_misplaced : beq (is_head k) (at =? 0) ≡ false → unreadable at ≡ stands_at s at
-        stands_misplaced b = misplaced s at k (at =? 0) b ∙ here
+      pub stands_misplaced : beq (is_head k) (at =? 0) ≡ false → unreadable at ≡ stands_at s at
+      stands_misplaced b = misplaced s at k (at =? 0) b ∙ here
 
   module _ (n : at ≡ length s → ⊥) (h : at + 2 ≤ length s) {x : Stands} {m : ℕ} (e : m ≡ be16 s at) where
     so : (b : Bool) → (at =? 0) ≡ b → x ≡ stood s at m b → x ≡ stands_at s at

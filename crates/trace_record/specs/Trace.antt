@@ -5,7 +5,7 @@
 --   Stands               == what stands at a place: a record and the next place, the end, or a refusal with its place
 --   stands_at trace at    == what stands at place at of a trace
 --   said_of r             == document 01's number and values of the reader's answer r, by case
-use Rattle.std.specs.Prelude.{ℕ, ◌+◌, ◌*◌, Bool, true, false, ◌&&◌, List, length, get_or}
+use Rattle.std.specs.Prelude.{ℕ, ◌+◌, ◌*◌, ◌≤◌, ◌≡◌, Bool, true, false, ◌&&◌, List, length, get_or}
 use Rattle.meaning.specs.Plain.{when◌then◌else◌, ◌<?◌, ◌≤?◌, ◌=?◌}
 use Rattle.meaning.specs.Words.{Second, second_of}
 use Rattle.meaning.specs.Calls.{Kind, UNI, NNI, Options, options_of}
@@ -69,6 +69,10 @@ be16 trace i = get_or trace i 0 * 256 + get_or trace (i + 1) 0
 
 unfoldable pub be32 : List ℕ → ℕ → ℕ
 be32 trace i = be16 trace i * 65_536 + be16 trace (i + 2)
+
+-- a mark's two letters stand at a place
+abbrev pub MarkAt : List ℕ → ℕ → Mark → Type 0
+MarkAt trace at m = (at + mark_octets ≤ length trace) × (be16 trace at ≡ letters_of m)
 
 -- "a short record .. is refused with 10": a record of so many octets that starts at place at
 unfoldable pub whole : List ℕ → ℕ → ℕ → TraceRecord → Stands

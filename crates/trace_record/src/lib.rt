@@ -1,7 +1,7 @@
 // Reading a trace: what stands at a place of it, on a plain slice and a number.
 #![tactic(auto)]
 
-ghost use Rattle.std.specs.Prelude.{◌≡◌, ◌+◌, ◌≤◌, ◌<◌, length};
+ghost use Rattle.std.specs.Prelude.{◌≡◌, ◌↔◌, ◌+◌, ◌≤◌, ◌<◌, length};
 ghost use Rattle.trace_record.specs.Marks.{letters_of, mark_octets};
 ghost use Rattle.trace_record.specs.Trace.{head_mark, be16, be32, record_at, said_of};
 ghost use Rattle.trace_record.specs.Promises.{event_promise, place_promise};
@@ -170,15 +170,11 @@ fn record_at(s: &[u8], at: usize, mark: Mark) -> Found
 pub fn event_at(trace: &[u8], at: usize) -> Found
     ensures { event_promise trace.now at result }
 {
-    let long = trace.len();
     // an empty trace has no first record, and no end
-    if at == long && at != 0 {
+    if at == trace.len() && at != 0 {
         return Found::End;
     }
-    if long < at || long - at < MARK_LONG {
-        return Found::Unreadable { place: at };
-    }
-    match Mark::of_letters(u16_at(trace, at)) {
+    match Mark::at(trace, at) {
         Some(mark) if mark.is_head() == (at == 0) => record_at(trace, at, mark),
         _ => Found::Unreadable { place: at },
     }

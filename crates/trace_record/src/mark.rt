@@ -1,6 +1,7 @@
 // The mark with which every record of a trace begins: two letters.
 
 ghost use Rattle.std.specs.Prelude.{◌≡◌, ◌↔◌};
+ghost use Rattle.trace_record.specs.Trace.{MarkAt};
 ghost use Rattle.trace_record.specs.Marks.{letters_of, is_head, record_long};
 
 // GM, GR and GN begin a trace; the others stand behind. Each is numbered by its two letters, high octet first.
@@ -43,6 +44,16 @@ impl Mark {
             0x5058 => Mark::Px,
             _ => return None,
         })
+    }
+
+    // The mark that stands at a place: none where two octets don't, or where they are no mark's.
+    pub fn at(trace: &[u8], at: usize) -> Option<Mark>
+        ensures { (m : Mark) → (result ≡ Some m) ↔ MarkAt trace.now at m }
+    {
+        let [high, low, ..] = trace.get(at..)? else {
+            return None;
+        };
+        Mark::of_letters(u16::from_be_bytes([*high, *low]))
     }
 
     // Whether a trace begins so: such a mark is first and only first.
