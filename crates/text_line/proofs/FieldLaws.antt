@@ -1,54 +1,61 @@
 -- The fields of a line, one field further.
-use Prim.Native.Nat.{ℕ, zero, suc, ◌+◌, ◌-◌, ◌*◌, ◌/◌, ◌%◌, ◌≤◌, ◌<◌}
-use mathlib.Core.Path.{◌≡◌, refl, sym, ap, ◌∙◌, subst}
-use mathlib.Core.Bool.{Bool, true, false}
-use mathlib.Core.List.{List, [], ◌∷◌, ◌++◌}
-use native.Mathlib.Omega.{arith}
-use lib.ListN.{length, take, drop}
-use Rattle.meaning.specs.Plain.{Out, refused, next}
+use Rattle.std.proofs.Common.{◌≡◌, ℕ, ◌+◌, ◌<◌, ◌≤◌, List, [], ◌∷◌, length, drop, slice_index_or, sym, ap, ◌∙◌}
+use Rattle.std.proofs.Math.Seq.{drop-cons}
+use Rattle.std.proofs.Math.ListN.{drop_of_length-le}
+use native.Mathlib.Numerals.{add-one}
+use Rattle.meaning.specs.Plain.{Out, refused, next, ◌and_then◌}
 use Rattle.list_lines.specs.Text.{space, line_feed}
-use Rattle.text_meaning.specs.Shapes.{Field, wide}
+use Rattle.text_meaning.specs.Shapes.{wide}
 use Rattle.text_meaning.specs.Grammar.{Part, part, expect, field_at, fields_at}
-use Rattle.text_line.specs.Found.{field_named, decode, span, part_found}
-use Rattle.text_line.proofs.OctetLaws.{is_found, and_refused, and_next}
-use Rattle.text_line.proofs.ShapeLaws.{decode_one, decode_none, span_one}
+use Rattle.text_line.specs.declared.field.Field.{Field as Code-Field}
+use Rattle.text_line.specs.declared.field.Field.TheVariants.{N8}
+use Rattle.text_line.specs.Found.{field_named, fields_named, span}
 
--- a field by its name
-pub field_named_lem : (s rec rec' : List ℕ) (p at r : ℕ) {f g : Field} → g ≡ f
-    → part_found s rec' (at + wide f) r ≡ field_at f (take at rec) (drop p s)
-    → part_found s rec' (at + wide g) r ≡ field_at g (take at rec) (drop p s)
-field_named_lem s rec rec' p at r e h = subst (λ (x : Field). part_found s rec' (at + wide x) r ≡ field_at x (take at rec) (drop p s)) (sym e) h
+-- a reading after another
+pub and_refused : {A B : Type 0} {o : Out A} (f : A → Out B) → o ≡ refused → (o and_then f) ≡ refused
+and_refused f e = ap (λ x. x and_then f) e
 
-pub span_more : (left code : ℕ) → 0 < left → span (decode left code) ≡ wide (field_named (code % 16)) + span (decode (left - 1) (code / 16))
-span_more left code h = ap span (decode_one left code h) ∙ span_one _ _
+pub and_next : {A B : Type 0} {o : Out A} {x : A} (f : A → Out B) → o ≡ next x → (o and_then f) ≡ f x
+and_next f e = ap (λ x. x and_then f) e
 
-module _ (s rec : List ℕ) (left code at i : ℕ) where
-  module _ (more : 0 < left) where
-    from_one : fields_at (field_named (code % 16) ∷ decode (left - 1) (code / 16)) (take at rec) (drop i s) ≡ fields_at (decode left code) (take at rec) (drop i s)
-    from_one = sym (ap (λ (fs : List Field). fields_at fs (take at rec) (drop i s)) (decode_one left code more))
+module _ (kinds : List Code-Field) (i : ℕ) (h : i < length kinds) where
+  abbrev kind : Code-Field
+  kind = slice_index_or kinds i N8
 
-    pub no_space : expect space (drop i s) ≡ refused → refused ≡ fields_at (decode left code) (take at rec) (drop i s)
+  split : drop i kinds ≡ kind ∷ drop (i + 1) kinds
+  split = drop-cons kinds i N8 h ∙ ap (λ (k : ℕ). kind ∷ drop k kinds) (sym (add-one i))
+
+  pub span_more : span (fields_named (drop i kinds)) ≡ wide (field_named kind) + span (fields_named (drop (i + 1) kinds))
+  unfolding span
+  span_more = ap (λ (l : List Code-Field). span (fields_named l)) split
+
+  module _ (o t : List ℕ) where
+    pub no_space : expect space t ≡ refused → fields_at (fields_named (drop i kinds)) o t ≡ refused
     unfolding fields_at
-    no_space e = and_refused _ e ∙ from_one
+    no_space e = ap (λ (l : List Code-Field). fields_at (fields_named l) o t) split ∙ and_refused _ e
 
-    module _ {t : List ℕ} (e : expect space (drop i s) ≡ next t) where
-      pub no_field : field_at (field_named (code % 16)) (take at rec) t ≡ refused → refused ≡ fields_at (decode left code) (take at rec) (drop i s)
+    module _ {s : List ℕ} (e : expect space t ≡ next s) where
+      pub no_field : field_at (field_named kind) o s ≡ refused → fields_at (fields_named (drop i kinds)) o t ≡ refused
       unfolding fields_at
-      no_field f = and_next _ e (and_refused _ f) ∙ from_one
+      no_field f = ap (λ (l : List Code-Field). fields_at (fields_named l) o t) split ∙ and_next _ e ∙ and_refused _ f
 
-      pub one_field : {p : Part} → field_at (field_named (code % 16)) (take at rec) t ≡ next p
-          → fields_at (decode left code) (take at rec) (drop i s) ≡ fields_at (decode (left - 1) (code / 16)) p.done p.rest
+      pub one_field : {p : Part} → field_at (field_named kind) o s ≡ next p → fields_at (fields_named (drop i kinds)) o t ≡ fields_at (fields_named (drop (i + 1) kinds)) p.done p.rest
       unfolding fields_at
-      one_field f = sym (and_next _ e (and_next _ f refl) ∙ from_one)
+      one_field f = ap (λ (l : List Code-Field). fields_at (fields_named l) o t) split ∙ and_next _ e ∙ and_next _ f
 
-  module _ (last : left ≡ 0) where
-    from_none : fields_at [] (take at rec) (drop i s) ≡ fields_at (decode left code) (take at rec) (drop i s)
-    from_none = sym (ap (λ (fs : List Field). fields_at fs (take at rec) (drop i s)) (decode_none left code last))
+module _ (kinds : List Code-Field) (i : ℕ) (h : length kinds ≤ i) where
+  none : drop i kinds ≡ []
+  none = drop_of_length-le kinds h
 
-    pub no_feed : expect line_feed (drop i s) ≡ refused → refused ≡ fields_at (decode left code) (take at rec) (drop i s)
+  pub span_none : span (fields_named (drop i kinds)) ≡ 0
+  unfolding span
+  span_none = ap (λ (l : List Code-Field). span (fields_named l)) none
+
+  module _ (o t : List ℕ) where
+    pub no_feed : expect line_feed t ≡ refused → fields_at (fields_named (drop i kinds)) o t ≡ refused
     unfolding fields_at
-    no_feed e = and_refused _ e ∙ from_none
+    no_feed e = ap (λ (l : List Code-Field). fields_at (fields_named l) o t) none ∙ and_refused _ e
 
-    pub all_fields : (q : ℕ) → (q ≡ 0 → ⊥) → expect line_feed (drop i s) ≡ next (drop q s) → part_found s rec at q ≡ fields_at (decode left code) (take at rec) (drop i s)
+    pub all_fields : {s : List ℕ} → expect line_feed t ≡ next s → fields_at (fields_named (drop i kinds)) o t ≡ next (part o s)
     unfolding fields_at
-    all_fields q z e = is_found q z refl (and_next _ e refl ∙ from_none)
+    all_fields e = ap (λ (l : List Code-Field). fields_at (fields_named l) o t) none ∙ and_next _ e

@@ -1,79 +1,73 @@
--- Hex digits and the octets that they make, one octet further; and octets put behind others.
-use Prim.Native.Nat.{ℕ, zero, suc, ◌+◌, ◌-◌, ◌*◌, ◌/◌, ◌%◌, ◌≤◌, ◌<◌}
-use mathlib.Core.Path.{◌≡◌, refl, sym, ap, ◌∙◌}
-use mathlib.Core.Bool.{Bool, true, false}
-use mathlib.Core.List.{List, [], ◌∷◌, ◌++◌, append_assoc}
+-- Octets put behind others: one, and those of a number that fits its field.
+use Rattle.std.proofs.Common.{◌≡◌, ℕ, ◌+◌, ◌-◌, ◌/◌, ◌%◌, ◌<◌, ◌≤◌, Option, Bor, List, [], ◌∷◌, ◌++◌, length, take, drop, length-drop, refl, sym, ap, ◌∙◌, arith}
+use Rattle.std.specs.Int.{w32, to_be_bytes}
+use Rattle.meaning.specs.Plain.{refused, next}
+use Rattle.text_meaning.specs.Shapes.{n8, n16, n32, cell, wide, top, of_field}
+use Rattle.text_meaning.specs.Grammar.{number_of, number, part, hexes, field_at}
+use Rattle.text_line.specs.declared.field.Field.{Field as Code-Field}
+use Rattle.text_line.specs.declared.field.Field.TheVariants.{N8, N16, N32, Cell}
+use Rattle.text_line.specs.Found.{Finds, field_named}
 use native.Mathlib.Numerals.{add-one}
-use native.Mathlib.Omega.{arith}
-use borrow.Author.Tests.{eq-eqb, ne_eqb}
-use lib.Dec.{eqb}
-use lib.ListN.{length, get_or, take, drop, set, length-set}
+use lib.ListN.{set}
 use lib.Seq.{take-suc-set}
-use Rattle.meaning.specs.Plain.{Out, refused, next, when◌then◌else◌}
-use Rattle.text_meaning.specs.Grammar.{Part, part, nibble_of, hexes}
-use Rattle.text_line.specs.Found.{nibble_at}
-use Rattle.text_line.proofs.OctetLaws.{here, nibble_inside}
+use Rattle.std.proofs.Math.Seq.{take-length}
 
--- an octet behind those before place i
 pub put_one : (l : List ℕ) (i a : ℕ) → i < length l → take (i + 1) (set l i a) ≡ take i l ++ (a ∷ [])
 put_one l i a h = ap (λ (k : ℕ). take k (set l i a)) (add-one i) ∙ take-suc-set l i a h
 
-pub put_two : (l : List ℕ) (i a b : ℕ) → i + 2 ≤ length l → take (i + 2) (set (set l i a) (i + 1) b) ≡ take i l ++ (a ∷ b ∷ [])
-put_two l i a b h =
-    let m : i + 1 < length (set l i a) = simp length-set (omega arith) in
-    let e : i + 2 ≡ i + 1 + 1 = omega arith in
-    ap (λ (k : ℕ). take k (set (set l i a) (i + 1) b)) e
-    ∙ put_one (set l i a) (i + 1) b m
-    ∙ ap (λ (x : List ℕ). x ++ (b ∷ [])) (put_one l i a (omega arith))
-    ∙ append_assoc (take i l) (a ∷ []) (b ∷ [])
+-- the lowest octets of a number that fits its field
+of_8 : (n : ℕ) → n ≤ 255 → of_field n8 n ≡ drop 3 (to_be_bytes w32 n)
+of_8 n h = let e : n ≡ n % 256 = omega arith in ap (λ (x : ℕ). x ∷ []) e
 
--- two texts, one behind the other
-pub put_both : (l m n xs ys : List ℕ) (i j k : ℕ) → take j m ≡ take i l ++ xs → take k n ≡ take j m ++ ys → take k n ≡ take i l ++ (xs ++ ys)
-put_both l m n xs ys i j k e f = f ∙ ap (λ (x : List ℕ). x ++ ys) e ∙ append_assoc (take i l) xs ys
+of_16 : (n : ℕ) → n ≤ 65535 → of_field n16 n ≡ drop 2 (to_be_bytes w32 n)
+of_16 n h = let e : n / 256 ≡ n / 256 % 256 = omega arith in ap (λ (x : ℕ). x ∷ n % 256 ∷ []) e
 
-high_none : (k : ℕ) (o t : List ℕ) → nibble_at t ≡ 16 → hexes (suc k) o t ≡ refused
-unfolding hexes nibble_at
-high_none k o [] e = refl
-high_none k o (x ∷ []) e = refl
-high_none k o (x ∷ y ∷ t) e = simp (eq-eqb (nibble_of x) 16 e)
+of_32 : (n : ℕ) → n ≤ 4294967295 → of_field n32 n ≡ to_be_bytes w32 n
+of_32 n h =
+    let a : n / 65536 / 256 ≡ n / 16777216 % 256 = omega arith in
+    let b : n % 65536 / 256 ≡ n / 256 % 256 = omega arith in
+    let d : n % 65536 % 256 ≡ n % 256 = omega arith in
+    ap (λ (x : ℕ). x ∷ n / 65536 % 256 ∷ n % 65536 / 256 ∷ n % 65536 % 256 ∷ []) a
+    ∙ ap (λ (x : ℕ). n / 16777216 % 256 ∷ n / 65536 % 256 ∷ x ∷ n % 65536 % 256 ∷ []) b
+    ∙ ap (λ (x : ℕ). n / 16777216 % 256 ∷ n / 65536 % 256 ∷ n / 256 % 256 ∷ x ∷ []) d
 
-either : {A : Type 0} (b : Bool) (x : A) → (when b then x else x) ≡ x
-either true x = refl
-either false x = refl
+-- a field that is a number
+module _ (o t : List ℕ) where
+  pub no_number : (kind : Code-Field) → (field_named kind ≡ cell → ⊥) → number (top (field_named kind)) t ≡ refused → field_at (field_named kind) o t ≡ refused
+  unfolding field_at
+  no_number N8 z e = rw e
+  no_number N16 z e = rw e
+  no_number N32 z e = rw e
+  no_number Cell z e = absurd (z refl)
 
-low_none : (k x : ℕ) (o t : List ℕ) → nibble_at t ≡ 16 → hexes (suc k) o (x ∷ t) ≡ refused
-unfolding hexes nibble_at
-low_none k x o [] e = refl
-low_none k x o (y ∷ t) e = simp (eq-eqb (nibble_of y) 16 e) (either (eqb (nibble_of x) 16) refused)
+  pub a_number : (kind : Code-Field) (n : ℕ) (s : List ℕ) → (field_named kind ≡ cell → ⊥) → number (top (field_named kind)) t ≡ next (number_of n s) → n ≤ top (field_named kind)
+      → field_at (field_named kind) o t ≡ next (part (o ++ drop (4 - wide (field_named kind)) (to_be_bytes w32 n)) s)
+  unfolding field_at
+  a_number N8 n s z e h = rw e (ap (λ (l : List ℕ). next (part (o ++ l) s)) (of_8 n h))
+  a_number N16 n s z e h = rw e (ap (λ (l : List ℕ). next (part (o ++ l) s)) (of_16 n h))
+  a_number N32 n s z e h = rw e (ap (λ (l : List ℕ). next (part (o ++ l) s)) (of_32 n h))
+  a_number Cell n s z e h = absurd (z refl)
 
-both_known : (k x y : ℕ) (o t : List ℕ) → (nibble_of x ≡ 16 → ⊥) → (nibble_of y ≡ 16 → ⊥)
-    → hexes (suc k) o (x ∷ y ∷ t) ≡ hexes k (o ++ ((nibble_of x * 16 + nibble_of y) ∷ [])) t
-unfolding hexes
-both_known k x y o t n m = simp (ne_eqb (nibble_of x) 16 n, ne_eqb (nibble_of y) 16 m)
+  pub a_cell : (kind : Code-Field) (rec : List ℕ) (at : ℕ) (r : Option (Bor (List ℕ))) → kind ≡ Cell → Finds (λ s. part (take (at + 53) rec) s.now) r (hexes 53 o t)
+      → Finds (λ s. part (take (at + wide (field_named kind)) rec) s.now) r (field_at (field_named kind) o t)
+  unfolding field_at
+  a_cell N8 rec at r e h = absurd (cc)
+  a_cell N16 rec at r e h = absurd (cc)
+  a_cell N32 rec at r e h = absurd (cc)
+  a_cell Cell rec at r e h = h
 
-module _ (s o : List ℕ) (i q h : ℕ) (less : i < 53) (e : h ≡ nibble_at (drop q s)) where
-  count : 53 - i ≡ suc (53 - (i + 1))
-  count = omega arith
+pub wide_four : (kind : Code-Field) → (field_named kind ≡ cell → ⊥) → wide (field_named kind) ≤ 4
+wide_four N8 z = omega arith
+wide_four N16 z = omega arith
+wide_four N32 z = omega arith
+wide_four Cell z = absurd (z refl)
 
-  pub no_high : h ≡ 16 → hexes (53 - i) o (drop q s) ≡ refused
-  no_high z = ap (λ (k : ℕ). hexes k o (drop q s)) count ∙ high_none _ o (drop q s) (sym e ∙ z)
-
-  module _ (n : h ≡ 16 → ⊥) (l : ℕ) (f : l ≡ nibble_at (drop (q + 1) s)) where
-    pub no_low : l ≡ 16 → hexes (53 - i) o (drop q s) ≡ refused
-    no_low z =
-        ap (λ (k : ℕ). hexes k o (drop q s)) count
-        ∙ ap (hexes (suc (53 - (i + 1))) o) (here s q (nibble_inside s q e n))
-        ∙ low_none _ _ o (drop (q + 1) s) (sym f ∙ z)
-
-    pub one_more : (l ≡ 16 → ⊥) → hexes (53 - i) o (drop q s) ≡ hexes (53 - (i + 1)) (o ++ ((h * 16 + l) ∷ [])) (drop (q + 1 + 1) s)
-    unfolding nibble_at
-    one_more m =
-        let a : q < length s = nibble_inside s q e n in
-        let b : q + 1 < length s = nibble_inside s (q + 1) f m in
-        let g : h ≡ nibble_of (get_or s q 0) = e ∙ ap nibble_at (here s q a) in
-        let j : l ≡ nibble_of (get_or s (q + 1) 0) = f ∙ ap nibble_at (here s (q + 1) b) in
-        ap (λ (k : ℕ). hexes k o (drop q s)) count
-        ∙ ap (hexes (suc (53 - (i + 1))) o) (here s q a ∙ ap (λ (t : List ℕ). get_or s q 0 ∷ t) (here s (q + 1) b))
-        ∙ both_known _ (get_or s q 0) (get_or s (q + 1) 0) o (drop (q + 1 + 1) s) (λ z. n (g ∙ z)) (λ z. m (j ∙ z))
-        ∙ ap (λ (x : ℕ). hexes (53 - (i + 1)) (o ++ ((x * 16 + nibble_of (get_or s (q + 1) 0)) ∷ [])) (drop (q + 1 + 1) s)) (sym g)
-        ∙ ap (λ (x : ℕ). hexes (53 - (i + 1)) (o ++ ((h * 16 + x) ∷ [])) (drop (q + 1 + 1) s)) (sym j)
+-- what is copied from the end of four octets
+pub last_octets : (four : List ℕ) (u w n : ℕ) (new : List ℕ) → four ≡ to_be_bytes w32 n → u ≡ w → w ≤ 4 → new ≡ take (4 - (4 - u)) (drop (4 - u) four)
+    → (new ≡ drop (4 - w) (to_be_bytes w32 n)) × (length new ≡ w)
+last_octets four u w n new e f h g =
+    let d = drop (4 - u) four in
+    let k : length four ≡ 4 = ap length e in
+    let l : length d ≡ 4 - (4 - u) = omega (arith, length-drop (4 - u) four) in
+    let x : new ≡ d = g ∙ ap (λ (j : ℕ). take j d) (sym l) ∙ take-length d in
+    (x ∙ ap (λ (j : ℕ). drop (4 - j) four) f ∙ ap (drop (4 - w)) e, ap length x ∙ omega arith)

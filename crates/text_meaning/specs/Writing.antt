@@ -3,9 +3,10 @@
 --   line_at text p     == the event of the line that starts at place p, and the place behind it
 --   events text       == the events of a text, or the least place at which no line stands
 --   write_text text o  == what writing a text into the output o answers and leaves
-use Rattle.std.specs.Prelude.{ℕ, zero, suc, ◌+◌, ◌-◌, ◌&&◌, List, [], ◌∷◌, ◌++◌, length, drop}
+use Rattle.std.specs.Prelude.{ℕ, zero, suc, ◌+◌, ◌-◌, ◌≤◌, ◌&&◌, List, [], ◌∷◌, ◌++◌, length, drop, Result, Ok, Err}
 use Rattle.meaning.specs.Plain.{Out, refused, next, when◌then◌else◌, ◌<?◌, ◌≤?◌, ◌=?◌}
-use Rattle.text_meaning.specs.declared.Written.{Written}
+use Rattle.text_meaning.specs.declared.WriteError.{WriteError}
+use Rattle.text_meaning.specs.declared.WriteError.TheVariants.{Unreadable, TooShort}
 use Rattle.text_meaning.specs.Events.{Event, octets_all, merge}
 use Rattle.text_meaning.specs.Grammar.{Told, line}
 
@@ -48,24 +49,40 @@ events_from (suc k) text p =
 unfoldable pub events : List ℕ → Said
 events text = events_from (length text + 1) text 0
 
+-- a writer's answer: how many octets were written, or why none was
+abbrev pub Answer : Type 0
+Answer = Result ℕ WriteError
+
+-- the documents' number of an answer: 0, 10 or 14
+abbrev pub number_in : Answer → ℕ
+number_in (Ok n) = 0
+number_in (Err (Unreadable p)) = 10
+number_in (Err TooShort) = 14
+
+-- a place that is refused lies within so many octets
+abbrev pub PlaceWithin : ℕ → Answer → Type 0
+PlaceWithin long (Ok n) = 0 ≤ 0
+PlaceWithin long (Err (Unreadable p)) = p ≤ long
+PlaceWithin long (Err TooShort) = 0 ≤ 0
+
 -- what a writer answers, and what it leaves in the output
 pub record Wrote : Type 0 where
-  pub answer : Written
+  pub answer : Answer
   pub output : List ℕ
 
-abbrev pub wrote : ℕ → ℕ → List ℕ → Wrote
-wrote number place output = record { answer = record { number = number; place = place }; output = output }
+abbrev pub wrote : Answer → List ℕ → Wrote
+wrote answer output = record { answer = answer; output = output }
 
 -- "after it 14, output too short"; otherwise the octets, and behind them what stood there
 unfoldable pub laid : List ℕ → List ℕ → Wrote
 laid octets output =
-    when length output <? length octets then wrote 14 0 output
-    else wrote 0 (length octets) (octets ++ drop (length octets) output)
+    when length output <? length octets then wrote (Err TooShort) output
+    else wrote (Ok (length octets)) (octets ++ drop (length octets) output)
 
 -- "Neither changes an octet of the output."
 unfoldable pub write_said : Said → List ℕ → Wrote
 write_said (good es) output = laid (octets_all (merge es)) output
-write_said (bad p) output = wrote 10 p output
+write_said (bad p) output = wrote (Err (Unreadable p)) output
 
 unfoldable pub write_text : List ℕ → List ℕ → Wrote
 write_text text output = write_said (events text) output

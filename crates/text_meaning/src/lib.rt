@@ -1,10 +1,10 @@
-// What writing a trace from a text means stands in specs/, and its laws in proofs/. What was written passes by value.
+// What writing a trace from a text means stands in specs/, and its laws in proofs/. Why nothing was written passes by value.
 #![tactic(auto)]
 
-// The answer of a writer: 0 and how many octets were written; 10 and the first octet of the line that isn't good; or 14
-// and 0, where the output is too short.
-#[derive(Clone, Copy)]
-pub struct Written {
-    pub number: u16,
-    pub place: usize,
+// Why a writer wrote nothing: 10 at the first octet of what can't be read, a text's line or the record that would stand there;
+// or 14, the output is too short.
+#[derive(Clone, Copy, PartialEq, Eq)]
+pub enum WriteError {
+    Unreadable { place: usize },
+    TooShort,
 }

@@ -1,20 +1,13 @@
--- `expect`: behind the end nothing stands; elsewhere the octet at the place tells.
-use mathlib.Core.Path.{refl}
-use Rattle.text_line.proofs.OctetLaws.{expect_end, expect_is, expect_not}
-use borrow.Author.Rules.{rules}
+-- `expect`: the octet that the text begins with, or another, or none.
+use Rattle.std.proofs.Common.{arith, rules}
+use Rattle.text_line.proofs.OctetLaws.{expect_is, expect_not}
+use Rattle.text_line.proofs.field.expect.Goals.{in_default-via-then-text-lt1, in_default-via-in-len1-up+else-y-x}
 use Rattle.text_line.proofs.field.expect.Goals as goal
 
-pub returns-then-text-p : goal.returns-then-text-p
-returns-then-text-p c =
-    let a = c.args in
-    record { result_value = expect_end a.text.now a.p a.x (search rules); upper_bound = (search rules, λ z. absurd (z refl)) }
+pub returns-in-len1-up-clause-found : goal.returns-in-len1-up-clause-found
+returns-in-len1-up-clause-found c = let a = c.args in expect_is a.x a.text.now (omega arith) c.if-y-x.true
 
-pub returns-then-text-p-2 : goal.returns-then-text-p-2
-returns-then-text-p-2 c =
+pub returns-in_default-clause-found : goal.returns-in_default-clause-found
+returns-in_default-clause-found c =
     let a = c.args in
-    record { result_value = expect_is a.text.now a.p a.x (search rules) (search rules); upper_bound = (search rules, λ _. search rules) }
-
-pub returns : goal.returns
-returns c =
-    let a = c.args in
-    record { result_value = expect_not a.text.now a.p a.x (search rules) (search rules); upper_bound = (search rules, λ z. absurd (z refl)) }
+    expect_not a.x a.text.now (elim c.in_default.branch [ in_default-via-then-text-lt1 w ↦ (λ h e. search rules) | in_default-via-in-len1-up+else-y-x w ↦ (λ h e. w.if-y-x.false e) ])
