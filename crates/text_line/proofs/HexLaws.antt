@@ -4,6 +4,7 @@ use Rattle.std.specs.Int.{w32, to_be_bytes}
 use Rattle.meaning.specs.Plain.{refused, next}
 use Rattle.text_meaning.specs.Shapes.{n8, n16, n32, cell, wide, top, of_field}
 use Rattle.text_meaning.specs.Grammar.{number_of, number, part, hexes, field_at}
+use Rattle.text_meaning.proofs.Octets.{of32_bytes}
 use Rattle.text_line.specs.declared.field.Field.{Field as Code-Field}
 use Rattle.text_line.specs.declared.field.Field.TheVariants.{N8, N16, N32, Cell}
 use Rattle.text_line.specs.Found.{Finds, field_named}
@@ -22,15 +23,6 @@ of_8 n h = let e : n ≡ n % 256 = omega arith in ap (λ (x : ℕ). x ∷ []) e
 of_16 : (n : ℕ) → n ≤ 65535 → of_field n16 n ≡ drop 2 (to_be_bytes w32 n)
 of_16 n h = let e : n / 256 ≡ n / 256 % 256 = omega arith in ap (λ (x : ℕ). x ∷ n % 256 ∷ []) e
 
-of_32 : (n : ℕ) → n ≤ 4294967295 → of_field n32 n ≡ to_be_bytes w32 n
-of_32 n h =
-    let a : n / 65536 / 256 ≡ n / 16777216 % 256 = omega arith in
-    let b : n % 65536 / 256 ≡ n / 256 % 256 = omega arith in
-    let d : n % 65536 % 256 ≡ n % 256 = omega arith in
-    ap (λ (x : ℕ). x ∷ n / 65536 % 256 ∷ n % 65536 / 256 ∷ n % 65536 % 256 ∷ []) a
-    ∙ ap (λ (x : ℕ). n / 16777216 % 256 ∷ n / 65536 % 256 ∷ x ∷ n % 65536 % 256 ∷ []) b
-    ∙ ap (λ (x : ℕ). n / 16777216 % 256 ∷ n / 65536 % 256 ∷ n / 256 % 256 ∷ x ∷ []) d
-
 -- a field that is a number
 module _ (o t : List ℕ) where
   pub no_number : (kind : Code-Field) → (field_named kind ≡ cell → ⊥) → number (top (field_named kind)) t ≡ refused → field_at (field_named kind) o t ≡ refused
@@ -45,7 +37,7 @@ module _ (o t : List ℕ) where
   unfolding field_at
   a_number N8 n s z e h = rw e (ap (λ (l : List ℕ). next (part (o ++ l) s)) (of_8 n h))
   a_number N16 n s z e h = rw e (ap (λ (l : List ℕ). next (part (o ++ l) s)) (of_16 n h))
-  a_number N32 n s z e h = rw e (ap (λ (l : List ℕ). next (part (o ++ l) s)) (of_32 n h))
+  a_number N32 n s z e h = rw e (ap (λ (l : List ℕ). next (part (o ++ l) s)) (of32_bytes n (omega arith)))
   a_number Cell n s z e h = absurd (z refl)
 
   pub a_cell : (kind : Code-Field) (rec : List ℕ) (at : ℕ) (r : Option (Bor (List ℕ))) → kind ≡ Cell → Finds (λ s. part (take (at + 53) rec) s.now) r (hexes 53 o t)

@@ -1,5 +1,5 @@
 -- Each record, put in its place, is what the reader reads there: each number is read back from the octets that hold it.
-use Prim.Native.Nat.{ℕ, suc, ◌+◌, ◌-◌, ◌*◌, ◌/◌, ◌%◌, ◌≤◌, ◌<◌}
+use Prim.Native.Nat.{ℕ, suc, ◌+◌, ◌-◌, ◌/◌, ◌%◌, ◌≤◌, ◌<◌}
 use mathlib.Core.Path.{◌≡◌, refl, sym, ap, ◌∙◌}
 use mathlib.Core.List.{List, ◌++◌}
 use lib.ListN.{length, get_or, take, drop, length-drop}
@@ -10,7 +10,7 @@ use Rattle.meaning.specs.Words.{Second}
 use Rattle.trace_record.specs.declared.Head.{Head}
 use Rattle.trace_record.specs.declared.Head.TheVariants.{Gm, Gr, Gn}
 use Rattle.trace_record.specs.Trace.{TraceRecord, GM as Trace-as-GM, VO as Trace-as-VO, VX as Trace-as-VX, PO as Trace-as-PO, PX as Trace-as-PX}
-use Rattle.trace_record.specs.Trace.{be16, be32, whole, event, stands_at, setup_at, open_at, sustain_at, close_at, open_path_at, close_path_at, cell_at, pause_at, first_at, later_at}
+use Rattle.trace_record.specs.Trace.{be16, be32, whole, event, stands_at, setup_at, open_at, sustain_at, close_at, open_path_at, close_path_at, cell_at, first_at, later_at}
 use Rattle.trace_record.specs.Trace.{head_mark, mark_vo, mark_vx, mark_ca, mark_sl, mark_vs, mark_po, mark_px, long_gm, long_vo, long_vx, long_ca, long_sl, long_vs}
 use Rattle.trace_record.proofs.Cases.{whole_read, sustain_same, pause_whole, later_cell, later_pause, later_sustain, stands_first, stands_later}
 use Rattle.text_meaning.specs.Shapes.{of16}

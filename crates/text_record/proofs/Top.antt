@@ -3,22 +3,25 @@
 use Prim.Native.Nat.{ℕ, ◌+◌, ◌≤◌, ◌<◌}
 use mathlib.Core.Path.{◌≡◌, refl, sym, ap, subst, ◌∙◌}
 use mathlib.Core.Bool.{Bool, true, false, ◌&&◌}
-use mathlib.Core.Logic.{◌⊎◌, ⊎_elim}
-use mathlib.Core.List.{List, [], ◌++◌}
+use mathlib.Core.Logic.{⊎_elim}
+use mathlib.Core.List.{List, ◌++◌}
 use lib.ListN.{length, get_or, take, drop, replicate, length-replicate, length-drop}
 use lib.Seq.{length-take-le}
 use borrow.Author.Tests.{leb-true, leb-false, eqb-true, eqb-false, le-leb, eq-eqb, ne_eqb}
 use native.Mathlib.Omega.{arith}
+use Rattle.std.proofs.Common.{Ok, Err}
 use Rattle.meaning.specs.Plain.{when◌then◌else◌, ◌≤?◌, ◌=?◌}
 use Rattle.meaning.specs.Numbers.{octets}
-use Rattle.trace_record.specs.Trace.{Stands, event, stands_at, mark_ca, long_ca}
+use Rattle.trace_record.specs.Trace.{event, mark_ca, long_ca}
 use Rattle.trace_record.specs.Fits.{Fits, stands_fits}
 use Rattle.list_lines.specs.Put.{puts}
-use Rattle.text_meaning.specs.declared.Written.{Written}
+use Rattle.text_meaning.specs.declared.WriteError.{WriteError}
+use Rattle.text_meaning.specs.declared.WriteError.TheVariants.{Unreadable, TooShort}
+use Rattle.text_meaning.specs.Writing.{Answer, number_in}
 use Rattle.text_meaning.specs.Shapes.{of16}
-use Rattle.text_meaning.specs.Events.{Event, told, pause, event_of}
-use Rattle.text_record.specs.Record.{Given, GM, VO, VX, CA, SL, VS, PO, PX, record_octets, given_event, allowed_at, record_at}
-use Rattle.text_record.specs.Promises.{number_at, next_at, output_at, WritePromise}
+use Rattle.text_meaning.specs.Events.{told, event_of}
+use Rattle.text_record.specs.Record.{Given, GM, VO, VX, CA, SL, VS, PO, PX, record_octets, allowed_at, record_at}
+use Rattle.text_record.specs.Promises.{answer_at, number_at, output_at, WritePromise}
 use Rattle.text_record.specs.Back.{Reads, Kept}
 use Rattle.text_record.proofs.Puts.{puts_length, puts_before, puts_behind}
 use Rattle.text_record.proofs.Back.{setup_back, open_back, sustain_back, close_back, path_back, path_close_back, pause_back, cell_back, cell_same}
@@ -81,69 +84,76 @@ never_read trace at (CA cell) a q =
     let e : take octets (drop (at + 2) trace) ≡ cell = cc q.says in
     differ (le-leb 1 at f.2.0) (eq-eqb (length cell) octets (ap length (sym e) ∙ t)) a
 
--- the tests of a number that is 0, 10 or 14
-abbrev number_by : Bool → Bool → ℕ
-number_by a b = when a then (when b then 0 else 14) else 10
+-- the tests of an answer
+abbrev answer_by : ℕ → ℕ → Bool → Bool → Answer
+answer_by q at a b = when a then (when b then Ok q else Err TooShort) else Err (Unreadable at)
 
-tested : (a b : Bool) → number_by a b ≡ 0 → (a ≡ true) × (b ≡ true)
-tested true true h = (refl, refl)
-tested true false h = absurd (omega arith)
-tested false b h = absurd (omega arith)
+tested : (q at : ℕ) (a b : Bool) {n : ℕ} → Ok n ≡ answer_by q at a b → (a ≡ true) × (b ≡ true) × (n ≡ q)
+tested q at true true h = (refl, refl, cc)
+tested q at true false h = absurd (cc)
+tested q at false b h = absurd (cc)
 
-refused_test : (a b : Bool) → number_by a b ≡ 10 → a ≡ false
-refused_test true true h = absurd (omega arith)
-refused_test true false h = absurd (omega arith)
-refused_test false b h = refl
+refused_test : (q at : ℕ) (a b : Bool) {p : ℕ} → Err (Unreadable p) ≡ answer_by q at a b → (a ≡ false) × (p ≡ at)
+refused_test q at true true h = absurd (cc)
+refused_test q at true false h = absurd (cc)
+refused_test q at false b h = (refl, cc)
 
-allowed_test : (a b : Bool) → (number_by a b ≡ 10 → ⊥) → a ≡ true
-allowed_test true b h = refl
-allowed_test false b h = absurd (h refl)
+allowed_test : (q at : ℕ) (a b : Bool) → (Err (Unreadable at) ≡ answer_by q at a b → ⊥) → a ≡ true
+allowed_test q at true b h = refl
+allowed_test q at false b h = absurd (h refl)
 
-module _ (out : List ℕ) (at : ℕ) (r : Given) (w : Written) (out' : List ℕ) (p : WritePromise out at r w out') where
+not_done : (e : WriteError) → number_in (Err e) ≡ 0 → ⊥
+not_done (Unreadable p) h = omega arith
+not_done TooShort h = omega arith
+
+module _ (out : List ℕ) (at : ℕ) (r : Given) (w : Answer) (out' : List ℕ) (p : WritePromise out at r w out') where
   abbrev fits : Bool
   fits = at + length (record_octets r) ≤? length out
 
-  done : w.number ≡ 0 → (allowed_at at r ≡ true) × (fits ≡ true)
-  unfolding number_at
-  done z = tested (allowed_at at r) fits (sym p.number ∙ z)
+  module _ (q : ℕ) (z : w ≡ Ok q) where
+    done : (allowed_at at r ≡ true) × (fits ≡ true) × (q ≡ at + length (record_octets r))
+    unfolding answer_at
+    done = tested (at + length (record_octets r)) at (allowed_at at r) fits (sym z ∙ p.answer)
 
-  placed : w.number ≡ 0 → w.place ≡ at + length (record_octets r)
-  unfolding next_at number_at
-  placed z = let d = done z in p.place ∙ simp (d.0, d.1)
+    put : out' ≡ puts out at (record_octets r)
+    unfolding output_at answer_at
+    put = let d = done in p.output ∙ simp (d.0, d.1)
 
-  put : w.number ≡ 0 → out' ≡ puts out at (record_octets r)
-  unfolding output_at number_at
-  put z = let d = done z in p.output ∙ simp (d.0, d.1)
+    -- "if it answers 0 at p with next place q, the reader at p reads that record and q"
+    pub written_reads : Reads out' at r
+    written_reads = let d = done in subst (λ (o : List ℕ). Reads o at r) (sym put) (put_reads out at r d.0 (leb-true _ _ d.1))
 
-  -- "if it answers 0 at p with next place q, the reader at p reads that record and q"
-  pub written_reads : w.number ≡ 0 → Reads out' at r
-  written_reads z =
-      let d = done z in
-      subst (λ (o : List ℕ). Reads o at r) (sym (put z)) (put_reads out at r d.0 (leb-true _ _ d.1))
+    pub written_next : q ≡ at + length (record_octets r)
+    written_next = done.2
 
-  -- "and only octets p to q-1 changed"
-  pub written_kept : w.number ≡ 0 → Kept out at w.place out'
-  written_kept z =
-      record {
-        long = ap length (put z) ∙ puts_length out at (record_octets r);
-        others = λ k h. ap (λ (o : List ℕ). get_or o k 0) (put z)
-            ∙ ⊎_elim (puts_before out at (record_octets r) k) (λ b. puts_behind out at (record_octets r) k (omega (arith, b, placed z))) h;
-      }
+    -- "and only octets p to q-1 changed"
+    pub written_kept : Kept out at q out'
+    written_kept =
+        record {
+          long = ap length put ∙ puts_length out at (record_octets r);
+          others = λ k h. ap (λ (o : List ℕ). get_or o k 0) put
+              ∙ ⊎_elim (puts_before out at (record_octets r) k) (λ b. puts_behind out at (record_octets r) k (omega (arith, b, done.2))) h;
+        }
 
-  -- neither refusal changes an octet, or leads on
-  pub refused_kept : (w.number ≡ 0 → ⊥) → (out' ≡ out) × (w.place ≡ at)
-  unfolding output_at next_at
-  refused_kept z =
-      let e = ne_eqb (number_at out at r) 0 (λ q. z (p.number ∙ q)) in
-      (p.output ∙ simp e, p.place ∙ simp e)
+  -- neither refusal changes an octet; 10 is said of the very place
+  pub refused_kept : (e : WriteError) → w ≡ Err e → out' ≡ out
+  unfolding output_at
+  refused_kept e z =
+      let n : number_at out at r ≡ number_in (Err e) = ap number_in (sym p.answer ∙ z) in
+      p.output ∙ simp (ne_eqb (number_at out at r) 0 (λ k. not_done e (sym n ∙ k)))
 
   -- "10 exactly when no octets at p would be read back so": where it answers 10 there are none, and otherwise there are some
-  pub refused_never : w.number ≡ 10 → (trace : List ℕ) → Reads trace at r → ⊥
-  unfolding number_at
-  refused_never z trace q = never_read trace at r (refused_test (allowed_at at r) fits (sym p.number ∙ z)) q
+  module _ (q : ℕ) (z : w ≡ Err (Unreadable q)) where
+    pub refused_never : (trace : List ℕ) → Reads trace at r → ⊥
+    unfolding answer_at
+    refused_never trace b = never_read trace at r (refused_test (at + length (record_octets r)) at (allowed_at at r) fits (sym z ∙ p.answer)).0 b
 
-  pub allowed_some : (w.number ≡ 10 → ⊥) → Reads (puts (replicate (at + length (record_octets r)) 0) at (record_octets r)) at r
-  unfolding number_at
+    pub refused_there : q ≡ at
+    unfolding answer_at
+    refused_there = (refused_test (at + length (record_octets r)) at (allowed_at at r) fits (sym z ∙ p.answer)).1
+
+  pub allowed_some : (w ≡ Err (Unreadable at) → ⊥) → Reads (puts (replicate (at + length (record_octets r)) 0) at (record_octets r)) at r
+  unfolding answer_at
   allowed_some z =
-      put_reads (replicate (at + length (record_octets r)) 0) at r (allowed_test (allowed_at at r) fits (λ q. z (p.number ∙ q)))
+      put_reads (replicate (at + length (record_octets r)) 0) at r (allowed_test (at + length (record_octets r)) at (allowed_at at r) fits (λ q. z (p.answer ∙ sym q)))
       (omega (arith, length-replicate {A = ℕ} (at + length (record_octets r)) 0))

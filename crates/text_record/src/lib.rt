@@ -1,169 +1,119 @@
-// Writing a trace, one record at a time: each function writes its record at a place of a lent output. It answers 0 and where
-// the next record starts; or 10 or 14, and the place as it came.
+// Writing a trace, one record at a time: each function writes its record at a place of a lent output, and answers where the next
+// record starts. What the reader would refuse there is 10 at the place, a record that doesn't fit 14.
 #![tactic(auto)]
 
-ghost use Rattle.std.specs.Prelude.{[], ◌∷◌, ◌≡◌, ◌+◌, ◌-◌, ◌≤◌, length};
-ghost use Rattle.list_lines.specs.Put.{Put};
-ghost use Rattle.text_record.specs.Record.{Given, Later, GM as Record-as-GM, VO as Record-as-VO, VX as Record-as-VX, CA as Record-as-CA, SL as Record-as-SL};
-ghost use Rattle.text_meaning.specs.Shapes.{of16, of32};
-ghost use Rattle.text_meaning.specs.Events.{opening_of, closing_of};
-ghost use Rattle.text_record.specs.Record.{VS as Record-as-VS, PO as Record-as-PO, PX as Record-as-PX};
-ghost use Rattle.meaning.specs.Words.{second_of};
+ghost use Rattle.std.specs.Prelude.{◌≡◌, true, [], ◌∷◌, ◌++◌};
+ghost use Rattle.trace_record.specs.Marks.{letters_of};
 ghost use Rattle.trace_record.specs.Trace.{head_mark};
+ghost use Rattle.text_meaning.specs.Shapes.{of16, of32};
+ghost use Rattle.text_record.specs.Record.{Given, Later, record_octets, allowed_at};
+ghost use Rattle.text_record.specs.Record.{GM as Record-as-GM, VO as Record-as-VO, VX as Record-as-VX, CA as Record-as-CA, SL as Record-as-SL};
+ghost use Rattle.text_record.specs.Record.{VS as Record-as-VS, PO as Record-as-PO, PX as Record-as-PX};
+ghost use Rattle.text_meaning.specs.Events.{opening_of, closing_of};
+ghost use Rattle.meaning.specs.Words.{second_of};
 ghost use Rattle.text_record.specs.Promises.{WritePromise};
 
-use text_meaning::Written;
-use trace_record::Head;
+use text_meaning::WriteError;
+use trace_record::{Head, Mark};
 
-// The two letters of each mark, high octet first.
-const GM: u16 = 0x474d;
-
-const GR: u16 = 0x4752;
-
-const GN: u16 = 0x474e;
-
-const VO: u16 = 0x564f;
-
-const VS: u16 = 0x5653;
-
-const VX: u16 = 0x5658;
-
-const PO: u16 = 0x504f;
-
-const PX: u16 = 0x5058;
-
-const CA: u16 = 0x4341;
-
-const SL: u16 = 0x534c;
-
-fn one(out: &mut [u8], at: usize, x: u8) -> usize
-    requires { at + 1 ≤ length out.old }
-    ensures { Put out.old at (x ∷ []) out.new result }
+// The octets of a record, where they fit at its place.
+fn put(out: &mut [u8], at: usize, octets: &[u8]) -> Result<usize, WriteError>
+    ensures { (g : Given) → record_octets g ≡ octets.now → allowed_at at g ≡ true → WritePromise out.old at g result out.new }
 {
-    out[at] = x;
-    at + 1
-}
-
-// A number of 16 bits, high octet first.
-pub fn two(out: &mut [u8], at: usize, x: u16) -> usize
-    requires { at + 2 ≤ length out.old }
-    ensures { Put out.old at (of16 x) out.new result }
-{
-    let b = at + 1;
-    out[at] = (x / 256) as u8;
-    out[b] = (x % 256) as u8;
-    b + 1
-}
-
-// A number of 32 bits.
-fn four(out: &mut [u8], at: usize, x: u32) -> usize
-    requires { at + 4 ≤ length out.old }
-    ensures { Put out.old at (of32 x) out.new result }
-{
-    let a = two(out, at, (x / 65536) as u16);
-    two(out, a, (x % 65536) as u16)
-}
-
-// The 53 octets of a cell: their part of the output is lent on.
-fn fifty_three(out: &mut [u8], at: usize, cell: &[u8]) -> usize
-    requires { (at + 53 ≤ length out.old) × (length cell.now ≡ 53) }
-    ensures { Put out.old at cell.now out.new result }
-{
-    let e = at + 53;
-    mem_cell::copy_cell(&mut out[at..e], cell);
-    e
-}
-
-// The octets of an output from a place on.
-fn room(at: usize, long: usize) -> usize
-    ensures { result ≡ long - at }
-{
-    if long < at {
-        return 0;
+    if out.len() < octets.len() || out.len() - octets.len() < at {
+        return Err(WriteError::TooShort);
     }
-    long - at
+    Ok(list_lines::text(out, at, octets))
 }
 
-fn setup_mark(head: Head) -> u16
-    ensures { result ≡ head_mark head }
+// The octets of a record that may stand at every place but the first.
+fn put_later(out: &mut [u8], at: usize, octets: &[u8]) -> Result<usize, WriteError>
+    ensures { (g : Given) → Later octets.now g → WritePromise out.old at g result out.new }
 {
-    match head {
-        Head::Gm => GM,
-        Head::Gr => GR,
-        Head::Gn => GN,
+    if at == 0 {
+        return Err(WriteError::Unreadable { place: at });
     }
+    put(out, at, octets)
+}
+
+fn setup(n: u16, v: u16, head: Head) -> [u8; 6]
+    ensures { result ≡ of16 (head_mark head) ++ (of16 n ++ of16 v) }
+{
+    let [mark1, mark2] = head.mark().letters().to_be_bytes();
+    let [n1, n2] = n.to_be_bytes();
+    let [v1, v2] = v.to_be_bytes();
+    [mark1, mark2, n1, n2, v1, v2]
 }
 
 // GM, GR or GN: first and only first.
-pub fn write_setup(out: &mut [u8], at: usize, n: u16, v: u16, head: Head) -> Written
+pub fn write_setup(
+    out: &mut [u8],
+    at: usize,
+    n: u16,
+    v: u16,
+    head: Head,
+) -> Result<usize, WriteError>
     ensures { WritePromise out.old at (Record-as-GM n v head) result out.new }
 {
     if at != 0 {
-        return Written {
-            number: 10,
-            place: at,
-        };
+        return Err(WriteError::Unreadable { place: at });
     }
-    if room(at, out.len()) < 6 {
-        return Written {
-            number: 14,
-            place: at,
-        };
-    }
-    let a = two(out, at, setup_mark(head));
-    let b = two(out, a, n);
-    let next = two(out, b, v);
-    Written {
-        number: 0,
-        place: next,
-    }
+    put(out, at, &setup(n, v, head))
 }
 
 // An opening, whatever its mark: of a VC or of a path.
-fn write_opening(
+fn opening(mark: Mark, connection: u16, m: u8, f: u32, c: u32) -> [u8; 13]
+    ensures { result ≡ opening_of (letters_of mark) connection m f c }
+{
+    let [mark1, mark2] = mark.letters().to_be_bytes();
+    let [i1, i2] = connection.to_be_bytes();
+    let [f1, f2, f3, f4] = f.to_be_bytes();
+    let [c1, c2, c3, c4] = c.to_be_bytes();
+    [mark1, mark2, i1, i2, m, f1, f2, f3, f4, c1, c2, c3, c4]
+}
+
+// A mark and one number: a closing, whatever its mark, or a pause.
+fn numbered(mark: Mark, number: u16) -> [u8; 4]
+    ensures { result ≡ closing_of (letters_of mark) number }
+{
+    let [mark1, mark2] = mark.letters().to_be_bytes();
+    let [n1, n2] = number.to_be_bytes();
+    [mark1, mark2, n1, n2]
+}
+
+pub fn write_open(
     out: &mut [u8],
     at: usize,
-    mark: u16,
-    connection: u16,
+    vci: u16,
     m: u8,
     f: u32,
     c: u32,
-) -> Written
-    ensures { (g : Given) → Later (opening_of mark connection m f c) g → WritePromise out.old at g result out.new }
-{
-    if at == 0 {
-        return Written {
-            number: 10,
-            place: at,
-        };
-    }
-    if room(at, out.len()) < 13 {
-        return Written {
-            number: 14,
-            place: at,
-        };
-    }
-    let a = two(out, at, mark);
-    let b = two(out, a, connection);
-    let d = one(out, b, m);
-    let e = four(out, d, f);
-    let next = four(out, e, c);
-    Written {
-        number: 0,
-        place: next,
-    }
-}
-
-pub fn write_open(out: &mut [u8], at: usize, vci: u16, m: u8, f: u32, c: u32) -> Written
+) -> Result<usize, WriteError>
     ensures { WritePromise out.old at (Record-as-VO vci m f c) result out.new }
 {
-    write_opening(out, at, VO, vci, m, f, c)
+    put_later(out, at, &opening(Mark::Vo, vci, m, f, c))
 }
 
-pub fn write_open_path(out: &mut [u8], at: usize, vpi: u16, m: u8, f: u32, c: u32) -> Written
+pub fn write_open_path(
+    out: &mut [u8],
+    at: usize,
+    vpi: u16,
+    m: u8,
+    f: u32,
+    c: u32,
+) -> Result<usize, WriteError>
     ensures { WritePromise out.old at (Record-as-PO vpi m f c) result out.new }
 {
-    write_opening(out, at, PO, vpi, m, f, c)
+    put_later(out, at, &opening(Mark::Po, vpi, m, f, c))
+}
+
+// The second bucket and the flag.
+fn second(m: u8, f: u32, c: u32, tag: u8) -> [u8; 10]
+    ensures { result ≡ m ∷ (of32 f ++ (of32 c ++ (tag ∷ []))) }
+{
+    let [f1, f2, f3, f4] = f.to_be_bytes();
+    let [c1, c2, c3, c4] = c.to_be_bytes();
+    [m, f1, f2, f3, f4, c1, c2, c3, c4, tag]
 }
 
 // A VO with the second bucket and the flag behind it.
@@ -178,128 +128,46 @@ pub fn write_sustain(
     f2: u32,
     c2: u32,
     tag: u8,
-) -> Written
+) -> Result<usize, WriteError>
     ensures { WritePromise out.old at (Record-as-VS vci m f c (second_of m2 f2 c2 tag)) result out.new }
 {
-    if at == 0 {
-        return Written {
-            number: 10,
-            place: at,
-        };
-    }
-    if room(at, out.len()) < 23 {
-        return Written {
-            number: 14,
-            place: at,
-        };
-    }
-    let a = two(out, at, VS);
-    let b = two(out, a, vci);
-    let d = one(out, b, m);
-    let e = four(out, d, f);
-    let g = four(out, e, c);
-    let h = one(out, g, m2);
-    let i = four(out, h, f2);
-    let j = four(out, i, c2);
-    let next = one(out, j, tag);
-    Written {
-        number: 0,
-        place: next,
-    }
+    let mut octets = [0u8; 23];
+    octets[..13].copy_from_slice(&opening(Mark::Vs, vci, m, f, c));
+    octets[13..].copy_from_slice(&second(m2, f2, c2, tag));
+    put_later(out, at, &octets)
 }
 
-// A closing, whatever its mark.
-fn write_closing(out: &mut [u8], at: usize, mark: u16, connection: u16) -> Written
-    ensures { (g : Given) → Later (closing_of mark connection) g → WritePromise out.old at g result out.new }
-{
-    if at == 0 {
-        return Written {
-            number: 10,
-            place: at,
-        };
-    }
-    if room(at, out.len()) < 4 {
-        return Written {
-            number: 14,
-            place: at,
-        };
-    }
-    let a = two(out, at, mark);
-    let next = two(out, a, connection);
-    Written {
-        number: 0,
-        place: next,
-    }
-}
-
-pub fn write_close(out: &mut [u8], at: usize, vci: u16) -> Written
+pub fn write_close(out: &mut [u8], at: usize, vci: u16) -> Result<usize, WriteError>
     ensures { WritePromise out.old at (Record-as-VX vci) result out.new }
 {
-    write_closing(out, at, VX, vci)
+    put_later(out, at, &numbered(Mark::Vx, vci))
 }
 
-pub fn write_close_path(out: &mut [u8], at: usize, vpi: u16) -> Written
+pub fn write_close_path(out: &mut [u8], at: usize, vpi: u16) -> Result<usize, WriteError>
     ensures { WritePromise out.old at (Record-as-PX vpi) result out.new }
 {
-    write_closing(out, at, PX, vpi)
+    put_later(out, at, &numbered(Mark::Px, vpi))
 }
 
 // A cell of another length than 53 is no record: nothing that the reader reads would be it.
-pub fn write_cell(out: &mut [u8], at: usize, cell: &[u8]) -> Written
+pub fn write_cell(out: &mut [u8], at: usize, cell: &[u8]) -> Result<usize, WriteError>
     ensures { WritePromise out.old at (Record-as-CA cell.now) result out.new }
 {
-    if at == 0 {
-        return Written {
-            number: 10,
-            place: at,
-        };
-    }
     if cell.len() != 53 {
-        return Written {
-            number: 10,
-            place: at,
-        };
+        return Err(WriteError::Unreadable { place: at });
     }
-    if room(at, out.len()) < 55 {
-        return Written {
-            number: 14,
-            place: at,
-        };
-    }
-    let a = two(out, at, CA);
-    let next = fifty_three(out, a, cell);
-    Written {
-        number: 0,
-        place: next,
-    }
+    let mut octets = [0u8; 55];
+    octets[..2].copy_from_slice(&Mark::Ca.letters().to_be_bytes());
+    octets[2..].copy_from_slice(cell);
+    put_later(out, at, &octets)
 }
 
 // A pause of one record: at least one slot.
-pub fn write_pause(out: &mut [u8], at: usize, slots: u16) -> Written
+pub fn write_pause(out: &mut [u8], at: usize, slots: u16) -> Result<usize, WriteError>
     ensures { WritePromise out.old at (Record-as-SL slots) result out.new }
 {
-    if at == 0 {
-        return Written {
-            number: 10,
-            place: at,
-        };
-    }
     if slots == 0 {
-        return Written {
-            number: 10,
-            place: at,
-        };
+        return Err(WriteError::Unreadable { place: at });
     }
-    if room(at, out.len()) < 4 {
-        return Written {
-            number: 14,
-            place: at,
-        };
-    }
-    let a = two(out, at, SL);
-    let next = two(out, a, slots);
-    Written {
-        number: 0,
-        place: next,
-    }
+    put_later(out, at, &numbered(Mark::Sl, slots))
 }

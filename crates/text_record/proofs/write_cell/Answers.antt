@@ -1,17 +1,17 @@
--- `text_record::write_cell`: a CA is written at a later place, where its cell has 53 octets and its 55 fit.
-use borrow.Author.Rules.{rules}
-use Rattle.text_record.proofs.Cases.{cell_first, cell_other, cell_later, cell_long, cell_octets, refused, too_short, written}
-use Rattle.list_lines.proofs.Puts.{put_is, put_then}
+-- `text_record::write_cell`: a CA of 53 octets.
+use Rattle.std.proofs.Common.{replicate, refl, ap, ◌∙◌}
+use Rattle.std.specs.Int.{w16, to_be_bytes}
+use Rattle.trace_record.specs.Trace.{mark_ca}
+use Rattle.text_meaning.specs.Shapes.{of16}
+use Rattle.text_record.proofs.Cases.{as_put, cell_other, cell_later, two_parts, refused}
 use Rattle.text_record.proofs.write_cell.Goals as goal
 
-pub returns-then-at-eq0 : goal.returns-then-at-eq0
-returns-then-at-eq0 c = refused _ _ _ (cell_first _ _ (search rules))
-
 pub returns-then-cell-ne53 : goal.returns-then-cell-ne53
-returns-then-cell-ne53 c = refused _ _ _ (cell_other _ _ (search rules))
-
-pub returns-then-room-lt55 : goal.returns-then-room-lt55
-returns-then-room-lt55 c = too_short _ _ _ 55 (cell_long _ (search rules)) (cell_later _ _ (search rules) (search rules)) (search rules)
+returns-then-cell-ne53 c = refused _ _ _ (cell_other _ _ c.if-cell-ne53.true)
 
 pub returns : goal.returns
-returns c = written _ _ _ 55 (cell_long _ (search rules)) (cell_later _ _ (search rules) (search rules)) (search rules) (put_is (cell_octets _) (put_then c.two-a.ensures c.fifty_three-next.ensures))
+returns c =
+    let cell = c.args.cell.now in
+    let p = two_parts (replicate 55 0) (of16 mark_ca) cell c.copy_from_slice.new.self c.copy_from_slice-2.new.self 2 53
+    (c.copy_from_slice.ensures.after ∙ c.to_be_bytes.ensures ∙ ap (to_be_bytes w16) c.letters.ensures) c.copy_from_slice-2.ensures.after refl refl c.if-cell-ne53.false in
+    c.put_later.ensures _ (as_put p (cell_later cell c.if-cell-ne53.false))
