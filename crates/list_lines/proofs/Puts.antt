@@ -1,9 +1,10 @@
 -- Text after text in a buffer is one text, and a promise `Put` fixes the buffer and the place behind.
 use mathlib.Core.Path.{◌≡◌, refl, sym, ap, ◌∙◌}
 use mathlib.Core.List.{List, [], ◌∷◌, ◌++◌, append_assoc}
-use Prim.Native.Nat.{ℕ, suc, ◌+◌, ◌≤◌}
+use Prim.Native.Nat.{ℕ, suc, ◌+◌, ◌-◌, ◌≤◌}
 use native.Mathlib.Numerals.{add-one}
 use native.Mathlib.Omega.{arith}
+use borrow.Rule.Slice.PartMut.{put_mid, Post-is}
 use lib.ListN.{length, set, take, drop, length-append}
 use lib.Seq.{sets, sets-eq, take_at, length-take-le}
 use Rattle.list_lines.specs.Put.{puts, Put}
@@ -34,6 +35,13 @@ put_one l i x = record { list = refl; next = refl }
 puts_sets : (l : List ℕ) (i : ℕ) (xs : List ℕ) → puts l i xs ≡ sets l i xs
 puts_sets l i [] = refl
 puts_sets l i (x ∷ xs) = ap (λ (k : ℕ). puts (set l i x) k xs) (add-one i) ∙ puts_sets (set l i x) (suc i) xs
+
+-- a part that was written over, from place i to place r
+pub put_part : (l : List ℕ) {xs ys : List ℕ} (i r : ℕ) → r ≡ i + length xs → r ≤ length l → ys ≡ xs → Put l i xs (put_mid i (r - i) l ys) r
+put_part l {xs} {ys} i r e h q =
+    let m : i + length xs ≤ length l = omega arith in
+    let b : i ≤ r = omega arith in
+    record { list = rw (q, Post-is i r l b, e) (sym (puts_sets l i xs ∙ sets-eq xs l i m ∙ append_assoc (take i l) xs (drop (i + length xs) l))); next = e }
 
 -- where there is room: what stood before the place, the text, and what stood behind the text's end
 pub put_whole : {l : List ℕ} {i : ℕ} {xs l' : List ℕ} {r : ℕ} → Put l i xs l' r → r ≤ length l → l' ≡ take i l ++ (xs ++ drop r l)

@@ -5,20 +5,16 @@ use mathlib.Core.List.{List, [], ◌∷◌, ◌++◌, append_assoc}
 use Prim.Native.Nat.{ℕ}
 use borrow.Author.Tests.{eq-eqb, ne_eqb}
 use Rattle.meaning.specs.declared.Answer.{Answer}
-use Rattle.list_lines.specs.Text.{decimal_of, line, shown}
+use Rattle.std.specs.Prelude.{Option}
+use Rattle.std.specs.Bool.{then_some}
+use Rattle.list_lines.specs.Text.{decimal_of, line, shown, word_of}
 use Rattle.list_lines.specs.Lines.{setup_line, open_line, close_line, served_line, refused_line, slot_line, stop_line, end_line}
 
-pub shown_yes : {b : Bool} (n a : ℕ) → b ≡ true → shown b n ++ (a ∷ []) ≡ decimal_of n ++ (a ∷ [])
+-- the number that a test shows
+pub word_shown : {o : Option ℕ} (b : Bool) (n a : ℕ) → o ≡ then_some b n → shown b n ++ (a ∷ []) ≡ word_of o ++ (a ∷ [])
 unfolding shown
-shown_yes n a e = rw e
-
-pub shown_no : {b : Bool} (n a : ℕ) → b ≡ false → shown b n ++ (a ∷ []) ≡ 45 ∷ a ∷ []
-unfolding shown
-shown_no n a e = rw e
-
--- the same number, shown by the same test
-pub shown_same : {a b : Bool} (n x : ℕ) → b ≡ a → shown a n ++ (x ∷ []) ≡ shown b n ++ (x ∷ [])
-shown_same n x e = rw e
+word_shown true n a e = rw e
+word_shown false n a e = rw e
 
 -- a slot's line, word by word
 pub slot_words : (a : List ℕ) (x : ℕ) (b c d : List ℕ)

@@ -1,6 +1,5 @@
 -- Where a text stands in a lent buffer: what every function that writes a line promises.
-use Rattle.std.specs.Prelude.{ℕ, ◌+◌, ◌/◌, ◌%◌, ◌≡◌, List, [], ◌∷◌, length, set}
-use Rattle.list_lines.specs.Text.{digit}
+use Rattle.std.specs.Prelude.{ℕ, ◌+◌, ◌≡◌, List, [], ◌∷◌, length, set}
 
 -- l with text from place i on, one octet after the other; every other octet is kept
 abbrev pub puts : List ℕ → ℕ → List ℕ → List ℕ
@@ -11,7 +10,3 @@ puts l i (x ∷ xs) = puts (set l i x) (i + 1) xs
 pub record Put (l : List ℕ) (i : ℕ) (text l' : List ℕ) (r : ℕ) : Type 0 where
   pub list : l' ≡ puts l i text
   pub next : r ≡ i + length text
-
--- exactly four digits
-abbrev pub four_of : ℕ → List ℕ
-four_of n = digit (n / 100 / 10) ∷ digit (n / 100 % 10) ∷ digit (n % 100 / 10) ∷ digit (n % 100 % 10) ∷ []

@@ -2,8 +2,8 @@
 --
 --   decimal_of n    == n in decimal, without leading zeros
 --   line words     == the words, one space between, a line feed after
---   shown b n      == n where the test b holds, otherwise `-`
-use Rattle.std.specs.Prelude.{ℕ, zero, suc, ◌+◌, ◌/◌, ◌%◌, Bool, List, [], ◌∷◌, ◌++◌}
+--   shown b n      == n where the test b holds, otherwise `-`;  word_of o == the same of a number or none
+use Rattle.std.specs.Prelude.{ℕ, zero, suc, ◌+◌, ◌/◌, ◌%◌, Bool, Option, Some, None, List, [], ◌∷◌, ◌++◌}
 use Rattle.meaning.specs.Plain.{when◌then◌else◌, ◌<?◌}
 
 abbrev pub space : ℕ
@@ -35,3 +35,8 @@ line (w ∷ v ∷ ws) = w ++ (space ∷ line (v ∷ ws))
 
 unfoldable pub shown : Bool → ℕ → List ℕ
 shown b n = when b then decimal_of n else (dash ∷ [])
+
+-- the number that is shown, otherwise `-`
+abbrev pub word_of : Option ℕ → List ℕ
+word_of (Some n) = decimal_of n
+word_of None = dash ∷ []

@@ -5,7 +5,4 @@ use Rattle.list_lines.proofs.connection_line.Goals as goal
 
 pub returns : goal.returns
 returns c =
-    let n2 = c.before in
-    let n1 = n2.before in
-    let t = n1.before in
-    record { put = put_then (put_then t.text-a.ensures n1.number-b.ensures.put) n2.number.ensures.put; upper_bound = omega (arith, t.text-a.ensures.next, n1.number-b.ensures.upper_bound, n2.number.ensures.upper_bound) }
+    record { put = rw (← c.from.ensures) (put_then (put_then c.text-a.ensures c.number-b.ensures.put) c.number.ensures.put); upper_bound = omega (arith, c.text-a.ensures.next, c.number-b.ensures.upper_bound, c.number.ensures.upper_bound) }

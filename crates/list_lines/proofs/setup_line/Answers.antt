@@ -6,8 +6,8 @@ use Rattle.list_lines.proofs.setup_line.Goals as goal
 
 pub returns : goal.returns
 returns c =
-    let n3 = c.before in
-    let n2 = n3.before in
-    let n1 = n2.before in
-    let t = n1.before in
-    record { put = put_is (setup_words _ _ _) (put_then (put_then (put_then t.text-a.ensures n1.number-b.ensures.put) n2.number-c.ensures.put) n3.number.ensures.put); upper_bound = omega (arith, t.text-a.ensures.next, n1.number-b.ensures.upper_bound, n2.number-c.ensures.upper_bound, n3.number.ensures.upper_bound) }
+    record {
+      put = rw (← c.from.ensures, ← c.from-2.ensures, ← c.from-3.ensures)
+          (put_is (setup_words _ _ _) (put_then (put_then (put_then c.text-a.ensures c.number-b.ensures.put) c.number-c.ensures.put) c.number.ensures.put));
+      upper_bound = omega (arith, c.text-a.ensures.next, c.number-b.ensures.upper_bound, c.number-c.ensures.upper_bound, c.number.ensures.upper_bound);
+    }

@@ -6,6 +6,4 @@ use Rattle.list_lines.proofs.stop_line.Goals as goal
 
 pub returns : goal.returns
 returns c =
-    let n1 = c.before in
-    let t = n1.before in
-    record { put = put_is (stop_words _) (put_then t.text-a.ensures n1.number.ensures.put); upper_bound = omega (arith, t.text-a.ensures.next, n1.number.ensures.upper_bound) }
+    record { put = put_is (stop_words _) (put_then c.text-a.ensures c.number.ensures.put); upper_bound = omega (arith, c.text-a.ensures.next, c.number.ensures.upper_bound) }

@@ -1,14 +1,9 @@
--- `list_lines::word` puts a number or a dash, as `shown` decides.
-use borrow.Author.Rules.{rules}
+-- `list_lines::word` puts a number or a dash.
 use native.Mathlib.Omega.{arith}
-use Rattle.list_lines.proofs.Words.{shown_yes, shown_no}
-use Rattle.list_lines.proofs.Puts.{put_is}
 use Rattle.list_lines.proofs.word.Goals as goal
 
-pub returns-then-show : goal.returns-then-show
-returns-then-show c =
-    record { put = put_is (shown_yes _ _ c.if-show.true) c.number.ensures.put; upper_bound = search rules }
+pub returns-in-Some : goal.returns-in-Some
+returns-in-Some c = rw c.in-Some.is c.number.ensures
 
-pub returns-else-show : goal.returns-else-show
-returns-else-show c =
-    record { put = put_is (shown_no _ _ c.if-show.false) c.pair.ensures; upper_bound = omega (arith, c.pair.ensures.next) }
+pub returns-in-None : goal.returns-in-None
+returns-in-None c = rw c.in-None.is (record { put = c.text.ensures; upper_bound = omega (arith, c.text.ensures.next) })
