@@ -2,13 +2,16 @@
 use mathlib.Core.Path.{◌≡◌, sym, ap, ◌∙◌}
 use mathlib.Core.List.{List, [], ◌∷◌, ◌++◌}
 use mathlib.Core.Logic.{inl, inr}
-use Prim.Native.Nat.{ℕ, zero, suc, ◌+◌, ◌-◌, ◌/◌, ◌%◌, ◌^◌, ◌≤◌, ◌<◌}
-use native.Mathlib.Nat.{pow-suc, eq-zero-or-pos}
+use Prim.Native.Nat.{ℕ, zero, suc, ◌+◌, ◌-◌, ◌*◌, ◌/◌, ◌%◌, ◌^◌, ◌≤◌, ◌<◌, max}
+use native.Mathlib.Nat.{pow-suc, one-le-pow, eq-zero-or-pos}
+use lib.ListN.{length, take, drop, length-append, take-append-drop}
 use native.Mathlib.Omega.{arith}
 use borrow.Author.Tests.{lt-ltb, le-ltb}
 use Rattle.std.specs.Fmt.{decimal as printed}
-use Rattle.std.proofs.lemmas.Fmt.{decimal_digit, decimal_step}
+use Rattle.std.proofs.lemmas.Fmt.{decimal_digit, decimal_step, decimal_nonempty, length-decimal-le}
 use Rattle.list_lines.specs.Text.{decimal, decimal_of}
+use Rattle.list_lines.specs.Put.{Put}
+use Rattle.list_lines.proofs.Puts.{put_between}
 
 decimal_one : (k n : ℕ) → n < 10 → decimal (suc k) n ≡ (48 + n) ∷ []
 unfolding decimal
@@ -34,3 +37,27 @@ decimal_is (suc k) n h f =
 pub decimal_printed : (n : ℕ) → n < 2 ^ 32 → printed n ≡ decimal_of n
 unfolding decimal_of
 decimal_printed n h = decimal_is 9 n (omega arith) (omega arith)
+
+-- as many digits as the power of ten says that is no greater than the number; 0 has one digit, as 1 has
+digits_above : (k n : ℕ) → 10 ^ k ≤ max n 1 → n < 2 ^ 64 → k < length (printed n)
+digits_above zero n h f = decimal_nonempty n f
+digits_above (suc k) n h f =
+    let p = pow-suc 10 k in
+    let q : 1 ≤ 10 ^ k = one-le-pow k 10 (omega arith) in
+    let l : 10 ≤ n = omega (arith, h, p, q) in
+    let s = digits_above k (n / 10) (omega (arith, h, p, q, l)) (omega arith) in
+    omega (arith, s, ap length (decimal_step n l f), length-append (printed (n / 10)) ((48 + n % 10) ∷ []))
+
+pub digits_many : (k n : ℕ) → 10 ^ k ≤ max n 1 → max n 1 < 10 * 10 ^ k → n < 2 ^ 64 → length (printed n) ≡ k + 1
+digits_many k n h h2 f =
+    omega (arith, digits_above k n h f, length-decimal-le (suc k) n (omega arith) (omega (arith, h2, pow-suc 10 k)) f)
+
+-- the digits that were written so that they end behind k others from place i, where k is the power of ten
+pub put_digits : {l l' : List ℕ} {i n w e : ℕ} (k s : ℕ) → w ≡ n → 10 ^ k ≤ max n 1 → max n 1 < 10 * 10 ^ k → n < 2 ^ 32 → e ≡ i + 1 + k → e ≤ length l
+    → s + length (printed w) ≡ e → drop s l' ≡ printed w ++ drop e l → take s l' ≡ take s l → Put l i (decimal_of n) l' e
+put_digits {l} {l'} {i} {n} {w} {e} k s q low high f is le start written before =
+    let d : printed w ≡ decimal_of n = ap printed q ∙ decimal_printed n f in
+    let many : length (printed w) ≡ k + 1 = ap (λ (x : ℕ). length (printed x)) q ∙ digits_many k n low high (omega arith) in
+    let here : s ≡ i = omega arith in
+    put_between (omega (arith, ap length d)) le
+    (sym (take-append-drop s l') ∙ rw (before, written, d, here))

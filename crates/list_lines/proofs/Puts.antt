@@ -36,12 +36,15 @@ puts_sets : (l : List ℕ) (i : ℕ) (xs : List ℕ) → puts l i xs ≡ sets l 
 puts_sets l i [] = refl
 puts_sets l i (x ∷ xs) = ap (λ (k : ℕ). puts (set l i x) k xs) (add-one i) ∙ puts_sets (set l i x) (suc i) xs
 
+-- what stood before place i, the text, and what stood from place r on
+pub put_between : {l xs l' : List ℕ} {i r : ℕ} → r ≡ i + length xs → r ≤ length l → l' ≡ take i l ++ (xs ++ drop r l) → Put l i xs l' r
+put_between {l} {xs} {l'} {i} {r} e h q =
+    let m : i + length xs ≤ length l = omega arith in
+    record { list = q ∙ rw e (sym (puts_sets l i xs ∙ sets-eq xs l i m ∙ append_assoc (take i l) xs (drop (i + length xs) l))); next = e }
+
 -- a part that was written over, from place i to place r
 pub put_part : (l : List ℕ) {xs ys : List ℕ} (i r : ℕ) → r ≡ i + length xs → r ≤ length l → ys ≡ xs → Put l i xs (put_mid i (r - i) l ys) r
-put_part l {xs} {ys} i r e h q =
-    let m : i + length xs ≤ length l = omega arith in
-    let b : i ≤ r = omega arith in
-    record { list = rw (q, Post-is i r l b, e) (sym (puts_sets l i xs ∙ sets-eq xs l i m ∙ append_assoc (take i l) xs (drop (i + length xs) l))); next = e }
+put_part l i r e h q = put_between e h (rw (q, Post-is i r l (omega arith)))
 
 -- where there is room: what stood before the place, the text, and what stood behind the text's end
 pub put_whole : {l : List ℕ} {i : ℕ} {xs l' : List ℕ} {r : ℕ} → Put l i xs l' r → r ≤ length l → l' ≡ take i l ++ (xs ++ drop r l)

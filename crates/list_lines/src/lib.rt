@@ -25,8 +25,8 @@ pub fn number(out: &mut [u8], at: usize, n: u32, after: u8) -> usize
     ensures put { Put out.old at (decimal_of n ++ (after ∷ [])) out.new result }
     ensures upper_bound { result ≤ at + 13 }
 {
-    let mut digits = itoa::Buffer::new();
-    let end = text(out, at, digits.format(n).as_bytes());
+    let end = at + 1 + n.max(1).ilog10() as usize;
+    itoa::write_digits(u64::from(n), out, end);
     out[end] = after;
     end + 1
 }

@@ -1,15 +1,23 @@
--- `list_lines::number` puts the digits that the library prints, and one octet more.
+-- `list_lines::number` puts the digits that the library writes, and one octet more.
 use native.Mathlib.Omega.{arith}
-use mathlib.Core.Path.{sym, ap, ◌∙◌}
-use lib.ListN.{length}
-use Rattle.list_lines.proofs.Decimals.{decimal_printed}
-use Rattle.list_lines.proofs.Puts.{put_is, put_then, put_one}
+use mathlib.Core.Path.{refl}
+use Rattle.list_lines.proofs.Decimals.{digits_many, put_digits}
+use Rattle.list_lines.proofs.Puts.{put_then, put_one}
 use Rattle.list_lines.proofs.number.Goals as goal
+
+pub write_digits-requires : goal.write_digits-requires
+write_digits-requires c =
+    let i = c.ilog10.ensures in
+    let m = c.max.ensures in
+    let many = digits_many c.ilog10.result c.args.n (rw (← m) i.power_le) (rw (← m) i.next_power_gt) (omega arith) in
+    rw c.from.ensures (omega arith, omega arith)
 
 pub returns : goal.returns
 returns c =
-    let e = c.as_bytes.ensures.value ∙ c.format.ensures.text ∙ decimal_printed _ (omega arith) in
+    let i = c.ilog10.ensures in
+    let m = c.max.ensures in
+    let w = c.write_digits.ensures in
     record {
-      put = put_then (put_is (sym e) c.text-end.ensures) (put_one _ _ _);
-      upper_bound = omega (arith, c.text-end.ensures.next, ap length c.as_bytes.ensures.value, c.format.ensures.fits);
+      put = put_then (put_digits _ _ c.from.ensures (rw (← m) i.power_le) (rw (← m) i.next_power_gt) (omega arith) refl (omega arith) w.start w.written w.before) (put_one _ _ _);
+      upper_bound = omega arith;
     }
