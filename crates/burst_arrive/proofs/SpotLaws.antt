@@ -1,7 +1,9 @@
 -- The seat of a cell that is let in, as the likely way has it: where the words of free spaces fit and have one, the lowest is free
 -- and below N.
 use Prim.Native.Nat.{ℕ, ◌+◌, ◌-◌, ◌*◌, ◌<◌}
-use mathlib.Core.Path.{◌≡◌, refl, sym, ◌∙◌, ap}
+use mathlib.Core.Path.{◌≡◌, refl, sym}
+use Rattle.std.specs.Prelude.{Option, Some, None}
+use Rattle.std.proofs.lemmas.Option.{none-some, same_Some}
 use mathlib.Core.Logic.{◌≢◌}
 use mathlib.Core.Bool.{Bool, true, false}
 use mathlib.Core.List.{List}
@@ -20,7 +22,7 @@ use Rattle.mem_lists.specs.Spaces.{ends_of, seat_as, no_seat, entry_of}
 use Rattle.slot_plan.specs.Plan.{seat_now}
 use Rattle.slot_plan.proofs.Found.{no}
 use Rattle.burst_arrive.specs.declared.Spot.{Spot}
-use Rattle.burst_arrive.specs.Arriving.{spot_of, seat_at, Seats}
+use Rattle.burst_arrive.specs.Arriving.{spot_as, spot_of, seat_at, Seats}
 
 -- (T + D) modulo N is an entry
 pub entry_below : (N T D e : ℕ) → T < N → D < N → e ≡ entry_of N T D → e < N
@@ -31,9 +33,20 @@ entry_below N T D e t d is = rw is (go (T + D <? N) refl)
     go true q = ltb-true (T + D) N q
     go false q = omega arith
 
--- the seat stands in the spot as it came
-pub seat_is : (vci D : ℕ) (a : Seat) → seat_at (spot_of vci D a) ≡ a
-seat_is vci D a = refl
+-- a spot is there where there is a seat, and is that seat
+pub record Spotted (vci D : ℕ) (a : Seat) (p : Spot) : Type 0 where
+  pub ok : a.ok ≡ true
+  pub is : p ≡ spot_as vci D a
+  pub seat : seat_at p ≡ a
+
+pub spotted : (vci D : ℕ) (a : Seat) (p : Spot) → Some p ≡ spot_of vci D a → Spotted vci D a p
+spotted vci D a p = go a.ok refl
+  where
+    go : (b : Bool) → a.ok ≡ b → Some p ≡ (when b then Some (spot_as vci D a) else None) → Spotted vci D a p
+    go true ok e =
+        let is = same_Some p (spot_as vci D a) e in
+        record { ok = ok; is = is; seat = rw (is, ← ok) refl }
+    go false ok e = absurd (none-some p (sym e))
 
 module _ (k : Record) (D : ℕ) (calendar bits : List ℕ) (spaces_fit_lem : spaces_fit k.n k.free bits ≡ true) where
   abbrev entry_now : ℕ
@@ -63,7 +76,7 @@ module _ (k : Record) (D : ℕ) (calendar bits : List ℕ) (spaces_fit_lem : spa
     spot_seated x lowest fit = rw (lowest, is) (by_tests false true (ne_eqb k.free 0 some) (rw (← is) fit))
 
   seats : (vci : ℕ) → k.free ≢ 0 → ends_fit k.n (entry_at calendar entry_now) ≡ true
-      → Seats k calendar bits (spot_of vci D (seat_as true (lowest_free bits) entry_now (entry_at calendar entry_now)))
+      → Seats k calendar bits (spot_as vci D (seat_as true (lowest_free bits) entry_now (entry_at calendar entry_now)))
   unfolding spaces.seat_of spaces.seat_at
   seats vci some fit =
       record {
@@ -76,16 +89,18 @@ module _ (k : Record) (D : ℕ) (calendar bits : List ℕ) (spaces_fit_lem : spa
       }
 
   -- what a seat shows
-  pub seat_shows : (vci : ℕ) → (spot_of vci D (seat_now k D calendar bits)).ok ≡ true → Seats k calendar bits (spot_of vci D (seat_now k D calendar bits))
+  pub seat_shows : (vci : ℕ) → (seat_now k D calendar bits).ok ≡ true → Seats k calendar bits (spot_as vci D (seat_now k D calendar bits))
   seat_shows vci = go (k.free =? 0) (ends_fit k.n (entry_at calendar entry_now)) refl refl
     where
       go : (z f : Bool) → k.free =? 0 ≡ z → ends_fit k.n (entry_at calendar entry_now) ≡ f
-          → (spot_of vci D (seat_now k D calendar bits)).ok ≡ true
-          → Seats k calendar bits (spot_of vci D (seat_now k D calendar bits))
+          → (seat_now k D calendar bits).ok ≡ true
+          → Seats k calendar bits (spot_as vci D (seat_now k D calendar bits))
       go true f ez ef = rw (← by_tests true f ez ef) (λ q. no q)
       go false true ez ef = rw (← by_tests false true ez ef) (λ q. seats vci (eqb-false k.free 0 ez) ef)
       go false false ez ef = rw (← by_tests false false ez ef) (λ q. no q)
 
   -- the same of a spot that is it
-  pub spot_shows : (vci : ℕ) (p : Spot) → p ≡ spot_of vci D (seat_now k D calendar bits) → p.ok ≡ true → Seats k calendar bits p
-  spot_shows vci p is ok = rw is (seat_shows vci (ap (λ (q : Spot). q.ok) (sym is) ∙ ok))
+  pub spot_shows : (vci : ℕ) (p : Spot) → Some p ≡ spot_of vci D (seat_now k D calendar bits) → Seats k calendar bits p
+  spot_shows vci p e =
+      let s = spotted vci D (seat_now k D calendar bits) p e in
+      rw s.is (seat_shows vci s.ok)

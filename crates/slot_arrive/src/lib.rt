@@ -260,6 +260,7 @@ pub fn clp_of(cell: &[u8]) -> u8
 }
 
 // Step 3 at the connection vci, of a cell with this name. The cell's CLP is read only where the connection has a second bucket.
+#[inline(always)]
 pub fn judge_connection(n: u16, words: &[u32], vci: u16, name: u32, t: u32, cell: &[u8]) -> Judged
     requires { (HasConnection vci words.now) × (4 ≤ length cell.now) }
     ensures { result ≡ judged_connection n t words.now (name % 65536) vci (clp_in cell.now) }
@@ -294,6 +295,7 @@ pub fn name_of(cell: &[u8], kind: u16) -> u32
 }
 
 // Step 3 of a cell with this name. Apart from the name's reading, so that each of the two is laid into both of its users.
+#[inline(always)]
 pub fn judge(n: u16, v: u16, words: &[u32], name: u32, t: u32, cell: &[u8]) -> Judged
     requires { (words_in v ≡ length words.now) × (v ≤ most_v) × ((name ≡ 0 → ⊥) → length cell.now ≡ 53) }
     ensures { result ≡ judged_name n v t words.now name (clp_in cell.now) }

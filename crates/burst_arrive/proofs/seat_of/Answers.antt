@@ -53,7 +53,7 @@ entry_is_4 c =
 
 -- the entry
 
-entry_is_5 : (c : goal.After-no_spot-then-not-fits) → c.if-far-w.e ≡ entry_of c.args.w.n c.args.w.turn c.args.d
+entry_is_5 : (c : goal.Then-not-fits) → c.if-far-w.e ≡ entry_of c.args.w.n c.args.w.turn c.args.d
 entry_is_5 c =
     let a = c.args in
     elim c.if-far-w.branch [
@@ -94,7 +94,7 @@ entry_low_4 c =
 pub returns-then-w-eq0 : goal.returns-then-w-eq0
 returns-then-w-eq0 c =
     let a = c.args in
-    c.no_spot.ensures ∙ ap (spot_of a.vci a.d) (spot_none (slot_record a.w) a.d a.calendar.now a.bits.now c.requires.5 c.if-w-eq0.true)
+    ap (spot_of a.vci a.d) (spot_none (slot_record a.w) a.d a.calendar.now a.bits.now c.requires.5 c.if-w-eq0.true)
 
 pub overflow_mul-head : goal.overflow_mul-head
 overflow_mul-head c = omega (arith, entry_low c, c.requires.0)
@@ -126,8 +126,7 @@ overflow_cast-tail c = search (rules, c.shared_slice_known-4-1.given (2 * c.if-f
 pub returns-then-not-fits : goal.returns-then-not-fits
 returns-then-not-fits c =
     let a = c.args in
-    c.no_spot-then-not-fits.ensures
-    ∙ ap (spot_of a.vci a.d)
+    ap (spot_of a.vci a.d)
     (spot_unfit (slot_record a.w) a.d a.calendar.now a.bits.now c.requires.5 c.if-far-w.e (entry_is_5 c)
     c.if-w-eq0.false (sym c.fits.ensures ∙ c.if-not-fits.true))
 
