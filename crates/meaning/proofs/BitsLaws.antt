@@ -8,9 +8,9 @@ use mathlib.Core.List.{List}
 use native.Mathlib.Nat.{lt_of_lt_of_le, zero-div}
 use native.Mathlib.Decide.{dec_lt, ℕ_discrete}
 use native.Mathlib.Omega.{arith}
-use borrow.Author.Tests.{eq-eqb, ne_eqb, eqb-true, eqb-false, ltb-true, lt-ltb, le-ltb}
+use borrow.Author.Tests.{eq-eqb, ne_eqb, eqb-true, ltb-true, lt-ltb, le-ltb}
 use lib.Count.{ones, ones-le, ones-ones, count_trailing_zeros}
-use lib.ListN.{length, get_or, set, length-set, get_or-eq_default}
+use lib.ListN.{length, get_or, set}
 use lib.Pow.{pow_mono, ones_lt}
 use lib.Seq.{get_or-set_same, get_or-set_other}
 use Rattle.meaning.specs.Plain.{◌<?◌, ◌=?◌}

@@ -1,16 +1,16 @@
 -- "The cell is written into its own 53 octets of the cell memory, and every other octet keeps its value": what is read
 -- of the cell memory after a write.
 use Prim.Native.Nat.{ℕ, ◌+◌, ◌*◌, ◌-◌, ◌≤◌, ◌<◌}
-use mathlib.Core.Path.{◌≡◌, refl, sym, ◌∙◌, ap}
+use mathlib.Core.Path.{◌≡◌, sym, ◌∙◌, ap}
 use mathlib.Core.Logic.{◌≢◌}
 use mathlib.Core.List.{List, ◌++◌}
 use native.Mathlib.Omega.{arith}
 use native.Mathlib.Decide.{dec_lt}
 use lib.ListN.{length, get_or, take, drop, length-append, length-take, length-drop, get_or-append}
 use lib.Seq.{length-take-le, get_or-append-add, get_or-take, get_or-drop, ext_get_or, take_at, drop_at}
-use Rattle.meaning.specs.Numbers.{octets, cell_start}
+use Rattle.meaning.specs.Numbers.{cell_start}
 use Rattle.meaning.specs.State.{write_cell}
-use Rattle.meaning.specs.Header.{Header, header_of, header_at}
+use Rattle.meaning.specs.Header.{header_at}
 
 module _ (cells : List ℕ) (x : ℕ) (cell : List ℕ) (inside : 53 * x + 53 ≤ length cells) (long : length cell ≡ 53) where
   front : length (take (53 * x) cells) ≡ 53 * x

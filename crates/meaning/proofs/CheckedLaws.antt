@@ -1,9 +1,9 @@
 -- The header check in front of a slot, whatever space x a cell takes: what it lets through is nothing or a cell, so the slot is document 01's over that,
 -- with the mode moved and the verdict told. A policer that is not raw serves as before.
 use Prim.Native.Nat.{ℕ, ◌-◌, ◌/◌, ◌%◌, ◌^◌, ◌≤◌}
-use mathlib.Core.Path.{◌≡◌, refl, sym, ap, ◌∙◌}
+use mathlib.Core.Path.{◌≡◌, refl}
 use mathlib.Core.Logic.{◌≢◌}
-use mathlib.Core.Bool.{Bool, true, false, not, cond, ◌&&◌, ◌||◌}
+use mathlib.Core.Bool.{Bool, true, false, cond, ◌&&◌, ◌||◌}
 use mathlib.Core.List.{List, []}
 use native.Mathlib.Omega.{arith}
 use borrow.Author.Tests.{eq-eqb, eqb-false, le-leb}
@@ -13,7 +13,7 @@ use lib.ListN.{length, get_or, length-set}
 use Rattle.base_hec.specs.Check.{syndrome_of}
 use Rattle.base_hec.specs.WrongBit.{no_error, wrong_bit, flipped}
 use Rattle.base_hec.specs.Modes.{correction, detection, Arriving, passes, drops, checked, arriving, arriving_fits}
-use Rattle.meaning.specs.Plain.{when◌then◌else◌, ◌=?◌, Out, refused, next, needs, ◌and_then◌}
+use Rattle.meaning.specs.Plain.{◌=?◌, Out, refused, next, ◌and_then◌}
 use Rattle.meaning.specs.Numbers.{ranges_hold, octets}
 use Rattle.meaning.specs.State.{State, sizes_hold, with_record, record_in_mode, with_mode}
 use Rattle.meaning.specs.Work.{Work, work_of, bare_answer}

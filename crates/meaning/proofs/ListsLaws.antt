@@ -1,17 +1,17 @@
 -- Heads and tails: what their test says of them; an entry of the calendar, read and written.
 use Prim.Native.Nat.{ℕ, ◌+◌, ◌*◌, ◌≤◌, ◌<◌}
-use mathlib.Core.Path.{◌≡◌, refl, sym, ◌∙◌, ap}
+use mathlib.Core.Path.{◌≡◌, refl, ◌∙◌}
 use mathlib.Core.Logic.{◌≢◌}
 use mathlib.Core.Bool.{Bool, true, false, ◌&&◌, ◌||◌}
 use mathlib.Core.List.{List}
 use native.Mathlib.Omega.{arith}
-use borrow.Author.Tests.{ltb-true, eqb-true, eqb-false, lt-ltb, eq-eqb, ne_eqb}
+use borrow.Author.Tests.{ltb-true, lt-ltb, ne_eqb}
 use lib.ListN.{length, get_or, set, length-set}
 use lib.Seq.{get_or-set_same, get_or-set_other}
 use Rattle.meaning.specs.Plain.{◌<?◌, ◌=?◌}
 use Rattle.meaning.specs.Numbers.{empty, head_place, tail_place}
 use Rattle.meaning.specs.State.{Ends}
-use Rattle.meaning.specs.Lists.{empty_list, is_empty, ends_fit, entry_at, write_entry, join_head, join_tail}
+use Rattle.meaning.specs.Lists.{empty_list, ends_fit, entry_at, write_entry}
 
 -- "a head and tail are both below N or both 65,535"
 marked : (a b c d : Bool) → (a && b) || (c && d) ≡ true → c ≡ false → (a ≡ true) × (b ≡ true)

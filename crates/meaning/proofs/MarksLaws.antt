@@ -3,18 +3,17 @@
 use Prim.Native.Nat.{ℕ, zero, suc, ◌+◌, ◌-◌, ◌/◌, ◌%◌, ◌^◌, ◌≤◌, ◌<◌}
 use mathlib.Core.Path.{◌≡◌, refl, sym, ◌∙◌, ap}
 use mathlib.Core.Logic.{◌≢◌}
-use mathlib.Core.Bool.{Bool, true, false, ◌&&◌}
+use mathlib.Core.Bool.{Bool, true, false}
 use mathlib.Core.List.{List}
 use native.Mathlib.Nat.{zero-div}
 use native.Mathlib.Decide.{dec_lt}
 use native.Mathlib.Omega.{arith}
 use borrow.Author.Tests.{le-ltb}
-use lib.Count.{ones}
 use lib.ListN.{length, get_or}
-use Rattle.meaning.specs.Plain.{when◌then◌else◌, ◌<?◌, ◌=?◌}
-use Rattle.meaning.specs.Numbers.{most_n, free_words, bit_words, word_bits}
-use Rattle.meaning.specs.Bits.{word_of, bit_of, is_set, is_free_space, entry_bit, is_marked, ones_below, bits_in, none_above, spaces_fit, lowest_from, lowest_free, with_bit, without_bit, taken, given, marked, unmarked, full_word, all_free}
-use Rattle.meaning.proofs.SetLaws.{clear_bit, same_bit, set_in, without_length, without_own, without_other, without_word, with_length, with_own, with_other, with_word}
+use Rattle.meaning.specs.Plain.{when◌then◌else◌}
+use Rattle.meaning.specs.Numbers.{most_n, free_words, bit_words}
+use Rattle.meaning.specs.Bits.{word_of, bit_of, is_set, is_free_space, entry_bit, is_marked, ones_below, bits_in, none_above, spaces_fit, lowest_from, lowest_free, with_bit, without_bit, taken, given, marked, unmarked, all_free}
+use Rattle.meaning.proofs.SetLaws.{clear_bit, same_bit, without_length, without_own, without_other, without_word, with_length, with_own, with_other, with_word}
 use Rattle.meaning.proofs.BitsLaws.{free_set, free_space, held_clear, same_free, full_is}
 
 -- ── the words of the spaces alone say which are free ──

@@ -1,7 +1,7 @@
 -- Connections and their numbers (document 02 (vi)): a connection's number is below V + 256 and neither 0 nor V, and no two
 -- connections have the same one, so that VCs and paths never share a bucket. Where the VPI is 0 all is as document 01 has it.
 use Prim.Native.Nat.{ℕ, ◌+◌, ◌<◌}
-use mathlib.Core.Path.{◌≡◌, refl, sym, ◌∙◌, ap}
+use mathlib.Core.Path.{◌≡◌, refl, ap}
 use mathlib.Core.Logic.{◌≢◌}
 use mathlib.Core.Bool.{Bool, true, false, ◌&&◌, ◌||◌}
 use mathlib.Core.List.{List}

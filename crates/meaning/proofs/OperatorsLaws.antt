@@ -5,7 +5,6 @@ use mathlib.Core.Path.{◌≡◌, refl, sym, ap, ◌∙◌}
 use mathlib.Core.Logic.{◌≢◌}
 use mathlib.Core.Bool.{Bool, true, false, not, ◌&&◌}
 use mathlib.Core.List.{List}
-use native.Mathlib.Decide.{ℕ_discrete}
 use native.Mathlib.Omega.{arith}
 use borrow.Author.Tests.{eqb-true, leb-true, lt-ltb, le-ltb}
 use Rattle.meaning.specs.declared.Record.{Record}
@@ -15,7 +14,7 @@ use Rattle.meaning.specs.State.{words_length}
 use Rattle.meaning.specs.Header.{Name, by_vci, by_vpi, named, number_in}
 use Rattle.meaning.specs.Operators.{first_operator, second_operator, owner_of, owns}
 use Rattle.meaning.specs.Bucket.{bucket_of, obeys_rules}
-use Rattle.meaning.specs.Words.{Connection, Second, connection_at, write_connection, connection_fits, second_obeys, opened_connection, closed_connection, debt}
+use Rattle.meaning.specs.Words.{Second, connection_at, connection_fits, second_obeys, opened_connection, closed_connection, debt}
 use Rattle.meaning.specs.Calls.{Kind, options_of, Allowed, Called, called_of, shared_refusal, open_call, close_call}
 use Rattle.meaning.proofs.NamesLaws.{both, one_name}
 use Rattle.meaning.proofs.WordsLaws.{write_read_other}

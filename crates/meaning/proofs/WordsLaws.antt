@@ -7,10 +7,10 @@ use mathlib.Core.List.{List}
 use native.Mathlib.Nat.{add-zero}
 use native.Mathlib.Omega.{arith}
 use lib.ListN.{length, get_or, set, length-set}
-use lib.Seq.{get_or-set_same, get_or-set_other, set-get_or, set-set, set_comm}
+use lib.Seq.{get_or-set_same, get_or-set_other, set-get_or}
 use Rattle.meaning.specs.Numbers.{open_place, m_place, f_place, c_place, s_place, last_place, waiting_place, words_per_connection, connection_place}
 use Rattle.meaning.specs.Numbers.{second_mplace, second_fplace, second_cplace, second_splace, tag_place}
-use Rattle.meaning.specs.Bucket.{Bucket, bucket_of, with_s}
+use Rattle.meaning.specs.Bucket.{with_s}
 use Rattle.meaning.specs.Words.{Connection, connection_at, write_connection, with_waiting}
 
 -- a write at another place is not seen

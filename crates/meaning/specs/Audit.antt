@@ -8,7 +8,7 @@
 --   joined queues       == the spaces of all the time slot queues, entry after entry
 --   connection_in kind z cells x  == the number of the connection that the header in space x names
 --   AuditHolds s        == the audit's clauses, one a field
-use Rattle.std.specs.Prelude.{ℕ, ◌+◌, ◌<◌, ◌≤◌, ◌≡◌, Bool, true, false, not, ◌&&◌, List, [], ◌∷◌, ◌++◌, map, length, get_or}
+use Rattle.std.specs.Prelude.{ℕ, ◌+◌, ◌<◌, ◌≤◌, ◌≡◌, true, false, not, ◌&&◌, List, [], ◌∷◌, ◌++◌, map, length, get_or}
 use Rattle.meaning.specs.Plain.{when◌then◌else◌, ◌<?◌, ◌=?◌}
 use Rattle.meaning.specs.Numbers.{most_n, ranges_hold, connections_in, unused, empty, cell_start, splits_hold}
 use Rattle.meaning.specs.State.{State, Ends, output_list, sizes_hold}

@@ -4,14 +4,14 @@
 use Rattle.std.specs.Prelude.{ℕ, ◌-◌, ◌*◌, ◌≡◌, Bool, true, false, not, ◌&&◌, List, replicate}
 use Rattle.base_hec.specs.Modes.{correction}
 use Rattle.meaning.specs.declared.Record.{Record}
-use Rattle.meaning.specs.Plain.{when◌then◌else◌, ◌<?◌, ◌≤?◌, ◌=?◌}
+use Rattle.meaning.specs.Plain.{when◌then◌else◌, ◌=?◌}
 use Rattle.meaning.specs.Numbers.{ranges_hold, splits_hold, octets, per_entry, connections_in, words_in, uni, nni, kind_in_range, empty, slot_numbers}
 use Rattle.meaning.specs.Bits.{all_free}
 use Rattle.meaning.specs.State.{State, words_length, lengths_hold, with_record}
 use Rattle.meaning.specs.Header.{Name, named, number_in}
 use Rattle.meaning.specs.Operators.{owns}
-use Rattle.meaning.specs.Bucket.{Bucket, bucket_of, obeys_rules}
-use Rattle.meaning.specs.Words.{Connection, Second, connection_at, write_connection, connection_fits, second_obeys, opened_connection, closed_connection, debt}
+use Rattle.meaning.specs.Bucket.{bucket_of, obeys_rules}
+use Rattle.meaning.specs.Words.{Second, connection_at, write_connection, connection_fits, second_obeys, opened_connection, closed_connection, debt}
 
 -- what setup gives back: the refusal number, and the record and memories afterwards
 pub record SetUp : Type 0 where

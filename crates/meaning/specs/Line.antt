@@ -1,6 +1,6 @@
 -- Document 01: "What goes out is shown as a part of the cell memory or, where nothing departs, of the idle cell that
 -- the caller lends; nothing is copied."
-use Rattle.std.specs.Prelude.{ℕ, ◌*◌, ◌/◌, ◌%◌, Bool, not, ◌&&◌, ◌||◌, List, length, take, drop}
+use Rattle.std.specs.Prelude.{ℕ, ◌/◌, ◌%◌, Bool, not, ◌&&◌, ◌||◌, List, length, take, drop}
 use Rattle.meaning.specs.Plain.{when◌then◌else◌, ◌<?◌, ◌≤?◌, ◌=?◌}
 use Rattle.meaning.specs.Numbers.{most_n, octets, cell_start, empty}
 

@@ -1,6 +1,6 @@
 -- Document 01: lists of spaces by head and tail. A link is the number of the space that follows.
-use Rattle.std.specs.Prelude.{ℕ, ◌+◌, ◌*◌, Bool, ◌&&◌, ◌||◌, List, get_or, set}
-use Rattle.meaning.specs.Plain.{when◌then◌else◌, ◌<?◌, ◌=?◌, Out, refused, next, needs}
+use Rattle.std.specs.Prelude.{ℕ, Bool, ◌&&◌, ◌||◌, List, get_or, set}
+use Rattle.meaning.specs.Plain.{when◌then◌else◌, ◌<?◌, ◌=?◌, Out, next, needs}
 use Rattle.meaning.specs.Numbers.{empty, head_place, tail_place}
 use Rattle.meaning.specs.State.{Ends}
 

@@ -5,7 +5,7 @@ use Rattle.std.specs.Prelude.{ℕ, ◌+◌, ◌≡◌, Bool, true, List, length}
 use Rattle.meaning.specs.declared.Record.{Record}
 use Rattle.meaning.specs.State.{State}
 use Rattle.meaning.specs.Header.{Name}
-use Rattle.meaning.specs.Calls.{Asked, SetUp, setup, Called, called_of, open_call, close_call}
+use Rattle.meaning.specs.Calls.{Asked, SetUp, setup, called_of, open_call, close_call}
 use Rattle.meaning.specs.Words.{Second}
 use Rattle.meaning.specs.Work.{Work}
 use Rattle.meaning.specs.Slot.{slot}

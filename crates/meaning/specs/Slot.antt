@@ -1,7 +1,7 @@
 -- Document 01, "One slot, in this order". "A slot reads what its five steps name, as earlier steps changed it, and no
 -- other number." A step that would read a number outside its range is refused, with 3.
 use Rattle.std.specs.Prelude.{ℕ, ◌+◌, ◌-◌, ◌%◌, Bool, not, ◌&&◌, ◌||◌, List, length}
-use Rattle.base_hec.specs.Modes.{Arriving, arriving, arriving_fits}
+use Rattle.base_hec.specs.Modes.{arriving, arriving_fits}
 use Rattle.meaning.specs.Plain.{when◌then◌else◌, ◌<?◌, ◌≤?◌, ◌=?◌, Out, refused, next, needs, ◌and_then◌}
 use Rattle.meaning.specs.Numbers.{ranges_hold, octets, cell_start, slot_numbers, connections_in, unused, kind_in_range, unknown, dropped}
 use Rattle.meaning.specs.State.{State, output_list, sizes_hold}

@@ -1,8 +1,8 @@
 -- Document 01: a VC's words as one record, read and written in one place, and their ranges for refusal 3. Document 02 (iv)
 -- made of its seven words twelve: its two buckets, one `last`, waiting, flag. By (vi) a path has the same twelve: what document
 -- 01 says of a VC's words holds of a connection's.
-use Rattle.std.specs.Prelude.{ℕ, ◌+◌, Bool, true, ◌&&◌, ◌||◌, List, get_or, set}
-use Rattle.meaning.specs.Plain.{when◌then◌else◌, ◌≤?◌, ◌=?◌, Out, refused, next, needs}
+use Rattle.std.specs.Prelude.{ℕ, Bool, true, ◌&&◌, ◌||◌, List, get_or, set}
+use Rattle.meaning.specs.Plain.{when◌then◌else◌, ◌≤?◌, ◌=?◌, Out, next, needs}
 use Rattle.meaning.specs.Numbers.{open_place, m_place, f_place, c_place, s_place, last_place, waiting_place}
 use Rattle.meaning.specs.Numbers.{second_mplace, second_fplace, second_cplace, second_splace, tag_place}
 use Rattle.meaning.specs.Bucket.{Bucket, bucket_of, obeys_rules, obeys_second, is_none, elapsed, fall}

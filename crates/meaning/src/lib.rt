@@ -96,8 +96,9 @@ pub struct Wait {
     pub slots: u16,
 }
 
-// A record is built here: as setup leaves it, from another one, and of zeros. A further field is one more line in each.
+// A record is built here: as setup leaves it, from another one, and of zeros. A further field is one more line in the last two.
 // The record with another clock, number of free spaces and Output List; whatever else it holds is kept.
+#[tactic(auto, unfolding(crate::specs::State::record_with))]
 pub fn record_with(
     r: Record,
     t: u32,
@@ -110,44 +111,26 @@ pub fn record_with(
     ensures { result ≡ record_with r t turn rotation free (ends_of outhead outtail) }
 {
     Record {
-        n: r.n,
-        v: r.v,
-        t: t,
-        turn: turn,
-        rotation: rotation,
-        free: free,
-        outhead: outhead,
-        outtail: outtail,
-        raw: r.raw,
-        mode: r.mode,
-        kind: r.kind,
-        splitvci: r.splitvci,
-        splitpath: r.splitpath,
+        t,
+        turn,
+        rotation,
+        free,
+        outhead,
+        outtail,
+        ..r
     }
 }
 
 // The record in this mode of the header check.
+#[tactic(auto, unfolding(crate::specs::State::record_in_mode))]
 pub fn record_in_mode(r: Record, mode: u16) -> Record
     ensures { result ≡ record_in_mode r mode }
 {
-    Record {
-        n: r.n,
-        v: r.v,
-        t: r.t,
-        turn: r.turn,
-        rotation: r.rotation,
-        free: r.free,
-        outhead: r.outhead,
-        outtail: r.outtail,
-        raw: r.raw,
-        mode: mode,
-        kind: r.kind,
-        splitvci: r.splitvci,
-        splitpath: r.splitpath,
-    }
+    Record { mode, ..r }
 }
 
 // "a record of zeros"
+#[tactic(auto, unfolding(crate::specs::Calls::zeros))]
 pub fn no_record() -> Record
     ensures { result ≡ zeros }
 {
@@ -174,28 +157,26 @@ pub fn fresh_record(n: u16, v: u16, raw: bool, kind: u16, splitvci: u16, splitpa
     ensures { result ≡ fresh_record n v (chosen (asked_of raw kind splitvci splitpath)) }
 {
     Record {
-        n: n,
-        v: v,
-        t: 4294967295,
+        n,
+        v,
+        t: u32::MAX,
         turn: n - 1,
         rotation: v + 255,
         free: n,
         outhead: 65535,
         outtail: 65535,
-        raw: raw as u16,
+        raw: u16::from(raw),
         mode: CORRECTION,
-        kind: kind,
-        splitvci: splitvci,
-        splitpath: splitpath,
+        kind,
+        splitvci,
+        splitpath,
     }
 }
 
 // A cell with this verdict is let in: accepted, or tagged.
+#[tactic(auto, unfolding(crate::specs::Numbers::lets_in))]
 pub fn lets_in(verdict: u16) -> bool
     ensures { result ≡ lets_in verdict }
 {
-    if verdict == 1 {
-        return true;
-    }
-    verdict == 5
+    matches!(verdict, 1 | 5)
 }

@@ -21,7 +21,7 @@ kind_is (suc (suc k)) h = absurd (omega (arith, h))
 
 pub returns : goal.returns
 unfolding fresh_record slot_numbers
-returns c = rw (byte_is c.args.raw, kind_is c.args.kind c.requires.2, last) refl
+returns c = rw (c.from.ensures, byte_is c.args.raw, kind_is c.args.kind c.requires.2, last) refl
   where
     last : connections_in c.args.v - 1 ≡ c.args.v + 255
     last = omega arith
