@@ -6,21 +6,18 @@ ghost use Rattle.meaning.specs.Numbers.{cell_start, octets};
 ghost use Rattle.meaning.specs.State.{write_cell};
 ghost use Rattle.meaning.specs.Header.{tagged_cell};
 
-// Through a local array, so that all octets are loaded before the first is stored: wide moves.
+// Through a local array, so that all octets are loaded before the first is stored: wide moves. By the library's copy_from_slice,
+// which first asks whether the two overlap, each copy would be a call, and some twenty instructions more.
 pub fn copy_cell(part: &mut [u8], cell: &[u8])
     requires { (length part.old ≡ 53) × (length cell.now ≡ 53) }
     ensures { part.new ≡ cell.now }
 {
-    let mut held = [0u8; 53];
-    let mut i = 0;
-    while i < 53 {
+    let mut held = [0; 53];
+    for i in 0..53 {
         held[i] = cell[i];
-        i += 1;
     }
-    let mut k = 0;
-    while k < 53 {
+    for k in 0..53 {
         part[k] = held[k];
-        k += 1;
     }
 }
 
@@ -46,7 +43,7 @@ fn copy_tagged(part: &mut [u8], cell: &[u8])
 fn start(space: u16) -> usize
     ensures { result ≡ cell_start space }
 {
-    53 * (space as usize)
+    53 * usize::from(space)
 }
 
 // The space's part of the lent cell memory, starting at 53 times its number, is lent on.
