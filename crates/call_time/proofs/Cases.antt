@@ -14,29 +14,9 @@ use borrow.Author.Tests.{ltb-true, leb-true, lt-ltb, le-ltb, le-leb, eq-eqb, ne_
 use Rattle.meaning.specs.Plain.{when◌then◌else◌, ◌<?◌, ◌≤?◌}
 use Rattle.meaning.specs.Numbers.{most_n, slot_numbers, accepted, excess}
 use Rattle.meaning.specs.Bucket.{bucket_of, obeys_rules}
-use Rattle.leaf_refusal.specs.Order.{refuse_of, first_of}
 use Rattle.leaf_bucket.proofs.Rules.{both}
 use Rattle.call_time.specs.declared.Tat.{Tat}
 use Rattle.call_time.specs.Schedule.{ahead, tat_of, timed_of, too_late, stored_fits, in_order, refusal_of, scheduled, expected_at, timed}
-
--- ── the order of the refusals ──
--- 1, 6, 3 and 12 worked out, and the first of them given: what that is
-pub in_turn : (s : Tat) (N m F C a : ℕ)
-    → first_of
-    (first_of (refuse_of 1 (not (1 ≤? N && N ≤? most_n))) (refuse_of 6 (not (obeys_rules N (bucket_of m F C 0)))))
-    (first_of (refuse_of 3 (not (stored_fits s))) (refuse_of 12 (not (in_order s a))))
-    ≡ refusal_of s N m F C a
-unfolding refusal_of
-in_turn s N m F C a = go (1 ≤? N && N ≤? most_n) (obeys_rules N (bucket_of m F C 0)) (stored_fits s) (in_order s a)
-  where
-    go : (x y u w : Bool)
-        → ◌≡◌ {A = ℕ} (first_of (first_of (refuse_of 1 (not x)) (refuse_of 6 (not y))) (first_of (refuse_of 3 (not u)) (refuse_of 12 (not w))))
-        (when not x then 1 else when not y then 6 else when not u then 3 else when not w then 12 else 0)
-    go false y u w = refl
-    go true false u w = refl
-    go true true false w = refl
-    go true true true false = refl
-    go true true true true = refl
 
 -- ── the rule ──
 -- how early a cell is, 0 when late, is what the due time lies after the arrival
@@ -149,6 +129,15 @@ module _ (s : Tat) (N m F C a : ℕ) where
 pub now_low : (a m : ℕ) → a < slot_numbers → m ≤ 15 → a * 2 ^ m < 2 ^ 47
 unfolding slot_numbers
 now_low a m h k = lt_of_lt_of_le (shl_lt 32 m h) (pow_mono {i = 32 + m} {j = 47} (omega arith))
+
+-- nor has what a cell is expected at more than 48 bits
+pub expected_low : (s : Tat) (N m F C a now : ℕ) → Good s N m F C a → now < 2 ^ 48 → (e : ℕ) → e ≡ expected_at s now → e < 2 ^ 48
+unfolding expected_at too_late
+expected_low s N m F C a now g h e is = go s.started refl is
+  where
+    go : (b : Bool) → s.started ≡ b → e ≡ (when b then s.tat else now) → e < 2 ^ 48
+    go true on k = let t = (g.stored on).0 in omega (arith, k, t)
+    go false on k = omega (arith, k, h)
 
 -- ── the sign ──
 pos_sub : (a b : ℕ) → pos a -ℤ pos b ≡ sub_ℕ a b

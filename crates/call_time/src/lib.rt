@@ -2,13 +2,14 @@
 // nothing of the policer. Times are 64 bits wide, so that no slot number wraps.
 #![tactic(auto)]
 
-ghost use Rattle.std.specs.Prelude.{◌≡◌, true, ◌&&◌, ◌*◌, ◌^◌, ◌≤◌, ◌<◌, max};
+ghost use Rattle.std.specs.Prelude.{◌≡◌, true, ◌&&◌, ◌*◌, ◌^◌, ◌≤◌, ◌<◌};
 ghost use Rattle.std.proofs.Math.IntN.{sub_ℕ};
 ghost use Rattle.meaning.specs.Plain.{◌≤?◌};
-ghost use Rattle.call_time.specs.Schedule.{tat_of, stored_fits, in_order, refusal_of, scheduled, timed};
+ghost use Rattle.leaf_refusal.specs.Refusals.{given_number};
+ghost use Rattle.call_time.specs.Schedule.{tat_of, stored_fits, in_order, refusal_of, scheduled, expected_at, timed};
 
 use leaf_bucket::obeys_rules;
-use leaf_refusal::{first, refuse};
+use leaf_refusal::{Refusal, refuse_unless};
 
 // What the engine stores between two cells: TAT in parts of 1/L slot, the previous cell's slot, and whether a cell came yet.
 #[repr(C)]
@@ -31,52 +32,39 @@ pub struct Timed {
 }
 
 // "N cell spaces, 1 to 1,024"
+#[tactic(auto, using(leaf_refusal::proofs::Within::within))]
 fn spaces_hold(n: u16) -> bool
     ensures { result ≡ (1 ≤? n && n ≤? 1024) }
 {
-    if n < 1 {
-        return false;
-    }
-    n <= 1024
+    (1..=1024).contains(&n)
 }
 
 // Before the first cell nothing stored is read.
+#[tactic(auto, unfolding(crate::specs::Schedule::stored_fits, crate::specs::Schedule::too_late, meaning::specs::Numbers::slot_numbers))]
 fn stored_fits(tat: Tat) -> bool
     ensures { result ≡ stored_fits tat }
 {
-    if !tat.started {
-        return true;
-    }
-    if tat.tat >= 281474976710656 {
-        return false;
-    }
-    tat.arrival < 4294967296
+    !tat.started || tat.tat < 1 << 48 && tat.arrival < 1 << 32
 }
 
 // A first cell has none before it.
+#[tactic(auto, unfolding(crate::specs::Schedule::in_order, meaning::specs::Numbers::slot_numbers))]
 fn in_order(tat: Tat, arrival: u64) -> bool
     ensures { result ≡ in_order tat arrival }
 {
-    if arrival >= 4294967296 {
-        return false;
-    }
-    if !tat.started {
-        return true;
-    }
-    tat.arrival < arrival
+    arrival < 1 << 32 && (!tat.started || tat.arrival < arrival)
 }
 
-// Refusals 1, 6, 3 and 12, in this order, or 0.
-fn refusal_of(tat: Tat, n: u16, m: u8, f: u32, c: u32, arrival: u64) -> u16
-    ensures { result ≡ refusal_of tat n m f c arrival }
+// Refusals 1, 6, 3 and 12, in this order.
+#[tactic(auto, unfolding(crate::specs::Schedule::refusal_of))]
+fn refusal_of(tat: Tat, n: u16, m: u8, f: u32, c: u32, arrival: u64) -> Result<(), Refusal>
+    ensures { given_number result ≡ refusal_of tat n m f c arrival }
 {
-    let range = refuse(1, !spaces_hold(n));
-    let rules = refuse(6, !obeys_rules(n, m as u32, f, c));
-    let stored = refuse(3, !stored_fits(tat));
-    let order = refuse(12, !in_order(tat, arrival));
-    let asked = first(range, rules);
-    let clock = first(stored, order);
-    first(asked, clock)
+    let rules = obeys_rules(n, u32::from(m), f, c);
+    refuse_unless(spaces_hold(n), Refusal::Ranges)?;
+    refuse_unless(rules, Refusal::Rules)?;
+    refuse_unless(stored_fits(tat), Refusal::Stored)?;
+    refuse_unless(in_order(tat, arrival), Refusal::OutOfOrder)
 }
 
 // A slot's start in parts of 1/L slot.
@@ -92,15 +80,7 @@ fn early_by(now: u64, expected: u64) -> i64
     requires { (now < 2 ^ 48) × (expected < 2 ^ 48) }
     ensures { result ≡ sub_ℕ expected now }
 {
-    let tat_signed = expected as i64;
-    let now_signed = now as i64;
-    tat_signed - now_signed
-}
-
-fn later_of(now: u64, expected: u64) -> u64
-    ensures { result ≡ max now expected }
-{
-    if expected > now { expected } else { now }
+    expected as i64 - now as i64
 }
 
 // The state that a cell in this slot leaves, conforming or not.
@@ -108,8 +88,8 @@ fn state_of(tat: u64, arrival: u64) -> Tat
     ensures { result ≡ tat_of tat arrival true }
 {
     Tat {
-        tat: tat,
-        arrival: arrival,
+        tat,
+        arrival,
         started: true,
     }
 }
@@ -120,16 +100,16 @@ fn judge(state: Tat, f: u32, c: u32, arrival: u64, now: u64) -> Timed
     ensures { result ≡ scheduled f c arrival now state.tat }
 {
     let early = early_by(now, state.tat);
-    let due = later_of(now, state.tat);
-    let next = due + (f as u64);
+    let due = now.max(state.tat);
+    let next = due + u64::from(f);
     let before = due - now;
-    let tolerance = (c - f) as u64;
+    let tolerance = u64::from(c - f);
     if before > tolerance {
         let stays = state_of(state.tat, arrival);
         return Timed {
             number: 0,
             verdict: 2,
-            early: early,
+            early,
             due: 0,
             tat: stays,
         };
@@ -138,30 +118,37 @@ fn judge(state: Tat, f: u32, c: u32, arrival: u64, now: u64) -> Timed
     Timed {
         number: 0,
         verdict: 1,
-        early: early,
-        due: due,
+        early,
+        due,
         tat: moves,
     }
 }
 
-// One cell. A refused one leaves the state as it came. "The first cell is on time": it is expected when it arrives.
+// "The first cell is on time": it is expected when it arrives.
+#[tactic(auto, unfolding(crate::specs::Schedule::expected_at))]
+fn expected(tat: Tat, arrival: u64, now: u64) -> Tat
+    ensures { result.tat ≡ expected_at tat now }
+{
+    if tat.started {
+        tat
+    } else {
+        state_of(now, arrival)
+    }
+}
+
+// One cell. A refused one leaves the state as it came.
 pub fn time(tat: Tat, n: u16, m: u8, f: u32, c: u32, arrival: u64) -> Timed
     ensures { result ≡ timed tat n m f c arrival }
 {
-    let number = refusal_of(tat, n, m, f, c, arrival);
-    if number != 0 {
+    if let Err(why) = refusal_of(tat, n, m, f, c, arrival) {
         return Timed {
-            number: number,
+            number: u16::from(why),
             verdict: 0,
             early: 0,
             due: 0,
-            tat: tat,
+            tat,
         };
     }
     let now = parts_of(arrival, m);
-    if !tat.started {
-        let on_time = state_of(now, arrival);
-        return judge(on_time, f, c, arrival, now);
-    }
-    judge(tat, f, c, arrival, now)
+    judge(expected(tat, arrival, now), f, c, arrival, now)
 }

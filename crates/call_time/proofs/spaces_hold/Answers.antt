@@ -1,9 +1,0 @@
--- `call_time::spaces_hold` meets its contract: its two tests are the contract's own.
-use borrow.Author.Tests.{le-leb, lt-leb}
-use Rattle.call_time.proofs.spaces_hold.Goals as goal
-
-pub returns-then-n-lt1 : goal.returns-then-n-lt1
-returns-then-n-lt1 c = simp (lt-leb 1 _ c.if-n-lt1.true)
-
-pub returns : goal.returns
-returns c = simp (le-leb 1 _ c.if-n-lt1.false)
