@@ -5,16 +5,23 @@ use mathlib.Core.Path.{◌≡◌, refl, sym, ap, ◌∙◌}
 use mathlib.Core.Bool.{Bool, true, false, ◌&&◌, ◌||◌}
 use mathlib.Core.List.{List}
 use lib.ListN.{length}
-use borrow.Author.Tests.{eq-eqb, ne_eqb, le-leb, lt-leb}
+use borrow.Author.Tests.{leb-true, eq-eqb, ne_eqb, le-leb}
 use native.Mathlib.Omega.{arith}
-use Rattle.meaning.specs.Plain.{when◌then◌else◌, ◌≤?◌, ◌=?◌}
-use Rattle.trace_record.specs.Trace.{be16, stands_at, said_of, mark_gm, mark_gr, mark_gn, mark_vo, mark_vx, mark_ca, mark_sl, mark_vs, mark_po, mark_px}
+use Rattle.meaning.specs.Plain.{when◌then◌else◌, ◌≤?◌}
+use Rattle.trace_record.specs.Marks.{letters_of}
+use Rattle.trace_record.specs.Trace.{MarkAt, mark_octets, be16, stands_at, said_of, mark_gm, mark_gr, mark_gn, mark_vo, mark_vx, mark_ca, mark_sl, mark_vs, mark_po, mark_px}
 use Rattle.trace_record.specs.declared.Event.{Event}
 use Rattle.trace_record.specs.declared.Found.{Found}
 use Rattle.trace_record.specs.declared.Found.TheVariants.{Read, End, Unreadable}
-use Rattle.mend_step.specs.declared.Stride.{Stride}
-use Rattle.mend_step.specs.Salvage.{Reading, none, up_to, reading_of, reads_to, is_mark, known_mark, followed, meets_rule, first_of, resume, step_of, step_at}
-use Rattle.mend_step.proofs.Shape.{Shape, reads_shape}
+use Rattle.std.specs.declared.option.Option.{Option}
+use Rattle.std.specs.declared.option.Option.TheVariants.{None, Some}
+use Rattle.std.specs.Option.{is_some}
+use Rattle.std.specs.Prelude.{◌↔◌}
+use Rattle.trace_record.specs.declared.mark.Mark.{Mark}
+use Rattle.trace_record.specs.declared.mark.Mark.TheVariants.{Gm, Gr, Gn, Vo, Vs, Vx, Po, Px, Ca, Sl}
+use Rattle.mend_step.specs.declared.Stride.TheVariants.{Kept, Skipped}
+use Rattle.mend_step.specs.Salvage.{none, up_to, reading_of, reads_to, is_mark, known_mark, followed, meets_rule, first_of, resume, step_of, step_at}
+use Rattle.mend_step.proofs.Shape.{reads_shape}
 
 or_off : {b c : Bool} → b ≡ false → b || c ≡ c
 or_off {b} {c} h = ap (λ (x : Bool). x || c) h
@@ -28,15 +35,33 @@ mark_none m ca sl vo vx gm gr gn vs po px =
     ∙ or_off (ne_eqb m mark_gm gm) ∙ or_off (ne_eqb m mark_gr gr) ∙ or_off (ne_eqb m mark_gn gn) ∙ or_off (ne_eqb m mark_vs vs)
     ∙ or_off (ne_eqb m mark_po po) ∙ or_off (ne_eqb m mark_px px))
 
-module _ (s : List ℕ) (e : ℕ) where
-  pub known_short : length s < e + 2 → false ≡ known_mark s e
-  unfolding known_mark
-  known_short h = sym (ap (λ (b : Bool). b && is_mark (be16 s e)) (lt-leb (e + 2) (length s) h))
+-- a mark that stands at a place is known, and none is known where none stands
+known : (m : Mark) → is_mark (letters_of m) ≡ true
+unfolding is_mark
+known Gm = refl
+known Gr = refl
+known Gn = refl
+known Vo = refl
+known Vs = refl
+known Vx = refl
+known Po = refl
+known Px = refl
+known Ca = refl
+known Sl = refl
 
-  pub known_read : {m : ℕ} {r : Bool} → e + 2 ≤ length s → m ≡ be16 s e → r ≡ is_mark m → r ≡ known_mark s e
+module _ (s : List ℕ) (e : ℕ) where
+  none_known : ((m : Mark) → MarkAt s e m → ⊥) → (b : Bool) → e + mark_octets ≤? length s ≡ b → false ≡ (b && is_mark (be16 s e))
+  none_known u false t = refl
+  none_known u true t =
+      let f : (m : Mark) → be16 s e ≡ letters_of m → ⊥ = λ m q. u m (leb-true _ _ t, q) in
+      mark_none (be16 s e) (f Ca) (f Sl) (f Vo) (f Vx) (f Gm) (f Gr) (f Gn) (f Vs) (f Po) (f Px)
+
+  pub mark_known : (r : Option Mark) → ((m : Mark) → (r ≡ Some m) ↔ (MarkAt s e m)) → is_some r ≡ known_mark s e
   unfolding known_mark
-  known_read h q k =
-      k ∙ ap is_mark q ∙ sym (ap (λ (b : Bool). b && is_mark (be16 s e)) (le-leb (e + 2) (length s) h))
+  mark_known (Some m) h =
+      let a = (h m).0 refl in
+      sym (simp (le-leb (e + mark_octets) (length s) a.0, a.1, known m))
+  mark_known None h = none_known (λ m a. let z = (h m).1 a in cc) (e + mark_octets ≤? length s) refl
 
 module _ (s : List ℕ) (q : ℕ) where
   no_record : (f : Found) → ((e : Event) (next : ℕ) → f ≡ Read e next → ⊥) → reading_of (said_of f) ≡ none
@@ -69,16 +94,13 @@ module _ (s : List ℕ) (n q : ℕ) where
     unfolding meets_rule
     rule_mark u k = k ∙ sym (ap (followed s n) h ∙ ap (λ (b : Bool). b || known_mark s next) (ne_eqb next n u))
 
-    pub step_read : ◌≡◌ {A = Stride} (record { kept = true; next = next }) (step_at s n q)
+    pub step_read : Kept next ≡ step_at s n q
     unfolding step_at
     step_read = sym (ap (step_of s n q) h)
 
-  pub step_none : {j : ℕ} → reads_to s q ≡ none → j ≡ resume s n q → ◌≡◌ {A = Stride} (record { kept = false; next = j }) (step_at s n q)
+  pub step_none : {j : ℕ} → reads_to s q ≡ none → j ≡ resume s n q → Skipped j ≡ step_at s n q
   unfolding step_at
-  step_none {j} h e = ap skip_to e ∙ sym (ap (step_of s n q) h)
-    where
-      skip_to : ℕ → Stride
-      skip_to m = record { kept = false; next = m }
+  step_none {j} h e = ap (λ (m : ℕ). Skipped m) e ∙ sym (ap (step_of s n q) h)
 
   -- ---- the search
 

@@ -8,17 +8,19 @@
 --   meets_rule trace n q  == whether q is a place to resume at
 --   resume trace n p     == the least place after p that meets the rule, or the input's end
 --   step_at trace n p     == whether a record is kept at p, and the place after it or after the stretch
---   taken_at trace n p    == one step: the end, a kept record or a stretch, and the place behind it
+--   taken_at trace n p    == one step: nothing at the end, else a kept record or a stretch, and the place behind it
 --   walk trace n         == the pieces, in order: each kept record and each stretch, by first octet and length
 --   salvage_front trace n == the refusal 17, or the pieces;  salvage trace == that of a trace known to its end
 --   salvage_input input   == what the program does with an input of any length
 --   written_of trace ps   == what is written of the pieces ps;  stretches_of ps == what is listed of them
-use Rattle.std.specs.Prelude.{ℕ, zero, suc, ◌+◌, ◌-◌, Bool, true, false, ◌&&◌, ◌||◌, List, [], ◌∷◌, ◌++◌, length, take, drop}
+use Rattle.std.specs.Prelude.{ℕ, zero, suc, ◌+◌, ◌-◌, Bool, false, ◌&&◌, ◌||◌, List, [], ◌∷◌, ◌++◌, length, take, drop}
 use Rattle.meaning.specs.Plain.{when◌then◌else◌, ◌<?◌, ◌≤?◌, ◌=?◌}
 use Rattle.trace_record.specs.Trace.{Stands, event, finish, refusal, stands_at, be16, mark_octets}
 use Rattle.trace_record.specs.Trace.{mark_gm, mark_gr, mark_gn, mark_vo, mark_vx, mark_ca, mark_sl, mark_vs, mark_po, mark_px}
+use Rattle.std.specs.declared.option.Option.{Option}
+use Rattle.std.specs.declared.option.Option.TheVariants.{None, Some}
 use Rattle.mend_step.specs.declared.Stride.{Stride}
-use Rattle.mend_step.specs.declared.Taken.{Taken}
+use Rattle.mend_step.specs.declared.Stride.TheVariants.{Kept, Skipped}
 
 pub data Reading : Type 0 where
   none : Reading
@@ -74,16 +76,19 @@ unfoldable pub resume : List ℕ → ℕ → ℕ → ℕ
 resume trace n p = first_of trace n (length trace - suc p) (suc p)
 
 abbrev pub step_of : List ℕ → ℕ → ℕ → Reading → Stride
-step_of trace n p none = record { kept = false; next = resume trace n p }
-step_of trace n p (up_to e) = record { kept = true; next = e }
+step_of trace n p none = Skipped (resume trace n p)
+step_of trace n p (up_to e) = Kept e
 
 unfoldable pub step_at : List ℕ → ℕ → ℕ → Stride
 step_at trace n p = step_of trace n p (reads_to trace p)
 
-unfoldable pub taken_at : List ℕ → ℕ → ℕ → Taken
-taken_at trace n p =
-    when n ≤? p then record { end = true; kept = false; next = p }
-    else record { end = false; kept = (step_at trace n p).kept; next = (step_at trace n p).next }
+-- the place where the walk goes on
+abbrev pub next_of : Stride → ℕ
+next_of (Kept next) = next
+next_of (Skipped next) = next
+
+unfoldable pub taken_at : List ℕ → ℕ → ℕ → Option Stride
+taken_at trace n p = when n ≤? p then None else Some (step_at trace n p)
 
 -- "It writes the readable records and lists .. each skipped stretch by first octet and length"
 pub data Piece : Type 0 where
@@ -91,12 +96,13 @@ pub data Piece : Type 0 where
   skips : (first long : ℕ) → Piece
 
 abbrev pub piece_of : ℕ → Stride → Piece
-piece_of p s = when s.kept then keeps p (s.next - p) else skips p (s.next - p)
+piece_of p (Kept next) = keeps p (next - p)
+piece_of p (Skipped next) = skips p (next - p)
 
 unfoldable pub walk_from : List ℕ → ℕ → ℕ → ℕ → List Piece
 walk_from trace n zero p = []
 walk_from trace n (suc k) p =
-    when p <? n then piece_of p (step_at trace n p) ∷ walk_from trace n k (step_at trace n p).next
+    when p <? n then piece_of p (step_at trace n p) ∷ walk_from trace n k (next_of (step_at trace n p))
     else []
 
 -- a piece has an octet, so there are no more pieces than octets

@@ -1,13 +1,9 @@
--- `resume_after`: the places passed don't meet the rule, so the search from p goes on from q; what is left of the trace is
--- the measure.
-use Prim.Native.Nat.{◌-◌, ◌≤◌, ◌<◌}
+-- `resume_after`: the places passed don't meet the rule, so the search from p goes on from q.
+use Prim.Native.Nat.{◌-◌}
 use mathlib.Core.Path.{◌≡◌}
 use lib.ListN.{length}
 use Rattle.mend_step.specs.Salvage.{first_of, resume}
 use Rattle.mend_step.proofs.resume_after.Given as goal
 
 abbrev pub invariant-loop-q : goal.invariant-loop-q
-invariant-loop-q l = (l.p < l.q) × (l.q ≤ length l.trace) × (resume l.trace l.total l.p ≡ first_of l.trace l.total (length l.trace - l.q) l.q)
-
-abbrev pub decreases-loop-q : goal.decreases-loop-q
-decreases-loop-q l = length l.trace - l.q
+invariant-loop-q l = resume l.trace l.total l.p ≡ first_of l.trace l.total (length l.trace - l.q) l.q

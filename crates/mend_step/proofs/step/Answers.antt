@@ -4,10 +4,7 @@ use Rattle.mend_step.proofs.step.Goals as goal
 
 pub returns-in_default : goal.returns-in_default
 returns-in_default c =
-    let f = c.event_at-found in
-    step_none _ _ _ (answer_none _ _ f.result f.ensures c.in_default.not-Read) c.resume_after-next.ensures
+    step_none _ _ _ (answer_none _ _ c.event_at.result c.event_at.ensures c.in_default.not-Read) c.resume_after.ensures
 
-pub returns : goal.returns
-returns c =
-    let f = c.event_at-found in
-    step_read _ _ _ _ (answer_read _ _ f.result _ _ f.ensures c.in-Read.is)
+pub returns-in-Read : goal.returns-in-Read
+returns-in-Read c = step_read _ _ _ _ (answer_read _ _ c.event_at.result _ _ c.event_at.ensures c.in-Read.is)

@@ -7,6 +7,6 @@ pub returns-then-total-at : goal.returns-then-total-at
 unfolding taken_at
 returns-then-total-at c = simp (le-leb _ _ c.if-total-at.true)
 
-pub returns : goal.returns
+pub returns-else-total-at : goal.returns-else-total-at
 unfolding taken_at
-returns c = simp (lt-leb _ _ c.if-total-at.false, c.step-s.ensures)
+returns-else-total-at c = simp (lt-leb _ _ c.if-total-at.false, c.step.ensures)
