@@ -1,12 +1,13 @@
 -- What departs on a likely way: what is left of its list and the connection that was found give what the slot's definition says, in
 -- memory as it is and once a cell has been accepted.
 use Prim.Native.Nat.{ℕ, ◌<◌}
-use mathlib.Core.Path.{◌≡◌, refl, sym, ◌∙◌, ap, subst}
+use mathlib.Core.Path.{◌≡◌, refl, sym, ◌∙◌, ap}
+use Rattle.std.specs.Prelude.{Some, None}
 use mathlib.Core.Logic.{◌≢◌}
 use mathlib.Core.Bool.{Bool, true, false, not}
 use mathlib.Core.List.{List}
 use native.Mathlib.Decide.{ℕ_discrete}
-use borrow.Author.Tests.{lt-ltb, eqb-true, eqb-false, eq-eqb, ne_eqb, not-true}
+use borrow.Author.Tests.{lt-ltb, eqb-true, eqb-false, eq-eqb, ne_eqb}
 use lib.ListN.{length, get_or}
 use Rattle.meaning.specs.declared.Record.{Record}
 use Rattle.meaning.specs.Plain.{when◌then◌else◌, ◌=?◌}
@@ -148,7 +149,7 @@ module _ (k : Record) (cells links words : List ℕ) (joins : Bool) (entry : End
 
 -- ---- a plan with its connection
 module _ (k : Record) (links bits : List ℕ) (entry : Ends) (o : Leave) (u : ℕ) (Is : Bool → Ends → Off → Type 0)
-    (plan : Planned k links entry o) (some : o.none ≡ false) (held : is_free_space bits o.space ≡ false)
+    (plan : Planned k links entry (Some o)) (held : is_free_space bits o.space ≡ false)
     (off : (joins : Bool) (e : Ends) → o.space ≡ joined_head k e
     → Left k.n (linked joins k.outtail e.head links) o.space e.tail o.next o.tail
     → Is joins e (off_as true o.space u (ends_of o.next o.tail)))
@@ -156,73 +157,60 @@ module _ (k : Record) (links bits : List ℕ) (entry : Ends) (o : Leave) (u : �
     goes_unmarked : entry.head ≡ empty → PlannedUnmarked k links o → Goes k bits entry (leave_with o u) Is
     unfolding joined_head linked
     goes_unmarked e p =
-        let s = p.some some in
         record {
           marked = λ q. found.no (sym p.marked ∙ q);
           unmarked = λ q.
-              (e, s.0, p.follows, off false (ends_of 0 k.outtail) (s.1 ∙ rw (ne_eqb k.outhead empty s.0) refl) s.2);
-          space_low = p.space_low some;
+              (e, p.some, p.follows, off false (ends_of 0 k.outtail) (p.space ∙ rw (ne_eqb k.outhead empty p.some) refl) p.rest);
+          space_low = p.space_low;
           not_free = held;
-          left_fits = p.left_fits some;
+          left_fits = p.left_fits;
         }
 
     goes_marked : entry.head ≢ empty → PlannedMarked k links entry o → Goes k bits entry (leave_with o u) Is
     unfolding joined_links
     goes_marked ne p =
         record {
-          marked = λ q. (ne, p.follows, p.head, off (not (k.outhead =? empty)) entry p.space p.rest);
+          marked = λ q. (ne, p.follows, off (not (k.outhead =? empty)) entry p.space p.rest);
           unmarked = λ q. found.no (sym q ∙ p.marked);
           space_low = p.space_low;
           not_free = held;
           left_fits = p.left_fits;
         }
 
-    pub plan_leaves : Leaves k bits entry (leave_with o u) Is
-    plan_leaves =
-        record {
-          entry_fits = plan.entry_fits;
-          none = λ q. found.no (sym some ∙ q);
-          some = λ q. go (ℕ_discrete entry.head empty);
-        }
+    pub plan_leaves : Leaves k bits entry (Some (leave_with o u)) Is
+    plan_leaves = record { entry_fits = plan.entry_fits; departs = go (ℕ_discrete entry.head empty) }
       where
         go : Dec (entry.head ≡ empty) → Goes k bits entry (leave_with o u) Is
         go (yes e) = goes_unmarked e (plan.unmarked e)
         go (no ne) = goes_marked ne (plan.marked ne)
 
 -- ---- a plan by which nothing departs
-pub plan_none : (k : Record) (links bits : List ℕ) (entry : Ends) (o : Leave) (Is : Bool → Ends → Off → Type 0)
-    → Planned k links entry o → o.none ≡ true → Leaves k bits entry o Is
-plan_none k links bits entry o Is plan none =
-    record { entry_fits = plan.entry_fits; none = λ q. go (ℕ_discrete entry.head empty); some = λ q. found.no (sym q ∙ none) }
+pub plan_none : (k : Record) (links bits : List ℕ) (entry : Ends) (Is : Bool → Ends → Off → Type 0)
+    → Planned k links entry None → Leaves k bits entry None Is
+plan_none k links bits entry Is plan =
+    record { entry_fits = plan.entry_fits; departs = go (ℕ_discrete entry.head empty) }
   where
     go : Dec (entry.head ≡ empty) → (entry.head ≡ empty) × (k.outhead ≡ empty)
-    go (yes e) = (e, (plan.unmarked e).none none)
-    go (no ne) = found.no (sym (plan.marked ne).none ∙ none)
+    go (yes e) = (e, plan.unmarked e)
+    go (no ne) = absurd (plan.marked ne)
 
 -- ---- what a plan shows of the space that departs
-pub plan_low : (k : Record) (links : List ℕ) (entry : Ends) (o : Leave) → Planned k links entry o → o.none ≡ false → o.space < k.n
-plan_low k links entry o plan some = go (ℕ_discrete entry.head empty)
+pub plan_low : (k : Record) (links : List ℕ) (entry : Ends) (o : Leave) → Planned k links entry (Some o) → o.space < k.n
+plan_low k links entry o plan = go (ℕ_discrete entry.head empty)
   where
     go : Dec (entry.head ≡ empty) → o.space < k.n
-    go (yes e) = (plan.unmarked e).space_low some
+    go (yes e) = (plan.unmarked e).space_low
     go (no ne) = (plan.marked ne).space_low
 
--- ---- the plan with the connection that was found, as the code hands it back
-some_vci : (u : ℕ) → not (u =? 0) ≡ true → u ≢ 0
-some_vci u e = eqb-false u 0 (not-true (u =? 0) e)
-
-module _ (k : Record) (cells links words bits : List ℕ) (entry : Ends) (o : Leave) (u : ℕ) (r : Leave)
-    (plan : Planned k links entry o) (some : o.none ≡ false) (held : is_free_space bits o.space ≡ false)
-    (is : leaver_of k.n k.v k.kind cells words o.space ≡ u) (e : r ≡ leave_with o u) (ok : r.ok ≡ true)
+-- ---- the plan with the connection that was found
+module _ (k : Record) (cells links words bits : List ℕ) (entry : Ends) (o : Leave) (u : ℕ)
+    (plan : Planned k links entry (Some o)) (held : is_free_space bits o.space ≡ false)
+    (is : leaver_of k.n k.v k.kind cells words o.space ≡ u) (ok : u ≢ 0)
   where
-    is_vci : u ≢ 0
-    is_vci = some_vci u (sym (ap (λ (q : Leave). q.ok) e) ∙ ok)
-
-    pub quiet_leaves : Leaves k bits entry r (OffHere k cells links words)
+    pub quiet_leaves : Leaves k bits entry (Some (leave_with o u)) (OffHere k cells links words)
     quiet_leaves =
-        subst (λ (q : Leave). Leaves k bits entry q (OffHere k cells links words)) (sym e)
-        (plan_leaves k links bits entry o u (OffHere k cells links words) plan some held
-        (λ joins f head l. off_here k cells links words joins f o.space o.next o.tail u is is_vci head l))
+        plan_leaves k links bits entry o u (OffHere k cells links words) plan held
+        (λ joins f head l. off_here k cells links words joins f o.space o.next o.tail u is ok head l)
 
     -- where a cell has been accepted: its space was free, so it is another one than departs
     module _ (p : Spot) (free : is_free_space bits p.x ≡ true) where
@@ -232,8 +220,7 @@ module _ (k : Record) (cells links words bits : List ℕ) (entry : Ends) (o : Le
       still_held : is_free_space (taken bits p.x) o.space ≡ false
       still_held = taken_other bits p.x free o.space other ∙ held
 
-      pub later_leaves : o.space < length links → Leaves k (taken bits p.x) entry r (OffThen k p cells links words)
+      pub later_leaves : o.space < length links → Leaves k (taken bits p.x) entry (Some (leave_with o u)) (OffThen k p cells links words)
       later_leaves low =
-          subst (λ (q : Leave). Leaves k (taken bits p.x) entry q (OffThen k p cells links words)) (sym e)
-          (plan_leaves k links (taken bits p.x) entry o u (OffThen k p cells links words) plan some still_held
-          (λ joins f head l. off_then_lem k cells links words joins f o.space o.next o.tail u is is_vci head l p low other))
+          plan_leaves k links (taken bits p.x) entry o u (OffThen k p cells links words) plan still_held
+          (λ joins f head l. off_then_lem k cells links words joins f o.space o.next o.tail u is ok head l p low other)

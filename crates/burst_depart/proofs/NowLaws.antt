@@ -7,7 +7,8 @@ use mathlib.Core.Bool.{Bool, true, false, not}
 use mathlib.Core.List.{List}
 use native.Mathlib.Omega.{arith}
 use native.Mathlib.Decide.{ℕ_discrete}
-use borrow.Author.Tests.{ltb-false, lt-ltb, eqb-true, eqb-false, eq-eqb, ne_eqb, not-true}
+use Rattle.std.specs.Prelude.{Some, None}
+use borrow.Author.Tests.{ltb-false, lt-ltb, eqb-true, eq-eqb, ne_eqb}
 use lib.ListN.{length, set}
 use Rattle.meaning.specs.declared.Record.{Record}
 use Rattle.meaning.specs.Plain.{when◌then◌else◌, ◌<?◌, ◌=?◌}
@@ -71,12 +72,12 @@ module _ (k : Record) (p : Spot) (cells links words bits : List ℕ)
     entry_some e = omega (arith, sym head_is ∙ e, x_low, n_high)
 
     -- the cell's own link, where it has one
-    left_own : (joins : Bool) (i y : ℕ) → joins ≡ false → not (p.tail =? p.x) ≡ true
+    left_own : (joins : Bool) (i y : ℕ) → joins ≡ false → p.tail ≢ p.x
         → Left k.n (linked joins i y (linked (not (p.head =? empty)) p.x p.head links)) p.x entry.tail p.head p.tail
     left_own joins i y off ok = go (ℕ_discrete p.head empty)
       where
         far : p.x ≡ p.tail → ⊥
-        far q = eqb-false p.tail p.x (not-true (p.tail =? p.x) ok) (sym q)
+        far q = ok (sym q)
 
         go : Dec (p.head ≡ empty) → Left k.n (linked joins i y (linked (not (p.head =? empty)) p.x p.head links)) p.x entry.tail p.head p.tail
         go (yes e) =
@@ -97,20 +98,9 @@ module _ (k : Record) (p : Spot) (cells links words bits : List ℕ)
             }
 
     abbrev alone : Leave
-    alone =
-        record {
-          ok = not (p.tail =? p.x);
-          none = false;
-          space = p.x;
-          vci = p.vci;
-          next = p.head;
-          tail = p.tail;
-          marked = true;
-          follows = false;
-          head = 0;
-        }
+    alone = record { space = p.x; vci = p.vci; next = p.head; tail = p.tail; marked = true; follows = None }
 
-    alone_off : k.outhead ≡ empty → not (p.tail =? p.x) ≡ true
+    alone_off : k.outhead ≡ empty → p.tail ≢ p.x
         → OffThen k p cells links words (not (k.outhead =? empty)) entry (off_as true p.x p.vci (ends_of p.head p.tail))
     alone_off q ok =
         let joins = not (k.outhead =? empty) in
@@ -120,14 +110,13 @@ module _ (k : Record) (p : Spot) (cells links words bits : List ℕ)
         k.v k.kind cells words p.vci p.x p.vci (leaver_own k.n k.v k.kind p.vci p.x cells words p.x refl) (λ z. omega arith)
         ∙ ap (λ (y : ℕ). off_after k.n k.v k.kind cells stored words p.vci p.x y entry.tail) (sym head_is ∙ joined_alone k entry q)
 
-    pub alone_leaves : k.outhead ≡ empty → not (p.tail =? p.x) ≡ true → Leaves k (taken bits p.x) entry alone (OffThen k p cells links words)
+    pub alone_leaves : k.outhead ≡ empty → p.tail ≢ p.x → Leaves k (taken bits p.x) entry (Some alone) (OffThen k p cells links words)
     alone_leaves q ok =
         record {
           entry_fits = entry_fit;
-          none = λ n. found.no n;
-          some = λ n.
+          departs =
               record {
-                marked = λ m. (entry_some, sym (ap not (eq-eqb k.outhead empty q)), (λ f. found.no f), alone_off q ok);
+                marked = λ m. (entry_some, rw (eq-eqb k.outhead empty q) refl, alone_off q ok);
                 unmarked = λ m. found.no (sym m);
                 space_low = x_low;
                 not_free = taken_own bits p.x free;
@@ -141,18 +130,7 @@ module _ (k : Record) (p : Spot) (cells links words bits : List ℕ)
         (is : leaver_of k.n k.v k.kind cells words k.outhead ≡ u)
       where
         abbrev behind : Leave
-        behind =
-            record {
-              ok = not (u =? 0);
-              none = false;
-              space = k.outhead;
-              vci = u;
-              next = next;
-              tail = tail';
-              marked = true;
-              follows = true;
-              head = p.x;
-            }
+        behind = record { space = k.outhead; vci = u; next = next; tail = tail'; marked = true; follows = Some p.x }
 
         out_low : k.outhead < k.n
         out_low = fit_head k.n (ends_of k.outhead k.outtail) output some
@@ -160,17 +138,15 @@ module _ (k : Record) (p : Spot) (cells links words bits : List ℕ)
         left : Left k.n (set links k.outtail entry.head) k.outhead entry.tail next tail'
         left = rw (head_is, ← is-tail) l
 
-        planned : Planned k links entry behind
+        planned : Planned k links entry (Some behind)
         planned =
             record {
               entry_fits = entry_fit;
               unmarked = λ e. absurd (entry_some e);
               marked = λ ne.
                   record {
-                    none = refl;
                     marked = refl;
-                    follows = sym (ap not (ne_eqb k.outhead empty some));
-                    head = λ q. sym head_is;
+                    follows = rw (ne_eqb k.outhead empty some, head_is) refl;
                     space = joined_some k entry some;
                     rest = rest_joins k entry links k.outhead entry.tail next tail' some left;
                     space_low = out_low;
@@ -178,9 +154,9 @@ module _ (k : Record) (p : Spot) (cells links words bits : List ℕ)
                   };
             }
 
-        pub behind_leaves : not (u =? 0) ≡ true → Leaves k (taken bits p.x) entry behind (OffThen k p cells links words)
+        pub behind_leaves : u ≢ 0 → Leaves k (taken bits p.x) entry (Some behind) (OffThen k p cells links words)
         behind_leaves ok =
-            later_leaves k cells links words bits entry behind u behind planned refl held is refl ok p free (omega (arith, long, out_low))
+            later_leaves k cells links words bits entry behind u planned held is ok p free (omega (arith, long, out_low))
 
 -- ---- entry T once a cell has joined entry (T+D) modulo N
 module _ (N T D : ℕ) (low : T < N) where

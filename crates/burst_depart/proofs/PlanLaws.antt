@@ -5,6 +5,7 @@ use mathlib.Core.Path.{◌≡◌, refl, sym, subst}
 use mathlib.Core.Logic.{◌≢◌}
 use mathlib.Core.Bool.{true, false}
 use mathlib.Core.List.{List}
+use Rattle.std.specs.Prelude.{Option, Some, None, IfSome, MatchOption}
 use native.Mathlib.Omega.{arith}
 use borrow.Author.Tests.{eq-eqb, ne_eqb}
 use lib.ListN.{length, get_or, set}
@@ -15,7 +16,9 @@ use Rattle.meaning.specs.State.{Ends}
 use Rattle.mem_lists.specs.Spaces.{linked}
 use Rattle.mem_lists.specs.Leaver.{may_go, goes_as}
 use Rattle.slot_plan.specs.Plan.{joined_links, joined_head}
-use Rattle.burst_depart.specs.Leaving.{Left}
+use Rattle.meaning.specs.Lists.{ends_fit}
+use Rattle.burst_depart.specs.declared.Leave.{Leave}
+use Rattle.burst_depart.specs.Leaving.{Left, PlannedUnmarked, PlannedMarked, Planned}
 
 -- ---- the connection of this number, one test after the other
 module _ (N : ℕ) (words : List ℕ) (c : ℕ) where
@@ -68,3 +71,17 @@ module _ (k : Record) (entry : Ends) where
     pub rest_joins : (x tail next tail' : ℕ) → k.outhead ≢ empty → Left k.n (set links k.outtail entry.head) x tail next tail'
         → Left k.n (joined_links k entry links) x tail next tail'
     rest_joins x tail next tail' ne l = subst (λ (m : List ℕ). Left k.n m x tail next tail') (links_joined ne) l
+
+-- ---- where entry T is not marked, and where it is, that plan is the whole one
+module _ (k : Record) (links : List ℕ) (entry : Ends) (fits : ends_fit k.n entry ≡ true) where
+  pub planned_unmarked : entry.head ≡ empty → (result : Option (Option Leave))
+      → IfSome result (λ found. MatchOption found (k.outhead ≡ empty) (λ o. PlannedUnmarked k links o))
+      → IfSome result (λ found. Planned k links entry found)
+  planned_unmarked e None tt = tt
+  planned_unmarked e (Some found) p = record { entry_fits = fits; unmarked = λ q. p; marked = λ ne. absurd (ne e) }
+
+  pub planned_marked : entry.head ≢ empty → (result : Option (Option Leave))
+      → IfSome result (λ found. MatchOption found ⊥ (λ o. PlannedMarked k links entry o))
+      → IfSome result (λ found. Planned k links entry found)
+  planned_marked ne None tt = tt
+  planned_marked ne (Some found) p = record { entry_fits = fits; unmarked = λ e. absurd (ne e); marked = λ q. p }

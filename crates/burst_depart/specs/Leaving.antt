@@ -3,12 +3,12 @@
 -- slot, its clock moved.
 --
 --   Left N links x tail .. == what is left of a list from x to tail once x has gone
---   Planned k links ..     == what departs, but for its connection
---   Leaves k bits entry .. == what departs, Is being what "departs" means in memory as it then is; bits are the words of free spaces as
+--   Planned k links ..     == what departs, if anything, but for its connection
+--   Leaves k bits entry .. == what departs, if anything, Is being what "departs" means in memory as it then is; bits are the words of free spaces as
 --                             step 3 left them, and its space is not free
-use Rattle.std.specs.Prelude.{ℕ, ◌*◌, ◌≤◌, ◌<◌, ◌≡◌, ◌≢◌, Bool, true, false, not, List, length, get_or}
+use Rattle.std.specs.Prelude.{ℕ, ◌*◌, ◌≤◌, ◌<◌, ◌≡◌, ◌≢◌, Bool, true, false, not, Option, Some, None, MatchOption, List, length, get_or}
 use Rattle.meaning.specs.declared.Record.{Record}
-use Rattle.meaning.specs.Plain.{◌=?◌}
+use Rattle.meaning.specs.Plain.{when◌then◌else◌, ◌=?◌}
 use Rattle.meaning.specs.Numbers.{most_n, per_entry, empty}
 use Rattle.meaning.specs.Bits.{is_free_space}
 use Rattle.meaning.specs.State.{Ends}
@@ -29,43 +29,37 @@ pub record Left (N : ℕ) (links : List ℕ) (x tail next tail' : ℕ) : Type 0 
   pub one : x ≡ tail → (next ≡ empty) × (tail' ≡ empty)
   pub more : x ≢ tail → (next ≡ get_or links x 0) × (next < N) × (tail' ≡ tail)
 
+-- the head of entry T's chain, where that follows the old tail of the Output List
+abbrev pub follows_of : Record → Ends → Option ℕ
+follows_of k entry = when k.outhead =? empty then None else Some entry.head
+
 -- steps 4 and 5 but for the departing connection
 pub record PlannedUnmarked (k : Record) (links : List ℕ) (o : Leave) : Type 0 where
-  pub none : o.none ≡ true → k.outhead ≡ empty
-  pub some : o.none ≡ false → (k.outhead ≢ empty) × (o.space ≡ k.outhead) × Left k.n links o.space k.outtail o.next o.tail
+  pub some : k.outhead ≢ empty
+  pub space : o.space ≡ k.outhead
+  pub rest : Left k.n links o.space k.outtail o.next o.tail
   pub marked : o.marked ≡ false
-  pub follows : o.follows ≡ false
-  pub space_low : o.none ≡ false → o.space < k.n
-  pub left_fits : o.none ≡ false → ends_fit k.n (ends_of o.next o.tail) ≡ true
+  pub follows : o.follows ≡ None
+  pub space_low : o.space < k.n
+  pub left_fits : ends_fit k.n (ends_of o.next o.tail) ≡ true
 
 pub record PlannedMarked (k : Record) (links : List ℕ) (entry : Ends) (o : Leave) : Type 0 where
-  pub none : o.none ≡ false
   pub marked : o.marked ≡ true
-  pub follows : o.follows ≡ not (k.outhead =? empty)
-  pub head : o.follows ≡ true → o.head ≡ entry.head
+  pub follows : o.follows ≡ follows_of k entry
   pub space : o.space ≡ joined_head k entry
   pub rest : Left k.n (joined_links k entry links) o.space entry.tail o.next o.tail
   pub space_low : o.space < k.n
   pub left_fits : ends_fit k.n (ends_of o.next o.tail) ≡ true
 
-pub record Planned (k : Record) (links : List ℕ) (entry : Ends) (o : Leave) : Type 0 where
+-- nothing departs only where entry T is not marked and the Output List is empty
+pub record Planned (k : Record) (links : List ℕ) (entry : Ends) (found : Option Leave) : Type 0 where
   pub entry_fits : ends_fit k.n entry ≡ true
-  pub unmarked : entry.head ≡ empty → PlannedUnmarked k links o
-  pub marked : entry.head ≢ empty → PlannedMarked k links entry o
+  pub unmarked : entry.head ≡ empty → MatchOption found (k.outhead ≡ empty) (λ o. PlannedUnmarked k links o)
+  pub marked : entry.head ≢ empty → MatchOption found ⊥ (λ o. PlannedMarked k links entry o)
 
 abbrev pub leave_with : Leave → ℕ → Leave
 leave_with o vci =
-    record {
-      ok = not (vci =? 0);
-      none = o.none;
-      space = o.space;
-      vci = vci;
-      next = o.next;
-      tail = o.tail;
-      marked = o.marked;
-      follows = o.follows;
-      head = o.head;
-    }
+    record { space = o.space; vci = vci; next = o.next; tail = o.tail; marked = o.marked; follows = o.follows }
 
 -- what departs, as one record
 abbrev pub off_at : Leave → Off
@@ -73,18 +67,16 @@ off_at o = off_as true o.space o.vci (ends_of o.next o.tail)
 
 pub record Goes (k : Record) (bits : List ℕ) (entry : Ends) (o : Leave) (Is : Bool → Ends → Off → Type 0) : Type 0 where
   pub marked : o.marked ≡ true
-      → (entry.head ≢ empty) × (o.follows ≡ not (k.outhead =? empty)) × (o.follows ≡ true → o.head ≡ entry.head)
-      × Is (not (k.outhead =? empty)) entry (off_at o)
+      → (entry.head ≢ empty) × (o.follows ≡ follows_of k entry) × Is (not (k.outhead =? empty)) entry (off_at o)
   pub unmarked : o.marked ≡ false
-      → (entry.head ≡ empty) × (k.outhead ≢ empty) × (o.follows ≡ false) × Is false (ends_of 0 k.outtail) (off_at o)
+      → (entry.head ≡ empty) × (k.outhead ≢ empty) × (o.follows ≡ None) × Is false (ends_of 0 k.outtail) (off_at o)
   pub space_low : o.space < k.n
   pub not_free : is_free_space bits o.space ≡ false
   pub left_fits : ends_fit k.n (ends_of o.next o.tail) ≡ true
 
-pub record Leaves (k : Record) (bits : List ℕ) (entry : Ends) (o : Leave) (Is : Bool → Ends → Off → Type 0) : Type 0 where
+pub record Leaves (k : Record) (bits : List ℕ) (entry : Ends) (found : Option Leave) (Is : Bool → Ends → Off → Type 0) : Type 0 where
   pub entry_fits : ends_fit k.n entry ≡ true
-  pub none : o.none ≡ true → (entry.head ≡ empty) × (k.outhead ≡ empty)
-  pub some : o.none ≡ false → Goes k bits entry o Is
+  pub departs : MatchOption found ((entry.head ≡ empty) × (k.outhead ≡ empty)) (λ o. Goes k bits entry o Is)
 
 -- where no cell is accepted: memory is as it is, but for the chain of entry T that has joined the Output List, where joins
 abbrev pub OffHere : Record → List ℕ → List ℕ → List ℕ → Bool → Ends → Off → Type 0

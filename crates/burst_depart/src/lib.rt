@@ -3,35 +3,32 @@
 // and nothing here refuses.
 #![tactic(auto)]
 
-ghost use Rattle.std.specs.Prelude.{◌≡◌, true, false, ◌+◌, ◌*◌, ◌≤◌, ◌<◌, length, set};
-ghost use Rattle.meaning.specs.Numbers.{most_n, most_v, octets, cell_start, per_entry, connections_in, words_in, bit_words};
+ghost use Rattle.std.specs.Prelude.{◌≡◌, true, ◌+◌, ◌*◌, ◌≤◌, ◌<◌, length, set, IfSome, MatchOption};
+ghost use Rattle.meaning.specs.Numbers.{most_n, most_v, octets, cell_start, connections_in, words_in, bit_words, empty};
 ghost use Rattle.meaning.specs.Bits.{is_free_space, taken};
-ghost use Rattle.meaning.specs.Lists.{ends_fit, entry_at, write_entry};
+ghost use Rattle.meaning.specs.Lists.{ends_fit, entry_at};
 ghost use Rattle.mem_lists.specs.Spaces.{ends_of};
 ghost use Rattle.mem_lists.specs.Leaver.{leaver_of};
 ghost use Rattle.slot_plan.specs.Plan.{seat_ends};
 ghost use Rattle.slot_plan.specs.Facts.{SizedWith};
 ghost use Rattle.burst_way.specs.Way.{slot_record, NamesBy};
 ghost use Rattle.burst_arrive.specs.Arriving.{seat_at, Seats};
-ghost use Rattle.burst_depart.specs.Leaving.{Left, PlannedUnmarked, PlannedMarked, Planned, Leaves, leave_with, OffHereIn, OffThenIn, entry_then, MayRead};
+ghost use Rattle.burst_depart.specs.Leaving.{Left, PlannedUnmarked, PlannedMarked, Planned, Leaves, OffHereIn, OffThenIn, entry_then, MayRead};
 
 use burst_arrive::Spot;
 use burst_way::Way;
 use meaning::{AT_WAITING, WORDS_PER_CONNECTION};
 
-// What departs: nothing, or the space and its connection, and what is left of the Output List; whether entry T is marked, whether its
-// chain follows the old tail, and the chain's head then.
+// What departs: the space and its connection, and what is left of the Output List; whether entry T is marked, and the head of its chain
+// where that follows the old tail.
 #[derive(Clone, Copy)]
 pub struct Leave {
-    pub ok: bool,
-    pub none: bool,
     pub space: usize,
     pub vci: usize,
     pub next: usize,
     pub tail: usize,
     pub marked: bool,
-    pub follows: bool,
-    pub head: usize,
+    pub follows: Option<usize>,
 }
 
 // The connection whose cell is in space x, if that cell may depart, else 0.
@@ -62,169 +59,110 @@ fn seen(w: Way, cells: &[u8], words: &[u32], x: usize) -> usize
 
 // What is left of a list from x to tail once x has gone.
 #[derive(Clone, Copy)]
-pub struct Rest {
-    pub ok: bool,
-    pub next: usize,
-    pub tail: usize,
+struct Rest {
+    next: usize,
+    tail: usize,
 }
 
-fn rest_of(links: &[u16], x: usize, tail: usize) -> Rest
+fn rest_of(links: &[u16], x: usize, tail: usize) -> Option<Rest>
     requires { x < length links.now }
-    ensures { result.ok ≡ true → Left (length links.now) links.now x tail result.next result.tail }
+    ensures { IfSome result (λ r. Left (length links.now) links.now x tail r.next r.tail) }
 {
     if x == tail {
-        return Rest {
-            ok: true,
+        return Some(Rest {
             next: 65535,
             tail: 65535,
-        };
+        });
     }
     let next = links[x] as usize;
-    Rest {
-        ok: next < links.len(),
-        next: next,
-        tail: tail,
+    if next < links.len() {
+        return Some(Rest { next, tail });
     }
+    None
 }
 
 // The same where the chain from head to tail has joined the list's old end, and x is not that tail.
-fn rest_joined(links: &[u16], x: usize, old: usize, head: usize, tail: usize) -> Rest
+fn rest_joined(links: &[u16], x: usize, old: usize, head: usize, tail: usize) -> Option<Rest>
     requires { (x < length links.now) × (head < length links.now) }
-    ensures { result.ok ≡ true → Left (length links.now) (set links.now old head) x tail result.next result.tail }
+    ensures { IfSome result (λ r. Left (length links.now) (set links.now old head) x tail r.next r.tail) }
 {
     if x == tail {
-        return Rest {
-            ok: false,
-            next: 0,
-            tail: 0,
-        };
+        return None;
     }
     let next = if x == old { head } else { links[x] as usize };
-    Rest {
-        ok: next < links.len(),
-        next: next,
-        tail: tail,
+    if next < links.len() {
+        return Some(Rest { next, tail });
     }
+    None
 }
 
-fn stuck() -> Leave
-    ensures { result.ok ≡ false }
-{
-    Leave {
-        ok: false,
-        none: false,
-        space: 0,
-        vci: 0,
-        next: 0,
-        tail: 0,
-        marked: false,
-        follows: false,
-        head: 0,
-    }
-}
-
-// Steps 4 and 5 but for the departing connection, where entry T is not marked.
-fn plan_unmarked(w: Way, links: &[u16]) -> Leave
+// Steps 4 and 5 but for the departing connection, where entry T is not marked. None leaves the likely way, and where nothing departs
+// there is none in it.
+fn plan_unmarked(w: Way, links: &[u16]) -> Option<Option<Leave>>
     requires { (w.n ≤ most_n) × (length links.now ≡ w.n) × (ends_fit w.n (ends_of w.outhead w.outtail) ≡ true) }
-    ensures { result.ok ≡ true → PlannedUnmarked (slot_record w) links.now result }
+    ensures { IfSome result (λ found. MatchOption found (w.outhead ≡ empty) (λ o. PlannedUnmarked (slot_record w) links.now o)) }
 {
     if w.outhead == 65535 {
-        return Leave {
-            ok: true,
-            none: true,
-            space: 0,
-            vci: 0,
-            next: 0,
-            tail: 0,
-            marked: false,
-            follows: false,
-            head: 0,
-        };
+        return Some(None);
     }
-    let r = rest_of(links, w.outhead, w.outtail);
-    Leave {
-        ok: r.ok,
-        none: false,
+    let r = rest_of(links, w.outhead, w.outtail)?;
+    Some(Some(Leave {
         space: w.outhead,
         vci: 0,
         next: r.next,
         tail: r.tail,
         marked: false,
-        follows: false,
-        head: 0,
-    }
+        follows: None,
+    }))
 }
 
 // The same where it is marked, from head to tail.
-fn plan_marked(w: Way, links: &[u16], head: usize, tail: usize) -> Leave
+fn plan_marked(w: Way, links: &[u16], head: usize, tail: usize) -> Option<Option<Leave>>
     requires { (w.n ≤ most_n) × (length links.now ≡ w.n) × (ends_fit w.n (ends_of w.outhead w.outtail) ≡ true) × (head < w.n) × (tail < w.n) }
-    ensures { result.ok ≡ true → PlannedMarked (slot_record w) links.now (ends_of head tail) result }
+    ensures { IfSome result (λ found. MatchOption found ⊥ (λ o. PlannedMarked (slot_record w) links.now (ends_of head tail) o)) }
 {
     if w.outhead == 65535 {
-        let r = rest_of(links, head, tail);
-        return Leave {
-            ok: r.ok,
-            none: false,
+        let r = rest_of(links, head, tail)?;
+        return Some(Some(Leave {
             space: head,
             vci: 0,
             next: r.next,
             tail: r.tail,
             marked: true,
-            follows: false,
-            head: 0,
-        };
+            follows: None,
+        }));
     }
-    let r = rest_joined(links, w.outhead, w.outtail, head, tail);
-    Leave {
-        ok: r.ok,
-        none: false,
+    let r = rest_joined(links, w.outhead, w.outtail, head, tail)?;
+    Some(Some(Leave {
         space: w.outhead,
         vci: 0,
         next: r.next,
         tail: r.tail,
         marked: true,
-        follows: true,
-        head: head,
-    }
+        follows: Some(head),
+    }))
 }
 
 // Steps 4 and 5 but for the departing connection.
-fn plan(w: Way, links: &[u16], calendar: &[u16]) -> Leave
+fn plan(w: Way, links: &[u16], calendar: &[u16]) -> Option<Option<Leave>>
     requires { MayRead w links calendar }
-    ensures { result.ok ≡ true → Planned (slot_record w) links.now (entry_at calendar.now w.turn) result }
+    ensures { IfSome result (λ found. Planned (slot_record w) links.now (entry_at calendar.now w.turn) found) }
 {
     let head = calendar[2 * w.turn] as usize;
     let tail = calendar[2 * w.turn + 1] as usize;
     if head == 65535 {
         if tail != 65535 {
-            return stuck();
+            return None;
         }
         return plan_unmarked(w, links);
     }
     if head >= w.n {
-        return stuck();
+        return None;
     }
     if tail >= w.n {
-        return stuck();
+        return None;
     }
     plan_marked(w, links, head, tail)
-}
-
-// The same plan with the departing connection; 0 is none, and leaves the likely way.
-fn with_vci(o: Leave, vci: usize) -> Leave
-    ensures { result ≡ leave_with o vci }
-{
-    Leave {
-        ok: vci != 0,
-        none: o.none,
-        space: o.space,
-        vci: vci,
-        next: o.next,
-        tail: o.tail,
-        marked: o.marked,
-        follows: o.follows,
-        head: o.head,
-    }
 }
 
 // Steps 4 and 5 where no cell is accepted.
@@ -235,70 +173,74 @@ pub fn off_quiet(
     calendar: &[u16],
     words: &[u32],
     bits: &[u64],
-) -> Leave
+) -> Option<Option<Leave>>
     requires sized_with { SizedWith (slot_record w) cells.now links.now calendar.now words.now bits.now }
     requires outtail_value { ends_fit w.n (ends_of w.outhead w.outtail) ≡ true }
     requires names_by { NamesBy w }
-    ensures { result.ok ≡ true
-        → Leaves (slot_record w) bits.now (entry_at calendar.now w.turn) result (OffHereIn w cells links words) }
+    ensures { IfSome result
+        (λ found. Leaves (slot_record w) bits.now (entry_at calendar.now w.turn) found (OffHereIn w cells links words)) }
 {
-    let o = plan(w, links, calendar);
-    if !o.ok {
-        return stuck();
-    }
-    if o.none {
-        return o;
-    }
+    let Some(o) = plan(w, links, calendar)? else {
+        return Some(None);
+    };
     if mem_bits::is_free(bits, o.space as u16) {
-        return stuck();
+        return None;
     }
-    let u = seen(w, cells, words, o.space);
-    with_vci(o, u)
+    let vci = seen(w, cells, words, o.space);
+    if vci == 0 {
+        return None;
+    }
+    Some(Some(Leave { vci, ..o }))
 }
 
 // The cell has D 0 and joined entry T, which then joins the Output List: the cell itself departs if that is empty. A space that is
 // free departs from no list; the cell's own, free before the cell came, is so told from any other.
-fn off_now(w: Way, p: Spot, cells: &[u8], links: &[u16], words: &[u32], bits: &[u64]) -> Leave
+fn off_now(
+    w: Way,
+    p: Spot,
+    cells: &[u8],
+    links: &[u16],
+    words: &[u32],
+    bits: &[u64],
+) -> Option<Option<Leave>>
     requires n_le_most_n { (w.n ≤ most_n) × (w.v ≤ most_v) × (length cells.now ≡ octets * w.n) × (length links.now ≡ w.n)
         × (length words.now ≡ words_in w.v) × (length bits.now ≡ bit_words) }
     requires outtail_value { (ends_fit w.n (ends_of w.outhead w.outtail) ≡ true) × (ends_fit w.n (ends_of p.head p.tail) ≡ true)
         × (p.x < w.n) × (1 ≤ p.vci) × (p.vci < connections_in w.v) × (is_free_space bits.now p.x ≡ true) }
     requires names_by { NamesBy w }
-    ensures { result.ok ≡ true → Leaves (slot_record w) (taken bits.now p.x) (seat_ends (seat_at p)) result (OffThenIn w p cells links words) }
+    ensures { IfSome result
+        (λ found. Leaves (slot_record w) (taken bits.now p.x) (seat_ends (seat_at p)) found (OffThenIn w p cells links words)) }
 {
     if w.outhead == 65535 {
-        return Leave {
-            ok: p.tail != p.x,
-            none: false,
+        if p.tail == p.x {
+            return None;
+        }
+        return Some(Some(Leave {
             space: p.x,
             vci: p.vci,
             next: p.head,
             tail: p.tail,
             marked: true,
-            follows: false,
-            head: 0,
-        };
+            follows: None,
+        }));
     }
     if mem_bits::is_free(bits, w.outhead as u16) {
-        return stuck();
+        return None;
     }
     let tail = if p.head == 65535 { p.x } else { p.tail };
-    let r = rest_joined(links, w.outhead, w.outtail, p.x, tail);
-    if !r.ok {
-        return stuck();
+    let r = rest_joined(links, w.outhead, w.outtail, p.x, tail)?;
+    let vci = seen(w, cells, words, w.outhead);
+    if vci == 0 {
+        return None;
     }
-    let u = seen(w, cells, words, w.outhead);
-    Leave {
-        ok: u != 0,
-        none: false,
+    Some(Some(Leave {
         space: w.outhead,
-        vci: u,
+        vci,
         next: r.next,
         tail: r.tail,
         marked: true,
-        follows: true,
-        head: p.x,
-    }
+        follows: Some(p.x),
+    }))
 }
 
 // The cell has D above 0 and joined another entry than T; it does not depart in this slot.
@@ -310,26 +252,25 @@ fn off_later(
     calendar: &[u16],
     words: &[u32],
     bits: &[u64],
-) -> Leave
+) -> Option<Option<Leave>>
     requires sized_with { SizedWith (slot_record w) cells.now links.now calendar.now words.now bits.now }
     requires outtail_value { (ends_fit w.n (ends_of w.outhead w.outtail) ≡ true) × (1 ≤ p.vci) × (p.vci < connections_in w.v)
         × (is_free_space bits.now p.x ≡ true) }
     requires names_by { NamesBy w }
-    ensures { result.ok ≡ true
-        → Leaves (slot_record w) (taken bits.now p.x) (entry_at calendar.now w.turn) result (OffThenIn w p cells links words) }
+    ensures { IfSome result
+        (λ found. Leaves (slot_record w) (taken bits.now p.x) (entry_at calendar.now w.turn) found (OffThenIn w p cells links words)) }
 {
-    let o = plan(w, links, calendar);
-    if !o.ok {
-        return stuck();
-    }
-    if o.none {
-        return o;
-    }
+    let Some(o) = plan(w, links, calendar)? else {
+        return Some(None);
+    };
     if mem_bits::is_free(bits, o.space as u16) {
-        return stuck();
+        return None;
     }
-    let u = seen(w, cells, words, o.space);
-    with_vci(o, u)
+    let vci = seen(w, cells, words, o.space);
+    if vci == 0 {
+        return None;
+    }
+    Some(Some(Leave { vci, ..o }))
 }
 
 // Steps 4 and 5 where a cell is accepted.
@@ -341,14 +282,14 @@ pub fn off_accept(
     calendar: &[u16],
     words: &[u32],
     bits: &[u64],
-) -> Leave
+) -> Option<Option<Leave>>
     requires sized_with { SizedWith (slot_record w) cells.now links.now calendar.now words.now bits.now }
     requires outtail_value { ends_fit w.n (ends_of w.outhead w.outtail) ≡ true }
     requires seats { Seats (slot_record w) calendar.now bits.now p }
     requires d_lt_n { (p.d < w.n) × (1 ≤ p.vci) × (p.vci < connections_in w.v) }
     requires names_by { NamesBy w }
-    ensures { result.ok ≡ true
-        → Leaves (slot_record w) (taken bits.now p.x) (entry_then (slot_record w) p calendar.now) result (OffThenIn w p cells links words) }
+    ensures { IfSome result
+        (λ found. Leaves (slot_record w) (taken bits.now p.x) (entry_then (slot_record w) p calendar.now) found (OffThenIn w p cells links words)) }
 {
     if p.d == 0 {
         return off_now(w, p, cells, links, words, bits);

@@ -7,6 +7,7 @@ use Rattle.meaning.specs.Bits.{taken}
 use Rattle.meaning.specs.State.{Ends}
 use Rattle.slot_plan.specs.Plan.{seat_ends}
 use mathlib.Core.Path.{sym, subst}
+use Rattle.std.specs.Prelude.{IfSome}
 use Rattle.burst_depart.proofs.off_accept.Goals as goal
 
 pub returns-then-p-eq0 : goal.returns-then-p-eq0
@@ -15,11 +16,10 @@ returns-then-p-eq0 c =
     let k = slot_record a.w in
     let sized = c.requires.sized_with.1 in
     let seats = c.requires.seats in
-    λ ok.
     subst
-    (λ (f : Ends). Leaves k (taken a.bits.now a.p.x) f c.off_now.result (OffThen k a.p a.cells.now a.links.now a.words.now))
+    (λ (f : Ends). IfSome c.off_now.result (λ found. Leaves k (taken a.bits.now a.p.x) f found (OffThen k a.p a.cells.now a.links.now a.words.now)))
     (sym (written_now a.w.n a.w.turn a.p.d sized.turn_low a.calendar.now a.p.e (seat_ends (seat_at a.p)) seats.e_is c.if-p-eq0.true sized.calendar_long))
-    (c.off_now.ensures ok)
+    c.off_now.ensures
 
 pub returns : goal.returns
 returns c =
@@ -27,8 +27,7 @@ returns c =
     let k = slot_record a.w in
     let sized = c.requires.sized_with.1 in
     let seats = c.requires.seats in
-    λ ok.
     subst
-    (λ (f : Ends). Leaves k (taken a.bits.now a.p.x) f c.off_later.result (OffThen k a.p a.cells.now a.links.now a.words.now))
+    (λ (f : Ends). IfSome c.off_later.result (λ found. Leaves k (taken a.bits.now a.p.x) f found (OffThen k a.p a.cells.now a.links.now a.words.now)))
     (sym (written_later a.w.n a.w.turn a.p.d sized.turn_low a.calendar.now a.p.e (seat_ends (seat_at a.p)) seats.e_is c.requires.d_lt_n.0 c.if-p-eq0.false))
-    (c.off_later.ensures ok)
+    c.off_later.ensures

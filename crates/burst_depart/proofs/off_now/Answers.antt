@@ -4,8 +4,6 @@ use Rattle.burst_depart.proofs.PlanLaws.{low_in, left_count}
 use Rattle.burst_way.specs.Way.{slot_record}
 use Rattle.mem_lists.specs.Spaces.{ends_of}
 use Rattle.meaning.proofs.ListsLaws.{fit_head}
-use Rattle.slot_plan.proofs.Found.{no}
-use borrow.Author.Tests.{not-false}
 use native.Mathlib.Omega.{arith}
 use lib.ListN.{length, set}
 use mathlib.Core.Logic.{inl, inr}
@@ -16,8 +14,10 @@ use Rattle.burst_depart.proofs.off_now.Goals.{then-p-eq65535, else-p-eq65535}
 pub returns-then-w-eq65535 : goal.returns-then-w-eq65535
 returns-then-w-eq65535 c =
     let a = c.args in
-    let k = slot_record a.w in
-    λ ok. alone_leaves k a.p a.cells.now a.links.now a.words.now a.bits.now c.requires.n_le_most_n.0 c.requires.n_le_most_n.3 c.requires.outtail_value.1 c.requires.outtail_value.2 c.requires.outtail_value.3 c.requires.outtail_value.5 c.if-w-eq65535.true ok
+    let sized = c.requires.n_le_most_n in
+    let fits = c.requires.outtail_value in
+    alone_leaves (slot_record a.w) a.p a.cells.now a.links.now a.words.now a.bits.now sized.0 sized.3 fits.1 fits.2 fits.3 fits.5
+    c.if-w-eq65535.true c.if-p.false
 
 pub overflow_cast-w : goal.overflow_cast-w
 overflow_cast-w c =
@@ -31,49 +31,36 @@ is_free-requires c =
     let low = fit_head w.n (ends_of w.outhead w.outtail) c.requires.outtail_value.0 c.if-w-eq65535.false in
     (omega (arith, low, c.requires.n_le_most_n.0), c.requires.n_le_most_n.5)
 
-pub returns-then-is_free : goal.returns-then-is_free
-returns-then-is_free c =
-    λ ok. no (sym c.stuck.ensures ∙ ok)
-
-pub rest_joined-r-requires : goal.rest_joined-r-requires
-rest_joined-r-requires c =
-    let a = c.args in
-    let k = slot_record a.w in
-    let w = a.w in (
+pub rest_joined-requires : goal.rest_joined-requires
+rest_joined-requires c =
+    let w = c.args.w in (
       low_in _ w.n _ (fit_head w.n (ends_of w.outhead w.outtail) c.requires.outtail_value.0 c.if-w-eq65535.false) c.requires.n_le_most_n.3,
       low_in _ w.n _ c.requires.outtail_value.2 c.requires.n_le_most_n.3,
     )
 
-pub returns-then-not-r : goal.returns-then-not-r
-returns-then-not-r c =
-    λ ok. no (sym c.stuck-then-not-r.ensures ∙ ok)
-
-pub seen-u-requires : goal.seen-u-requires
-seen-u-requires c =
-    let from = c in
-    let a = from.args in
-    let k = slot_record a.w in
-    let w = a.w in
-    let low = fit_head w.n (ends_of w.outhead w.outtail) from.requires.outtail_value.0 c.if-w-eq65535.false in
-    record { n_le_most_n = (from.requires.n_le_most_n.0, from.requires.n_le_most_n.1, omega (arith, low, from.requires.n_le_most_n.2), from.requires.n_le_most_n.4); names_by = from.requires.names_by }
+pub seen-vci-requires-clause-n_le_most_n : goal.seen-vci-requires-clause-n_le_most_n
+seen-vci-requires-clause-n_le_most_n c =
+    let w = c.args.w in
+    let sized = c.requires.n_le_most_n in
+    let low = fit_head w.n (ends_of w.outhead w.outtail) c.requires.outtail_value.0 c.if-w-eq65535.false in
+    (sized.0, sized.1, omega (arith, low, sized.2), sized.4)
 
 pub returns : goal.returns
 returns c =
     let a = c.args in
     let k = slot_record a.w in
     let w = a.w in
+    let sized = c.requires.n_le_most_n in
+    let fits = c.requires.outtail_value in
     let t = c.if-p-eq65535.tail in
-    let r = c.rest_joined-r.result in
-    let joined = set a.links.now w.outtail a.p.x in
-    λ ok.
-    behind_leaves k a.p a.cells.now a.links.now a.words.now a.bits.now c.requires.n_le_most_n.0 c.requires.n_le_most_n.3 c.requires.outtail_value.1 c.requires.outtail_value.2 c.requires.outtail_value.3 c.requires.outtail_value.5
+    let r = c.in_ok-r.r in
+    behind_leaves k a.p a.cells.now a.links.now a.words.now a.bits.now sized.0 sized.3 fits.1 fits.2 fits.3 fits.5
     c.if-w-eq65535.false
-    c.requires.outtail_value.0
+    fits.0
     (sym c.is_free.ensures ∙ c.if-is_free.false)
-    t r.next r.tail c.seen-u.result
-    (tail_is k a.p a.cells.now a.links.now a.words.now a.bits.now c.requires.n_le_most_n.0 c.requires.n_le_most_n.3 c.requires.outtail_value.1 c.requires.outtail_value.2 c.requires.outtail_value.3 c.requires.outtail_value.5 t
+    t r.next r.tail c.seen-vci.result
+    (tail_is k a.p a.cells.now a.links.now a.words.now a.bits.now sized.0 sized.3 fits.1 fits.2 fits.3 fits.5 t
     (elim c.if-p-eq65535.branch [ then-p-eq65535 v ↦ inl (v.if-p-eq65535.true, v.tail-is) | else-p-eq65535 v ↦ inr (v.if-p-eq65535.false, v.tail-is) ]))
-    (left_count (length a.links.now) w.n joined w.outhead t r.next r.tail c.requires.n_le_most_n.3
-    (c.rest_joined-r.ensures (not-false _ c.if-not-r.false)))
-    (sym c.seen-u.ensures)
-    ok
+    (left_count (length a.links.now) w.n (set a.links.now w.outtail a.p.x) w.outhead t r.next r.tail sized.3 c.in_ok-r.ensures)
+    (sym c.seen-vci.ensures)
+    c.if-vci-eq0.false

@@ -4,11 +4,9 @@ use Rattle.burst_depart.proofs.PlanLaws.{low_in, left_count, joined_alone, joine
 use Rattle.burst_way.specs.Way.{slot_record}
 use Rattle.mem_lists.specs.Spaces.{ends_of}
 use Rattle.meaning.proofs.ListsLaws.{fit_head}
-use Rattle.slot_plan.proofs.Found.{no}
 use borrow.Author.Tests.{eq-eqb, ne_eqb}
 use lib.ListN.{length, set}
-use mathlib.Core.Bool.{not}
-use mathlib.Core.Path.{refl, sym, ap}
+use mathlib.Core.Path.{refl}
 use Rattle.burst_depart.proofs.plan_marked.Goals as goal
 
 pub returns-then-w-eq65535 : goal.returns-then-w-eq65535
@@ -16,24 +14,21 @@ returns-then-w-eq65535 c =
     let a = c.args in
     let w = a.w in
     let links = a.links.now in
-    let r = c.rest_of-r.result in
+    let r = c.in_ok-r.r in
     let k = slot_record w in
     let entry = ends_of a.head a.tail in
-    λ ok.
-    let l = left_count (length links) w.n links a.head a.tail r.next r.tail c.requires.1 (c.rest_of-r.ensures ok) in
+    let l = left_count (length links) w.n links a.head a.tail r.next r.tail c.requires.1 c.in_ok-r.ensures in
     record {
-      none = refl;
       marked = refl;
-      follows = sym (ap not (eq-eqb w.outhead 65535 c.if-w-eq65535.true));
-      head = λ q. no q;
+      follows = rw (eq-eqb w.outhead 65535 c.if-w-eq65535.true) refl;
       space = joined_alone k entry c.if-w-eq65535.true;
       rest = rest_alone k entry links a.head a.tail r.next r.tail c.if-w-eq65535.true l;
       space_low = c.requires.3;
       left_fits = left_fit w.n links a.head a.tail r.next r.tail l c.requires.4;
     }
 
-pub rest_joined-r-requires : goal.rest_joined-r-requires
-rest_joined-r-requires c =
+pub rest_joined-requires : goal.rest_joined-requires
+rest_joined-requires c =
     let w = c.args.w in (
       low_in _ w.n _ (fit_head w.n (ends_of w.outhead w.outtail) c.requires.2 c.if-w-eq65535.false) c.requires.1,
       low_in _ w.n _ c.requires.3 c.requires.1,
@@ -44,16 +39,13 @@ returns c =
     let a = c.args in
     let w = a.w in
     let links = set a.links.now w.outtail a.head in
-    let r = c.rest_joined-r.result in
+    let r = c.in_ok-r-2.r in
     let k = slot_record w in
     let entry = ends_of a.head a.tail in
-    λ ok.
-    let l = left_count (length a.links.now) w.n links w.outhead a.tail r.next r.tail c.requires.1 (c.rest_joined-r.ensures ok) in
+    let l = left_count (length a.links.now) w.n links w.outhead a.tail r.next r.tail c.requires.1 c.in_ok-r-2.ensures in
     record {
-      none = refl;
       marked = refl;
-      follows = sym (ap not (ne_eqb w.outhead 65535 c.if-w-eq65535.false));
-      head = λ q. refl;
+      follows = rw (ne_eqb w.outhead 65535 c.if-w-eq65535.false) refl;
       space = joined_some k entry c.if-w-eq65535.false;
       rest = rest_joins k entry a.links.now w.outhead a.tail r.next r.tail c.if-w-eq65535.false l;
       space_low = fit_head w.n (ends_of w.outhead w.outtail) c.requires.2 c.if-w-eq65535.false;
