@@ -3,18 +3,17 @@
 use Prim.Native.Nat.{ℕ, ◌≤◌, ◌<◌}
 use mathlib.Core.Path.{◌≡◌, refl, sym, ap, ◌∙◌}
 use mathlib.Core.Logic.{◌≢◌}
-use mathlib.Core.Bool.{Bool, true, false, not, cond, ◌&&◌}
-use mathlib.Core.List.{List, ◌++◌}
+use mathlib.Core.Bool.{Bool, true, false, not, ◌&&◌}
+use mathlib.Core.List.{List, []}
 use native.Mathlib.Decide.{ℕ_discrete}
 use native.Mathlib.Omega.{arith}
 use borrow.Author.Tests.{eqb-true, eqb-false, not-true, not-false, ne_eqb, le-leb, lt-leb}
-use lib.Dec.{eqb, ltb}
-use lib.ListN.{length, drop}
-use Rattle.base_hec.specs.Check.{syndrome_of}
-use Rattle.base_hec.specs.WrongBit.{no_error, wrong_bit, flipped}
-use Rattle.base_hec.specs.Modes.{correction, detection, Arriving, passes, drops, checked, arriving, arriving_fits}
+use lib.Dec.{eqb}
+use lib.ListN.{length}
 use Rattle.base_hec.specs.declared.Checked.{Checked}
-use Rattle.base_hec.specs.Word.{octets_of, arriving_of}
+use Rattle.base_hec.specs.declared.Checked.TheVariants.{Clean, Mended, Dropped}
+use Rattle.base_hec.specs.Word.{arriving_of}
+use Rattle.base_hec.specs.Modes.{Arriving, checked, arriving, arriving_fits}
 use Rattle.meaning.specs.declared.Record.{Record}
 use Rattle.meaning.specs.declared.Served.{Served}
 use Rattle.meaning.specs.Plain.{when◌then◌else◌, ◌=?◌, Out, refused, next, ◌and_then◌}
@@ -25,7 +24,7 @@ use Rattle.meaning.specs.Work.{Work, work_of, bare_answer}
 use Rattle.meaning.specs.Slot.{five_steps, finish, unchecked_slot_at, unchecked_slot, told, slot_at, slot}
 use Rattle.meaning.proofs.CheckedLaws.{is_lent, through_lent, unlent, not_raw, none_lent}
 use Rattle.slot_steps.proofs.EndLaws.{AllOut, both_true, Ended, begun, five_ended}
-use Rattle.call_slot.specs.Back.{is_checked, served_of, told_served, back_served, back, unfit_of}
+use Rattle.call_slot.specs.Back.{is_checked, mode_after, is_dropped, served_of, told_served, back_served, back, unfit_of}
 
 -- record and answer, and the whole work
 back_work : (a b : Bool) (r : Record) (s : Served) (cells links calendar words bits arrived : List ℕ)
@@ -120,38 +119,19 @@ pub fits_raw : (raw mode : ℕ) (cell : List ℕ) → raw ≡ 1 → mode ≤ 1 �
 unfolding arriving_fits
 fits_raw raw mode cell e m l = rw (e, l, le-leb mode 1 m)
 
-clean_by : (a b : Bool) (bit : ℕ) (cell : List ℕ)
-    → (cond a (passes cell correction) (cond b (passes (flipped bit cell) detection) (drops detection))).mode ≡ 0
-    → cond a (passes cell correction) (cond b (passes (flipped bit cell) detection) (drops detection)) ≡ passes cell 0
-clean_by true b bit cell e = refl
-clean_by false true bit cell e = absurd (omega (arith, e))
-clean_by false false bit cell e = absurd (omega (arith, e))
+-- what the check answers says what is let through
+pub clean_is : (c : Checked) (cell : List ℕ) → c ≡ Clean
+    → arriving_of c cell ≡ record { cell = cell; dropped = is_dropped c; mode = mode_after c }
+clean_is c cell e = rw e refl
 
--- only a clean header leads to correction
-pub clean_is : (mode : ℕ) (cell : List ℕ) → (checked mode cell).mode ≡ 0 → checked mode cell ≡ passes cell 0
-unfolding checked
-clean_is mode cell =
-    let bit = wrong_bit (syndrome_of cell) in
-    clean_by (eqb bit no_error) (eqb mode correction && ltb bit no_error) bit cell
+pub dropped_is : (c : Checked) (cell : List ℕ) → c ≡ Dropped
+    → arriving_of c cell ≡ record { cell = []; dropped = is_dropped c; mode = mode_after c }
+dropped_is c cell e = rw e refl
 
--- the numbers of the check say what is let through
-pub answer_mode : (c : Checked) (cell : List ℕ) → (arriving_of c cell).mode ≡ c.mode
-unfolding arriving_of
-answer_mode c cell = go c.through
-  where
-    go : (b : Bool)
-        → (cond b (passes (octets_of c.head c.fifth ++ drop 5 cell) c.mode) (drops c.mode)).mode ≡ c.mode
-    go true = refl
-    go false = refl
-
-pub answer_through : (c : Checked) (cell : List ℕ) → c.through ≡ true
-    → arriving_of c cell ≡ passes (octets_of c.head c.fifth ++ drop 5 cell) c.mode
-unfolding arriving_of
-answer_through c cell e = rw e
-
-pub answer_dropped : (c : Checked) (cell : List ℕ) → c.through ≡ false → arriving_of c cell ≡ drops c.mode
-unfolding arriving_of
-answer_dropped c cell e = rw e
+pub kept_is : (c : Checked) → (c ≡ Dropped → ⊥) → is_dropped c ≡ false
+kept_is Clean n = refl
+kept_is (Mended head fifth) n = refl
+kept_is Dropped n = absurd (n refl)
 
 -- a raw policer's slot, by what the check answers
 pub raw_is : (r : Record) (cells links calendar words bits arrived cell : List ℕ) (w : Work) (a : Arriving) → r.raw ≡ 1 → r.mode ≤ 1

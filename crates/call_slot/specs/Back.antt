@@ -2,15 +2,14 @@
 -- served, a dropped cell is told.
 --
 --   is_checked raw octets  == the header check comes in front
+--   mode_after c, is_dropped c == the mode that the check's answer c leads to, and whether it drops the cell
 --   back_served r drop s   == of record and answer
 --   back s drop w         == of the whole work, w being the slot without the check
 --   back_from s mode ..    == the same, s having been served in this mode with this cell
---   mended_by c cell       == the cell with the header that the check answers
---   head_written head l    == l with its first four octets from one number
 --   unfit_of r ..          == what is given where raw or mode is neither 0 nor 1; unfit_in s the same of a state
-use Rattle.std.specs.Prelude.{ℕ, ◌/◌, ◌%◌, ◌^◌, Bool, not, ◌&&◌, List, ◌++◌, set, drop}
+use Rattle.std.specs.Prelude.{ℕ, Bool, not, ◌&&◌, List, []}
 use Rattle.base_hec.specs.declared.Checked.{Checked}
-use Rattle.base_hec.specs.Word.{octets_of}
+use Rattle.base_hec.specs.Word.{arriving_of}
 use Rattle.meaning.specs.declared.Record.{Record}
 use Rattle.meaning.specs.declared.Answer.{Answer}
 use Rattle.meaning.specs.declared.Served.{Served}
@@ -23,6 +22,13 @@ use Rattle.meaning.specs.Slot.{told, unchecked_slot}
 -- the policer is raw, and a cell arrived; a raw that is neither 0 nor 1 is refused there
 unfoldable pub is_checked : ℕ → ℕ → Bool
 is_checked raw long = (long =? octets) && not (raw =? 0)
+
+-- neither depends on the cell
+abbrev pub mode_after : Checked → ℕ
+mode_after c = (arriving_of c []).mode
+
+abbrev pub is_dropped : Checked → Bool
+is_dropped c = (arriving_of c []).dropped
 
 abbrev pub served_of : Record → Answer → Served
 served_of r a = record { ctl = r; answer = a }
@@ -55,11 +61,3 @@ unfit_of r cells links calendar words bits arrived =
 
 abbrev pub unfit_in : State → Served
 unfit_in s = unfit_of s.ctl s.cells s.links s.calendar s.words s.bits s.arrived
-
-abbrev pub mended_by : Checked → List ℕ → List ℕ
-mended_by c cell = octets_of c.head c.fifth ++ drop 5 cell
-
--- the first four octets written from one number
-unfoldable pub head_written : ℕ → List ℕ → List ℕ
-head_written head l =
-    set (set (set (set l 0 (head / 2 ^ 24)) 1 (head / 2 ^ 16 % 2 ^ 8)) 2 (head / 2 ^ 8 % 2 ^ 8)) 3 (head % 2 ^ 8)

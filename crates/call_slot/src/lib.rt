@@ -1,62 +1,39 @@
 // One slot: the header check of a raw policer comes in front, and the five steps go on with what it lets through.
 #![tactic(auto)]
 
-ghost use Rattle.std.specs.Prelude.{◌≡◌, true, false, [], ◌++◌, ◌≤◌, length, drop};
+ghost use Rattle.std.specs.Prelude.{◌≡◌, true, false, ◌++◌, ◌≤◌, length, drop};
+ghost use Rattle.base_hec.specs.Modes.{detection};
 ghost use Rattle.base_hec.specs.Word.{octets_of};
 ghost use Rattle.meaning.specs.Promises.{slot_promise};
 ghost use Rattle.meaning.specs.Lent.{before, seen, served_after};
-ghost use Rattle.call_slot.specs.Back.{is_checked, back_served, back_from, unfit_in, mended_by, head_written};
+ghost use Rattle.call_slot.specs.Back.{is_checked, mode_after, is_dropped, back_served, back_from, unfit_in};
 
 use base_hec::Checked;
 use meaning::{Answer, Record, Served, record_in_mode};
 
 // A refused slot gives the record back as it came, in its old mode. "A dropped cell: verdict 4, H".
-fn back_to(r: Record, dropped: bool, s: Served) -> Served
-    ensures { result ≡ back_served r dropped s }
+fn back_to(r: Record, c: Checked, s: Served) -> Served
+    ensures { result ≡ back_served r (is_dropped c) s }
 {
-    let a = s.answer;
-    let after = s.ctl;
-    if a.number != 0 {
-        return Served { ctl: r, answer: a };
+    if s.answer.number != 0 {
+        return Served { ctl: r, ..s };
     }
-    if dropped {
-        return Served {
-            ctl: after,
-            answer: Answer {
-                number: a.number,
+    match c {
+        Checked::Dropped => {
+            let answer = Answer {
                 verdict: 4,
                 vci: 0,
                 d: 0,
-                space: a.space,
-                departing: a.departing,
-            },
-        };
+                ..s.answer
+            };
+            Served { answer, ..s }
+        }
+        _ => s,
     }
-    s
 }
 
-// The first four octets of a cell written anew, from one number.
-fn put_head(part: &mut [u8], head: u32)
-    requires { length part.old ≡ 53 }
-    ensures { part.new ≡ head_written head part.old }
-{
-    part[0] = (head / 16777216) as u8;
-    part[1] = (head / 65536 % 256) as u8;
-    part[2] = (head / 256 % 256) as u8;
-    part[3] = (head % 256) as u8;
-}
-
-// The header of a cell written anew, from its first four octets as one number and its fifth.
-fn put_header(part: &mut [u8], head: u32, fifth: u8)
-    requires { length part.old ≡ 53 }
-    ensures { part.new ≡ octets_of head fifth ++ drop 5 part.old }
-{
-    put_head(part, head);
-    part[4] = fifth;
-}
-
-// A slot with a mended cell. The lent cell stays as it is: what is stored, sent and shown is the copy with the new header.
-fn mended_slot(
+// A slot after the check, in the mode that it leads to, with the cell that it lets through.
+fn slot_after(
     r: Record,
     c: Checked,
     cells: &mut [u8],
@@ -67,52 +44,43 @@ fn mended_slot(
     arrived: &mut [u32],
     cell: &[u8],
 ) -> Served
-    requires { length cell.now ≡ 53 }
-    ensures { served_after result cells links calendar words bits arrived ≡ back_from (before r cells links calendar words bits arrived) c.mode false (mended_by c cell.now) }
+    ensures { served_after result cells links calendar words bits arrived ≡ back_from (before r cells links calendar words bits arrived) (mode_after c) (is_dropped c) cell.now }
 {
-    let mut held = [0u8; 53];
-    mem_cell::copy_cell(&mut held, cell);
-    put_header(&mut held, c.head, c.fifth);
-    let k = record_in_mode(r, c.mode);
-    let s = slot_steps::slot(k, cells, links, calendar, words, bits, arrived, &held);
-    back_to(r, false, s)
-}
-
-// A slot with a dropped cell: empty for the five steps.
-fn dropped_slot(
-    r: Record,
-    mode: u16,
-    cells: &mut [u8],
-    links: &mut [u16],
-    calendar: &mut [u16],
-    words: &mut [u32],
-    bits: &mut [u64],
-    arrived: &mut [u32],
-    cell: &[u8],
-) -> Served
-    ensures { served_after result cells links calendar words bits arrived ≡ back_from (before r cells links calendar words bits arrived) mode true [] }
-{
-    let k = record_in_mode(r, mode);
-    let s = slot_steps::slot(k, cells, links, calendar, words, bits, arrived, &cell[0..0]);
-    back_to(r, true, s)
-}
-
-// A slot with a clean cell, which leads to correction.
-fn clean_slot(
-    r: Record,
-    cells: &mut [u8],
-    links: &mut [u16],
-    calendar: &mut [u16],
-    words: &mut [u32],
-    bits: &mut [u64],
-    arrived: &mut [u32],
-    cell: &[u8],
-) -> Served
-    ensures { served_after result cells links calendar words bits arrived ≡ back_from (before r cells links calendar words bits arrived) 0 false cell.now }
-{
-    let k = record_in_mode(r, 0);
+    let k = record_in_mode(r, c.mode());
     let s = slot_steps::slot(k, cells, links, calendar, words, bits, arrived, cell);
-    back_to(r, false, s)
+    back_to(r, c, s)
+}
+
+// The header of a cell written anew, from its first four octets as one number and its fifth.
+fn put_header(part: &mut [u8], head: u32, fifth: u8)
+    requires { length part.old ≡ 53 }
+    ensures { part.new ≡ octets_of head fifth ++ drop 5 part.old }
+{
+    part[..4].copy_from_slice(&head.to_be_bytes());
+    part[4] = fifth;
+}
+
+// A slot with a mended cell. The lent cell stays as it is: what is stored, sent and shown is the copy with the new header.
+fn mended_slot(
+    r: Record,
+    head: u32,
+    fifth: u8,
+    cells: &mut [u8],
+    links: &mut [u16],
+    calendar: &mut [u16],
+    words: &mut [u32],
+    bits: &mut [u64],
+    arrived: &mut [u32],
+    cell: &[u8],
+) -> Served
+    requires { length cell.now ≡ 53 }
+    ensures { served_after result cells links calendar words bits arrived ≡ back_from (before r cells links calendar words bits arrived) detection false (octets_of head fifth ++ drop 5 cell.now) }
+{
+    let mut held = [0; 53];
+    mem_cell::copy_cell(&mut held, cell);
+    put_header(&mut held, head, fifth);
+    let c = Checked::Mended { head, fifth };
+    slot_after(r, c, cells, links, calendar, words, bits, arrived, &held)
 }
 
 // A slot of a policer that is raw, its mode in range, with a cell. A clean header is the common case.
@@ -130,15 +98,23 @@ fn raw_slot(
     ensures { slot_promise (before r cells links calendar words bits arrived) cell.now (served_after result cells links calendar words bits arrived) }
 {
     let c = base_hec::check_cell(r.mode, cell);
-    if c.mode == 0 {
-        return clean_slot(r, cells, links, calendar, words, bits, arrived, cell);
+    match c {
+        Checked::Clean => slot_after(r, c, cells, links, calendar, words, bits, arrived, cell),
+        Checked::Mended { head, fifth } => mended_slot(
+            r, head, fifth, cells, links, calendar, words, bits, arrived, cell,
+        ),
+        Checked::Dropped => slot_after(
+            r,
+            c,
+            cells,
+            links,
+            calendar,
+            words,
+            bits,
+            arrived,
+            &cell[0..0],
+        ),
     }
-    if c.through {
-        return mended_slot(r, c, cells, links, calendar, words, bits, arrived, cell);
-    }
-    dropped_slot(
-        r, c.mode, cells, links, calendar, words, bits, arrived, cell,
-    )
 }
 
 // A raw or a mode that is neither 0 nor 1: 3, after 1 and 2.
@@ -155,21 +131,17 @@ fn unfit_slot(
     requires { length cell.now ≡ 53 }
     ensures { result ≡ unfit_in (seen r cells links calendar words bits arrived) }
 {
-    let number = slot_steps::shape(r, cells, links, calendar, words, bits, arrived, cell);
-    if number != 0 {
-        return slot_depart::refuse(r, number);
+    match slot_steps::shape(r, cells, links, calendar, words, bits, arrived, cell) {
+        0 => slot_depart::refuse(r, 3),
+        number => slot_depart::refuse(r, number),
     }
-    slot_depart::refuse(r, 3)
 }
 
 // Whether the header check comes in front: the policer is raw, and a cell arrived.
 pub fn is_checked(raw: u16, octets: usize) -> bool
     ensures { result ≡ is_checked raw octets }
 {
-    if octets != 53 {
-        return false;
-    }
-    raw != 0
+    octets == 53 && raw != 0
 }
 
 // A slot with the check in front. It is not laid in place, unlike the few lines that choose it.
@@ -186,10 +158,7 @@ pub fn checked(
     requires { is_checked r.raw (length cell.now) ≡ true }
     ensures { slot_promise (before r cells links calendar words bits arrived) cell.now (served_after result cells links calendar words bits arrived) }
 {
-    if r.raw > 1 {
-        return unfit_slot(r, cells, links, calendar, words, bits, arrived, cell);
-    }
-    if r.mode > 1 {
+    if r.raw > 1 || r.mode > 1 {
         return unfit_slot(r, cells, links, calendar, words, bits, arrived, cell);
     }
     raw_slot(r, cells, links, calendar, words, bits, arrived, cell)

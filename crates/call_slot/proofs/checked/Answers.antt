@@ -2,6 +2,7 @@
 use Rattle.meaning.specs.State.{state_of}
 use Rattle.call_slot.proofs.Front.{lent_53, unfit_is, unfit_raw, unfit_mode, checked_lent, raw_one}
 use Rattle.call_slot.proofs.checked.Goals as goal
+use Rattle.call_slot.proofs.checked.Goals.{then-r-gt1-via-then-r-gt1, then-r-gt1-via-else-r-gt1+then-r-gt1-2}
 
 pub unfit_slot-requires : goal.unfit_slot-requires
 unfit_slot-requires c =
@@ -10,20 +11,13 @@ unfit_slot-requires c =
 pub returns-then-r-gt1 : goal.returns-then-r-gt1
 returns-then-r-gt1 c =
     let a = c.args in
-    let l = (checked_lent a.r.raw _ c.requires).0 in
-    unfit_is (state_of a.r a.cells.now a.links.now a.calendar.now a.words.now a.bits.now a.arrived.now) a.cell.now _ (lent_53 a.cell.now l)
-    (unfit_raw a.r.raw a.r.mode a.cell.now c.if-r-gt1.true l) c.unfit_slot.ensures
-
-pub unfit_slot-requires-then-r-gt1-2 : goal.unfit_slot-requires-then-r-gt1-2
-unfit_slot-requires-then-r-gt1-2 c =
-    (checked_lent c.args.r.raw _ c.requires).0
-
-pub returns-then-r-gt1-2 : goal.returns-then-r-gt1-2
-returns-then-r-gt1-2 c =
-    let a = c.args in
     let h = checked_lent a.r.raw _ c.requires in
     unfit_is (state_of a.r a.cells.now a.links.now a.calendar.now a.words.now a.bits.now a.arrived.now) a.cell.now _ (lent_53 a.cell.now h.0)
-    (unfit_mode a.r.raw a.r.mode a.cell.now h.1 c.if-r-gt1-2.true h.0) c.unfit_slot-then-r-gt1-2.ensures
+    (elim c.then-r-gt1.branch [
+      | then-r-gt1-via-then-r-gt1 w ↦ unfit_raw a.r.raw a.r.mode a.cell.now w.if-r-gt1.true h.0
+      | then-r-gt1-via-else-r-gt1+then-r-gt1-2 w ↦ unfit_mode a.r.raw a.r.mode a.cell.now h.1 w.if-r-gt1-2.true h.0
+    ])
+    c.unfit_slot.ensures
 
 pub raw_slot-requires : goal.raw_slot-requires
 raw_slot-requires c =

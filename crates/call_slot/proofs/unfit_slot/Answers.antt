@@ -59,12 +59,12 @@ module _ (r : Record) (cells links calendar words bits arrived cell : List ℕ) 
       (λ i. record { ctl = h.0 i; answer = h.1 i })
       ∙ ap (λ (n : ℕ). served_of r (bare_answer n)) (none p q (sym shape_is ∙ sym e ∙ z))
 
-pub returns-then-number-ne0 : goal.returns-then-number-ne0
-returns-then-number-ne0 c =
-    early c.args.r c.args.cells.now c.args.links.now c.args.calendar.now c.args.words.now c.args.bits.now c.args.arrived.now
-    c.args.cell.now c.requires _ _ c.shape-number.ensures c.if-number-ne0.true c.refuse.ensures
-
-pub returns : goal.returns
-returns c =
+pub returns-in-0 : goal.returns-in-0
+returns-in-0 c =
     late c.args.r c.args.cells.now c.args.links.now c.args.calendar.now c.args.words.now c.args.bits.now c.args.arrived.now
-    c.args.cell.now c.requires _ _ c.shape-number.ensures c.if-number-ne0.false c.refuse-2.ensures
+    c.args.cell.now c.requires _ _ c.shape.ensures c.in-0.is c.refuse.ensures
+
+pub returns-in_default : goal.returns-in_default
+returns-in_default c =
+    early c.args.r c.args.cells.now c.args.links.now c.args.calendar.now c.args.words.now c.args.bits.now c.args.arrived.now
+    c.args.cell.now c.requires _ _ c.shape.ensures (λ e. omega (arith, e)) c.refuse-in_default.ensures
