@@ -3,15 +3,17 @@
 use Prim.Native.Nat.{ℕ, zero, suc, ◌+◌, ◌-◌, ◌≤◌, ◌<◌}
 use mathlib.Core.Path.{◌≡◌, refl, sym, ap, ◌∙◌}
 use mathlib.Core.Bool.{true, false}
+use Rattle.std.specs.List.{list_all}
 use mathlib.Core.List.{List, [], ◌∷◌, ◌++◌}
 use native.Mathlib.Decide.{ℕ_discrete, dec_lt}
 use native.Mathlib.Omega.{arith}
 use lib.ListN.{length, get_or, set, replicate, get_or-eq_default}
 use lib.Seq.{get_or-set_same, get_or-set_other, set-get_or}
-use borrow.Author.Tests.{lt-ltb, le-ltb, eq-eqb, ne_eqb}
+use borrow.Author.Tests.{lt-ltb, le-ltb, eq-eqb, ne_eqb, eqb-true}
 use Rattle.meaning.specs.Plain.{when◌then◌else◌, ◌<?◌, ◌=?◌}
 use Rattle.meaning.specs.Audit.{count, joined}
 use Rattle.mem_walks.specs.Budget.{spent, spend_all, Covers, Gone, sum}
+use Rattle.mem_walks.proofs.Choice.{both as both_true}
 
 -- Counts: 1 at k, 0 at any other number
 
@@ -118,12 +120,14 @@ afford b (x ∷ xs) h = (some, afford (spent b x) xs (λ k. omega (arith, h k, s
 
 -- Nothing left
 
-pub gone_all : (b : List ℕ) (i : ℕ) → length b ≤ i → ((k : ℕ) → k < i → get_or b k 0 ≡ 0) → Gone b
-gone_all b i h f k = go (dec_lt k i)
-  where
-    go : Dec (k < i) → get_or b k 0 ≡ 0
-    go (yes p) = f k p
-    go (no p) = get_or-eq_default b 0 {n = k} (omega arith)
+pub gone_yes : (b : List ℕ) → list_all (λ left. left =? 0) b ≡ true → Gone b
+gone_yes [] h k = refl
+gone_yes (x ∷ b) h zero = eqb-true x 0 (both_true (x =? 0) (list_all (λ left. left =? 0) b) h).0
+gone_yes (x ∷ b) h (suc k) = gone_yes b (both_true (x =? 0) (list_all (λ left. left =? 0) b) h).1 k
+
+pub gone_all : (b : List ℕ) → Gone b → list_all (λ left. left =? 0) b ≡ true
+gone_all [] g = refl
+gone_all (x ∷ b) g = rw (eq-eqb x 0 (g 0)) (gone_all b (λ k. g (suc k)))
 
 pub gone_zeros : (n : ℕ) → Gone (replicate n 0)
 gone_zeros zero k = refl

@@ -1,18 +1,20 @@
 -- The Output List and the queues of all entries walked one after the other: they use both budgets up exactly when they are
 -- stored as `Stored` says, by paid and afford.
-use Prim.Native.Nat.{ℕ, ◌+◌}
+use Prim.Native.Nat.{ℕ}
 use mathlib.Core.Path.{◌≡◌, refl, sym, ap, ◌∙◌}
-use mathlib.Core.Bool.{Bool, true, false}
+use mathlib.Core.Bool.{Bool, true, false, ◌&&◌}
+use Rattle.std.specs.List.{list_all}
 use mathlib.Core.List.{List, ◌++◌, map}
 use native.Mathlib.Omega.{arith}
 use lib.ListN.{get_or}
+use Rattle.meaning.specs.Plain.{◌=?◌}
 use Rattle.meaning.specs.State.{Ends}
 use Rattle.meaning.specs.Audit.{joined}
 use Rattle.mem_walks.specs.Budget.{spend_all, Covers, Gone}
 use Rattle.mem_walks.specs.Walk.{Walked, walked, list_of, entries_of, lists_of}
 use Rattle.mem_walks.specs.Stored.{NoMark, Stored}
-use Rattle.mem_walks.proofs.Choice.{if_elim, false_true}
-use Rattle.mem_walks.proofs.BudgetLaws.{paid, afford, covers_left, covers_right, spend_append}
+use Rattle.mem_walks.proofs.Choice.{if_elim, false_true, both}
+use Rattle.mem_walks.proofs.BudgetLaws.{gone_yes, gone_all, paid, afford, covers_left, covers_right, spend_append}
 use Rattle.mem_walks.proofs.WalkLaws.{map_append}
 use Rattle.mem_walks.proofs.ListLaws.{Takes, takes_more, no_mark_left, list_sound, list_complete}
 use Rattle.mem_walks.proofs.EntryLaws.{entries_sound, entries_complete}
@@ -131,14 +133,20 @@ module _ (l calendar : List ℕ) (nm : ℕ → ℕ) (N : ℕ) (output : Ends) (b
 -- the same, as the code meets it: r is what the walks answer and leave
 module _ (l calendar : List ℕ) (nm : ℕ → ℕ) (N : ℕ) (output : Ends) (b w : List ℕ)
     (r : Walked) (met : r ≡ lists_of l calendar nm N output b w) where
-  pub stored_sound : r.ok ≡ true → Gone r.spaces → Gone r.waits → Stored l calendar nm N output b w
-  stored_sound = rw met (lists_sound l calendar nm N output b w)
+  -- the answer: the walks succeed, and nothing is left of either budget
+  abbrev pub answer : Bool
+  answer = r.ok && list_all (λ left. left =? 0) r.spaces && list_all (λ left. left =? 0) r.waits
 
-  pub stored_ok : NoMark b → Stored l calendar nm N output b w → r.ok ≡ true
-  stored_ok n s = rw met (lists_ok l calendar nm N output b w n s)
+  pub stored_yes : answer ≡ true → Stored l calendar nm N output b w
+  stored_yes h =
+      let p = both (r.ok && list_all (λ left. left =? 0) r.spaces) (list_all (λ left. left =? 0) r.waits) h in
+      let q = both r.ok (list_all (λ left. left =? 0) r.spaces) p.0 in
+      let sound : r.ok ≡ true → Gone r.spaces → Gone r.waits → Stored l calendar nm N output b w = rw met (lists_sound l calendar nm N output b w) in
+      sound q.0 (gone_yes r.spaces q.1) (gone_yes r.waits p.1)
 
-  pub stored_spaces : NoMark b → Stored l calendar nm N output b w → Gone r.spaces
-  stored_spaces n s = rw met (spaces_gone l calendar nm N output b w n s)
-
-  pub stored_cells : NoMark b → Stored l calendar nm N output b w → Gone r.waits
-  stored_cells n s = rw met (cells_gone l calendar nm N output b w n s)
+  pub stored_no : NoMark b → Stored l calendar nm N output b w → answer ≡ true
+  stored_no n s =
+      let ok : r.ok ≡ true = rw met (lists_ok l calendar nm N output b w n s) in
+      let spaces : Gone r.spaces = rw met (spaces_gone l calendar nm N output b w n s) in
+      let waits : Gone r.waits = rw met (cells_gone l calendar nm N output b w n s) in
+      rw (ok, gone_all r.spaces spaces, gone_all r.waits waits) refl

@@ -1,6 +1,6 @@
 -- One chain walked: the walk says yes exactly when the links lead from the head to the tail over spaces that both budgets
 -- cover (walk-sound, walk-complete), since each turn takes the same as the list does.
-use Prim.Native.Nat.{ℕ, zero, suc, ◌+◌, ◌<◌}
+use Prim.Native.Nat.{ℕ, zero, suc, ◌<◌}
 use mathlib.Core.Path.{◌≡◌, refl, sym, ap, ◌∙◌}
 use mathlib.Core.Bool.{Bool, true, false}
 use mathlib.Core.List.{List, [], ◌∷◌, ◌++◌, map}

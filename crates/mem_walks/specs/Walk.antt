@@ -9,7 +9,7 @@
 --   entries_of k e         == k calendar entries from e on
 --   lists_of N output      == the Output List, then all N entries; it stops where a list fails
 --   lists_in r ..          == the same of a record r and of what is lent, for contracts; walked_after a .. == what a walk leaves
-use Rattle.std.specs.Prelude.{ℕ, zero, suc, ◌<◌, Bool, true, false, List, get_or}
+use Rattle.std.specs.Prelude.{ℕ, zero, suc, Bool, true, false, List, get_or}
 use Rattle.meaning.specs.Plain.{when◌then◌else◌, ◌<?◌, ◌=?◌}
 use Rattle.meaning.specs.Numbers.{empty, cell_start}
 use Rattle.meaning.specs.State.{Ends}

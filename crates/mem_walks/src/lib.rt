@@ -4,8 +4,9 @@
 #![tactic(auto)]
 
 ghost use Rattle.std.specs.Prelude.{◌≡◌, true, ℕ, ◌<◌, get_or};
-ghost use Rattle.meaning.specs.Plain.{◌<?◌};
-ghost use Rattle.mem_walks.specs.Budget.{spent, Gone};
+ghost use Rattle.std.specs.List.{list_all};
+ghost use Rattle.meaning.specs.Plain.{◌<?◌, ◌=?◌};
+ghost use Rattle.mem_walks.specs.Budget.{spent};
 ghost use Rattle.mem_walks.specs.Walk.{header_in, name_in, walked_after, ends_of, walk, list_of, entries_of, lists_in};
 ghost use Rattle.mem_walks.specs.Stored.{NoMark, StoredIn};
 
@@ -15,89 +16,67 @@ use meaning::{PATHS, Record};
 fn take(b: &mut [u32], x: usize) -> bool
     ensures { (result ≡ 0 <? get_or b.old x 0) × (b.new ≡ spent b.old x) }
 {
-    if x < b.len() {
-        let left = b[x];
-        if 0 < left {
-            b[x] = left - 1;
-            return true;
-        }
+    if x < b.len() && 0 < b[x] {
+        b[x] -= 1;
+        return true;
     }
     false
 }
 
 // Nothing is left of a budget.
 fn gone(b: &[u32]) -> bool
-    ensures { (result ≡ true → Gone b.now) × (Gone b.now → result ≡ true) }
+    ensures { result ≡ list_all (λ left. left =? 0) b.now }
 {
-    let mut i = 0;
-    while i < b.len() {
-        if b[i] != 0 {
-            return false;
-        }
-        i += 1;
-    }
-    true
+    b.iter().all(|left| *left == 0)
 }
 
-// A stored number, 0 past the end: the walk may meet any link, and tests a space by its budget alone.
-fn number_at(l: &[u16], i: usize) -> u16
-    ensures { result ≡ get_or l.now i 0 }
+// What is stored there, `none` past the end: the walk may meet any link, and tests a space by its budget alone.
+fn at<T: Copy>(l: &[T], i: usize, none: T) -> T
+    ensures { result ≡ get_or l.now i none }
 {
-    if i < l.len() { l[i] } else { 0 }
-}
-
-fn octet_at(l: &[u8], i: usize) -> u8
-    ensures { result ≡ get_or l.now i 0 }
-{
-    if i < l.len() { l[i] } else { 0 }
-}
-
-fn wide(x: u8) -> u32
-    ensures { (result ≡ x) × (result < 256) }
-{
-    x as u32
+    l.get(i).copied().unwrap_or(none)
 }
 
 // The VPI of the cell of space x: without the GFC at the UNI, of twelve bits at the NNI.
 fn vpi_at(cells: &[u8], kind: u16, x: u16) -> u32
     ensures { (result ≡ (header_in kind cells x).vpi) × (result < 4096) }
 {
-    let i = 53 * (x as usize);
-    let o1 = wide(octet_at(cells, i));
-    let o2 = wide(octet_at(cells, i + 1));
+    let i = 53 * usize::from(x);
+    let o1 = u32::from(at(cells, i, 0));
+    let o2 = u32::from(at(cells, i + 1, 0));
     if kind == 0 {
-        return o1 % 16 * 16 + o2 / 16;
+        o1 % 16 * 16 + o2 / 16
+    } else {
+        o1 * 16 + o2 / 16
     }
-    o1 * 16 + o2 / 16
 }
 
 // Its VCI, which stands where it stands on either kind of line.
 fn vci_at(cells: &[u8], x: u16) -> u32
     ensures { (kind : ℕ) → result ≡ (header_in kind cells x).vci }
 {
-    let i = 53 * (x as usize);
-    let o2 = wide(octet_at(cells, i + 1));
-    let o3 = wide(octet_at(cells, i + 2));
-    let o4 = wide(octet_at(cells, i + 3));
+    let i = 53 * usize::from(x);
+    let o2 = u32::from(at(cells, i + 1, 0));
+    let o3 = u32::from(at(cells, i + 2, 0));
+    let o4 = u32::from(at(cells, i + 3, 0));
     o2 % 16 * 4096 + o3 * 16 + o4 / 16
 }
 
 // The number of the connection that the cell of space x names: its VCI, or V + VPI; 65,535, which is none's, where it names none.
+// No Option: `stored` promises that no budget is left of 65,535 either (`Walk.name_of`), so it is taken off like any number.
 fn name_at(cells: &[u8], kind: u16, v: u16, x: u16) -> u32
     ensures { result ≡ name_in kind v cells x }
 {
-    let vpi = vpi_at(cells, kind, x);
-    if vpi >= PATHS as u32 {
-        return 65535;
+    let v = u32::from(v);
+    match vpi_at(cells, kind, x) {
+        0 => match vci_at(cells, x) {
+            0 => 65535,
+            vci if vci < v => vci,
+            _ => 65535,
+        },
+        vpi if vpi < u32::from(PATHS) => v + vpi,
+        _ => 65535,
     }
-    if vpi > 0 {
-        return v as u32 + vpi;
-    }
-    let vci = vci_at(cells, x);
-    if vci < 1 {
-        return 65535;
-    }
-    if vci < v as u32 { vci } else { 65535 }
 }
 
 // The connection that the cell of space x names is taken off the cells' budget.
@@ -122,20 +101,13 @@ fn walk(
     ensures { walked_after result spaces waits ≡ walk links.now (name_in kind v cells) tail head spaces.old waits.old }
 {
     let mut x = head;
-    loop {
-        if take(spaces, x as usize) {
-            if visit(cells, kind, v, waits, x) {
-                if x == tail {
-                    return true;
-                }
-                x = number_at(links, x as usize);
-            } else {
-                return false;
-            }
-        } else {
-            return false;
+    while take(spaces, usize::from(x)) && visit(cells, kind, v, waits, x) {
+        if x == tail {
+            return true;
         }
+        x = at(links, usize::from(x), 0);
     }
+    false
 }
 
 // A list by its head and tail: both are 65,535 where it is empty.
@@ -152,9 +124,10 @@ fn list(
     ensures { walked_after result spaces waits ≡ list_of links.now (name_in kind v cells) (ends_of head tail) spaces.old waits.old }
 {
     if head == 65535 {
-        return tail == 65535;
+        tail == 65535
+    } else {
+        walk(links, cells, kind, v, spaces, waits, tail, head)
     }
-    walk(links, cells, kind, v, spaces, waits, tail, head)
 }
 
 // The time slot queues of all n calendar entries.
@@ -170,14 +143,10 @@ fn entries(
 ) -> bool
     ensures { walked_after result spaces waits ≡ entries_of links.now calendar.now (name_in kind v cells) n 0 spaces.old waits.old }
 {
-    let mut e = 0u16;
-    while e < n {
-        let i = 2 * (e as usize);
-        let head = number_at(calendar, i);
-        let tail = number_at(calendar, i + 1);
-        if list(links, cells, kind, v, spaces, waits, head, tail) {
-            e += 1;
-        } else {
+    for e in 0..usize::from(n) {
+        let head = at(calendar, 2 * e, 0);
+        let tail = at(calendar, 2 * e + 1, 0);
+        if !list(links, cells, kind, v, spaces, waits, head, tail) {
             return false;
         }
     }
@@ -195,12 +164,9 @@ fn lists(
 ) -> bool
     ensures { walked_after result spaces waits ≡ lists_in r cells links calendar spaces waits }
 {
-    if list(
+    list(
         links, cells, r.kind, r.v, spaces, waits, r.outhead, r.outtail,
-    ) {
-        return entries(links, cells, calendar, r.kind, r.v, spaces, waits, r.n);
-    }
-    false
+    ) && entries(links, cells, calendar, r.kind, r.v, spaces, waits, r.n)
 }
 
 // All lists together use both budgets up; what is left is what the walks leave.
@@ -217,10 +183,5 @@ pub fn stored(
     ensures no { StoredIn r cells links calendar spaces waits → result ≡ true }
     ensures left { (spaces.new ≡ (lists_in r cells links calendar spaces waits).spaces) × (waits.new ≡ (lists_in r cells links calendar spaces waits).waits) }
 {
-    if lists(r, cells, links, calendar, spaces, waits) {
-        if gone(spaces) {
-            return gone(waits);
-        }
-    }
-    false
+    lists(r, cells, links, calendar, spaces, waits) && gone(spaces) && gone(waits)
 }

@@ -6,7 +6,5 @@ use Rattle.mem_walks.proofs.list.Goals as goal
 pub returns-then-head-eq65535 : goal.returns-then-head-eq65535
 returns-then-head-eq65535 c = list_empty _ _ _ _ _ _ c.if-head-eq65535.true
 
-pub returns : goal.returns
-returns c =
-    let k = c.before in
-    k.walk.ensures ∙ list_some _ _ _ _ _ _ k.if-head-eq65535.false
+pub returns-else-head-eq65535 : goal.returns-else-head-eq65535
+returns-else-head-eq65535 c = c.walk.ensures ∙ list_some _ _ _ _ _ _ c.if-head-eq65535.false

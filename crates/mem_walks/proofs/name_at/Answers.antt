@@ -1,28 +1,29 @@
 -- `mem_walks::name_at` meets its contract: each return is one case of the header's VPI and VCI.
+use Rattle.std.proofs.Common.{arith}
 use Rattle.mem_walks.proofs.NameRead.{name_beyond, name_path, name_0, name_past, name_vc}
 use Rattle.mem_walks.proofs.name_at.Goals as goal
 
-pub returns-then-vpi : goal.returns-then-vpi
-returns-then-vpi c =
+pub returns-in-0-vci_at : goal.returns-in-0-vci_at
+returns-in-0-vci_at c =
     let a = c.args in
-    name_beyond a.kind a.v a.cells.now a.x _ c.vpi_at-vpi.ensures.0 c.if-vpi.true
+    name_0 a.kind a.v a.cells.now a.x _ c.vpi_at.ensures.0 (omega (arith, c.in-0.is)) _ (c.vci_at.ensures a.kind) (omega (arith, c.in-0-vci_at.is))
 
-pub returns-then-vpi-gt0 : goal.returns-then-vpi-gt0
-returns-then-vpi-gt0 c =
+pub returns-in_default-vci_at : goal.returns-in_default-vci_at
+returns-in_default-vci_at c =
     let a = c.args in
-    name_path a.kind a.v a.cells.now a.x _ c.vpi_at-vpi.ensures.0 c.if-vpi.false c.if-vpi-gt0.true
+    name_vc a.kind a.v a.cells.now a.x _ c.vpi_at.ensures.0 (omega (arith, c.in-0.is)) _ (c.vci_at.ensures a.kind) (omega arith) (omega (arith, c.from-v.ensures))
 
-pub returns-then-vci-lt1 : goal.returns-then-vci-lt1
-returns-then-vci-lt1 c =
+pub returns-in_default-2-vci_at : goal.returns-in_default-2-vci_at
+returns-in_default-2-vci_at c =
     let a = c.args in
-    name_0 a.kind a.v a.cells.now a.x _ c.vpi_at-vpi.ensures.0 c.if-vpi-gt0.false _ (c.vci_at-vci.ensures a.kind) c.if-vci-lt1.true
+    name_past a.kind a.v a.cells.now a.x _ c.vpi_at.ensures.0 (omega (arith, c.in-0.is)) _ (c.vci_at.ensures a.kind) (omega arith) (omega (arith, c.from-v.ensures))
 
-pub returns-then-vci-v : goal.returns-then-vci-v
-returns-then-vci-v c =
+pub returns-in_default : goal.returns-in_default
+returns-in_default c =
     let a = c.args in
-    name_vc a.kind a.v a.cells.now a.x _ c.vpi_at-vpi.ensures.0 c.if-vpi-gt0.false _ (c.vci_at-vci.ensures a.kind) c.if-vci-lt1.false c.if-vci-v.true
+    rw c.from-v.ensures (name_path a.kind a.v a.cells.now a.x _ c.vpi_at.ensures.0 (omega (arith, c.from.ensures)) (omega arith))
 
-pub returns-else-vci-v : goal.returns-else-vci-v
-returns-else-vci-v c =
+pub returns-in_default-2 : goal.returns-in_default-2
+returns-in_default-2 c =
     let a = c.args in
-    name_past a.kind a.v a.cells.now a.x _ c.vpi_at-vpi.ensures.0 c.if-vpi-gt0.false _ (c.vci_at-vci.ensures a.kind) c.if-vci-lt1.false c.if-vci-v.false
+    name_beyond a.kind a.v a.cells.now a.x _ c.vpi_at.ensures.0 (omega (arith, c.from.ensures))

@@ -1,27 +1,18 @@
 -- `mem_walks::vpi_at` meets its contract: the two octets are those of `header_at`, by the kind of line.
-use mathlib.Core.Path.{◌∙◌}
-use native.Mathlib.Omega.{arith}
+use Rattle.std.proofs.Common.{◌≡◌, ◌∙◌, ◌+◌, ◌*◌, get_or, arith}
 use Rattle.mem_walks.proofs.NameRead.{vpi_uni, vpi_nni}
 use Rattle.mem_walks.proofs.vpi_at.Goals as goal
 
 pub returns-then-kind-eq0 : goal.returns-then-kind-eq0
 returns-then-kind-eq0 c =
-    let k₂ = c.before in
-    let k₁ = k₂.before in (
-      vpi_uni _ _ _ _ _
-          (k₁.wide-o1.ensures.0 ∙ k₁.octet_at.ensures)
-          (k₂.wide-o2.ensures.0 ∙ k₂.octet_at-2.ensures)
-          c.if-kind-eq0.true,
-      omega (arith, k₁.wide-o1.ensures.1, k₂.wide-o2.ensures.1),
-    )
+    let a = c.args in
+    let o1 : c.from-o1.result ≡ get_or a.cells.now (53 * a.x) 0 = rw (← c.from-i.ensures) (c.from-o1.ensures ∙ c.at.ensures) in
+    let o2 : c.from-o2.result ≡ get_or a.cells.now (53 * a.x + 1) 0 = rw (← c.from-i.ensures) (c.from-o2.ensures ∙ c.at-2.ensures) in
+    (vpi_uni _ _ _ _ _ o1 o2 c.if-kind-eq0.true, omega (arith, c.from-o1.ensures, c.from-o2.ensures, c.at.type_inv, c.at-2.type_inv))
 
-pub returns : goal.returns
-returns c =
-    let k₂ = c.before in
-    let k₁ = k₂.before in (
-      vpi_nni _ _ _ _ _
-          (k₁.wide-o1.ensures.0 ∙ k₁.octet_at.ensures)
-          (k₂.wide-o2.ensures.0 ∙ k₂.octet_at-2.ensures)
-          c.if-kind-eq0.false,
-      omega (arith, k₁.wide-o1.ensures.1, k₂.wide-o2.ensures.1),
-    )
+pub returns-else-kind-eq0 : goal.returns-else-kind-eq0
+returns-else-kind-eq0 c =
+    let a = c.args in
+    let o1 : c.from-o1.result ≡ get_or a.cells.now (53 * a.x) 0 = rw (← c.from-i.ensures) (c.from-o1.ensures ∙ c.at.ensures) in
+    let o2 : c.from-o2.result ≡ get_or a.cells.now (53 * a.x + 1) 0 = rw (← c.from-i.ensures) (c.from-o2.ensures ∙ c.at-2.ensures) in
+    (vpi_nni _ _ _ _ _ o1 o2 c.if-kind-eq0.false, omega (arith, c.from-o1.ensures, c.from-o2.ensures, c.at.type_inv, c.at-2.type_inv))

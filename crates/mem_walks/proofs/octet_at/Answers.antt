@@ -1,7 +1,0 @@
--- `mem_walks::octet_at` reads an octet, 0 past the end as `get_or` does.
-use mathlib.Core.Path.{sym}
-use lib.ListN.{get_or-eq_default}
-use Rattle.mem_walks.proofs.octet_at.Goals as goal
-
-pub returns-else-i-l : goal.returns-else-i-l
-returns-else-i-l c = sym (get_or-eq_default c.args.l.now 0 c.if-i-l.false)
