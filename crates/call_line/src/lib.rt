@@ -6,7 +6,8 @@ ghost use Rattle.meaning.specs.Line.{line_part};
 ghost use Rattle.meaning.specs.Promises.{LinePromise};
 ghost use Rattle.call_line.specs.Placed.{place_of};
 
-// Where a part lies: 1 for the idle cell and 0 for the cell memory, its first octet there, how many octets.
+// Where a part lies: 1 for the idle cell and 0 for the cell memory, its first octet there, how many octets. Numbers, since it goes
+// out to C (`clurimoon_line`).
 #[repr(C)]
 #[derive(Clone, Copy)]
 pub struct Place {
@@ -30,20 +31,11 @@ fn nowhere() -> Place
 pub fn line_part(cells: usize, idle: usize, number: u16) -> Place
     ensures { result ≡ place_of (line_part cells idle number) }
 {
-    if cells % 53 != 0 {
-        return nowhere();
-    }
     let n = cells / 53;
-    if n < 1 {
+    if cells % 53 != 0 || n < 1 || n > 1024 || idle != 53 {
         return nowhere();
     }
-    if n > 1024 {
-        return nowhere();
-    }
-    if idle != 53 {
-        return nowhere();
-    }
-    let space = number as usize;
+    let space = usize::from(number);
     if space < n {
         return Place {
             from_idle: 0,
@@ -51,14 +43,14 @@ pub fn line_part(cells: usize, idle: usize, number: u16) -> Place
             length: 53,
         };
     }
-    if number != 65535 {
-        return nowhere();
+    if number == 65535 {
+        return Place {
+            from_idle: 1,
+            start: 0,
+            length: 53,
+        };
     }
-    Place {
-        from_idle: 1,
-        start: 0,
-        length: 53,
-    }
+    nowhere()
 }
 
 // The part itself.
@@ -66,10 +58,10 @@ pub fn line<'a>(cells: &'a [u8], idle: &'a [u8], number: u16) -> &'a [u8]
     ensures { LinePromise cells.now idle.now cells.entry.ref_ptr idle.entry.ref_ptr number result.now result.ref_ptr }
 {
     let p = line_part(cells.len(), idle.len(), number);
-    let start = p.start;
-    let end = start + p.length;
+    let end = p.start + p.length;
     if p.from_idle == 1 {
-        return &idle[start..end];
+        &idle[p.start..end]
+    } else {
+        &cells[p.start..end]
     }
-    &cells[start..end]
 }

@@ -23,13 +23,13 @@ returns-then-p-eq1 c =
     (search rules)
     (search rules)
 
-pub slice_bounds-result-end-2 : goal.slice_bounds-result-end-2
-slice_bounds-result-end-2 c =
+pub slice_bounds-result-end-else-p-eq1 : goal.slice_bounds-result-end-else-p-eq1
+slice_bounds-result-end-else-p-eq1 c =
     let a = c.args in
     cells_end a.cells.now a.idle.now a.number _ c.line_part-p.ensures c.if-p-eq1.false
 
-pub returns : goal.returns
-returns c =
+pub returns-else-p-eq1 : goal.returns-else-p-eq1
+returns-else-p-eq1 c =
     let a = c.args in
     cells_line a.cells.now a.idle.now a.number _ c.line_part-p.ensures _ _ _ _
     c.if-p-eq1.false
