@@ -3,7 +3,8 @@
 --
 --   name_of kind z cells x == the number of the connection that the header of space x names; 65,535, which is none's, where it
 --                            names none
---   header_in, name_in      == the header of space x, and that number, of cells that are lent, for contracts
+--   header_of_space, named_by == the header of space x, and that number, of what is walked along, for contracts
+--   name_in                 == that number, of cells that are lent, for contracts
 --   walk l nm t x b w     == from space x along the links to the tail t, with budgets b and w
 --   list_of l nm e b w     == the list that begins and ends at e
 --   entries_of k e         == k calendar entries from e on
@@ -15,6 +16,7 @@ use Rattle.meaning.specs.Numbers.{empty, cell_start}
 use Rattle.meaning.specs.State.{Ends}
 pub use Rattle.meaning.specs.State.{ends_of}
 use Rattle.meaning.specs.declared.Record.{Record}
+use Rattle.mem_walks.specs.declared.Walks.{Walks}
 use Rattle.meaning.specs.Lent.{Lent, LentMut}
 use Rattle.meaning.specs.Header.{Header, header_at, connection, names_connection}
 use Rattle.meaning.specs.Lists.{is_empty, entry_at}
@@ -26,8 +28,11 @@ name_of kind z cells x =
     let h = header_at kind cells (cell_start x) in
     when names_connection z h then connection z h else empty
 
-abbrev pub header_in : ℕ → Lent → ℕ → Header
-header_in kind cells x = header_at kind cells.entry.now (cell_start x)
+abbrev pub header_of_space : Walks → ℕ → Header
+header_of_space w x = header_at w.kind w.cells.now (cell_start x)
+
+abbrev pub named_by : Walks → ℕ → ℕ
+named_by w = name_of w.kind w.v w.cells.now
 
 abbrev pub name_in : ℕ → ℕ → Lent → ℕ → ℕ
 name_in kind z cells = name_of kind z cells.entry.now

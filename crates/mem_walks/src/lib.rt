@@ -7,7 +7,7 @@ ghost use Rattle.std.specs.Prelude.{◌≡◌, true, ℕ, ◌<◌, get_or};
 ghost use Rattle.std.specs.List.{list_all};
 ghost use Rattle.meaning.specs.Plain.{◌<?◌, ◌=?◌};
 ghost use Rattle.mem_walks.specs.Budget.{spent};
-ghost use Rattle.mem_walks.specs.Walk.{header_in, name_in, walked_after, ends_of, walk, list_of, entries_of, lists_in};
+ghost use Rattle.mem_walks.specs.Walk.{header_of_space, named_by, walked_after, ends_of, walk, list_of, entries_of, lists_in};
 ghost use Rattle.mem_walks.specs.Stored.{NoMark, StoredIn};
 
 use meaning::{PATHS, Record};
@@ -37,120 +37,103 @@ fn at<T: Copy>(l: &[T], i: usize, none: T) -> T
     l.get(i).copied().unwrap_or(none)
 }
 
-// The VPI of the cell of space x: without the GFC at the UNI, of twelve bits at the NNI.
-fn vpi_at(cells: &[u8], kind: u16, x: u16) -> u32
-    ensures { (result ≡ (header_in kind cells x).vpi) × (result < 4096) }
-{
-    let i = 53 * usize::from(x);
-    let o1 = u32::from(at(cells, i, 0));
-    let o2 = u32::from(at(cells, i + 1, 0));
-    if kind == 0 {
-        o1 % 16 * 16 + o2 / 16
-    } else {
-        o1 * 16 + o2 / 16
+// What the audit walks along: the links, and the cells on a line of this kind with this V, by which a cell names its connection.
+#[derive(Clone, Copy)]
+struct Walks<'a> {
+    links: &'a [u16],
+    cells: &'a [u8],
+    kind: u16,
+    v: u16,
+}
+
+impl Walks<'_> {
+    // The VPI of the cell of space x: without the GFC at the UNI, of twelve bits at the NNI.
+    fn vpi_at(&self, x: u16) -> u32
+        ensures { (result ≡ (header_of_space self.now x).vpi) × (result < 4096) }
+    {
+        let i = 53 * usize::from(x);
+        let o1 = u32::from(at(self.cells, i, 0));
+        let o2 = u32::from(at(self.cells, i + 1, 0));
+        if self.kind == 0 {
+            o1 % 16 * 16 + o2 / 16
+        } else {
+            o1 * 16 + o2 / 16
+        }
     }
-}
 
-// Its VCI, which stands where it stands on either kind of line.
-fn vci_at(cells: &[u8], x: u16) -> u32
-    ensures { (kind : ℕ) → result ≡ (header_in kind cells x).vci }
-{
-    let i = 53 * usize::from(x);
-    let o2 = u32::from(at(cells, i + 1, 0));
-    let o3 = u32::from(at(cells, i + 2, 0));
-    let o4 = u32::from(at(cells, i + 3, 0));
-    o2 % 16 * 4096 + o3 * 16 + o4 / 16
-}
+    // Its VCI, which stands where it stands on either kind of line.
+    fn vci_at(&self, x: u16) -> u32
+        ensures { result ≡ (header_of_space self.now x).vci }
+    {
+        let i = 53 * usize::from(x);
+        let o2 = u32::from(at(self.cells, i + 1, 0));
+        let o3 = u32::from(at(self.cells, i + 2, 0));
+        let o4 = u32::from(at(self.cells, i + 3, 0));
+        o2 % 16 * 4096 + o3 * 16 + o4 / 16
+    }
 
-// The number of the connection that the cell of space x names: its VCI, or V + VPI; 65,535, which is none's, where it names none.
-// No Option: `stored` promises that no budget is left of 65,535 either (`Walk.name_of`), so it is taken off like any number.
-fn name_at(cells: &[u8], kind: u16, v: u16, x: u16) -> u32
-    ensures { result ≡ name_in kind v cells x }
-{
-    let v = u32::from(v);
-    match vpi_at(cells, kind, x) {
-        0 => match vci_at(cells, x) {
-            0 => 65535,
-            vci if vci < v => vci,
+    // The number of the connection that the cell of space x names: its VCI, or V + VPI; 65,535, which is none's, where it names
+    // none. No Option: `stored` promises that no budget is left of 65,535 either (`Walk.name_of`), so it is taken off like any number.
+    fn name_at(&self, x: u16) -> u32
+        ensures { result ≡ named_by self.now x }
+    {
+        let v = u32::from(self.v);
+        match self.vpi_at(x) {
+            0 => match self.vci_at(x) {
+                0 => 65535,
+                vci if vci < v => vci,
+                _ => 65535,
+            },
+            vpi if vpi < u32::from(PATHS) => v + vpi,
             _ => 65535,
-        },
-        vpi if vpi < u32::from(PATHS) => v + vpi,
-        _ => 65535,
-    }
-}
-
-// The connection that the cell of space x names is taken off the cells' budget.
-fn visit(cells: &[u8], kind: u16, v: u16, waits: &mut [u32], x: u16) -> bool
-    ensures { (result ≡ 0 <? get_or waits.old (name_in kind v cells x) 0) × (waits.new ≡ spent waits.old (name_in kind v cells x)) }
-{
-    let name = name_at(cells, kind, v, x);
-    take(waits, name as usize)
-}
-
-// A chain walked from its head to its tail. The sum of the spaces' budget falls at each turn, so the walk ends.
-fn walk(
-    links: &[u16],
-    cells: &[u8],
-    kind: u16,
-    v: u16,
-    spaces: &mut [u32],
-    waits: &mut [u32],
-    tail: u16,
-    head: u16,
-) -> bool
-    ensures { walked_after result spaces waits ≡ walk links.now (name_in kind v cells) tail head spaces.old waits.old }
-{
-    let mut x = head;
-    while take(spaces, usize::from(x)) && visit(cells, kind, v, waits, x) {
-        if x == tail {
-            return true;
-        }
-        x = at(links, usize::from(x), 0);
-    }
-    false
-}
-
-// A list by its head and tail: both are 65,535 where it is empty.
-fn list(
-    links: &[u16],
-    cells: &[u8],
-    kind: u16,
-    v: u16,
-    spaces: &mut [u32],
-    waits: &mut [u32],
-    head: u16,
-    tail: u16,
-) -> bool
-    ensures { walked_after result spaces waits ≡ list_of links.now (name_in kind v cells) (ends_of head tail) spaces.old waits.old }
-{
-    if head == 65535 {
-        tail == 65535
-    } else {
-        walk(links, cells, kind, v, spaces, waits, tail, head)
-    }
-}
-
-// The time slot queues of all n calendar entries.
-fn entries(
-    links: &[u16],
-    cells: &[u8],
-    calendar: &[u16],
-    kind: u16,
-    v: u16,
-    spaces: &mut [u32],
-    waits: &mut [u32],
-    n: u16,
-) -> bool
-    ensures { walked_after result spaces waits ≡ entries_of links.now calendar.now (name_in kind v cells) n 0 spaces.old waits.old }
-{
-    for e in 0..usize::from(n) {
-        let head = at(calendar, 2 * e, 0);
-        let tail = at(calendar, 2 * e + 1, 0);
-        if !list(links, cells, kind, v, spaces, waits, head, tail) {
-            return false;
         }
     }
-    true
+
+    // The connection that the cell of space x names is taken off the cells' budget.
+    fn visit(&self, waits: &mut [u32], x: u16) -> bool
+        ensures { (result ≡ 0 <? get_or waits.old (named_by self.now x) 0) × (waits.new ≡ spent waits.old (named_by self.now x)) }
+    {
+        take(waits, self.name_at(x) as usize)
+    }
+
+    // A chain walked from its head to its tail. The sum of the spaces' budget falls at each turn, so the walk ends.
+    fn walk(&self, spaces: &mut [u32], waits: &mut [u32], tail: u16, head: u16) -> bool
+        ensures { walked_after result spaces waits ≡ walk self.now.links.now (named_by self.now) tail head spaces.old waits.old }
+    {
+        let mut x = head;
+        while take(spaces, usize::from(x)) && self.visit(waits, x) {
+            if x == tail {
+                return true;
+            }
+            x = at(self.links, usize::from(x), 0);
+        }
+        false
+    }
+
+    // A list by its head and tail: both are 65,535 where it is empty.
+    fn list(&self, spaces: &mut [u32], waits: &mut [u32], head: u16, tail: u16) -> bool
+        ensures { walked_after result spaces waits ≡ list_of self.now.links.now (named_by self.now) (ends_of head tail) spaces.old waits.old }
+    {
+        if head == 65535 {
+            tail == 65535
+        } else {
+            self.walk(spaces, waits, tail, head)
+        }
+    }
+
+    // The time slot queues of all n calendar entries.
+    fn entries(&self, calendar: &[u16], spaces: &mut [u32], waits: &mut [u32], n: u16) -> bool
+        ensures { walked_after result spaces waits ≡ entries_of self.now.links.now calendar.now (named_by self.now) n 0 spaces.old waits.old }
+    {
+        for e in 0..usize::from(n) {
+            let head = at(calendar, 2 * e, 0);
+            let tail = at(calendar, 2 * e + 1, 0);
+            if !self.list(spaces, waits, head, tail) {
+                return false;
+            }
+        }
+        true
+    }
 }
 
 // The Output List and the time slot queues, one after the other.
@@ -164,9 +147,13 @@ fn lists(
 ) -> bool
     ensures { walked_after result spaces waits ≡ lists_in r cells links calendar spaces waits }
 {
-    list(
-        links, cells, r.kind, r.v, spaces, waits, r.outhead, r.outtail,
-    ) && entries(links, cells, calendar, r.kind, r.v, spaces, waits, r.n)
+    let walks = Walks {
+        links,
+        cells,
+        kind: r.kind,
+        v: r.v,
+    };
+    walks.list(spaces, waits, r.outhead, r.outtail) && walks.entries(calendar, spaces, waits, r.n)
 }
 
 // All lists together use both budgets up; what is left is what the walks leave.

@@ -1,7 +1,7 @@
--- `mem_walks::walk` walks a chain: what remains of the walk is the whole of it, at each turn, and the spaces' budget falls.
+-- `mem_walks::Walks::walk` walks a chain: what remains of the walk is the whole of it, at each turn, and the spaces' budget falls.
 use mathlib.Core.Path.{◌∙◌}
 use Rattle.mem_walks.proofs.WalkLaws.{turn_taken, turn_named, turn_end, turn_on, turn_less}
-use Rattle.mem_walks.proofs.walk.Goals as goal
+use Rattle.mem_walks.proofs.Walks.walk.Goals as goal
 
 pub returns-then-x-tail : goal.returns-then-x-tail
 returns-then-x-tail c =

@@ -1,9 +1,9 @@
--- `mem_walks::entries` walks the time slot queues: what remains of the entries is the whole of them, at each turn.
+-- `mem_walks::Walks::entries` walks the time slot queues: what remains of the entries is the whole of them, at each turn.
 use mathlib.Core.Path.{◌∙◌}
 use native.Mathlib.Omega.{arith}
 use Rattle.mem_walks.specs.Walk.{walked}
 use Rattle.mem_walks.proofs.EntryLaws.{entry_turn, entry_stop, entries_done}
-use Rattle.mem_walks.proofs.entries.Goals as goal
+use Rattle.mem_walks.proofs.Walks.entries.Goals as goal
 
 pub loop-e-preserved : goal.loop-e-preserved
 loop-e-preserved c =
