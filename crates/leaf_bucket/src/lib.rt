@@ -14,8 +14,8 @@ pub fn rate(m: u32) -> u32
 }
 
 // "m from 0 to 15; F from L to 16,777,216; C of at least F, with floor((C-F)/L) at most N-1", judged in that order: L is
-// taken only of an m in its range, and C-F only where it is none below 0. Judged first in a function of its own, what this and
-// the next ask alike would cost the slot two instructions.
+// taken only of an m in its range, and C-F only where it is none below 0. What this and the next ask alike, judged first in a
+// function of its own, would cost the slot three instructions.
 pub fn obeys_rules(n: u16, m: u32, f: u32, c: u32) -> bool
     ensures { result ≡ obeys_rules n (bucket_of m f c 0) }
 {

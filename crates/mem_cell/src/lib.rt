@@ -7,7 +7,7 @@ ghost use Rattle.meaning.specs.State.{write_cell};
 ghost use Rattle.meaning.specs.Header.{tagged_cell};
 
 // Through a local array, so that all octets are loaded before the first is stored: wide moves. By the library's copy_from_slice,
-// which first asks whether the two overlap, each copy would be a call, and some twenty instructions more.
+// which first asks whether the two overlap, each copy would be a call, and some forty instructions more.
 pub fn copy_cell(part: &mut [u8], cell: &[u8])
     requires { (length part.old ≡ 53) × (length cell.now ≡ 53) }
     ensures { part.new ≡ cell.now }
@@ -56,7 +56,7 @@ pub fn put_cell(cells: &mut [u8], space: u16, cell: &[u8])
     copy_cell(&mut cells[a..e], cell);
 }
 
-// A tagged cell into its space.
+// A tagged cell into its space: another copy, in as few lines as one that is told which.
 pub fn put_tagged(cells: &mut [u8], space: u16, cell: &[u8])
     requires { (cell_start space + octets ≤ length cells.old) × (length cell.now ≡ 53) }
     ensures { cells.new ≡ write_cell cells.old space (tagged_cell cell.now) }

@@ -34,7 +34,8 @@ pub fn none_second(words: &[u32], conn: u16) -> bool
         && words[base + AT_SECOND_S] | words[base + AT_TAG] == 0
 }
 
-// A second bucket's words and the flag, as the peak bucket's.
+// A second bucket's words and the flag, as the peak bucket's. By other rules, of other places and with the flag: one function for
+// both would be no plainer.
 pub fn second_fits(words: &[u32], conn: u16) -> bool
     requires { HasConnection conn words.now }
     ensures { result ≡ second_in_range (connection_at words.now conn).second (connection_at words.now conn).tag }
