@@ -1,16 +1,12 @@
--- The bit of an entry compared with the entry, and all of them from the first on.
-use Prim.Native.Nat.{ℕ, ◌+◌, ◌*◌, ◌≤◌, ◌<◌}
+-- The bit of an entry compared with the entry, and a test of all entries.
+use Prim.Native.Nat.{ℕ, zero, suc, ◌+◌, ◌≤◌, ◌<◌}
 use mathlib.Core.Path.{◌≡◌, refl, sym, ◌∙◌, ap}
-use mathlib.Core.Logic.{◌≢◌}
-use mathlib.Core.Bool.{Bool, true, false, not, ◌&&◌}
-use mathlib.Core.List.{List}
+use mathlib.Core.Bool.{Bool, true, false}
+use native.Mathlib.Decide.{ℕ_discrete}
 use native.Mathlib.Omega.{arith}
-use borrow.Author.Tests.{eq-eqb, ne_eqb, lt-ltb, le-ltb}
-use lib.ListN.{get_or}
-use Rattle.meaning.specs.Plain.{when◌then◌else◌, ◌<?◌, ◌=?◌}
-use Rattle.meaning.specs.Numbers.{empty}
-use Rattle.meaning.specs.Lists.{is_empty, entry_at}
-use Rattle.call_audit.specs.Marks.{has_cell, agrees}
+use Rattle.std.specs.List.{range_with_len, list_all}
+use Rattle.std.proofs.lemmas.Bool.{and_parts, and_from}
+use Rattle.call_audit.specs.Marks.{agrees}
 
 pub agrees_same : (a b : Bool) → agrees a b ≡ true → a ≡ b
 unfolding agrees
@@ -26,15 +22,19 @@ same_agrees true false e = sym e
 same_agrees false true e = e
 same_agrees false false e = refl
 
-module _ (N : ℕ) (calendar : List ℕ) (e : ℕ) (mark : Bool) where
-  pub with_cell : e < N → get_or calendar (2 * e) 0 ≢ empty → mark ≡ agrees mark (has_cell N calendar e)
-  unfolding agrees entry_at
-  with_cell l h = rw (lt-ltb e N l, ne_eqb (get_or calendar (2 * e) 0) empty h)
+-- a test of each of n entries from a on
+pub all_pass : (p : ℕ → Bool) (a n : ℕ) → list_all p (range_with_len a n) ≡ true → (e : ℕ) → a ≤ e → e < a + n → p e ≡ true
+all_pass p a zero y e l h = absurd (omega arith)
+all_pass p a (suc n) y e l h = go (λ m. all_pass p (a + 1) n parts.1 e m (omega arith)) (ℕ_discrete a e)
+  where
+    parts : (p a ≡ true) × (list_all p (range_with_len (a + 1) n) ≡ true)
+    parts = and_parts (p a) (list_all p (range_with_len (a + 1) n)) y
 
-  pub without_cell : e < N → get_or calendar (2 * e) 0 ≡ empty → not mark ≡ agrees mark (has_cell N calendar e)
-  unfolding agrees entry_at
-  without_cell l h = rw (lt-ltb e N l, eq-eqb (get_or calendar (2 * e) 0) empty h)
+    go : (a + 1 ≤ e → p e ≡ true) → Dec (a ≡ e) → p e ≡ true
+    go rest (yes s) = ap p (sym s) ∙ parts.0
+    go rest (no d) = rest (omega arith)
 
-  pub past_n : N ≤ e → not mark ≡ agrees mark (has_cell N calendar e)
-  unfolding agrees
-  past_n h = rw (le-ltb e N h)
+pub pass_all : (p : ℕ → Bool) (a n : ℕ) → ((e : ℕ) → a ≤ e → e < a + n → p e ≡ true) → list_all p (range_with_len a n) ≡ true
+pass_all p a zero f = refl
+pass_all p a (suc n) f =
+    and_from (p a) (list_all p (range_with_len (a + 1) n)) (f a (omega arith) (omega arith)) (pass_all p (a + 1) n (λ e l h. f e (omega arith) (omega arith)))

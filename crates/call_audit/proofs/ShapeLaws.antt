@@ -2,10 +2,10 @@
 -- facts back.
 use Prim.Native.Nat.{ℕ, ◌*◌, ◌≤◌, ◌<◌}
 use mathlib.Core.Path.{◌≡◌, sym, ◌∙◌}
-use mathlib.Core.Bool.{Bool, true, false, not, ◌&&◌}
+use mathlib.Core.Bool.{Bool, true, ◌&&◌}
 use mathlib.Core.List.{List}
 use lib.ListN.{length}
-use borrow.Author.Tests.{lt-ltb, le-ltb, le-leb, lt-leb, eqb-true, ltb-true, leb-true, not-true, not-false}
+use borrow.Author.Tests.{lt-ltb, le-leb, eqb-true, ltb-true, leb-true}
 use Rattle.meaning.specs.declared.Record.{Record}
 use Rattle.meaning.specs.Plain.{◌<?◌, ◌≤?◌, ◌=?◌}
 use Rattle.meaning.specs.Numbers.{most_n, least_v, most_v, ranges_hold, octets, per_entry, connections_in, kind_in_range, words_in, bit_words, splits_hold}
@@ -43,61 +43,9 @@ module _ (N z : ℕ) (cells links calendar words bits arrived : List ℕ) where
         eqb-true (length bits) bit_words d.1,
       )
 
--- The record's other numbers, as the code meets them
+-- The record's other numbers
 
 module _ (r : Record) where
-  pub fits_no_turn : r.n ≤ r.turn → false ≡ record_fits r
-  unfolding record_fits
-  fits_no_turn h = rw (le-ltb r.turn r.n h)
-
-  module _ (turn : r.turn < r.n) where
-    pub fits_no_rotation : connections_in r.v ≤ r.rotation → false ≡ record_fits r
-    unfolding record_fits
-    fits_no_rotation h = rw (lt-ltb r.turn r.n turn, le-ltb r.rotation (connections_in r.v) h)
-
-    module _ (rotation : r.rotation < connections_in r.v) where
-      pub fits_no_raw : 1 < r.raw → false ≡ record_fits r
-      unfolding record_fits
-      fits_no_raw h =
-          rw (lt-ltb r.turn r.n turn, lt-ltb r.rotation (connections_in r.v) rotation, lt-leb r.raw 1 h)
-
-      module _ (raw : r.raw ≤ 1) where
-        pub fits_no_mode : 1 < r.mode → false ≡ record_fits r
-        unfolding record_fits
-        fits_no_mode h =
-            rw (
-              lt-ltb r.turn r.n turn,
-              lt-ltb r.rotation (connections_in r.v) rotation,
-              le-leb r.raw 1 raw,
-              lt-leb r.mode 1 h,
-            )
-
-        -- k is what the test of the line kind answers
-        module _ (mode : r.mode ≤ 1) (k : Bool) (kind : k ≡ kind_in_range r.kind) where
-          pub fits_no_kind : not k ≡ true → false ≡ record_fits r
-          unfolding record_fits
-          fits_no_kind h =
-              rw (
-                lt-ltb r.turn r.n turn,
-                lt-ltb r.rotation (connections_in r.v) rotation,
-                le-leb r.raw 1 raw,
-                le-leb r.mode 1 mode,
-                ← kind,
-                not-true k h,
-              )
-
-          pub fits_rest : not k ≡ false → splits_hold r.v r.splitvci r.splitpath ≡ record_fits r
-          unfolding record_fits
-          fits_rest h =
-              rw (
-                lt-ltb r.turn r.n turn,
-                lt-ltb r.rotation (connections_in r.v) rotation,
-                le-leb r.raw 1 raw,
-                le-leb r.mode 1 mode,
-                ← kind,
-                not-false k h,
-              )
-
   kind_facts : kind_in_range r.kind ≡ true → r.kind ≤ 1
   unfolding kind_in_range
   kind_facts h = leb-true r.kind 1 h
@@ -121,30 +69,6 @@ module _ (r : Record) where
         kind_facts a.1,
         f.1,
       )
-
-abbrev lengths_test : ℕ → ℕ → List ℕ → List ℕ → List ℕ → List ℕ → List ℕ → List ℕ → Bool
-lengths_test N z cells links calendar words bits arrived =
-    length cells =? octets * N && length links =? N && length calendar =? per_entry * N && length words =? words_in z && length bits =? bit_words
-    && length arrived =? N
-
--- All of it, as the code meets it: p and q are what the two tests answer
-
-module _ (r : Record) (cells links calendar words bits arrived : List ℕ) (p : Bool) (ranges : p ≡ ranges_hold r.n r.v) where
-  abbrev shape : Bool
-  shape = shape_holds (state_of r cells links calendar words bits arrived)
-
-  pub shape_no_ranges : not p ≡ true → false ≡ shape
-  unfolding shape_holds
-  shape_no_ranges h = rw (← ranges, not-true p h)
-
-  module _ (q : Bool) (lengths : q ≡ lengths_test r.n r.v cells links calendar words bits arrived) (ok : not p ≡ false) where
-    pub shape_no_lengths : not q ≡ true → false ≡ shape
-    unfolding shape_holds lengths_hold words_length
-    shape_no_lengths h = rw (← ranges, not-false p ok, ← lengths, not-true q h)
-
-    pub shape_rest : not q ≡ false → record_fits r ≡ shape
-    unfolding shape_holds lengths_hold words_length
-    shape_rest h = rw (← ranges, not-false p ok, ← lengths, not-false q h)
 
 -- What a yes means, and that it is given
 

@@ -1,92 +1,61 @@
 -- The answer by cases: what each test of the call says of the definition.
-use Prim.Native.Nat.{ℕ, ◌+◌, ◌-◌, ◌*◌, ◌%◌, ◌≤◌, ◌<◌}
+use Prim.Native.Nat.{ℕ, ◌+◌, ◌*◌, ◌%◌, ◌≤◌, ◌<◌}
 use mathlib.Core.Path.{◌≡◌, refl, sym, ◌∙◌, ap}
 use mathlib.Core.Logic.{◌≢◌}
-use mathlib.Core.Bool.{Bool, true, false, true≢false, not, ◌&&◌, ◌||◌}
+use mathlib.Core.Bool.{Bool, true, false, not, ◌&&◌}
 use mathlib.Core.List.{List}
 use native.Mathlib.Omega.{arith}
-use borrow.Author.Tests.{eq-eqb, ne_eqb, lt-ltb, le-ltb, leb-true}
+use borrow.Author.Tests.{eq-eqb, ne_eqb, lt-ltb, le-ltb}
 use lib.ListN.{length, get_or}
 use Rattle.meaning.specs.declared.Record.{Record}
-use Rattle.meaning.specs.Plain.{when◌then◌else◌, ◌<?◌, ◌≤?◌, ◌=?◌}
-use Rattle.meaning.specs.Numbers.{most_n, least_v, most_v, empty, ranges_hold, per_entry, bit_words}
+use Rattle.meaning.specs.Plain.{when◌then◌else◌, ◌<?◌, ◌=?◌}
+use Rattle.meaning.specs.Numbers.{most_n, empty, ranges_hold, per_entry, bit_words}
 use Rattle.meaning.specs.State.{Ends, ends_of}
 use Rattle.meaning.specs.Lists.{is_empty, ends_fit, entry_at}
 use Rattle.meaning.specs.Next.{next_mark, wait_of, wait_for}
-use Rattle.mem_marks.proofs.RingLaws.{near, round}
-use Rattle.call_next.specs.Ends.{ends_is, entry_wait}
+use Rattle.call_next.specs.Ends.{cell_in, entry_wait}
+use Rattle.std.proofs.Common.{Option, Some, None, unwrap_or}
 
-both : (a b : Bool) → a && b ≡ true → (a ≡ true) × (b ≡ true)
-both true b e = (refl, e)
-both false b e = absurd (true≢false (sym e))
+-- ── a head and a tail ──
+module _ (N head tail : ℕ) (m : N ≤ most_n) where
+  pub cell_some : head < N → tail < N → Some true ≡ cell_in N (ends_of head tail)
+  unfolding cell_in ends_fit
+  cell_some h t = let d : head ≢ empty = omega arith in rw (lt-ltb head N h, lt-ltb tail N t, ne_eqb head empty d)
 
--- refusal 1 is not given
-pub ranges_low : (N z : ℕ) → ranges_hold N z ≡ true → N ≤ most_n
-unfolding ranges_hold
-ranges_low N z e =
-    let a = both (1 ≤? N && N ≤? most_n && least_v ≤? z) (z ≤? most_v) e in
-    let b = both (1 ≤? N && N ≤? most_n) (least_v ≤? z) a.0 in
-    leb-true N most_n (both (1 ≤? N) (N ≤? most_n) b.0).1
+  pub cell_none : head ≡ empty → tail ≡ empty → Some false ≡ cell_in N (ends_of head tail)
+  unfolding cell_in ends_fit
+  cell_none h t = rw (le-ltb head N (omega arith), eq-eqb head empty h, eq-eqb tail empty t)
 
--- ── a head and a tail as one number ──
-module _ (N head tail : ℕ) where
-  pub is_none : head ≡ empty → tail ≡ empty → 0 ≡ ends_is N (ends_of head tail)
-  unfolding ends_is ends_fit
-  is_none h t = go (head <? N && tail <? N)
-    where
-      same : head =? empty ≡ true
-      same = eq-eqb head empty h
+  pub cell_out : head <? N && tail <? N ≡ false → head =? empty && tail =? empty ≡ false → None ≡ cell_in N (ends_of head tail)
+  unfolding cell_in ends_fit
+  cell_out a b = rw (a, b)
 
-      go : (b : Bool) → ◌≡◌ {A = ℕ} 0 (when b || (head =? empty && tail =? empty) then (when head =? empty then 0 else 1) else 3)
-      go true = rw same
-      go false = rw (same, eq-eqb tail empty t)
-
-  pub is_half : N ≤ 1024 → head ≡ empty → tail ≢ empty → 3 ≡ ends_is N (ends_of head tail)
-  unfolding ends_is ends_fit
-  is_half m h t = rw (le-ltb head N (omega arith), ne_eqb tail empty t, eq-eqb head empty h)
-
-  pub is_far : head ≢ empty → N ≤ head → 3 ≡ ends_is N (ends_of head tail)
-  unfolding ends_is ends_fit
-  is_far h l = rw (le-ltb head N l, ne_eqb head empty h)
-
-  pub is_long_lem : head ≢ empty → head < N → N ≤ tail → 3 ≡ ends_is N (ends_of head tail)
-  unfolding ends_is ends_fit
-  is_long_lem h l t = rw (lt-ltb head N l, le-ltb tail N t, ne_eqb head empty h)
-
-  pub is_some : head ≢ empty → head < N → tail < N → 1 ≡ ends_is N (ends_of head tail)
-  unfolding ends_is ends_fit
-  is_some h l t = rw (lt-ltb head N l, lt-ltb tail N t, ne_eqb head empty h)
-
+-- what it says of the list
 module _ (N : ℕ) (e : Ends) where
-  by_ends : (P : ℕ → Type 0) → (ends_fit N e ≡ true → is_empty e ≡ true → P 0) → (ends_fit N e ≡ true → is_empty e ≡ false → P 1)
-      → (ends_fit N e ≡ false → P 3) → P (ends_is N e)
-  unfolding ends_is
-  by_ends P f g h = go (ends_fit N e) (is_empty e) f g h
+  pub out_of_range : cell_in N e ≡ None → ends_fit N e ≡ false
+  unfolding cell_in
+  out_of_range = go (ends_fit N e)
     where
-      go : (a b : Bool) → (a ≡ true → b ≡ true → P 0) → (a ≡ true → b ≡ false → P 1) → (a ≡ false → P 3) → P (when a then (when b then 0 else 1) else 3)
-      go true true f g h = f refl refl
-      go true false f g h = g refl refl
-      go false b f g h = h refl
+      go : (a : Bool) → ◌≡◌ {A = Option Bool} (when a then Some (not (is_empty e)) else None) None → a ≡ false
+      go true h = cc
+      go false h = refl
 
-  pub out_of_range : ends_is N e ≡ 3 → ends_fit N e ≡ false
-  out_of_range = by_ends (λ n. n ≡ 3 → ends_fit N e ≡ false) (λ p q z. absurd (omega arith)) (λ p q z. absurd (omega arith)) (λ p z. p)
+  pub in_range : (b : Bool) → cell_in N e ≡ Some b → (ends_fit N e ≡ true) × (not (is_empty e) ≡ b)
+  unfolding cell_in
+  in_range b = go (ends_fit N e)
+    where
+      go : (a : Bool) → ◌≡◌ {A = Option Bool} (when a then Some (not (is_empty e)) else None) (Some b) → (a ≡ true) × (not (is_empty e) ≡ b)
+      go true h = (refl, cc)
+      go false h = cc
 
-  pub has_cell_lem : ends_is N e ≡ 1 → (ends_fit N e ≡ true) × (is_empty e ≡ false)
-  has_cell_lem = by_ends (λ n. n ≡ 1 → (ends_fit N e ≡ true) × (is_empty e ≡ false)) (λ p q z. absurd (omega arith)) (λ p q z. (p, q)) (λ p z. absurd (omega arith))
-
-  pub has_none_lem : ends_is N e ≢ 3 → ends_is N e ≢ 1 → (ends_fit N e ≡ true) × (is_empty e ≡ true)
-  has_none_lem = by_ends (λ n. n ≢ 3 → n ≢ 1 → (ends_fit N e ≡ true) × (is_empty e ≡ true)) (λ p q y z. (p, q)) (λ p q y z. absurd (z refl)) (λ p y z. absurd (y refl))
-
-  pub no_cell : ends_is N e ≢ 1 → ends_fit N e && not (is_empty e) ≡ false
-  no_cell =
-      by_ends (λ n. n ≢ 1 → ends_fit N e && not (is_empty e) ≡ false) (λ p q z. rw (p, q)) (λ p q z. absurd (z refl)) (λ p z. rw p)
-
--- ── (T + d) modulo N without a division ──
-pub ring_near : (N T d : ℕ) → T + d < N → T + d ≡ (T + d) % N
-ring_near N T d h = sym (near N T d h)
-
-pub ring_round : (N T d : ℕ) → T < N → d < N → N ≤ T + d → T + d - N ≡ (T + d) % N
-ring_round N T d t l h = sym (round N T d t l h)
+  -- a list out of range has no cell to tell of
+  filled_is : unwrap_or (cell_in N e) false ≡ ends_fit N e && not (is_empty e)
+  unfolding cell_in
+  filled_is = go (ends_fit N e)
+    where
+      go : (a : Bool) → unwrap_or (when a then Some (not (is_empty e)) else None) false ≡ a && not (is_empty e)
+      go true = refl
+      go false = refl
 
 -- ── the entry that the marks name ──
 module _ (N T : ℕ) (calendar bits : List ℕ) where
@@ -94,22 +63,26 @@ module _ (N T : ℕ) (calendar bits : List ℕ) where
   unfolding entry_wait
   entry_none e = rw (eq-eqb (next_mark N T bits) 0 e)
 
-  pub entry_empty : next_mark N T bits ≢ 0 → ends_is N (entry_at calendar ((T + next_mark N T bits) % N)) ≢ 1 → wait_of 3 0 ≡ entry_wait N T calendar bits
-  unfolding entry_wait
-  entry_empty e f = rw (ne_eqb (next_mark N T bits) 0 e, no_cell N (entry_at calendar ((T + next_mark N T bits) % N)) f)
+  -- entry e, at the distance d
+  module _ (d e : ℕ) (is : d ≡ next_mark N T bits) (some : 1 ≤ d) (at : e ≡ (T + d) % N) where
+    abbrev head : ℕ
+    head = get_or calendar (2 * e) 0
 
-  pub entry_far : next_mark N T bits ≢ 0 → ends_is N (entry_at calendar ((T + next_mark N T bits) % N)) ≡ 1
-      → wait_of 0 (next_mark N T bits) ≡ entry_wait N T calendar bits
-  unfolding entry_wait
-  entry_far e f =
-      let h = has_cell_lem N (entry_at calendar ((T + next_mark N T bits) % N)) f in
-      rw (ne_eqb (next_mark N T bits) 0 e, h.0, h.1)
+    abbrev tail : ℕ
+    tail = get_or calendar (2 * e + 1) 0
 
--- the entry as it is read, at the distance that was found
-pub read_is : (N T : ℕ) (calendar bits : List ℕ) (d e : ℕ) → d ≡ next_mark N T bits → e ≡ (T + d) % N
-    → ends_is N (ends_of (get_or calendar (2 * e) 0) (get_or calendar (2 * e + 1) 0)) ≡ ends_is N (entry_at calendar ((T + next_mark N T bits) % N))
-unfolding entry_at
-read_is N T calendar bits d e p q = ap (λ (x : ℕ). ends_is N (entry_at calendar x)) (q ∙ ap (λ (y : ℕ). (T + y) % N) p)
+    by_entry : (when not (ends_fit N (ends_of head tail) && not (is_empty (ends_of head tail))) then wait_of 3 0 else wait_of 0 d) ≡ entry_wait N T calendar bits
+    unfolding entry_wait entry_at
+    by_entry =
+        let far : next_mark N T bits ≢ 0 = omega arith in
+        let place : (T + next_mark N T bits) % N ≡ e = sym (at ∙ ap (λ (x : ℕ). (T + x) % N) is) in
+        rw (ne_eqb (next_mark N T bits) 0 far, place, ← is)
+
+    pub entry_far : unwrap_or (cell_in N (ends_of head tail)) false ≡ true → wait_of 0 d ≡ entry_wait N T calendar bits
+    entry_far f = rw (sym (filled_is N (ends_of head tail)) ∙ f) at by_entry
+
+    pub entry_empty : unwrap_or (cell_in N (ends_of head tail)) false ≡ false → wait_of 3 0 ≡ entry_wait N T calendar bits
+    entry_empty f = rw (sym (filled_is N (ends_of head tail)) ∙ f) at by_entry
 
 -- ── the whole ──
 module _ (r : Record) (calendar bits : List ℕ) where
@@ -136,19 +109,19 @@ module _ (r : Record) (calendar bits : List ℕ) where
         wait_turn e = rw (ranges, eq-eqb (length calendar) (per_entry * r.n) long, eq-eqb (length bits) bit_words words, le-ltb r.turn r.n e)
 
         module _ (low : r.turn < r.n) where
-          pub wait_output : ends_is r.n output ≡ 3 → wait_of 3 0 ≡ wait_for r calendar bits
+          pub wait_output : cell_in r.n output ≡ None → wait_of 3 0 ≡ wait_for r calendar bits
           unfolding wait_for
           wait_output e =
               rw (ranges, eq-eqb (length calendar) (per_entry * r.n) long, eq-eqb (length bits) bit_words words, lt-ltb r.turn r.n low, out_of_range r.n output e)
 
-          pub wait_one : ends_is r.n output ≡ 1 → wait_of 0 1 ≡ wait_for r calendar bits
+          pub wait_one : cell_in r.n output ≡ Some true → wait_of 0 1 ≡ wait_for r calendar bits
           unfolding wait_for
           wait_one e =
-              let h = has_cell_lem r.n output e in
+              let h = in_range r.n output true e in
               rw (ranges, eq-eqb (length calendar) (per_entry * r.n) long, eq-eqb (length bits) bit_words words, lt-ltb r.turn r.n low, h.0, h.1)
 
-          pub wait_entry : ends_is r.n output ≢ 3 → ends_is r.n output ≢ 1 → entry_wait r.n r.turn calendar bits ≡ wait_for r calendar bits
+          pub wait_entry : cell_in r.n output ≡ Some false → entry_wait r.n r.turn calendar bits ≡ wait_for r calendar bits
           unfolding wait_for entry_wait
-          wait_entry e f =
-              let h = has_none_lem r.n output e f in
+          wait_entry e =
+              let h = in_range r.n output false e in
               rw (ranges, eq-eqb (length calendar) (per_entry * r.n) long, eq-eqb (length bits) bit_words words, lt-ltb r.turn r.n low, h.0, h.1)

@@ -5,28 +5,42 @@ ghost use Rattle.std.specs.Prelude.{◌≡◌, ◌+◌, ◌*◌, ◌%◌, ◌≤
 ghost use Rattle.meaning.specs.Numbers.{most_n, per_entry, bit_words};
 ghost use Rattle.meaning.specs.State.{ends_of};
 ghost use Rattle.meaning.specs.Next.{wait_for};
-ghost use Rattle.call_next.specs.Ends.{ends_is, entry_wait};
+ghost use Rattle.call_next.specs.Ends.{number_of, cell_in, wait_is, entry_wait};
 
 use meaning::{Record, Wait};
 
-// A head and a tail as one number: 3 for out of range, 0 for an empty list, 1 for one with a cell.
-fn ends_are(n: u16, head: u16, tail: u16) -> u16
-    requires { n ≤ most_n }
-    ensures { result ≡ ends_is n (ends_of head tail) }
-{
-    if head == 65535 {
-        if tail == 65535 {
-            return 0;
+// Why there is no answer: refusals 1, 2 and 3.
+#[derive(Clone, Copy)]
+enum Refused {
+    Ranges,
+    Lengths,
+    State,
+}
+
+impl Refused {
+    fn number(self) -> u16
+        ensures { result ≡ number_of self }
+    {
+        match self {
+            Refused::Ranges => 1,
+            Refused::Lengths => 2,
+            Refused::State => 3,
         }
-        return 3;
     }
-    if head >= n {
-        return 3;
+}
+
+// Whether the list with a head and a tail has a cell; none where they are out of range.
+fn has_cell(n: u16, head: u16, tail: u16) -> Option<bool>
+    requires { n ≤ most_n }
+    ensures { result ≡ cell_in n (ends_of head tail) }
+{
+    if head < n && tail < n {
+        Some(true)
+    } else if head == 65535 && tail == 65535 {
+        Some(false)
+    } else {
+        None
     }
-    if tail >= n {
-        return 3;
-    }
-    1
 }
 
 // The entry d after entry T in the ring of N, without a division.
@@ -41,27 +55,38 @@ fn entry_after(n: u16, turn: u16, d: u16) -> u16
 
 // The answer where refusals 1 and 2 are not given, T is below N and the Output List is empty: the distance to the nearest marked entry, if that
 // entry has a cell.
-fn wait_entry(n: u16, turn: u16, calendar: &[u16], bits: &[u64]) -> Wait
+fn until_entry(n: u16, turn: u16, calendar: &[u16], bits: &[u64]) -> Result<Option<u16>, Refused>
     requires { (n ≤ most_n) × (turn < n) × (length calendar.now ≡ per_entry * n) × (length bits.now ≡ bit_words) }
-    ensures { result ≡ entry_wait n turn calendar.now bits.now }
+    ensures { wait_is result ≡ entry_wait n turn calendar.now bits.now }
 {
-    let d = mem_marks::next_mark(n, turn, bits);
-    if d == 0 {
-        return Wait {
-            number: 0,
-            slots: 0,
-        };
+    let Some(d) = mem_marks::next_mark(n, turn, bits) else {
+        return Ok(None);
+    };
+    let at = 2 * usize::from(entry_after(n, turn, d));
+    if has_cell(n, calendar[at], calendar[at + 1]).unwrap_or(false) {
+        Ok(Some(d))
+    } else {
+        Err(Refused::State)
     }
-    let at = 2 * (entry_after(n, turn, d) as usize);
-    if ends_are(n, calendar[at], calendar[at + 1]) != 1 {
-        return Wait {
-            number: 3,
-            slots: 0,
-        };
+}
+
+// The answer, or why there is none: how many slots from now the next cell leaves; none where none waits.
+fn until(r: Record, calendar: &[u16], bits: &[u64]) -> Result<Option<u16>, Refused>
+    ensures { wait_is result ≡ wait_for r calendar.now bits.now }
+{
+    if !leaf_refusal::ranges_hold(r.n, r.v) {
+        return Err(Refused::Ranges);
     }
-    Wait {
-        number: 0,
-        slots: d,
+    if calendar.len() != 2 * usize::from(r.n) || bits.len() != 32 {
+        return Err(Refused::Lengths);
+    }
+    if r.turn >= r.n {
+        return Err(Refused::State);
+    }
+    match has_cell(r.n, r.outhead, r.outtail) {
+        None => Err(Refused::State),
+        Some(true) => Ok(Some(1)),
+        Some(false) => until_entry(r.n, r.turn, calendar, bits),
     }
 }
 
@@ -69,42 +94,14 @@ fn wait_entry(n: u16, turn: u16, calendar: &[u16], bits: &[u64]) -> Wait
 pub fn next(r: Record, calendar: &[u16], bits: &[u64]) -> Wait
     ensures { result ≡ wait_for r calendar.now bits.now }
 {
-    if !leaf_refusal::ranges_hold(r.n, r.v) {
-        return Wait {
-            number: 1,
-            slots: 0,
-        };
-    }
-    if calendar.len() != 2 * (r.n as usize) {
-        return Wait {
-            number: 2,
-            slots: 0,
-        };
-    }
-    if bits.len() != 32 {
-        return Wait {
-            number: 2,
-            slots: 0,
-        };
-    }
-    if r.turn >= r.n {
-        return Wait {
-            number: 3,
-            slots: 0,
-        };
-    }
-    let output = ends_are(r.n, r.outhead, r.outtail);
-    if output == 3 {
-        return Wait {
-            number: 3,
-            slots: 0,
-        };
-    }
-    if output == 1 {
-        return Wait {
+    match until(r, calendar, bits) {
+        Ok(slots) => Wait {
             number: 0,
-            slots: 1,
-        };
+            slots: slots.unwrap_or(0),
+        },
+        Err(refused) => Wait {
+            number: refused.number(),
+            slots: 0,
+        },
     }
-    wait_entry(r.n, r.turn, calendar, bits)
 }

@@ -1,4 +1,4 @@
 pub mod OrLaws
 pub mod LowestLaws
 pub mod FitLaws
-pub mod MarkLaws
+pub mod BitLaws

@@ -1,95 +1,49 @@
-// The sixteen words of free spaces: whether they fit, the lowest free space, and one space taken or given back; and the mark of an
-// entry set or cleared, in the sixteen words behind them.
+// The lent words of bits: whether those of the free spaces fit, the lowest free space, one space taken or given back; and the mark of
+// an entry, looked at, set or cleared, in the sixteen words behind them.
 #![tactic(auto)]
 
-ghost use Rattle.std.specs.Prelude.{◌≡◌, true, false, ◌/◌, ◌%◌, ◌^◌, ◌≤◌, ◌<◌, length};
-ghost use Rattle.meaning.specs.Plain.{when◌then◌else◌, ◌=?◌};
-ghost use Rattle.meaning.specs.Numbers.{most_n, free_words, bit_words};
-ghost use Rattle.meaning.specs.Bits.{is_free_space, ones_below, spaces_fit, lowest_free, taken, given, marked, unmarked};
-ghost use Rattle.mem_bits.specs.Rest.{Nothing};
+ghost use Rattle.std.specs.Prelude.{◌≡◌, true, false, IsTrue, ◌↔◌, All, sum_by, count_ones, ◌*◌, ◌/◌, ◌≤◌, ◌<◌, length};
+ghost use Rattle.meaning.specs.Plain.{when◌then◌else◌};
+ghost use Rattle.meaning.specs.Numbers.{most_n, free_words, bit_words, word_bits};
+ghost use Rattle.meaning.specs.Bits.{is_set, is_free_space, is_marked, ones_below, spaces_fit, lowest_free, with_bit, without_bit, taken, given, marked, unmarked};
 
-// The ones in the first k words.
-fn ones_in(bits: &[u64], k: usize) -> u32
-    requires { (length bits.now ≡ bit_words) × (k ≤ free_words) }
-    ensures ones { result ≡ ones_below k bits.now }
-    ensures low { result ≤ most_n }
+// The ones in some words.
+fn ones_in(words: &[u64]) -> u32
+    requires { sum_by count_ones words.now ≤ most_n }
+    ensures { result ≡ sum_by count_ones words.now }
 {
-    let mut count = 0u32;
-    let mut i = 0usize;
-    while i < k {
-        count += u64::count_ones(bits[i]);
-        i += 1;
-    }
-    count
+    words.iter().map(|word| word.count_ones()).sum()
 }
 
-// Word k and those after it have no bit: one OR each, and one test.
-fn none_from(bits: &[u64], k: usize) -> bool
-    requires { length bits.now ≡ bit_words }
-    ensures yes { result ≡ true → Nothing k bits.now }
-    ensures no { Nothing k bits.now → result ≡ true }
+// No word has a bit: one OR each and one test, where `all` would test each word.
+fn none_in(words: &[u64]) -> bool
+    ensures { IsTrue result ↔ All (λ w. w ≡ 0) words.now }
 {
-    let mut rest = 0u64;
-    let mut i = k;
-    while i < 16 {
-        rest = rest | bits[i];
-        i += 1;
-    }
-    rest == 0
+    words.iter().fold(0, |any, word| any | *word) == 0
 }
 
-// The same from word 2 on, with no loop.
-fn none_from_2(bits: &[u64]) -> bool
-    requires { length bits.now ≡ bit_words }
-    ensures yes { result ≡ true → Nothing 2 bits.now }
-    ensures no { Nothing 2 bits.now → result ≡ true }
-{
-    let low = bits[2] | bits[3] | bits[4] | bits[5] | bits[6] | bits[7] | bits[8];
-    let high = bits[9] | bits[10] | bits[11] | bits[12] | bits[13] | bits[14] | bits[15];
-    (low | high) == 0
-}
-
-// The word that N cuts has no bit at N or above.
-fn cut_fits(word: u64, n: u16) -> bool
-    ensures { result ≡ word / 2 ^ (n % 64) =? 0 }
-{
-    word >> (n % 64) == 0
-}
-
-// An N from 64 to 127 reaches words 0 and 1.
-fn fits_2(n: u16, free: u16, bits: &[u64]) -> bool
-    requires { (n / 64 ≡ 1) × (length bits.now ≡ bit_words) }
+// N cuts word `whole`: it has no bit at N or above, the words after it have none, and the ones are as many as the number says.
+fn fits_cut(n: u16, free: u16, bits: &[u64], whole: usize) -> bool
+    requires { (n / 64 ≡ whole) × (whole < free_words) × (length bits.now ≡ bit_words) }
     ensures { result ≡ spaces_fit n free bits.now }
 {
-    let cut = bits[1];
-    if cut_fits(cut, n) {
-        if none_from_2(bits) {
-            return u64::count_ones(bits[0]) + u64::count_ones(cut) == free as u32;
-        }
-    }
-    false
+    let cut = bits[whole];
+    cut >> (n % 64) == 0
+        && none_in(&bits[whole + 1..16])
+        && ones_in(&bits[..whole]) + cut.count_ones() == u32::from(free)
 }
 
-// "a bit at or above N, a number other than the ones": neither is so. Only the words that N reaches are counted.
+// "a bit at or above N, a number other than the ones": neither is so. Only the words that N reaches are counted. An N from 64 to 127
+// has a call of its own, which is compiled without a loop.
 pub fn fits(n: u16, free: u16, bits: &[u64]) -> bool
     requires { (n ≤ most_n) × (length bits.now ≡ bit_words) }
     ensures { result ≡ spaces_fit n free bits.now }
 {
-    let whole = (n / 64) as usize;
-    if whole == 1 {
-        return fits_2(n, free, bits);
+    match usize::from(n / 64) {
+        1 => fits_cut(n, free, bits, 1),
+        16 => ones_in(&bits[..16]) == u32::from(free),
+        whole => fits_cut(n, free, bits, whole),
     }
-    let count = ones_in(bits, whole);
-    if whole == 16 {
-        return count == free as u32;
-    }
-    let cut = bits[whole];
-    if cut_fits(cut, n) {
-        if none_from(bits, whole + 1) {
-            return count + u64::count_ones(cut) == free as u32;
-        }
-    }
-    false
 }
 
 // "the lowest free space by counting trailing zeros", in the first word that is not 0; 1,024 where there is none.
@@ -97,15 +51,39 @@ pub fn lowest(bits: &[u64]) -> u16
     requires { length bits.now ≡ bit_words }
     ensures { result ≡ lowest_free bits.now }
 {
-    let mut i = 0u16;
-    while i < 16 {
-        let word = bits[i as usize];
+    for i in 0..16 {
+        let word = bits[usize::from(i)];
         if word != 0 {
-            return 64 * i + u64::trailing_zeros(word) as u16;
+            return 64 * i + word.trailing_zeros() as u16;
         }
-        i += 1;
     }
     1024
+}
+
+// Whether bit k is set.
+fn is_set(bits: &[u64], k: u16) -> bool
+    requires { (k < bit_words * word_bits) × (length bits.now ≡ bit_words) }
+    ensures { result ≡ is_set bits.now k }
+{
+    (bits[usize::from(k / 64)] >> (k % 64)) % 2 == 1
+}
+
+// Bit k is set, also where it was set before.
+fn set_bit(bits: &mut [u64], k: u16)
+    requires { (k < bit_words * word_bits) × (length bits.old ≡ bit_words) }
+    ensures { bits.new ≡ (when is_set bits.old k then bits.old else with_bit bits.old k) }
+{
+    bits[usize::from(k / 64)] |= 1 << (k % 64);
+}
+
+// Bit k is cleared, also where it was clear before. It is set first, so that taking it off clears it alone.
+fn clear_bit(bits: &mut [u64], k: u16)
+    requires { (k < bit_words * word_bits) × (length bits.old ≡ bit_words) }
+    ensures { bits.new ≡ (when is_set bits.old k then without_bit bits.old k else bits.old) }
+{
+    let w = usize::from(k / 64);
+    let bit = 1u64 << (k % 64);
+    bits[w] = (bits[w] | bit) - bit;
 }
 
 // Whether space x is free.
@@ -113,8 +91,15 @@ pub fn is_free(bits: &[u64], x: u16) -> bool
     requires { (x < most_n) × (length bits.now ≡ bit_words) }
     ensures { result ≡ is_free_space bits.now x }
 {
-    let word = bits[(x / 64) as usize];
-    (word >> (x % 64)) % 2 == 1
+    is_set(bits, x)
+}
+
+// Whether entry e is marked.
+pub fn is_marked(bits: &[u64], e: u16) -> bool
+    requires { (e < most_n) × (length bits.now ≡ bit_words) }
+    ensures { result ≡ is_marked bits.now e }
+{
+    is_set(bits, 1024 + e)
 }
 
 // Space x, which is free, is taken.
@@ -122,8 +107,7 @@ pub fn take(bits: &mut [u64], x: u16)
     requires { (length bits.old ≡ bit_words) × (is_free_space bits.old x ≡ true) }
     ensures { bits.new ≡ taken bits.old x }
 {
-    let w = (x / 64) as usize;
-    bits[w] = bits[w] - (1u64 << (x % 64));
+    clear_bit(bits, x);
 }
 
 // Space x, which is not free, is given back.
@@ -131,8 +115,7 @@ pub fn give(bits: &mut [u64], x: u16)
     requires { (x < most_n) × (length bits.old ≡ bit_words) × (is_free_space bits.old x ≡ false) }
     ensures { bits.new ≡ given bits.old x }
 {
-    let w = (x / 64) as usize;
-    bits[w] = bits[w] + (1u64 << (x % 64));
+    set_bit(bits, x);
 }
 
 // A cell has joined entry e: its bit is set, also where it was set before.
@@ -140,20 +123,15 @@ pub fn mark(bits: &mut [u64], e: u16)
     requires { (e < most_n) × (length bits.old ≡ bit_words) }
     ensures { bits.new ≡ marked bits.old e }
 {
-    let k = 1024 + e;
-    let w = (k / 64) as usize;
-    bits[w] = bits[w] | (1u64 << (k % 64));
+    set_bit(bits, 1024 + e);
 }
 
-// Entry e is emptied: its bit is cleared, also where it was clear before. It is set first, so that taking it off clears it alone.
+// Entry e is emptied: its bit is cleared, also where it was clear before.
 pub fn unmark(bits: &mut [u64], e: u16)
     requires { (e < most_n) × (length bits.old ≡ bit_words) }
     ensures { bits.new ≡ unmarked bits.old e }
 {
-    let k = 1024 + e;
-    let w = (k / 64) as usize;
-    let bit = 1u64 << (k % 64);
-    bits[w] = (bits[w] | bit) - bit;
+    clear_bit(bits, 1024 + e);
 }
 
 // A cell takes space x, which is free, and joins entry e.
@@ -172,8 +150,6 @@ pub fn release(bits: &mut [u64], x: u16, on: bool, e: u16)
 {
     if on {
         unmark(bits, e);
-        give(bits, x);
-        return;
     }
     give(bits, x);
 }

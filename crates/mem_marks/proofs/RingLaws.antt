@@ -1,7 +1,7 @@
 -- The nearest mark in ring order after entry T is the first one from T+1 to N-1, or else the first one from 0 to T-1.
 use Prim.Native.Nat.{ℕ, zero, suc, ◌+◌, ◌-◌, ◌%◌, ◌≤◌, ◌<◌}
-use mathlib.Core.Path.{◌≡◌, refl, sym, ◌∙◌, ap, subst}
-use mathlib.Core.Bool.{Bool, true, false, true≢false}
+use mathlib.Core.Path.{◌≡◌, refl, sym, ◌∙◌, ap}
+use mathlib.Core.Bool.{Bool, true, false}
 use mathlib.Core.List.{List}
 use native.Mathlib.Nat.{mod-eq_of_lt, mod-eq-sub-mod}
 use native.Mathlib.Decide.{dec_lt, ℕ_discrete}
@@ -45,39 +45,39 @@ module _ (N T : ℕ) (bits : List ℕ) (t : T < N) where
   round_none e f d a b c = ap (is_marked bits) (round N T d t a b) ∙ f (T + d - N) (omega arith) c
 
   -- the first of T+1 to N-1
-  pub near_is : (e : ℕ) → First bits (T + 1) N e → e < N → e - T ≡ next_mark N T bits
+  pub near_is : (e : ℕ) → First bits (T + 1) N e → e - T ≡ next_mark N T bits
   unfolding next_mark
-  near_is e f l =
-      let own = f.own l in
-      let low = own.0 in
+  near_is e f =
+      let low = f.within in
       let back : T + (e - T) ≡ e = omega (arith, low) in
       let inside : T + (e - T) < N = omega (arith, low) in
-      let it : at (e - T) ≡ true = ap (is_marked bits) (near N T (e - T) inside ∙ back) ∙ own.1 in
+      let it : at (e - T) ≡ true = ap (is_marked bits) (near N T (e - T) inside ∙ back) ∙ f.own in
       sym (first_at at (N - 1) 1 (e - T) (omega (arith, low)) (omega (arith, low)) it
       (λ d a b. near_none e f.none d a (omega (arith, low)) (omega (arith, low))))
 
   -- none of those: the first of 0 to T-1
-  module _ (e : ℕ) (f : First bits (T + 1) N e) (h : N ≤ e) where
+  module _ (f : NoMark bits (T + 1) N) where
     before_none : (d : ℕ) → 1 ≤ d → T + d < N → at d ≡ false
-    before_none d a b = near_none N (f.past h) d a b b
+    before_none d a b = near_none N f d a b b
 
-    pub round_is : (x : ℕ) → First bits 0 T x → x < T → N - T + x ≡ next_mark N T bits
+    pub round_is : (x : ℕ) → First bits 0 T x → N - T + x ≡ next_mark N T bits
     unfolding next_mark
-    round_is x g l =
+    round_is x g =
+        let l = g.within.1 in
         let past : N ≤ T + (N - T + x) = omega arith in
         let back : T + (N - T + x) - N ≡ x = omega arith in
-        let it : at (N - T + x) ≡ true = ap (is_marked bits) (round N T (N - T + x) t (omega arith) past ∙ back) ∙ (g.own l).1 in
+        let it : at (N - T + x) ≡ true = ap (is_marked bits) (round N T (N - T + x) t (omega arith) past ∙ back) ∙ g.own in
         sym (first_at at (N - 1) 1 (N - T + x) (omega arith) (omega arith) it (λ d a b. go d a b (dec_lt (T + d) N)))
       where
         go : (d : ℕ) → 1 ≤ d → d < N - T + x → Dec (T + d < N) → at d ≡ false
         go d a b (yes c) = before_none d a c
-        go d a b (no c) = round_none x g.none d (omega arith) (omega arith) (omega arith)
+        go d a b (no c) = round_none x g.none d (omega (arith, g.within)) (omega arith) (omega arith)
 
     -- none at all
-    pub none_is : (x : ℕ) → First bits 0 T x → T ≤ x → 0 ≡ next_mark N T bits
+    pub none_is : NoMark bits 0 T → 0 ≡ next_mark N T bits
     unfolding next_mark
-    none_is x g l = sym (first_no at (N - 1) 1 (λ d a b. go d a b (dec_lt (T + d) N)))
+    none_is g = sym (first_no at (N - 1) 1 (λ d a b. go d a b (dec_lt (T + d) N)))
       where
         go : (d : ℕ) → 1 ≤ d → d < 1 + (N - 1) → Dec (T + d < N) → at d ≡ false
         go d a b (yes c) = before_none d a c
-        go d a b (no c) = round_none T (g.past l) d (omega arith) (omega arith) (omega arith)
+        go d a b (no c) = round_none T g d (omega arith) (omega arith) (omega arith)

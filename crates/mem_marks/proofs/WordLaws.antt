@@ -1,20 +1,24 @@
 -- A word of marks, shifted so that its first bit is an entry's: where it is 0, none of its entries is marked; else its trailing zeros lead to
 -- the first one that is.
 use Prim.Native.Nat.{ℕ, ◌+◌, ◌-◌, ◌*◌, ◌/◌, ◌%◌, ◌^◌, ◌≤◌, ◌<◌}
-use mathlib.Core.Path.{◌≡◌, refl, sym, ◌∙◌, ap, subst}
+use mathlib.Core.Path.{◌≡◌, sym, ◌∙◌, ap}
 use mathlib.Core.Logic.{◌≢◌}
 use mathlib.Core.Bool.{true, false}
 use mathlib.Core.List.{List}
 use native.Mathlib.Nat.{zero-div}
 use native.Mathlib.Decide.{dec_lt}
 use native.Mathlib.Omega.{arith}
+use borrow.Author.Tests.{lt-ltb, le-ltb}
 use lib.Count.{count_trailing_zeros}
 use lib.ListN.{get_or}
 use lib.Pow.{shr-shr, shr_le}
+use Rattle.std.proofs.Common.{MatchOption, length, drop, slice_range}
+use Rattle.std.proofs.lemmas.List.{length-take, get_or-take, get_or-drop}
+use Rattle.std.specs.Bool.{then_some}
+use Rattle.meaning.specs.Plain.{◌<?◌}
 use Rattle.meaning.specs.Bits.{word_of, bit_of, is_marked, entry_bit}
-use Rattle.meaning.proofs.LowLaws.{lowest_set, lowest_low, none_lower, bit_low}
+use Rattle.meaning.proofs.LowLaws.{lowest_set, none_lower, bit_low}
 use Rattle.meaning.proofs.SetLaws.{set_bit, clear_bit}
-use Rattle.mem_bits.proofs.OrLaws.{or_of, or_each}
 use Rattle.mem_marks.specs.First.{NoMark, First}
 
 marked_bit : (bits : List ℕ) (e : ℕ) → get_or bits (word_of (entry_bit e)) 0 / 2 ^ bit_of (entry_bit e) % 2 ≡ 1 → is_marked bits e ≡ true
@@ -69,30 +73,21 @@ module _ (bits : List ℕ) (w j base v : ℕ) (at : 64 * w + j ≡ 1024 + base) 
         clear_mark bits e (entry_bit_lem e p (omega (arith, l)) ∙ none_lower 64 v (e - base) (omega arith))
 
     -- of a stretch that begins at `from`, with no mark before base
-    pub first_is : (from to : ℕ) → base < to → to ≤ 1024 → from ≤ base → NoMark bits from base → First bits from to (base + t)
-    first_is from to h n f g =
-        let l = t_low in
-        record {
-          small = omega (arith, l);
-          own = λ q. (omega arith, first_marked);
-          none = none;
-          past = λ q e p r. none e p (omega arith);
-        }
-      where
-        none : NoMark bits from (base + t)
-        none e p q = go (dec_lt e base)
-          where
-            go : Dec (e < base) → is_marked bits e ≡ false
-            go (yes d) = g e p d
-            go (no d) = none_before e (omega arith) q
+    module _ (from to : ℕ) (f : from ≤ base) (g : NoMark bits from base) where
+      none : NoMark bits from (base + t)
+      none e p q = go (dec_lt e base)
+        where
+          go : Dec (e < base) → is_marked bits e ≡ false
+          go (yes d) = g e p d
+          go (no d) = none_before e (omega arith) q
 
--- nothing to look at, and nothing found
-pub first_past : (bits : List ℕ) (from to : ℕ) → from < 65536 → to ≤ from → First bits from to from
-first_past bits from to s h =
-    record { small = s; own = λ q. absurd (omega arith); none = λ e p q. absurd (omega arith); past = λ q e p r. absurd (omega arith) }
-
-pub first_none : (bits : List ℕ) (from to : ℕ) → to ≤ 1024 → NoMark bits from to → First bits from to to
-first_none bits from to s f = record { small = omega arith; own = λ q. absurd (omega arith); none = f; past = λ q. f }
+      -- its mark, if it is below `to`
+      pub first_is : MatchOption (then_some (base + t <? to) (base + t)) (NoMark bits from to) (First bits from to)
+      first_is = go (dec_lt (base + t) to)
+        where
+          go : Dec (base + t < to) → MatchOption (then_some (base + t <? to) (base + t)) (NoMark bits from to) (First bits from to)
+          go (yes l) = rw (lt-ltb (base + t) to l) (record { within = (omega arith, l); own = first_marked; none = none })
+          go (no l) = rw (le-ltb (base + t) to (omega arith)) (λ e p q. none e p (omega arith))
 
 -- a stretch that goes on
 pub more_none : (bits : List ℕ) (from mid to : ℕ) → NoMark bits from mid → NoMark bits mid to → NoMark bits from to
@@ -112,11 +107,10 @@ words_none bits i r h f e p q =
     (ap (λ (x : ℕ). x / 2 ^ bit_of (entry_bit e) % 2) (f (word_of (entry_bit e)) (omega arith) (omega arith))
     ∙ ap (λ (x : ℕ). x % 2) (zero-div (2 ^ bit_of (entry_bit e))))
 
--- four words more, whose OR is 0
-pub four_more : (bits : List ℕ) (i k : ℕ) → ((w : ℕ) → i ≤ w → w < k → get_or bits w 0 ≡ 0) → or_of bits k 3 ≡ 0
-    → (w : ℕ) → i ≤ w → w < k + 4 → get_or bits w 0 ≡ 0
-four_more bits i k f z w p q = go (dec_lt w k)
-  where
-    go : Dec (w < k) → get_or bits w 0 ≡ 0
-    go (yes l) = f w p l
-    go (no l) = or_each bits k 3 z w (omega arith) (omega arith)
+-- the first r words of those from a on below b
+pub slice_none : (bits : List ℕ) (a b r : ℕ) → r ≤ length (slice_range bits a b) → ((w : ℕ) → w < r → get_or (slice_range bits a b) w 0 ≡ 0)
+    → (w : ℕ) → a ≤ w → w < a + r → get_or bits w 0 ≡ 0
+slice_none bits a b r l f w p q =
+    let low : w - a < b - a = omega (arith, length-take (b - a) (drop a bits), l) in
+    let back : a + (w - a) ≡ w = omega arith in
+    ap (λ (i : ℕ). get_or bits i 0) (sym back) ∙ sym (get_or-take (b - a) (drop a bits) (w - a) 0 low ∙ get_or-drop a bits (w - a) 0) ∙ f (w - a) (omega arith)

@@ -1,12 +1,9 @@
 -- `call_audit::fill_spaces` gives each of the n spaces that is not free 1: those below x are done, at each turn.
 use mathlib.Core.Path.{◌≡◌}
-use Prim.Native.Nat.{ℕ, ◌≤◌, ◌<◌, ◌-◌}
-use lib.ListN.{length, get_or}
+use Prim.Native.Nat.{ℕ}
+use lib.ListN.{get_or}
 use Rattle.call_audit.specs.Budgets.{inside}
 use Rattle.call_audit.proofs.fill_spaces.Given as goal
 
 abbrev pub invariant-loop-x : goal.invariant-loop-x
-invariant-loop-x l = (l.x ≤ l.n) × (l.n < 65536) × (length l.b ≡ length l.initial.b) × ((k : ℕ) → get_or l.b k 0 ≡ inside l.bits k l.x)
-
-abbrev pub decreases-loop-x : goal.decreases-loop-x
-decreases-loop-x l = l.n - l.x
+invariant-loop-x l = (k : ℕ) → get_or l.b k 0 ≡ inside l.bits k l.x

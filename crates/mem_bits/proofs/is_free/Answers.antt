@@ -1,5 +1,5 @@
--- `mem_bits::is_free` meets its contract: it reads the bit that the definition reads.
-use mathlib.Core.Path.{sym, ap}
+-- `mem_bits::is_free` meets its contract: a space below 1,024 is free where its bit is set.
+use mathlib.Core.Path.{sym, ap, ◌∙◌}
 use mathlib.Core.Bool.{Bool, ◌&&◌}
 use borrow.Author.Tests.{lt-ltb}
 use Rattle.meaning.specs.Numbers.{most_n}
@@ -7,7 +7,7 @@ use Rattle.meaning.specs.Bits.{is_set, is_free_space}
 use Rattle.mem_bits.proofs.is_free.Goals as goal
 
 pub returns : goal.returns
-unfolding is_free_space is_set
+unfolding is_free_space
 returns c =
-    let s = c.before in
-    sym (ap (λ (b : Bool). b && is_set s.args.bits.now s.args.x) (lt-ltb s.args.x most_n s.requires.0))
+    let a = c.args in
+    c.is_set.ensures ∙ sym (ap (λ (b : Bool). b && is_set a.bits.now a.x) (lt-ltb a.x most_n c.requires.0))

@@ -1,17 +1,7 @@
--- `mem_bits::mark` meets its contract: the OR with a bit that is set changes nothing, and with one that is clear adds it.
-use Prim.Native.Nat.{ℕ, ◌+◌, ◌/◌, ◌%◌}
-use mathlib.Core.Path.{ap, ◌∙◌}
-use native.Mathlib.Omega.{arith}
-use lib.Bits.{bit_or}
-use lib.ListN.{get_or, set}
-use Rattle.mem_bits.proofs.MarkLaws.{marked_by}
-use Rattle.mem_bits.proofs.OrLaws.{one_shl}
+-- `mem_bits::mark` meets its contract: the mark of an entry is its bit.
+use Rattle.meaning.specs.Bits.{is_marked, marked}
 use Rattle.mem_bits.proofs.mark.Goals as goal
 
 pub returns : goal.returns
-returns c =
-    let s = c.before in
-    let bits = s.args.bits.now in
-    let k = 1024 + s.args.e in
-    ap (λ (p : ℕ). set bits (k / 64) (bit_or (get_or bits (k / 64) 0) p)) (one_shl (k % 64) (omega arith))
-    ∙ marked_by bits s.args.e
+unfolding marked is_marked
+returns c = c.set_bit.ensures

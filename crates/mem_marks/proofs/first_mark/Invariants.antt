@@ -4,7 +4,4 @@ use Rattle.mem_marks.specs.First.{NoMark}
 use Rattle.mem_marks.proofs.first_mark.Given as goal
 
 abbrev pub invariant-loop-i : goal.invariant-loop-i
-invariant-loop-i l = (l.i ≤ 32) × (17 ≤ l.i) × (l.from ≤ 64 * l.i - 1024) × NoMark l.bits l.from (64 * l.i - 1024)
-
-abbrev pub decreases-loop-i : goal.decreases-loop-i
-decreases-loop-i l = l.last - l.i
+invariant-loop-i l = (17 ≤ l.i) × (l.from ≤ 64 * l.i - 1024) × NoMark l.bits l.from (64 * l.i - 1024)

@@ -1,30 +1,16 @@
 -- `mem_marks::next_mark` meets its contract: the entries after T are looked at first, then those before it.
-use native.Mathlib.Omega.{arith}
+use Rattle.std.proofs.Common.{unwrap_or, Option, ℕ, ap, ◌∙◌}
 use Rattle.mem_marks.proofs.RingLaws.{near_is, round_is, none_is}
 use Rattle.mem_marks.proofs.next_mark.Goals as goal
 
-pub overflow_sub-result : goal.overflow_sub-result
-overflow_sub-result c = let f = c.first_mark-e.ensures.own c.if-e-n.true in omega (arith, f.0)
+pub returns-in-Some-clause-is : goal.returns-in-Some-clause-is
+returns-in-Some-clause-is c = let a = c.args in near_is a.n a.turn a.bits.now c.requires.0 c.in-Some.e c.in-Some.ensures
 
-pub returns-then-e-n : goal.returns-then-e-n
-returns-then-e-n c =
-    let s = c.before in
-    let a = s.args in
-    let f = c.first_mark-e in
-    record { is = near_is a.n a.turn a.bits.now s.requires.0 f.result f.ensures c.if-e-n.true; low = omega (arith, s.requires.0, c.if-e-n.true) }
+pub returns-in_err-f-clause-is : goal.returns-in_err-f-clause-is
+returns-in_err-f-clause-is c =
+    let a = c.args in
+    ap (λ (o : Option ℕ). unwrap_or o 0) c.from_residual.ensures
+    ∙ none_is a.n a.turn a.bits.now c.requires.0 c.in_default.ensures c.in_err-f.ensures
 
-pub returns-then-f-turn : goal.returns-then-f-turn
-returns-then-f-turn c =
-    let s = c.before in
-    let a = s.args in
-    let f = c.first_mark-e in
-    let g = c.first_mark-f in
-    record { is = round_is a.n a.turn a.bits.now s.requires.0 f.result f.ensures c.if-e-n.false g.result g.ensures c.if-f-turn.true; low = omega (arith, s.requires.0, c.if-f-turn.true) }
-
-pub returns : goal.returns
-returns c =
-    let s = c.before in
-    let a = s.args in
-    let f = c.first_mark-e in
-    let g = c.first_mark-f in
-    record { is = none_is a.n a.turn a.bits.now s.requires.0 f.result f.ensures c.if-e-n.false g.result g.ensures c.if-f-turn.false; low = omega (arith, s.requires.0) }
+pub returns-clause-is : goal.returns-clause-is
+returns-clause-is c = let a = c.args in round_is a.n a.turn a.bits.now c.requires.0 c.in_default.ensures c.in_ok-f.f c.in_ok-f.ensures
