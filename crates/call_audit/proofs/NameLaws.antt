@@ -2,7 +2,7 @@
 -- an open connection and each open connection's waiting is the number of its cells.
 use Prim.Native.Nat.{ℕ, ◌≤◌, ◌<◌}
 use mathlib.Core.Path.{◌≡◌, refl, sym, ap, ◌∙◌}
-use mathlib.Core.Bool.{Bool, true, false}
+use mathlib.Core.Bool.{Bool, true, false, true≢false}
 use mathlib.Core.List.{List, [], ◌∷◌, map}
 use native.Mathlib.Omega.{arith}
 use native.Mathlib.Decide.{ℕ_discrete, dec_lt}
@@ -16,7 +16,7 @@ use Rattle.meaning.specs.Audit.{count, connection_in}
 use Rattle.meaning.proofs.NamesLaws.{names_low, names_used}
 use Rattle.call_audit.specs.Budgets.{waits_at}
 use Rattle.mem_walks.specs.Walk.{name_of}
-use Rattle.mem_walks.proofs.Choice.{both, false_true}
+use Rattle.std.proofs.lemmas.Bool.{and_parts}
 use Rattle.mem_walks.proofs.BudgetLaws.{is, is_same, is_no}
 use Rattle.call_audit.proofs.WaitsLaws.{MayWait, waits_some, waits_open, waits_shut}
 
@@ -30,7 +30,7 @@ open_named : (z : ℕ) (words : List ℕ) (h : Header) → names_open z words h 
     → (names_connection z h ≡ true) × MayWait words z (connection z h)
 unfolding names_open connection_at
 open_named z words h t =
-    let a = both (names_connection z h) (get_or words (open_place (connection z h)) 0 =? 1) t in
+    let a = and_parts (names_connection z h) (get_or words (open_place (connection z h)) 0 =? 1) t in
     let opened = eqb-true (get_or words (open_place (connection z h)) 0) 1 a.1 in
     (a.0, (names_low z h a.0, names_used z h a.0, opened))
 
@@ -127,5 +127,5 @@ module _ (kind z : ℕ) (cells words xs : List ℕ) where
       go (yes a) false b (yes d) =
           ap (count u) (names_same f) ∙ sym (waits_open words z u (a, b, d) ∙ g u a b d)
       go (no a) b e d = shut (λ h. a h.0)
-      go (yes a) true b d = shut (λ h. false_true (sym h.1 ∙ b))
+      go (yes a) true b d = shut (λ h. absurd (true≢false (sym b ∙ h.1)))
       go (yes a) false b (no d) = shut (λ h. d h.2)

@@ -11,23 +11,17 @@ use lib.Seq.{get_or-set_same, get_or-set_other}
 use borrow.Author.Tests.{lt-ltb, le-ltb, le-leb, lt-leb, eq-eqb, ne_eqb, eqb-true, ltb-true, not-true}
 use Rattle.meaning.specs.Plain.{when◌then◌else◌, ◌<?◌, ◌≤?◌, ◌=?◌}
 use Rattle.meaning.specs.Numbers.{paths, connections_in, unused, words_per_connection}
-use Rattle.meaning.specs.Bits.{is_free_space}
 use Rattle.meaning.specs.Words.{connection_at, connection_fits}
 use Rattle.call_audit.specs.Budgets.{uses_of, inside, waits_of, filled_at, waits_at, FitFrom, AllFit}
 use Rattle.meaning.proofs.WordsLaws.{opened_at, waiting_at}
 use Rattle.meaning.proofs.NamesLaws.{used_is, used_not_0, used_not_z}
 use Rattle.mem_walks.specs.Budget.{Gone}
-use Rattle.mem_walks.proofs.Choice.{if_elim, both}
+use Rattle.std.proofs.lemmas.Bool.{and_parts}
+use Rattle.mem_walks.proofs.Choice.{if_elim}
 
 -- Spaces
 
 module _ (bits : List ℕ) where
-  pub uses_free : (x : ℕ) → is_free_space bits x ≡ true → 0 ≡ uses_of bits x
-  uses_free x e = rw e
-
-  pub uses_other : (x : ℕ) → is_free_space bits x ≡ false → 1 ≡ uses_of bits x
-  uses_other x e = rw e
-
   pub inside_yes : (k n : ℕ) → k < n → inside bits k n ≡ uses_of bits k
   unfolding inside
   inside_yes k n h = rw (lt-ltb k n h)
@@ -136,7 +130,7 @@ module _ (words : List ℕ) where
       if_elim (λ (y : ℕ). 0 < y → MayWait z k) (k <? connections_in z && not (unused z k)) _ 0
       (λ a. if_elim (λ (y : ℕ). 0 < y → MayWait z k) ((connection_at words k).opened =? 1) (connection_at words k).waiting 0
       (λ d _.
-      let i = both (k <? connections_in z) (not (unused z k)) a in
+      let i = and_parts (k <? connections_in z) (not (unused z k)) a in
       (ltb-true k (connections_in z) i.0, not-true (unused z k) i.1, eqb-true (connection_at words k).opened 1 d))
       (λ d h. absurd (omega arith)))
       (λ a h. absurd (omega arith))

@@ -30,6 +30,7 @@ impl Refused {
 }
 
 // Whether the list with a head and a tail has a cell; none where they are out of range.
+#[tactic(auto, unfolding(crate::specs::Ends::cell_in, meaning::specs::Lists::ends_fit))]
 fn has_cell(n: u16, head: u16, tail: u16) -> Option<bool>
     requires { n ≤ most_n }
     ensures { result ≡ cell_in n (ends_of head tail) }
@@ -55,6 +56,7 @@ fn entry_after(n: u16, turn: u16, d: u16) -> u16
 
 // The answer where refusals 1 and 2 are not given, T is below N and the Output List is empty: the distance to the nearest marked entry, if that
 // entry has a cell.
+#[tactic(auto, unfolding(crate::specs::Ends::entry_wait, crate::specs::Ends::cell_in, meaning::specs::Lists::entry_at))]
 fn until_entry(n: u16, turn: u16, calendar: &[u16], bits: &[u64]) -> Result<Option<u16>, Refused>
     requires { (n ≤ most_n) × (turn < n) × (length calendar.now ≡ per_entry * n) × (length bits.now ≡ bit_words) }
     ensures { wait_is result ≡ entry_wait n turn calendar.now bits.now }
@@ -71,6 +73,7 @@ fn until_entry(n: u16, turn: u16, calendar: &[u16], bits: &[u64]) -> Result<Opti
 }
 
 // The answer, or why there is none: how many slots from now the next cell leaves; none where none waits.
+#[tactic(auto, using(leaf_refusal::proofs::Ranges::ranges_facts), unfolding(meaning::specs::Next::wait_for, crate::specs::Ends::entry_wait, crate::specs::Ends::cell_in))]
 fn until(r: Record, calendar: &[u16], bits: &[u64]) -> Result<Option<u16>, Refused>
     ensures { wait_is result ≡ wait_for r calendar.now bits.now }
 {

@@ -5,12 +5,9 @@ use mathlib.Core.Logic.{◌≢◌}
 use mathlib.Core.List.{List}
 use native.Mathlib.Omega.{arith}
 use borrow.Author.Tests.{eq-eqb, ne_eqb}
-use lib.Count.{count_trailing_zeros, trailing_le}
+use lib.Count.{count_trailing_zeros}
 use lib.ListN.{get_or}
 use Rattle.meaning.specs.Bits.{lowest_from}
-
-pub zeros_low : (w : ℕ) → count_trailing_zeros 64 w ≤ 64
-zeros_low w = trailing_le 64 w
 
 here : (k i : ℕ) (bits : List ℕ) → get_or bits i 0 ≢ 0 → lowest_from (suc k) i bits ≡ 64 * i + count_trailing_zeros 64 (get_or bits i 0)
 unfolding lowest_from
