@@ -35,12 +35,10 @@ fn has_cell(n: u16, head: u16, tail: u16) -> Option<bool>
     requires { n ≤ most_n }
     ensures { result ≡ cell_in n (ends_of head tail) }
 {
-    if head < n && tail < n {
-        Some(true)
-    } else if head == 65535 && tail == 65535 {
-        Some(false)
+    if head == 65535 {
+        (tail == 65535).then_some(false)
     } else {
-        None
+        (head < n && tail < n).then_some(true)
     }
 }
 
