@@ -1,8 +1,9 @@
 -- The cases of the definitions, over plain numbers.
-use Rattle.std.proofs.Common.{◌≡◌, ℕ, suc, ◌+◌, ◌*◌, ◌/◌, ◌^◌, ◌<◌, ◌≤◌, Bool, true, false, not, ◌&&◌, ◌||◌, List, [], ◌∷◌, length, get_or, drop, sym, refl, ap, ◌∙◌, arith, drop-cons, ltb-true, eq-eqb, ne_eqb, eqb-true, le-leb, leb-true}
+use Rattle.std.proofs.Common.{◌≡◌, ℕ, suc, ◌+◌, ◌*◌, ◌/◌, ◌^◌, ◌<◌, ◌≤◌, Bool, true, false, not, ◌&&◌, List, length, get_or, drop, sym, refl, ◌∙◌, arith, drop-cons, ltb-true, eq-eqb, ne_eqb, eqb-true, le-leb, leb-true}
+use mir.Val.{bool_byte}
 use native.Mathlib.Decide.{dec_lt}
 use borrow.Author.Tests.{eqb-false, lt-leb}
-use Rattle.meaning.specs.Plain.{when◌then◌else◌, ◌<?◌, ◌≤?◌, ◌=?◌}
+use Rattle.meaning.specs.Plain.{when◌then◌else◌, ◌≤?◌, ◌=?◌}
 use Rattle.meaning.specs.Numbers.{ranges_hold}
 use Rattle.meaning.specs.declared.Record.{Record}
 use Rattle.call_tally.specs.Tally.{most_cells, sum, tally_fits, is_connection, space_fits, tally_refusal, lowest, share_fits}
@@ -52,9 +53,10 @@ module _ (need : ℕ) (bins : List ℕ) where
   lowest_next i s h r = rw (drop-cons bins i 0 h, lt-leb _ _ r) refl
 
 -- ── whether the bins add up: the sum w on 64 bits, what lies over all bins a, and 1 where w is not the number ──
-pub one_low : (b : Bool) → (when b then 1 else 0) ≤ 1
-one_low true = omega arith
-one_low false = omega arith
+-- the octet of a truth value is that 1 or 0
+pub byte_is : (b : Bool) → bool_byte b ≡ (when b then 1 else 0)
+byte_is true = refl
+byte_is false = refl
 
 module _ (bins : List ℕ) (cells w a : ℕ) (low : cells ≤ most_cells) (o : Over 64 (sum bins) w a) where
   small : a < 2 ^ 33 → (b : Bool) → (w =? cells) ≡ b → (a / 2 ^ 33 + (when not b then 1 else 0) =? 0) ≡ tally_fits bins cells

@@ -1,10 +1,10 @@
 -- The laws D4, D5 and D6 of the percentile: document 02's words, then by counting delays, then by sorting them.
-use Rattle.std.proofs.Common.{◌≡◌, ℕ, zero, suc, ◌+◌, ◌-◌, ◌*◌, ◌/◌, ◌<◌, ◌≤◌, Bool, true, false, List, [], ◌∷◌, length, get_or, take, sym, refl, ap, ◌∙◌, not-suc-le-zero, mul-le-mul_right, mul-le-mul, add-one, arith, leb-false, leb-true}
+use Rattle.std.proofs.Common.{◌≡◌, ℕ, zero, suc, ◌+◌, ◌-◌, ◌*◌, ◌<◌, ◌≤◌, Bool, true, false, List, [], ◌∷◌, length, get_or, take, sym, refl, ap, ◌∙◌, not-suc-le-zero, mul-le-mul_right, mul-le-mul, add-one, arith, leb-false, leb-true}
 use Rattle.meaning.specs.Plain.{when◌then◌else◌, ◌≤?◌}
 use Rattle.call_tally.specs.declared.Tally.{Tally}
 use Rattle.call_tally.specs.Tally.{bins_in, most_cells, sum, tally_fits, share_fits, lowest, report_of, percentile_of}
-use Rattle.call_tally.specs.Delays.{no_cells, tally_all, cut, how_many, is_it, below, at_most, rank}
-use Rattle.call_tally.specs.Laws.{Counted, ByCount, OrderIs, SortedIs, LowestAt, LowestIs}
+use Rattle.call_tally.specs.Delays.{no_cells, tally_all, cut, how_many, is_it, below, rank}
+use Rattle.call_tally.specs.Laws.{ByCount, OrderIs, SortedIs, LowestAt, LowestIs}
 use Rattle.call_tally.proofs.Sums.{sum_more, sum_none}
 use Rattle.call_tally.proofs.Cases.{fits_facts, fits_good, share_facts, share_good}
 use Rattle.call_tally.proofs.Counting.{below_more, below_none, at_most_below, same_below, kth}

@@ -1,18 +1,17 @@
 -- The step of a call: its bin is one of the 64; it adds a cell only to a tally that fits and isn't full; and adding what it says to
 -- its bin and to the number is the call's own definition.
-use Rattle.std.proofs.Common.{◌≡◌, ℕ, zero, suc, ◌+◌, ◌^◌, ◌<◌, ◌≤◌, Bool, true, false, not, List, length, get_or, set, sym, refl, ap, ◌∙◌, ap₂, add-zero, arith, ne_eqb}
+use Rattle.std.proofs.Common.{◌≡◌, ℕ, zero, suc, ◌+◌, ◌^◌, ◌<◌, Bool, true, false, not, List, length, get_or, set, refl, ap, ◌∙◌, ap₂, add-zero, arith, ne_eqb}
 use lib.Seq.{set-get_or}
 use borrow.Author.Tests.{eqb-false}
 use Rattle.meaning.specs.Plain.{when◌then◌else◌, ◌=?◌}
 use Rattle.meaning.specs.Bucket.{elapsed}
 use Rattle.meaning.specs.declared.Record.{Record}
-use Rattle.call_tally.specs.declared.Step.{Step}
 use Rattle.call_tally.specs.declared.Tally.{Tally}
 use Rattle.call_tally.specs.declared.Tallied.{Tallied}
 use Rattle.call_tally.specs.Tally.{tally_of, tallied_of, bins_in, bin_of, most_cells, tally_fits, tally_refusal, tally_one, tally_slot}
-use Rattle.call_tally.specs.Step.{step_to, step_of}
+use Rattle.call_tally.specs.Step.{Step, step_to, step_of}
 use Rattle.call_tally.proofs.Sums.{at_most_sum}
-use Rattle.call_tally.proofs.Cases.{fits_facts, NotRefused, not_refused}
+use Rattle.call_tally.proofs.Cases.{fits_facts, not_refused}
 
 -- no cell more, or one where the tally fits and isn't full
 pub data More (bins : List ℕ) (cells : ℕ) : ℕ → Type 0 where
@@ -27,7 +26,7 @@ abbrev pub moved : Tally → Step → Tallied
 moved t s = tallied_of s.number (tally_of (set t.bins s.bin (get_or t.bins s.bin 0 + s.more)) (t.cells + s.more))
 
 -- none more leaves a tally as it is
-stays_so : (t : Tally) (number : ℕ) → moved t (step_to number 0 0) ≡ tallied_of number t
+pub stays_so : (t : Tally) (number : ℕ) → moved t (step_to number 0 0) ≡ tallied_of number t
 stays_so t number =
     ap₂ (λ (bins : List ℕ) (cells : ℕ). tallied_of number (tally_of bins cells))
     (ap (λ (v : ℕ). set t.bins 0 v) (add-zero (get_or t.bins 0 0)) ∙ set-get_or t.bins 0 0) (add-zero t.cells)

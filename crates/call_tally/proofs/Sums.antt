@@ -1,6 +1,6 @@
 -- Sums of bins: one bin more, one cell more, no bin above the sum; and a sum on 64 bits that wrap, beside the bins laid over
 -- each other.
-use Rattle.std.proofs.Common.{◌≡◌, ℕ, zero, suc, ◌+◌, ◌*◌, ◌%◌, ◌^◌, ◌<◌, ◌≤◌, List, [], ◌∷◌, length, get_or, take, sym, ap, ◌∙◌, zero-le, le_of_suc-le-suc, not-suc-le-zero, mod-eq_of_lt, suc-mul, mul-le-mul_left, arith, take_all}
+use Rattle.std.proofs.Common.{◌≡◌, ℕ, zero, suc, ◌+◌, ◌*◌, ◌%◌, ◌^◌, ◌<◌, ◌≤◌, List, [], ◌∷◌, length, get_or, take, ap, ◌∙◌, zero-le, le_of_suc-le-suc, not-suc-le-zero, mod-eq_of_lt, suc-mul, mul-le-mul_left, arith}
 use native.Mathlib.Nat.{mod-add-mod}
 use lib.Bits.{bit_or, bit_and, or_add_and, and_le_l, and_le_r}
 use Rattle.call_tally.specs.Tally.{sum, one_more}

@@ -1,17 +1,16 @@
 -- The laws D1, D2 and D3 of a tally: its bins add up to its number, and each is the recount of the delays.
-use Rattle.std.proofs.Common.{◌≡◌, ℕ, zero, suc, ◌+◌, ◌<◌, ◌≤◌, min, Bool, true, false, not, List, [], ◌∷◌, length, get_or, set, replicate, sym, refl, ap, ◌∙◌, subst, arith, length-set, get_or-set_other, get_or-set_same, eq-eqb, ne_eqb, eqb-true, le-leb}
+use Rattle.std.proofs.Common.{◌≡◌, ℕ, zero, suc, ◌+◌, ◌<◌, ◌≤◌, Bool, true, false, not, List, [], ◌∷◌, length, get_or, set, replicate, sym, refl, ◌∙◌, subst, arith, length-set, get_or-set_other, get_or-set_same, eq-eqb, ne_eqb, le-leb}
 use native.Mathlib.Decide.{dec_lt, ℕ_discrete}
-use borrow.Author.Tests.{eqb-false, lt-leb}
+use borrow.Author.Tests.{lt-leb}
 use Rattle.meaning.specs.Plain.{when◌then◌else◌, ◌≤?◌, ◌=?◌}
 use Rattle.meaning.specs.Bucket.{elapsed}
-use Rattle.meaning.specs.declared.Record.{Record}
 use Rattle.call_tally.specs.declared.Tally.{Tally}
 use Rattle.call_tally.specs.declared.Tallied.{Tallied}
 use Rattle.call_tally.specs.Tally.{tally_of, tallied_of, bins_in, last_bin, bin_of, most_cells, sum, tally_refusal, one_more, tally_one, tally_slot}
 use Rattle.call_tally.specs.Delays.{no_cells, tally_all, cut, how_many, is_it, at_least}
-use Rattle.call_tally.specs.Laws.{AddsUp, StaysFit, Counted, BinsCount, NoMore}
+use Rattle.call_tally.specs.Laws.{AddsUp, StaysFit, BinsCount, NoMore}
 use Rattle.call_tally.proofs.Sums.{sum_one_more}
-use Rattle.call_tally.proofs.Cases.{fits_facts, NotRefused, not_refused}
+use Rattle.call_tally.proofs.Cases.{fits_facts, not_refused}
 use Rattle.call_tally.proofs.Counting.{one_if, cut_same}
 
 -- ── one cell ──

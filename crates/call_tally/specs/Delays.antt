@@ -8,7 +8,7 @@
 --   Ascending l        == l is sorted
 --   SameNumbers l k    == each number is in l as often as in k
 --   rank share n       == share × n / 1,000, rounded up: the how-manieth of n sorted delays the percentile is, counted from 1
-use Rattle.std.specs.Prelude.{◌≡◌, ℕ, ◌+◌, ◌*◌, ◌/◌, ◌<◌, ◌≤◌, Bool, List, [], ◌∷◌, map, length, replicate, slice_index}
+use Rattle.std.specs.Prelude.{◌≡◌, ℕ, ◌+◌, ◌*◌, ◌/◌, ◌<◌, ◌≤◌, Bool, List, [], ◌∷◌, length, replicate, slice_index}
 use Rattle.meaning.specs.Plain.{when◌then◌else◌, ◌<?◌, ◌≤?◌, ◌=?◌}
 use Rattle.call_tally.specs.declared.Tally.{Tally}
 use Rattle.call_tally.specs.Tally.{tally_of, bins_in, bin_of, tally_one}

@@ -11,11 +11,13 @@
 --   lowest need s bins   == the lowest bin at which 1,000 times the running sum reaches need, s being the sum before the first
 --   percentile_of         == the call that reports a percentile
 -- z is V, c the named connection, x the departing space, o the departing VCI.
-use Rattle.std.specs.Prelude.{ℕ, suc, ◌+◌, ◌*◌, ◌^◌, min, Bool, not, ◌&&◌, ◌||◌, List, [], ◌∷◌, length, slice_index, slice_set}
+use Rattle.std.specs.Prelude.{ℕ, suc, ◌+◌, ◌*◌, ◌^◌, min, Bool, not, ◌&&◌, ◌||◌, List, [], ◌∷◌, length, slice_index, slice_set, Result, Ok, Err}
 use Rattle.meaning.specs.Plain.{when◌then◌else◌, ◌<?◌, ◌≤?◌, ◌=?◌}
 use Rattle.meaning.specs.Numbers.{empty, ranges_hold, connections_in, unused}
 use Rattle.meaning.specs.Bucket.{elapsed}
 use Rattle.meaning.specs.declared.Record.{Record}
+use Rattle.leaf_refusal.specs.declared.Refusal.{Refusal}
+use Rattle.leaf_refusal.specs.Refusals.{number_of}
 use Rattle.call_tally.specs.declared.Tally.{Tally}
 use Rattle.call_tally.specs.declared.Tallied.{Tallied}
 use Rattle.call_tally.specs.declared.Bin.{Bin}
@@ -28,6 +30,11 @@ tallied_of number t = record { number = number; tally = t }
 
 abbrev pub report_of : ℕ → ℕ → Bin
 report_of number bin = record { number = number; bin = bin }
+
+-- the same as the code has it
+abbrev pub report_in : Result ℕ Refusal → Bin
+report_in (Ok bin) = report_of 0 bin
+report_in (Err why) = report_of (number_of why) 0
 
 -- "64 bins beside the number of cells, where bin 63 holds all from 63 up"
 abbrev pub bins_in : ℕ

@@ -2,14 +2,14 @@
 // is handed what a slot has answered, and changes nothing of the policer.
 #![tactic(auto)]
 
-ghost use Rattle.std.specs.Prelude.{◌≡◌, ◌+◌, ◌*◌, ◌%◌, ◌^◌, ◌<◌, ◌≤◌, true, length, slice_index, slice_set};
-ghost use Rattle.meaning.specs.Plain.{when◌then◌else◌};
+ghost use Rattle.std.specs.Prelude.{◌≡◌, ◌+◌, ◌*◌, ◌%◌, ◌^◌, ◌<◌, ◌≤◌, length, slice_index};
 ghost use Rattle.meaning.specs.Bucket.{elapsed};
-ghost use Rattle.call_tally.specs.Step.{step_of};
+ghost use Rattle.leaf_refusal.specs.Refusals.{given_number};
+ghost use Rattle.call_tally.specs.Step.{step_of, step_in};
 ghost use Rattle.call_tally.specs.Tally.{bin_of, sum, most_cells, tally_fits, is_connection, space_fits, tally_refusal, standing};
-ghost use Rattle.call_tally.specs.Tally.{tally_of, one_more, tally_one, tally_slot, lowest, share_fits, percentile_of};
+ghost use Rattle.call_tally.specs.Tally.{tally_of, one_more, tally_slot, lowest, share_fits, percentile_of, report_in};
 
-use leaf_refusal::ranges_hold;
+use leaf_refusal::{Refusal, ranges_hold, refuse_unless};
 use meaning::{PATHS, Record};
 
 // How many cells waited 0, 1, .. 62 slots, how many waited 63 or more, and how many there were.
@@ -34,117 +34,77 @@ pub struct Bin {
     pub bin: u16,
 }
 
-#[derive(Clone, Copy)]
-struct Step {
-    number: u16,
-    bin: usize,
-    more: u64,
-}
+// "A tally of 2^32 cells takes no more."
+const MOST_CELLS: u64 = 4294967296;
 
-// All bins added, on 64 bits that wrap, and all bins laid over each other: the second says whether the first can have wrapped.
-#[derive(Clone, Copy)]
-struct Total {
-    sum: u64,
-    any: u64,
-}
-
-// No test within the loop, so that bins are added two at a time. (A contract doesn't know by itself that 64 numbers are lent.)
-fn add_all(bins: &[u64; 64]) -> Total
-    requires { length bins.now ≡ 64 }
-    ensures { (result.sum ≡ sum bins.now % 2 ^ 64) × (sum bins.now ≤ 64 * result.any) × (result.any ≤ sum bins.now) }
+// All bins added, on 64 bits that wrap, and all bins laid over each other: the second says whether the first can have wrapped. No
+// test within the loop, so that bins are added two at a time.
+fn add_all(bins: &[u64; 64]) -> (u64, u64)
+    ensures { (result.0 ≡ sum bins.now % 2 ^ 64) × (sum bins.now ≤ 64 * result.1) × (result.1 ≤ sum bins.now) }
 {
     let mut sum = 0u64;
-    let mut any = 0u64;
-    let mut i = 0;
-    while i < 64 {
-        sum = std::num::wrapping_add_u64(sum, bins[i]);
-        any = any | bins[i];
-        i += 1;
+    let mut any = 0;
+    for bin in bins {
+        sum = sum.wrapping_add(*bin);
+        any |= *bin;
     }
-    Total { sum: sum, any: any }
-}
-
-fn one_if(given: bool) -> u64
-    ensures { result ≡ (when given then 1 else 0) }
-{
-    if given { 1 } else { 0 }
+    (sum, any)
 }
 
 // "3, a tally whose number is above 2^32 or not the sum of its bins". Where no bin has more than 33 bits, the sum has not wrapped;
 // where one has, the sum is above 2^32. Both are asked as one test, so that the bins are loaded once.
-fn adds_up(bins: &[u64; 64], cells: u64) -> bool
-    requires { length bins.now ≡ 64 }
-    ensures { result ≡ tally_fits bins.now cells }
+fn adds_up(tally: &Tally) -> bool
+    ensures { result ≡ tally_fits tally.now.bins tally.now.cells }
 {
-    if cells > 4294967296 {
+    if tally.cells > MOST_CELLS {
         return false;
     }
-    let total = add_all(bins);
-    let high = total.any >> 33;
-    let off = one_if(total.sum != cells);
-    high + off == 0
+    let (sum, any) = add_all(&tally.bins);
+    (any >> 33) + u64::from(sum != tally.cells) == 0
 }
 
 // Refusal 4: a number outside 1 to V-1 and V+1 to V+255.
+#[tactic(auto, unfolding(crate::specs::Tally::is_connection, meaning::specs::Numbers::unused))]
 fn is_connection(v: u16, connection: u16) -> bool
     requires { v ≤ 1024 }
     ensures { result ≡ is_connection v connection }
 {
-    if connection == 0 {
-        return false;
-    }
-    if connection == v {
-        return false;
-    }
-    connection < v + PATHS
+    connection != 0 && connection != v && connection < v + PATHS
 }
 
 // The space is read only where the named connection's cell has left.
+#[tactic(auto, unfolding(crate::specs::Tally::space_fits))]
 fn space_fits(n: u16, connection: u16, space: u16, departing: u16) -> bool
     ensures { result ≡ space_fits n connection space departing }
 {
-    if departing != connection {
-        return true;
-    }
-    space < n
+    departing != connection || space < n
 }
 
-// Refusals 1, 2, 4 and 3, in this order, or 0. The bins come last, since they take longest.
+// Refusals 1, 2, 4 and 3, in this order. The bins come last, since they take longest.
+#[tactic(auto, unfolding(crate::specs::Tally::tally_refusal))]
 fn refusal_of(
-    bins: &[u64; 64],
-    cells: u64,
+    tally: &Tally,
     ctl: Record,
     arrived: usize,
     connection: u16,
     space: u16,
     departing: u16,
-) -> u16
-    requires { length bins.now ≡ 64 }
-    ensures { result ≡ tally_refusal bins.now cells ctl arrived connection space departing }
+) -> Result<(), Refusal>
+    ensures { given_number result ≡ tally_refusal tally.now.bins tally.now.cells ctl arrived connection space departing }
 {
-    if !ranges_hold(ctl.n, ctl.v) {
-        return 1;
-    }
-    if arrived != ctl.n as usize {
-        return 2;
-    }
-    if !is_connection(ctl.v, connection) {
-        return 4;
-    }
-    if !space_fits(ctl.n, connection, space, departing) {
-        return 3;
-    }
-    if !adds_up(bins, cells) {
-        return 3;
-    }
-    0
+    refuse_unless(ranges_hold(ctl.n, ctl.v), Refusal::Ranges)?;
+    refuse_unless(arrived == usize::from(ctl.n), Refusal::Lengths)?;
+    refuse_unless(is_connection(ctl.v, connection), Refusal::Name)?;
+    let spaces = space_fits(ctl.n, connection, space, departing);
+    refuse_unless(spaces, Refusal::Stored)?;
+    refuse_unless(adds_up(tally), Refusal::Stored)
 }
 
 // The slots from arrival to t, on the clock that wraps.
 fn delay_of(t: u32, arrival: u32) -> u32
     ensures { result ≡ elapsed t arrival }
 {
-    std::num::wrapping_sub_u32(t, arrival)
+    t.wrapping_sub(arrival)
 }
 
 // "bin 63 holds all from 63 up"
@@ -154,70 +114,39 @@ fn bin_of(delay: u32) -> usize
     if delay < 63 { delay as usize } else { 63 }
 }
 
-// What a call comes to: the number to give, and a bin with how many cells more it gets, none or one. "A tally of 2^32 cells takes no
-// more."
+// What a call comes to: a refusal, or the bin that gets one cell more, if one does.
 fn step_of(
-    bins: &[u64; 64],
-    cells: u64,
+    tally: &Tally,
     ctl: Record,
     arrived: &[u32],
     connection: u16,
     space: u16,
     departing: u16,
-) -> Step
-    requires { length bins.now ≡ 64 }
-    ensures { result ≡ step_of bins.now cells ctl arrived.now connection space departing }
+) -> Result<Option<usize>, Refusal>
+    ensures { step_in result ≡ step_of tally.now.bins tally.now.cells ctl arrived.now connection space departing }
 {
-    let number = refusal_of(
-        bins,
-        cells,
-        ctl,
-        arrived.len(),
-        connection,
-        space,
-        departing,
-    );
-    if number != 0 {
-        return Step {
-            number: number,
-            bin: 0,
-            more: 0,
-        };
-    }
+    refusal_of(tally, ctl, arrived.len(), connection, space, departing)?;
     if departing != connection {
-        return Step {
-            number: 0,
-            bin: 0,
-            more: 0,
-        };
+        return Ok(None);
     }
-    if cells == 4294967296 {
-        return Step {
-            number: 0,
-            bin: 0,
-            more: 0,
-        };
+    if tally.cells == MOST_CELLS {
+        return Ok(None);
     }
-    let at = space as usize;
-    let delay = delay_of(ctl.t, arrived[at]);
-    let bin = bin_of(delay);
-    Step {
-        number: 0,
-        bin: bin,
-        more: 1,
-    }
+    let delay = delay_of(ctl.t, arrived[usize::from(space)]);
+    Ok(Some(bin_of(delay)))
 }
 
-// So many cells more in one bin. (An element of an array within a struct within a struct is reached by lending the array.)
-fn add_to(bins: &mut [u64; 64], bin: usize, more: u64)
-    requires { (length bins.old ≡ 64) × (bin < 64) × (slice_index bins.old bin + more < 2 ^ 64) }
-    ensures { bins.new ≡ slice_set bins.old bin (slice_index bins.old bin + more) }
+// One cell more in this bin.
+fn add_to(tally: &mut Tally, bin: usize)
+    requires { (bin < 64) × (slice_index tally.old.bins bin + 1 < 2 ^ 64) × (tally.old.cells + 1 < 2 ^ 64) }
+    ensures { tally.new ≡ tally_of (one_more tally.old.bins bin) (tally.old.cells + 1) }
 {
-    bins[bin] = bins[bin] + more;
+    tally.bins[bin] += 1;
+    tally.cells += 1;
 }
 
-// After a slot that answered this departing space and VCI: the tally of the named connection. One way for every answer, without a
-// branch, and in the struct that is given back, copies the bins the least.
+// After a slot that answered this departing space and VCI: the tally of the named connection. What is given back is made first, and the
+// cell is added there, so that the bins are copied the least.
 pub fn tally_slot(
     tally: Tally,
     ctl: Record,
@@ -228,111 +157,94 @@ pub fn tally_slot(
 ) -> Tallied
     ensures { result ≡ tally_slot tally ctl arrived.now connection space departing }
 {
-    let step = step_of(
-        &tally.bins,
-        tally.cells,
-        ctl,
-        arrived,
-        connection,
-        space,
-        departing,
-    );
-    let mut given = Tallied {
-        number: step.number,
-        tally: tally,
-    };
-    add_to(&mut given.tally.bins, step.bin, step.more);
-    given.tally.cells = tally.cells + step.more;
+    let mut given = Tallied { number: 0, tally };
+    match step_of(&tally, ctl, arrived, connection, space, departing) {
+        Ok(Some(bin)) => add_to(&mut given.tally, bin),
+        Ok(None) => {}
+        Err(why) => given.number = u16::from(why),
+    }
     given
 }
 
 // Refusals 1, 2, 4 and 3 of a tally before the first slot of a burst.
 pub fn standing_refusal(
-    bins: &[u64; 64],
-    cells: u64,
+    tally: &Tally,
     ctl: Record,
     arrived: usize,
     connection: u16,
-) -> u16
-    requires { length bins.now ≡ 64 }
-    ensures { result ≡ standing bins.now cells ctl arrived connection }
+) -> Result<(), Refusal>
+    ensures { given_number result ≡ standing tally.now.bins tally.now.cells ctl arrived connection }
 {
-    refusal_of(bins, cells, ctl, arrived, connection, 65535, 0)
+    refusal_of(tally, ctl, arrived, connection, 65535, 0)
 }
 
-// The same after a slot of a burst, where the tally was judged before the first: its bins are not added up again. What is given
-// back is the number of cells.
+// The same after a slot of a burst, where the tally was judged before the first: its bins are not added up again.
 pub fn take_departure(
-    bins: &mut [u64; 64],
-    cells: u64,
+    tally: &mut Tally,
     ctl: Record,
     arrived: &[u32],
     connection: u16,
     space: u16,
     departing: u16,
-) -> u64
-    requires { (length bins.old ≡ 64) × (standing bins.old cells ctl (length arrived.now) connection ≡ 0) }
-    ensures { tally_of bins.new result ≡ (tally_slot (tally_of bins.old cells) ctl arrived.now connection space departing).tally }
+)
+    requires { standing tally.old.bins tally.old.cells ctl (length arrived.now) connection ≡ 0 }
+    ensures { tally.new ≡ (tally_slot tally.old ctl arrived.now connection space departing).tally }
 {
     if departing != connection {
-        return cells;
+        return;
     }
     if space >= ctl.n {
-        return cells;
+        return;
     }
-    if cells == 4294967296 {
-        return cells;
+    if tally.cells == MOST_CELLS {
+        return;
     }
-    let delay = delay_of(ctl.t, arrived[space as usize]);
-    let bin = bin_of(delay);
-    add_to(bins, bin, 1);
-    cells + 1
+    let delay = delay_of(ctl.t, arrived[usize::from(space)]);
+    add_to(tally, bin_of(delay));
 }
 
 // All bins together reach what is needed, so the last one is not looked at.
 fn lowest_bin(bins: &[u64; 64], need: u64) -> u16
-    requires { (length bins.now ≡ 64) × (sum bins.now ≤ most_cells) × (need ≤ 1000 * sum bins.now) }
+    requires { (sum bins.now ≤ most_cells) × (need ≤ 1000 * sum bins.now) }
     ensures { result ≡ lowest need 0 bins.now }
 {
-    let mut running = 0u64;
-    let mut i = 0;
-    while i < 63 {
-        running += bins[i];
+    let mut running = 0;
+    for i in 0..63 {
+        running += bins[usize::from(i)];
         if 1000 * running >= need {
-            return i as u16;
+            return i;
         }
-        i += 1;
     }
     63
 }
 
 // "15, share outside 1 to 1,000, or no cell sent"
+#[tactic(auto, using(leaf_refusal::proofs::Within::within), unfolding(crate::specs::Tally::share_fits))]
 fn share_fits(share: u16, cells: u64) -> bool
     ensures { result ≡ share_fits share cells }
 {
-    if share < 1 {
-        return false;
-    }
-    if share > 1000 {
-        return false;
-    }
-    cells >= 1
+    (1..=1000).contains(&share) && cells >= 1
+}
+
+// The bin of a share in thousandths, or the first of refusals 3 and 15.
+fn bin_at(tally: &Tally, share: u16) -> Result<u16, Refusal>
+    ensures { report_in result ≡ percentile_of tally.now share }
+{
+    refuse_unless(adds_up(tally), Refusal::Stored)?;
+    refuse_unless(share_fits(share, tally.cells), Refusal::Share)?;
+    let need = u64::from(share) * tally.cells;
+    Ok(lowest_bin(&tally.bins, need))
 }
 
 // The share is in thousandths: 500 asks for the median.
 pub fn percentile(tally: Tally, share: u16) -> Bin
     ensures { result ≡ percentile_of tally share }
 {
-    if !adds_up(&tally.bins, tally.cells) {
-        return Bin { number: 3, bin: 0 };
-    }
-    if !share_fits(share, tally.cells) {
-        return Bin { number: 15, bin: 0 };
-    }
-    let need = share as u64 * tally.cells;
-    let bin = lowest_bin(&tally.bins, need);
-    Bin {
-        number: 0,
-        bin: bin,
+    match bin_at(&tally, share) {
+        Ok(bin) => Bin { number: 0, bin },
+        Err(why) => Bin {
+            number: u16::from(why),
+            bin: 0,
+        },
     }
 }

@@ -28,9 +28,12 @@ held true why e = refl
 held false why e = absurd (never_0 why (sym (ap given_number e)))
 
 -- what a `?` answers with
+pub err_is : {A : Type 0} (r : Result A Refusal) (why : Refusal) → IsErrAnd r (λ e. e ≡ why) → r ≡ Err why
+err_is (Ok u) why h = absurd h
+err_is (Err e) why h = ap Err h
+
 pub passed_on : (r : Result Unit Refusal) (why : Refusal) → IsErrAnd r (λ e. e ≡ why) → given_number r ≡ number_of why
-passed_on (Ok u) why h = absurd h
-passed_on (Err e) why h = ap number_of h
+passed_on r why h = ap given_number (err_is r why h)
 
 -- what a line for a refusal says where it was not passed
 pub not_held : (b : Bool) (why e : Refusal) → ◌≡◌ {A = Result Unit Refusal} (Err e) (when b then Ok tt else Err why)

@@ -1,25 +1,20 @@
 -- `call_tally::adds_up` meets its contract: where no bin has more than 33 bits the sum is right, and where one has, it is above
 -- 2^32.
-use Rattle.std.proofs.Common.{ℕ, ◌+◌, ◌/◌, ◌^◌, not, sym, ap, ◌∙◌, arith}
+use Rattle.std.proofs.Common.{ℕ, ◌+◌, ◌/◌, ◌^◌, not, sym, ap, ◌∙◌}
 use Rattle.meaning.specs.Plain.{◌=?◌}
-use Rattle.call_tally.specs.Tally.{most_cells, sum}
-use Rattle.call_tally.proofs.Cases.{fits_over, one_low, judged}
+use Rattle.call_tally.specs.Tally.{most_cells}
+use Rattle.call_tally.proofs.Cases.{fits_over, byte_is, judged}
 use Rattle.call_tally.proofs.adds_up.Goals as goal
 
-pub returns-then-cells-gt4294967296 : goal.returns-then-cells-gt4294967296
+pub returns-then-tally-gt-MOST_CELLS : goal.returns-then-tally-gt-MOST_CELLS
 unfolding most_cells
-returns-then-cells-gt4294967296 c = sym (fits_over c.args.bins.now c.args.cells c.if-cells-gt4294967296.true)
-
-pub overflow_add-result : goal.overflow_add-result
-overflow_add-result c =
-    let t = c.add_all-total.result in
-    omega (arith, c.one_if-off.ensures, one_low (not (t.sum =? c.args.cells)))
+returns-then-tally-gt-MOST_CELLS c = let t = c.args.tally.now in sym (fits_over t.bins t.cells c.if-tally-gt-MOST_CELLS.true)
 
 pub returns : goal.returns
 unfolding most_cells
 returns c =
-    let a = c.args in
-    let t = c.add_all-total in
-    ap (λ (x : ℕ). t.result.any / 2 ^ 33 + x =? 0) c.one_if-off.ensures
-    ∙ judged a.bins.now a.cells t.result.sum t.result.any c.if-cells-gt4294967296.false
-    (record { wraps = t.ensures.0; covers = t.ensures.1; within = t.ensures.2 })
+    let t = c.args.tally.now in
+    let s = c.add_all-sum in
+    ap (λ (x : ℕ). s.result.1 / 2 ^ 33 + x =? 0) (c.from.ensures ∙ byte_is (not (s.result.0 =? t.cells)))
+    ∙ judged t.bins t.cells s.result.0 s.result.1 c.if-tally-gt-MOST_CELLS.false
+    (record { wraps = s.ensures.0; covers = s.ensures.1; within = s.ensures.2 })

@@ -6,4 +6,4 @@ use Rattle.call_tally.proofs.delay_of.Goals as goal
 
 pub returns : goal.returns
 unfolding elapsed slot_numbers
-returns c = omega (arith, c.wrapping_sub_u32.ensures)
+returns c = omega arith

@@ -1,6 +1,6 @@
 -- `call_tally::lowest_bin` meets its contract: the bins before bin i did not reach what is needed, so the lowest is i more than that
 -- from bin i on.
-use Rattle.std.proofs.Common.{◌≡◌, suc, ◌-◌, ◌^◌, ◌<◌, length, take, sym, refl, ap, add-one, arith, take_all, rules}
+use Rattle.std.proofs.Common.{◌≡◌, suc, ◌^◌, ◌<◌, length, take, sym, refl, ap, add-one, arith, take_all, rules}
 use Rattle.call_tally.specs.Tally.{sum, most_cells}
 use Rattle.call_tally.proofs.Sums.{sum_more, sum_take_le, sum_none}
 use Rattle.call_tally.proofs.Cases.{lowest_here, lowest_next}
@@ -11,50 +11,49 @@ unfolding most_cells
 low = refl
 
 pub loop-i-init : goal.loop-i-init
-loop-i-init c = (search rules, sym (sum_none c.args.bins.now), omega arith)
+loop-i-init c = (sym (sum_none c.args.bins.now), omega arith)
 
 pub overflow_add-running : goal.overflow_add-running
 overflow_add-running c =
     let l = c.args.bins.now in
     let i = c.loop-i.i in
-    let p = c.requires in
-    omega (arith, low, p.0, p.1, c.loop-i.invariant.1, sum_more l i (omega (arith, p.0)), sum_take_le l (suc i))
+    let n : length l ≡ 64 = search rules in
+    rw c.from.ensures (omega (arith, low, c.requires.0, c.loop-i.invariant.0, sum_more l i (omega (arith, n)), sum_take_le l (suc i)))
 
 pub overflow_mul-running : goal.overflow_mul-running
 overflow_mul-running c =
     let l = c.args.bins.now in
     let i = c.loop-i.i in
-    let p = c.requires in
-    omega (arith, low, p.0, p.1, c.loop-i.invariant.1, sum_more l i (omega (arith, p.0)), sum_take_le l (suc i))
+    let n : length l ≡ 64 = search rules in
+    rw c.from.ensures (omega (arith, low, c.requires.0, c.loop-i.invariant.0, sum_more l i (omega (arith, n)), sum_take_le l (suc i)))
 
 pub returns-then-running-need : goal.returns-then-running-need
 returns-then-running-need c =
     let l = c.args.bins.now in
-    let need = c.args.need in
     let o = c.loop-i in
-    let z = lowest_here need l o.i o.running (omega (arith, c.requires.0)) c.if-running-need.true in
-    omega (arith, z, o.invariant.2)
+    let n : length l ≡ 64 = search rules in
+    let z = lowest_here c.args.need l o.i o.running (omega (arith, n)) (rw c.from.ensures at c.if-running-need.true) in
+    omega (arith, z, o.invariant.1)
 
 pub loop-i-preserved : goal.loop-i-preserved
 loop-i-preserved c =
     let l = c.args.bins.now in
-    let need = c.args.need in
     let o = c.loop-i in
-    let h : o.i < length l = omega (arith, c.requires.0) in
-    let z = lowest_next need l o.i o.running h c.if-running-need.false in (
-      search rules,
-      rw (add-one o.i) (omega (arith, o.invariant.1, sum_more l o.i h)),
-      rw (add-one o.i) (omega (arith, z, o.invariant.2)),
+    let n : length l ≡ 64 = search rules in
+    let h : o.i < length l = omega (arith, n) in
+    let z = lowest_next c.args.need l o.i o.running h (rw c.from.ensures at c.if-running-need.false) in (
+      rw (c.from.ensures, add-one o.i) (omega (arith, o.invariant.0, sum_more l o.i h)),
+      rw (c.from.ensures, add-one o.i) (omega (arith, z, o.invariant.1)),
     )
 
 pub returns : goal.returns
 returns c =
     let l = c.args.bins.now in
-    let need = c.args.need in
     let p = c.requires in
     let o = c.loop-i in
+    let n : length l ≡ 64 = search rules in
     let e : o.i ≡ 63 = omega arith in
-    let all : sum (take 64 l) ≡ sum l = ap sum (take_all 64 l (omega (arith, p.0))) in
-    let r = rw e at o.invariant.1 in
-    let z = lowest_here need l 63 o.running (omega (arith, p.0)) (omega (arith, all, r, p.2, sum_more l 63 (omega (arith, p.0)))) in
-    omega (arith, z, rw e at o.invariant.2)
+    let all : sum (take 64 l) ≡ sum l = ap sum (take_all 64 l (omega (arith, n))) in
+    let r = rw e at o.invariant.0 in
+    let z = lowest_here c.args.need l 63 o.running (omega (arith, n)) (omega (arith, all, r, p.1, sum_more l 63 (omega (arith, n)))) in
+    omega (arith, z, rw e at o.invariant.1)
