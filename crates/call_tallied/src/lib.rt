@@ -5,16 +5,17 @@
 ghost use Rattle.std.specs.Prelude.{◌≡◌, not, ◌<◌, length, get_or};
 ghost use Rattle.meaning.specs.Lent.{before, after};
 ghost use Rattle.leaf_refusal.specs.Order.{refuse_of, first_of};
+ghost use Rattle.leaf_refusal.specs.Refusals.{given_number};
 ghost use Rattle.call_burst.specs.Burst.{one_slot, lengths_fit};
 ghost use Rattle.call_burst.specs.Promise.{SlotLent, BurstLent};
 ghost use Rattle.call_burst.specs.Way.{Shaped, stretch_before, stretch_after};
-ghost use Rattle.call_tally.specs.Tally.{tally_of, standing};
+ghost use Rattle.call_tally.specs.Tally.{standing};
 ghost use Rattle.call_tallied.specs.Tallied.{tallying_of, one_tallied, slots_tallied};
 ghost use Rattle.call_tallied.specs.Promise.{tallied_promise};
 
 use call_burst::BurstEnd;
 use call_tally::Tally;
-use leaf_refusal::{first, refuse};
+use leaf_refusal::{Refusal, refuse_unless};
 use meaning::Record;
 
 // What such a burst gives back: how the burst ended, and the tally.
@@ -23,13 +24,6 @@ use meaning::Record;
 pub struct BurstTallied {
     pub end: BurstEnd,
     pub tally: Tally,
-}
-
-// How far the burst has come, with the number of cells of the tally, whose bins are lent.
-#[derive(Clone, Copy)]
-struct Ran {
-    end: BurstEnd,
-    sent: u64,
 }
 
 // Slot i of a burst: a burst of one slot, lent the slot's own octets and numbers.
@@ -71,18 +65,15 @@ fn one_slot(
         &mut departures[a..e],
         &mut answers[p..q],
     );
-    let last = one.ctl;
     BurstEnd {
-        ctl: last,
-        number: one.number,
         done: i + one.done,
+        ..one
     }
 }
 
 // Slot i, and the tally after it: where it was served, it takes what the slot answered.
 fn one_tallied(
-    bins: &mut [u64; 64],
-    sent: u64,
+    tally: &mut Tally,
     connection: u16,
     ctl: Record,
     cells: &mut [u8],
@@ -96,45 +87,36 @@ fn one_tallied(
     departures: &mut [u8],
     answers: &mut [u16],
     i: usize,
-) -> Ran
+) -> BurstEnd
     requires slot_lent { SlotLent arrivals.now departures.old answers.old i }
     requires shaped { Shaped ctl cells.old links.old calendar.old words.old bits.old arrived.old }
     requires i_in_bounds { i < length sizes.now }
-    requires bins_len { (length bins.old ≡ 64) × (standing bins.old sent ctl (length arrived.old) connection ≡ 0) }
-    ensures { tallying_of (stretch_after (after result.end.ctl cells links calendar words bits arrived) departures answers result.end.number result.end.done) (tally_of bins.new result.sent)
+    requires stands { standing tally.old.bins tally.old.cells ctl (length arrived.old) connection ≡ 0 }
+    ensures { tallying_of (stretch_after (after result.ctl cells links calendar words bits arrived) departures answers result.number result.done) tally.new
         ≡ one_tallied arrivals.now connection (get_or sizes.now i 0)
-        (tallying_of (stretch_before (before ctl cells links calendar words bits arrived) departures answers i) (tally_of bins.old sent)) }
+        (tallying_of (stretch_before (before ctl cells links calendar words bits arrived) departures answers i) tally.old) }
 {
     let end = one_slot(
         ctl, cells, links, calendar, words, bits, arrived, arrivals, sizes, departures, answers, i,
     );
     if end.number != 0 {
-        return Ran {
-            end: end,
-            sent: sent,
-        };
+        return end;
     }
     let at = 6 * i;
-    let last = end.ctl;
-    let more = call_tally::take_departure(
-        bins,
-        sent,
-        last,
+    call_tally::take_departure(
+        tally,
+        end.ctl,
         arrived,
         connection,
         answers[at + 4],
         answers[at + 5],
     );
-    Ran {
-        end: end,
-        sent: more,
-    }
+    end
 }
 
-// All slots of a burst that was not refused, one by one.
+// All slots of a burst that was not refused, one by one. (A contract doesn't know by itself that a lent tally has 64 bins.)
 fn run(
-    bins: &mut [u64; 64],
-    sent: u64,
+    tally: &mut Tally,
     connection: u16,
     ctl: Record,
     cells: &mut [u8],
@@ -147,43 +129,36 @@ fn run(
     sizes: &[u8],
     departures: &mut [u8],
     answers: &mut [u16],
-) -> Ran
+) -> BurstEnd
     requires burst_lent { BurstLent arrivals.now sizes.now departures.old answers.old }
     requires shaped { Shaped ctl cells.old links.old calendar.old words.old bits.old arrived.old }
-    requires bins_len { (length bins.old ≡ 64) × (standing bins.old sent ctl (length arrived.old) connection ≡ 0) }
-    ensures { tallying_of (stretch_after (after result.end.ctl cells links calendar words bits arrived) departures answers result.end.number result.end.done) (tally_of bins.new result.sent)
+    requires bins_long { length tally.old.bins ≡ 64 }
+    requires stands { standing tally.old.bins tally.old.cells ctl (length arrived.old) connection ≡ 0 }
+    ensures { tallying_of (stretch_after (after result.ctl cells links calendar words bits arrived) departures answers result.number result.done) tally.new
         ≡ slots_tallied arrivals.now connection sizes.now
-        (tallying_of (stretch_before (before ctl cells links calendar words bits arrived) departures answers 0) (tally_of bins.old sent)) }
+        (tallying_of (stretch_before (before ctl cells links calendar words bits arrived) departures answers 0) tally.old) }
 {
     let mut last = ctl;
-    let mut many = sent;
-    let mut i = 0;
-    while i < sizes.len() {
-        let ran = one_tallied(
-            bins, many, connection, last, cells, links, calendar, words, bits, arrived, arrivals,
-            sizes, departures, answers, i,
+    for i in 0..sizes.len() {
+        let end = one_tallied(
+            tally, connection, last, cells, links, calendar, words, bits, arrived, arrivals, sizes,
+            departures, answers, i,
         );
-        let end = ran.end;
         if end.number != 0 {
-            return ran;
+            return end;
         }
         last = end.ctl;
-        many = ran.sent;
-        i += 1;
     }
-    Ran {
-        end: BurstEnd {
-            ctl: last,
-            number: 0,
-            done: i,
-        },
-        sent: many,
+    BurstEnd {
+        ctl: last,
+        number: 0,
+        done: sizes.len(),
     }
 }
 
-// The tally's refusals, 1, 2, 4 and 3, then the burst's own 2; or 0.
+// The tally's refusals, 1, 2, 4 and 3, then the burst's own 2.
 fn judge(
-    tally: Tally,
+    tally: &Tally,
     connection: u16,
     ctl: Record,
     cells: usize,
@@ -196,16 +171,15 @@ fn judge(
     sizes: usize,
     departures: usize,
     answers: usize,
-) -> u16
-    ensures { result ≡ first_of (standing tally.bins tally.cells ctl arrived connection)
+) -> Result<(), Refusal>
+    ensures { given_number result ≡ first_of (standing tally.now.bins tally.now.cells ctl arrived connection)
         (refuse_of 2 (not (lengths_fit ctl.n ctl.v cells links calendar words bits arrived arrivals sizes departures answers))) }
 {
-    let stands = call_tally::standing_refusal(&tally.bins, tally.cells, ctl, arrived, connection);
     let fit = call_burst::lengths_fit(
         ctl, cells, links, calendar, words, bits, arrived, arrivals, sizes, departures, answers,
     );
-    let lengths = refuse(2, !fit);
-    first(stands, lengths)
+    call_tally::standing_refusal(tally, ctl, arrived, connection)?;
+    refuse_unless(fit, Refusal::Lengths)
 }
 
 // A burst in place of another, where one connection's delays are wanted. The tally comes first and comes back; the rest is the burst's.
@@ -227,8 +201,8 @@ pub fn burst_tallied(
     ensures { tallied_promise tally connection (before ctl cells links calendar words bits arrived) arrivals sizes departures answers result
         (after result.end.ctl cells links calendar words bits arrived) }
 {
-    let number = judge(
-        tally,
+    let judged = judge(
+        &tally,
         connection,
         ctl,
         cells.len(),
@@ -242,39 +216,20 @@ pub fn burst_tallied(
         departures.len(),
         answers.len(),
     );
-    if number != 0 {
+    if let Err(why) = judged {
         return BurstTallied {
             end: BurstEnd {
-                ctl: ctl,
-                number: number,
+                ctl,
+                number: u16::from(why),
                 done: 0,
             },
-            tally: tally,
+            tally,
         };
     }
-    let mut bins = tally.bins;
-    let ran = run(
-        &mut bins,
-        tally.cells,
-        connection,
-        ctl,
-        cells,
-        links,
-        calendar,
-        words,
-        bits,
-        arrived,
-        arrivals,
-        sizes,
-        departures,
-        answers,
+    let mut taken = tally;
+    let end = run(
+        &mut taken, connection, ctl, cells, links, calendar, words, bits, arrived, arrivals, sizes,
+        departures, answers,
     );
-    let end = ran.end;
-    BurstTallied {
-        end: end,
-        tally: Tally {
-            bins: bins,
-            cells: ran.sent,
-        },
-    }
+    BurstTallied { end, tally: taken }
 }
