@@ -59,14 +59,7 @@ pub extern "C" fn clurimoon_open(
     ensures { open_promise ctl words.old owner (by_vci vci) m f c without_second result words.new }
 {
     let peak = Peak { m, f, c };
-    given_number(call_connection::open(
-        ctl,
-        words,
-        owner,
-        Name::Vc(vci),
-        peak,
-        NO_SECOND,
-    ))
+    given_number(call_connection::open(ctl, words, owner, Name::Vc(vci), peak, NO_SECOND))
 }
 
 #[unsafe(no_mangle)]
@@ -92,14 +85,7 @@ pub extern "C" fn clurimoon_open_sustained(
         c: c2,
         tag,
     };
-    given_number(call_connection::open(
-        ctl,
-        words,
-        owner,
-        Name::Vc(vci),
-        peak,
-        second,
-    ))
+    given_number(call_connection::open(ctl, words, owner, Name::Vc(vci), peak, second))
 }
 
 #[unsafe(no_mangle)]
@@ -133,14 +119,7 @@ pub extern "C" fn clurimoon_open_path(
         c: c2,
         tag,
     };
-    given_number(call_connection::open(
-        ctl,
-        words,
-        owner,
-        Name::Path(vpi),
-        peak,
-        second,
-    ))
+    given_number(call_connection::open(ctl, words, owner, Name::Path(vpi), peak, second))
 }
 
 #[unsafe(no_mangle)]
