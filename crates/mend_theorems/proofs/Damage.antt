@@ -1,13 +1,13 @@
 -- Document 02's own sentence: damage within one record after the GM costs that record and no other. The trace without the
 -- record is readable too, so the damage theorem applies. And S1 in octets.
-use Prim.Native.Nat.{ℕ, zero, suc, ◌+◌, ◌-◌, ◌≤◌, ◌<◌}
-use mathlib.Core.Path.{◌≡◌, refl, sym, ap, subst, ◌∙◌}
-use mathlib.Core.List.{List, [], ◌∷◌, ◌++◌, map}
-use lib.ListN.{length, get_or, take, drop, length-append, length-drop, get_or-append, take-append-drop}
-use lib.Seq.{get_or-append-add, take_all, drop-length, drop-drop}
+use Prim.Native.Nat.{ℕ, ◌+◌, ◌-◌}
+use mathlib.Core.Path.{◌≡◌, sym, ap, subst, ◌∙◌}
+use mathlib.Core.List.{List, [], ◌∷◌, ◌++◌}
+use lib.ListN.{length, get_or, take, drop, length-append, get_or-append, take-append-drop}
+use lib.Seq.{get_or-append-add, drop-length, drop-drop}
 use native.Mathlib.Omega.{arith}
-use Rattle.mend_step.specs.Salvage.{Reading, none, up_to, reads_to, Piece, keeps, skips, walk, Salvage, mended, salvage, written_of}
-use Rattle.mend_theorems.specs.Promises.{first_octet, long_of, Cut, octets_of, Records, packed, Damaged, DamagedIn}
+use Rattle.mend_step.specs.Salvage.{Piece, skips, walk, mended, salvage, written_of}
+use Rattle.mend_theorems.specs.Promises.{long_of, Cut, octets_of, Records, packed, Damaged, DamagedIn}
 use Rattle.mend_theorems.proofs.Moved.{records_moved, packed_same, packed_packed}
 use Rattle.mend_theorems.proofs.Theorems.{walk_cuts, damage}
 use Rattle.mend_theorems.proofs.Mended.{damage_written}

@@ -4,16 +4,15 @@ use Prim.Native.Nat.{ℕ, zero, suc, ◌+◌, ◌-◌, ◌≤◌, ◌<◌}
 use mathlib.Core.Path.{◌≡◌, refl, sym, ap, subst, ◌∙◌}
 use mathlib.Core.Bool.{Bool, true, false, ◌&&◌, ◌||◌}
 use mathlib.Core.Logic.{◌⊎◌, inl, inr, ⊎_elim}
-use mathlib.Core.List.{List, [], ◌∷◌, ◌++◌}
+use mathlib.Core.List.{List, [], ◌∷◌}
 use lib.ListN.{length}
 use borrow.Author.Tests.{leb-true, eqb-true, le-leb, ltb-true, ltb-false}
 use native.Mathlib.Omega.{arith}
 use Rattle.meaning.specs.Plain.{when◌then◌else◌, ◌<?◌, ◌≤?◌, ◌=?◌}
 use Rattle.trace_record.specs.Trace.{be16, long_gm, mark_gr, mark_gn}
-use Rattle.mend_step.specs.declared.Stride.{Stride}
-use Rattle.mend_step.specs.Salvage.{Reading, none, up_to, reads_to, among, meets_rule, first_of, resume, step_of, step_at, Piece, keeps, skips, piece_of, walk_from, walk}
-use Rattle.mend_step.specs.Salvage.{Salvage, refused, mended, salvage_of, salvage_front}
-use Rattle.mend_step.proofs.Shape.{Shape, First, gm, gr, gn, Kind, first, later, reads_shape, shape_reads, kind_long}
+use Rattle.mend_step.specs.Salvage.{Reading, none, up_to, reads_to, among, meets_rule, first_of, resume, step_of, step_at, next_of, Piece, piece_of, walk_from, walk}
+use Rattle.mend_step.specs.Salvage.{refused, mended, salvage_of, salvage_front}
+use Rattle.mend_step.proofs.Shape.{First, gm, gr, gn, Kind, first, later, reads_shape, shape_reads, kind_long}
 use Rattle.mend_step.proofs.Walk.{step_on}
 use Rattle.mend_theorems.specs.Promises.{heads, begins, Ends}
 
@@ -97,20 +96,20 @@ module _ (s : List ℕ) (n : ℕ) where
     unfolding step_at
     step_ends p xs h f = go (reads_to s p) refl (step_on s n p h)
       where
-        go : (r : Reading) → reads_to s p ≡ r → p < (step_of s n p (reads_to s p)).next → Ends long n (piece_of p (step_of s n p r) ∷ xs)
+        go : (r : Reading) → reads_to s p ≡ r → p < next_of (step_of s n p (reads_to s p)) → Ends long n (piece_of p (step_of s n p r) ∷ xs)
         go none e i =
-            let j : p < resume s n p = subst (λ (r : Reading). p < (step_of s n p r).next) e i in
+            let j : p < resume s n p = subst (λ (r : Reading). p < next_of (step_of s n p r)) e i in
             (skip_ends p (resume s n p) j (resume_ends p), f)
         go (up_to m) e i = let t = reads_shape s p m e in (omega (arith, kind_long t.kind, t.within, fits), f)
 
     walk_from_ends : (k p : ℕ) → Ends long n (walk_from s n k p)
     unfolding walk_from
     walk_from_ends zero p = tt
-    walk_from_ends (suc k) p = go (p <? n) refl (walk_from_ends k (step_at s n p).next)
+    walk_from_ends (suc k) p = go (p <? n) refl (walk_from_ends k (next_of (step_at s n p)))
       where
-        go : (b : Bool) → (p <? n) ≡ b → Ends long n (walk_from s n k (step_at s n p).next)
-            → Ends long n (when b then piece_of p (step_at s n p) ∷ walk_from s n k (step_at s n p).next else [])
-        go true e f = step_ends p (walk_from s n k (step_at s n p).next) (ltb-true p n e) f
+        go : (b : Bool) → (p <? n) ≡ b → Ends long n (walk_from s n k (next_of (step_at s n p)))
+            → Ends long n (when b then piece_of p (step_at s n p) ∷ walk_from s n k (next_of (step_at s n p)) else [])
+        go true e f = step_ends p (walk_from s n k (next_of (step_at s n p))) (ltb-true p n e) f
         go false e f = tt
 
     pub walk_ends : Ends long n (walk s n)

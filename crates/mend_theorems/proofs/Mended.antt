@@ -2,16 +2,14 @@
 -- salvaging it again changes nothing.
 use Prim.Native.Nat.{ℕ, zero, suc, ◌+◌, ◌-◌, ◌≤◌, ◌<◌}
 use mathlib.Core.Path.{◌≡◌, refl, sym, ap, subst, ◌∙◌}
-use mathlib.Core.Bool.{Bool, true, false}
 use mathlib.Core.List.{List, [], ◌∷◌, ◌++◌, append_assoc}
 use lib.ListN.{length, get_or, take, drop, length-append, length-drop, get_or-append}
 use lib.Seq.{get_or-append-add, get_or-take, get_or-drop, take-add, take_all, drop-drop, length-take-le, take_at, drop_at}
 use native.Mathlib.Omega.{arith}
-use Rattle.mend_step.specs.declared.Stride.{Stride}
-use Rattle.mend_step.specs.Salvage.{Reading, none, up_to, reads_to, step_of, step_at, Piece, keeps, skips, piece_of, walk}
-use Rattle.mend_step.specs.Salvage.{Salvage, refused, mended, salvage_of, salvage_front, salvage, written_of}
+use Rattle.mend_step.specs.Salvage.{Reading, none, up_to, reads_to, step_of, step_at, next_of, Piece, keeps, skips, piece_of, walk}
+use Rattle.mend_step.specs.Salvage.{mended, salvage_of, salvage_front, salvage, written_of}
 use Rattle.mend_theorems.specs.Promises.{Records, Readable, packed, Damaged}
-use Rattle.mend_step.proofs.Shape.{Shape, reads_shape, shape_reads, shape_moved, kind_long}
+use Rattle.mend_step.proofs.Shape.{reads_shape, shape_reads, shape_moved, kind_long}
 use Rattle.mend_step.proofs.Pieces.{written_append}
 use Rattle.mend_step.proofs.Walk.{Walks, step_on}
 use Rattle.mend_theorems.proofs.Theorems.{walk_walks, readable_whole, first_kept, rest_kept}
@@ -60,7 +58,7 @@ module _ (s : List ℕ) (n p : ℕ) where
   pub record Kept (q l : ℕ) : Type 0 where
     pub place : q ≡ p
     pub reads : reads_to s p ≡ up_to (p + l)
-    pub next : (step_at s n p).next ≡ p + l
+    pub next : next_of (step_at s n p) ≡ p + l
 
   piece_kept : (q l : ℕ) → keeps q l ≡ piece_of p (step_at s n p) → Kept q l
   unfolding step_at
@@ -73,7 +71,7 @@ module _ (s : List ℕ) (n p : ℕ) where
           let place : q ≡ p = cc in
           let m : l ≡ u - p = cc in
           let x : u ≡ p + l = omega (arith, j, m) in
-          record { place = place; reads = e ∙ ap up_to x; next = ap (λ (r : Reading). (step_of s n p r).next) e ∙ x }
+          record { place = place; reads = e ∙ ap up_to x; next = ap (λ (r : Reading). next_of (step_of s n p r)) e ∙ x }
 
   piece_skipped : (q l : ℕ) → skips q l ≡ piece_of p (step_at s n p) → reads_to s p ≡ none
   unfolding step_at
@@ -120,7 +118,7 @@ module _ (s : List ℕ) (n : ℕ) (begun : reads_to s 0 ≡ none → ⊥) where
   mends p (skips q l ∷ xs) w h f g =
       let z = later_place p (piece_skipped s n p q l h.1) in
       let i = step_on s n p h.0 in
-      mends (step_at s n p).next xs w h.2 (λ x. absurd (omega (arith, x, i))) (λ x. g z)
+      mends (next_of (step_at s n p)) xs w h.2 (λ x. absurd (omega (arith, x, i))) (λ x. g z)
 
   some_written : (xs : List Piece) → Walks s n 0 xs → 0 < n → 0 < length (written_of s xs)
   some_written [] h l = absurd (omega (arith, h, l))

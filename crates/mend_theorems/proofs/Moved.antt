@@ -4,9 +4,9 @@ use mathlib.Core.Path.{◌≡◌, refl, sym, ap, subst, ◌∙◌}
 use mathlib.Core.List.{List, [], ◌∷◌}
 use lib.ListN.{length, get_or}
 use native.Mathlib.Omega.{arith}
-use Rattle.mend_step.specs.Salvage.{reads_to, up_to, Piece, keeps, skips}
+use Rattle.mend_step.specs.Salvage.{Piece, keeps, skips}
 use Rattle.mend_theorems.specs.Promises.{Records, packed}
-use Rattle.mend_step.proofs.Shape.{Shape, reads_shape, shape_reads, shape_moved, kind_long}
+use Rattle.mend_step.proofs.Shape.{reads_shape, shape_reads, shape_moved, kind_long}
 
 pub records_le : (s : List ℕ) (p e : ℕ) (ps : List Piece) → Records s p ps e → p ≤ e
 records_le s p e [] h = omega (arith, h)

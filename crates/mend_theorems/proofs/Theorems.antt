@@ -8,33 +8,34 @@ use lib.ListN.{length, get_or, length-append, get_or-append}
 use lib.Seq.{get_or-append-add}
 use borrow.Author.Tests.{eq-eqb}
 use native.Mathlib.Omega.{arith}
-use Rattle.meaning.specs.Plain.{when◌then◌else◌, ◌=?◌}
+use Rattle.meaning.specs.Plain.{◌=?◌}
 use Rattle.mend_step.specs.declared.Stride.{Stride}
-use Rattle.mend_step.specs.Salvage.{Reading, none, up_to, reads_to, known_mark, followed, meets_rule, first_of, resume, step_of, step_at}
-use Rattle.mend_step.specs.Salvage.{Piece, keeps, skips, piece_of, walk_from, walk, Salvage, refused, mended, salvage_of, salvage_front, salvage}
-use Rattle.mend_theorems.specs.Promises.{first_octet, long_of, Cut, Records, Readable, packed, Hole, Damaged}
-use Rattle.mend_step.proofs.Shape.{Shape, reads_shape, shape_mark, kind_long}
+use Rattle.mend_step.specs.declared.Stride.TheVariants.{Kept, Skipped}
+use Rattle.mend_step.specs.Salvage.{none, up_to, reads_to, known_mark, followed, meets_rule, resume, step_of, step_at, next_of}
+use Rattle.mend_step.specs.Salvage.{Piece, keeps, skips, piece_of, walk, mended, salvage_of, salvage_front, salvage}
+use Rattle.mend_theorems.specs.Promises.{first_octet, long_of, Cut, Records, Readable, packed, Damaged}
+use Rattle.mend_step.proofs.Shape.{reads_shape, shape_mark, kind_long}
 use Rattle.mend_step.proofs.Walk.{Walks, first_least, step_on, walk_is, walks}
 use Rattle.mend_theorems.proofs.Moved.{records_le, records_moved, packed_same}
 
 -- ---- S1: each piece begins where the one before ended, none is empty, the last ends where the input does
 
-piece_first : (p l : ℕ) (b : Bool) → first_octet (when b then keeps p l else skips p l) ≡ p
-piece_first p l true = refl
-piece_first p l false = refl
+piece_first : (p : ℕ) (st : Stride) → first_octet (piece_of p st) ≡ p
+piece_first p (Kept q) = refl
+piece_first p (Skipped q) = refl
 
-piece_long : (p l : ℕ) (b : Bool) → long_of (when b then keeps p l else skips p l) ≡ l
-piece_long p l true = refl
-piece_long p l false = refl
+piece_long : (p : ℕ) (st : Stride) → long_of (piece_of p st) ≡ next_of st - p
+piece_long p (Kept q) = refl
+piece_long p (Skipped q) = refl
 
 walks_cut : (s : List ℕ) (n p : ℕ) (xs : List Piece) → Walks s n p xs → Cut p xs n
 walks_cut s n p [] w = w
 walks_cut s n p (x ∷ xs) w =
     let i = step_on s n p w.0 in
-    let f : first_octet x ≡ p = ap first_octet w.1 ∙ piece_first p ((step_at s n p).next - p) (step_at s n p).kept in
-    let g : long_of x ≡ (step_at s n p).next - p = ap long_of w.1 ∙ piece_long p ((step_at s n p).next - p) (step_at s n p).kept in
-    let m : (step_at s n p).next ≡ p + long_of x = omega (arith, g, i) in
-    (f, omega (arith, g, i), subst (λ (k : ℕ). Cut k xs n) m (walks_cut s n (step_at s n p).next xs w.2))
+    let f : first_octet x ≡ p = ap first_octet w.1 ∙ piece_first p (step_at s n p) in
+    let g : long_of x ≡ next_of (step_at s n p) - p = ap long_of w.1 ∙ piece_long p (step_at s n p) in
+    let m : next_of (step_at s n p) ≡ p + long_of x = omega (arith, g, i) in
+    (f, omega (arith, g, i), subst (λ (k : ℕ). Cut k xs n) m (walks_cut s n (next_of (step_at s n p)) xs w.2))
 
 pub walk_walks : (s : List ℕ) (n : ℕ) → length s ≤ n → Walks s n 0 (walk s n)
 unfolding walk
@@ -50,11 +51,11 @@ unfolding step_at
 records_walk s n p e [] qs f h w = subst (λ (m : ℕ). Walks s n m qs) (sym h) w
 records_walk s n p e (keeps q l ∷ xs) qs f h w =
     let t = reads_shape s p (p + l) h.1 in
-    let st : step_at s n p ≡ record { kept = true; next = p + l } = ap (step_of s n p) h.1 in
+    let st : step_at s n p ≡ Kept (p + l) = ap (step_of s n p) h.1 in
     let m : l ≡ p + l - p = omega arith in (
       omega (arith, kind_long t.kind, t.within, f),
       ap (λ (k : ℕ). keeps k l) h.0 ∙ ap (keeps p) m ∙ ap (piece_of p) (sym st),
-      subst (λ (k : ℕ). Walks s n k (xs ++ qs)) (ap (λ (x : Stride). x.next) (sym st)) (records_walk s n (p + l) e xs qs f h.2 w),
+      subst (λ (k : ℕ). Walks s n k (xs ++ qs)) (ap next_of (sym st)) (records_walk s n (p + l) e xs qs f h.2 w),
     )
 records_walk s n p e (skips q l ∷ xs) qs f h w = absurd h
 
@@ -106,9 +107,6 @@ records_rule s p (skips q m ∷ ps) h l = absurd h
 
 -- ---- S4: damage
 
-abbrev skip_to : ℕ → Stride
-skip_to n = record { kept = false; next = n }
-
 module _ (a d b : List ℕ) (ps qs : List Piece) (h : Damaged a d b ps qs) where
   pub first_kept : Records (a ++ d ++ b) 0 ps (length a)
   first_kept =
@@ -149,11 +147,11 @@ module _ (a d b : List ℕ) (ps qs : List Piece) (h : Damaged a d b ps qs) where
       (λ j x y. h.hole.between j x y)
       (λ l. records_rule (a ++ d ++ b) (length a + length d) (packed (length a + length d) qs) rest_kept l)
 
-  skipped : step_at (a ++ d ++ b) (length (a ++ d ++ b)) (length a) ≡ record { kept = false; next = length a + length d }
+  skipped : step_at (a ++ d ++ b) (length (a ++ d ++ b)) (length a) ≡ Skipped (length a + length d)
   unfolding step_at
   skipped =
       ap (step_of (a ++ d ++ b) (length (a ++ d ++ b)) (length a)) h.hole.unread
-      ∙ ap skip_to resumed
+      ∙ ap (λ (m : ℕ). Skipped m) resumed
 
   damage_walks : Walks (a ++ d ++ b) (length (a ++ d ++ b)) 0 (ps ++ skips (length a) (length d) ∷ packed (length a + length d) qs)
   damage_walks =
@@ -164,7 +162,7 @@ module _ (a d b : List ℕ) (ps qs : List Piece) (h : Damaged a d b ps qs) where
       records_walk (a ++ d ++ b) (length (a ++ d ++ b)) 0 (length a) ps (skips (length a) (length d) ∷ packed (length a + length d) qs) (omega arith) first_kept (
         h.hole.inside,
         ap (skips (length a)) m ∙ ap (piece_of (length a)) (sym skipped),
-        subst (λ (n : ℕ). Walks (a ++ d ++ b) (length (a ++ d ++ b)) n (packed (length a + length d) qs)) (ap (λ (x : Stride). x.next) (sym skipped)) end,
+        subst (λ (n : ℕ). Walks (a ++ d ++ b) (length (a ++ d ++ b)) n (packed (length a + length d) qs)) (ap next_of (sym skipped)) end,
       )
 
 -- "all records after it are kept unchanged": the records of a, one stretch, the records of b

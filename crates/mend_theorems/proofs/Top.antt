@@ -1,13 +1,11 @@
 -- The theorems of specs/Salvaged.antt, each in a line or two.
-use Prim.Native.Nat.{ℕ, zero, suc, ◌+◌, ◌-◌, ◌≤◌, ◌<◌}
-use mathlib.Core.Path.{◌≡◌, refl, sym, ap, subst, ◌∙◌}
-use mathlib.Core.Bool.{Bool, true, false, ◌&&◌, ◌||◌}
-use mathlib.Core.Logic.{◌⊎◌, inl, inr}
-use mathlib.Core.List.{List, [], ◌∷◌, ◌++◌}
+use Prim.Native.Nat.{ℕ, ◌≤◌}
+use mathlib.Core.Path.{sym, ap, subst, ◌∙◌}
+use mathlib.Core.List.{List}
 use lib.ListN.{length, take, length-take}
 use lib.Seq.{take_all}
 use native.Mathlib.Omega.{arith}
-use Rattle.mend_step.specs.Salvage.{walk, Piece, salvage_front, limit, salvage_input}
+use Rattle.mend_step.specs.Salvage.{Piece, salvage_front, limit}
 use Rattle.mend_theorems.specs.Promises.{Cut, octets_of, Ends}
 use Rattle.mend_theorems.specs.Salvaged.{Refused17, CutsTheInput, AllOctets, MendedReads, MendedStays, KeptWhole, OneStretch, AllAfterAreKept, PlainWithin, BeyondIsSkipped}
 use Rattle.mend_theorems.proofs.Theorems.{walk_cuts, readable_whole, damage}

@@ -1,13 +1,13 @@
 -- Document 02 (xii): damaged traces with what is written and listed of them, as one table that is computed.
-use Prim.Native.Nat.{ℕ, ◌+◌, ◌<◌}
+use Prim.Native.Nat.{ℕ}
 use mathlib.Core.Bool.{false}
 use native.Mathlib.Omega.{arith}
-use mathlib.Core.Path.{◌≡◌, refl, sym, subst}
+use mathlib.Core.Path.{◌≡◌, refl, subst}
 use mathlib.Core.List.{List, [], ◌∷◌, ◌++◌, map}
 use Rattle.trace_record.specs.Trace.{be16, be32, whole, setup_at, open_at, sustain_at, close_at, open_path_at, close_path_at, cell_at, pause_at, first_at, later_at, stands_at}
 use Rattle.mend_step.specs.Salvage.{reads_to, is_mark, known_mark, meets_rule, first_of, resume, step_at, Piece, keeps, skips, walk_from, walk}
 use Rattle.mend_step.specs.Salvage.{Salvage, refused, mended, salvage_front, salvage, written_of, stretches_of}
-use Rattle.mend_theorems.specs.Promises.{Records, Hole, Damaged, DamagedIn}
+use Rattle.mend_theorems.specs.Promises.{DamagedIn}
 
 pub data Output : Type 0 where
   stop : (number : ℕ) → Output

@@ -7,10 +7,10 @@
 --   Readable trace ps      == a trace readable throughout, and its records
 --   Damaged a d b ps qs    == octets d between the records ps of a and qs of b
 --   DamagedIn a r d b ps qs == octets d in the place of one record r, as document 02 has damage
-use Rattle.std.specs.Prelude.{ℕ, zero, suc, ◌+◌, ◌≤◌, ◌<◌, ◌≡◌, Bool, false, ◌&&◌, ◌⊎◌, List, [], ◌∷◌, ◌++◌, length, take, drop}
+use Rattle.std.specs.Prelude.{ℕ, ◌+◌, ◌≤◌, ◌<◌, ◌≡◌, Bool, false, ◌&&◌, ◌⊎◌, List, [], ◌∷◌, ◌++◌, length, take, drop}
 use Rattle.meaning.specs.Plain.{◌≤?◌}
 use Rattle.trace_record.specs.Trace.{be16, long_gm, mark_gm, mark_gr, mark_gn}
-use Rattle.mend_step.specs.Salvage.{Reading, none, up_to, reads_to, among, meets_rule, Piece, keeps, skips}
+use Rattle.mend_step.specs.Salvage.{none, up_to, reads_to, among, meets_rule, Piece, keeps, skips}
 
 abbrev pub first_octet : Piece → ℕ
 first_octet (keeps p l) = p

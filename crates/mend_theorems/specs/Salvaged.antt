@@ -3,9 +3,9 @@
 -- crates/mend_step/specs/Salvage.antt says what is done with a trace: salvage trace, or, where `trace` is the front of an input
 -- of n octets, salvage_front trace n; salvage_input is the program's. It is the refusal 17, or pieces ps: kept records and
 -- skipped stretches by first octet and length, in order. written_of trace ps is what is written. Promises.antt has the words.
-use Rattle.std.specs.Prelude.{ℕ, ◌+◌, ◌≤◌, ◌<◌, ◌≡◌, List, ◌∷◌, ◌++◌, length, take}
+use Rattle.std.specs.Prelude.{ℕ, ◌+◌, ◌≤◌, ◌≡◌, List, ◌∷◌, ◌++◌, length}
 use Rattle.meaning.specs.Plain.{when◌then◌else◌}
-use Rattle.mend_step.specs.Salvage.{Piece, skips, walk, Salvage, refused, mended, salvage_front, salvage, limit, salvage_input, written_of}
+use Rattle.mend_step.specs.Salvage.{Piece, skips, walk, refused, mended, salvage_front, salvage, limit, salvage_input, written_of}
 use Rattle.mend_theorems.specs.Promises.{Cut, octets_of, Ends, begins, Readable, packed, Damaged, DamagedIn}
 
 -- "Refusals: 17, no readable GM at the start, and nothing is written": 17 in no other case
