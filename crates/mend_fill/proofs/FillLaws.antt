@@ -3,7 +3,7 @@ use Prim.Native.Nat.{ℕ, zero, suc, ◌+◌, ◌-◌, ◌≤◌, ◌<◌}
 use mathlib.Core.Path.{◌≡◌, refl, sym, ap, subst, ◌∙◌}
 use mathlib.Core.Bool.{Bool, true, false, ◌&&◌}
 use mathlib.Core.List.{List, [], ◌∷◌, ◌++◌, append-nil, append_assoc}
-use lib.ListN.{length}
+use lib.ListN.{length, take, drop}
 use lib.Seq.{append_snoc}
 use borrow.Author.Tests.{ltb-true, lt-ltb, le-ltb, le-leb, lt-leb}
 use native.Mathlib.Omega.{arith}
@@ -11,10 +11,10 @@ use Rattle.meaning.specs.Plain.{when◌then◌else◌, ◌<?◌, ◌≤?◌}
 use Rattle.list_lines.specs.Put.{Put}
 use Rattle.list_lines.proofs.Puts.{put_is, put_then, put_none}
 use Rattle.mend_step.specs.declared.Stride.{Stride}
-use Rattle.mend_step.specs.Salvage.{step_at, Piece, keeps, skips, piece_of, written_of}
+use Rattle.mend_step.specs.declared.Stride.TheVariants.{Kept, Skipped}
+use Rattle.mend_step.specs.Salvage.{step_at, next_of, Piece, keeps, skips, piece_of, written_of}
 use Rattle.mend_step.proofs.Walk.{step_on}
 use Rattle.mend_step.proofs.Pieces.{written_append}
-use Rattle.mend_fill.specs.declared.Filled.{Filled}
 use Rattle.mend_fill.specs.Lines.{stretch_line, lines_of}
 use Rattle.mend_fill.specs.Fill.{record_room, line_room, fill_from, fill_of, end_of, Took}
 
@@ -40,15 +40,9 @@ lines_append (skips p l ∷ xs) ys =
 
 -- ---- where pieces end
 
-pub end_one : (p q : ℕ) (st : Stride) (xs : List Piece) → q < st.next → end_of p (piece_of q st ∷ xs) ≡ end_of st.next xs
-end_one p q st xs h = go st.kept
-  where
-    same : q + (st.next - q) ≡ st.next
-    same = omega (arith, h)
-
-    go : (b : Bool) → end_of p ((when b then keeps q (st.next - q) else skips q (st.next - q)) ∷ xs) ≡ end_of st.next xs
-    go true = ap (λ (k : ℕ). end_of k xs) same
-    go false = ap (λ (k : ℕ). end_of k xs) same
+pub end_one : (p q : ℕ) (st : Stride) (xs : List Piece) → q < next_of st → end_of p (piece_of q st ∷ xs) ≡ end_of (next_of st) xs
+end_one p q (Kept m) xs h = let same : q + (m - q) ≡ m = omega (arith, h) in ap (λ (k : ℕ). end_of k xs) same
+end_one p q (Skipped m) xs h = let same : q + (m - q) ≡ m = omega (arith, h) in ap (λ (k : ℕ). end_of k xs) same
 
 pub end_append : (p : ℕ) (xs ys : List Piece) → end_of p (xs ++ ys) ≡ end_of (end_of p xs) ys
 end_append p [] ys = refl
@@ -59,7 +53,7 @@ module _ (s : List ℕ) (n : ℕ) where
   -- what a fill has after its first piece
   abbrev later : ℕ → ℕ → ℕ → ℕ → List Piece
   later k p a b =
-      fill_from s n k (step_at s n p).next (a - length (written_of s (piece_of p (step_at s n p) ∷ [])))
+      fill_from s n k (next_of (step_at s n p)) (a - length (written_of s (piece_of p (step_at s n p) ∷ [])))
       (b - length (lines_of (piece_of p (step_at s n p) ∷ [])))
 
   none_from : (k p a b : ℕ) → p <? n && (record_room ≤? a && line_room ≤? b) ≡ false → fill_from s n k p a b ≡ []
@@ -82,7 +76,7 @@ module _ (s : List ℕ) (n : ℕ) where
           let i = ltb-true p n (and_first (p <? n) (record_room ≤? a && line_room ≤? b) e) in
           let o = step_on s n p i in
           ap (λ (xs : List Piece). piece_of p (step_at s n p) ∷ xs)
-          (more (step_at s n p).next (a - length (written_of s (piece_of p (step_at s n p) ∷ []))) (b - length (lines_of (piece_of p (step_at s n p) ∷ []))) (omega (arith, o)) (omega (arith, o)))
+          (more (next_of (step_at s n p)) (a - length (written_of s (piece_of p (step_at s n p) ∷ []))) (b - length (lines_of (piece_of p (step_at s n p) ∷ []))) (omega (arith, o)) (omega (arith, o)))
       go false e more = refl
 
   pub none_at_end : (p a b : ℕ) → n ≤ p → fill_of s n p a b ≡ []
@@ -100,7 +94,7 @@ module _ (s : List ℕ) (n : ℕ) where
   pub one_more : (p a b : ℕ) → p < n → record_room ≤ a → line_room ≤ b
       → fill_of s n p a b
       ≡ piece_of p (step_at s n p)
-      ∷ fill_of s n (step_at s n p).next (a - length (written_of s (piece_of p (step_at s n p) ∷ [])))
+      ∷ fill_of s n (next_of (step_at s n p)) (a - length (written_of s (piece_of p (step_at s n p) ∷ [])))
       (b - length (lines_of (piece_of p (step_at s n p) ∷ [])))
   unfolding fill_of fill_from
   one_more p a b h l m =
@@ -110,7 +104,7 @@ module _ (s : List ℕ) (n : ℕ) where
       ap (λ (k : ℕ). fill_from s n k p a b) z
       ∙ ap (λ (x : Bool). when x then piece_of p (step_at s n p) ∷ later (n - suc p) p a b else []) t
       ∙ ap (λ (xs : List Piece). piece_of p (step_at s n p) ∷ xs)
-      (fill_fuel (n - suc p) (n - (step_at s n p).next) (step_at s n p).next (a - length (written_of s (piece_of p (step_at s n p) ∷ [])))
+      (fill_fuel (n - suc p) (n - (next_of (step_at s n p))) (next_of (step_at s n p)) (a - length (written_of s (piece_of p (step_at s n p) ∷ [])))
       (b - length (lines_of (piece_of p (step_at s n p) ∷ []))) (omega (arith, o)) (omega arith))
 
 -- ---- the pieces so far, and what stands in the buffers
@@ -138,29 +132,42 @@ module _ (s : List ℕ) (n p a b : ℕ) (out₀ text₀ : List ℕ) where
   pub done_more : {out text out' text' : List ℕ} {now written listed w l : ℕ} {st : Stride} → Done s n p a b out₀ text₀ out text now written listed
       → now < n → record_room ≤ a - written → line_room ≤ b - listed → st ≡ step_at s n now
       → Put out written (written_of s (piece_of now st ∷ [])) out' w → Put text listed (lines_of (piece_of now st ∷ [])) text' l
-      → Done s n p a b out₀ text₀ out' text' st.next w l
+      → Done s n p a b out₀ text₀ out' text' (next_of st) w l
   done_more {now = now} {written} {listed} {w} {l} {st} d h ra rb e f g =
       let x = piece_of now st in
-      let o : now < st.next = subst (λ (q : Stride). now < q.next) (sym e) (step_on s n now h) in
+      let o : now < next_of st = subst (λ (q : Stride). now < next_of q) (sym e) (step_on s n now h) in
       let u : a - written - length (written_of s (x ∷ [])) ≡ a - w = omega (arith, f.next) in
       let v : b - listed - length (lines_of (x ∷ [])) ≡ b - l = omega (arith, g.next) in
-      let one : fill_of s n now (a - written) (b - listed) ≡ x ∷ fill_of s n st.next (a - written - length (written_of s (x ∷ []))) (b - listed - length (lines_of (x ∷ []))) =
-      subst (λ (q : Stride). fill_of s n now (a - written) (b - listed) ≡ piece_of now q ∷ fill_of s n q.next (a - written - length (written_of s (piece_of now q ∷ []))) (b - listed - length (lines_of (piece_of now q ∷ []))))
+      let one : fill_of s n now (a - written) (b - listed) ≡ x ∷ fill_of s n (next_of st) (a - written - length (written_of s (x ∷ []))) (b - listed - length (lines_of (x ∷ []))) =
+      subst (λ (q : Stride). fill_of s n now (a - written) (b - listed) ≡ piece_of now q ∷ fill_of s n (next_of q) (a - written - length (written_of s (piece_of now q ∷ []))) (b - listed - length (lines_of (piece_of now q ∷ []))))
       (sym e) (one_more s n now (a - written) (b - listed) h ra rb) in
       record {
         ps = d.ps ++ (x ∷ []);
         rest = d.rest
             ∙ ap (λ (xs : List Piece). d.ps ++ xs)
-            (one ∙ ap (λ (k : ℕ). x ∷ fill_of s n st.next k (b - listed - length (lines_of (x ∷ [])))) u ∙ ap (λ (k : ℕ). x ∷ fill_of s n st.next (a - w) k) v)
-            ∙ sym (append_snoc d.ps x (fill_of s n st.next (a - w) (b - l)));
+            (one ∙ ap (λ (k : ℕ). x ∷ fill_of s n (next_of st) k (b - listed - length (lines_of (x ∷ [])))) u ∙ ap (λ (k : ℕ). x ∷ fill_of s n (next_of st) (a - w) k) v)
+            ∙ sym (append_snoc d.ps x (fill_of s n (next_of st) (a - w) (b - l)));
         here = sym (end_append p d.ps (x ∷ []) ∙ end_one (end_of p d.ps) now st [] o);
         out_has = put_is (written_append s d.ps (x ∷ [])) (put_then d.out_has f);
         text_has = put_is (lines_append d.ps (x ∷ [])) (put_then d.text_has g);
       }
 
-  pub done_all : {out text : List ℕ} {now written listed number : ℕ} → Done s n p a b out₀ text₀ out text now written listed
+  -- a record that is kept, or a stretch that is skipped
+  pub done_kept : {out text out' : List ℕ} {now written listed w next : ℕ} → Done s n p a b out₀ text₀ out text now written listed
+      → now < n → record_room ≤ a - written → line_room ≤ b - listed → Kept next ≡ step_at s n now
+      → Put out written (take (next - now) (drop now s)) out' w → Done s n p a b out₀ text₀ out' text next w listed
+  done_kept {text = text} {now = now} {listed = listed} {next = next} d h ra rb e f =
+      done_more d h ra rb e (put_is (append-nil (take (next - now) (drop now s))) f) (put_none text listed)
+
+  pub done_skipped : {out text text' : List ℕ} {now written listed l next : ℕ} → Done s n p a b out₀ text₀ out text now written listed
+      → now < n → record_room ≤ a - written → line_room ≤ b - listed → Skipped next ≡ step_at s n now
+      → Put text listed (stretch_line now (next - now)) text' l → Done s n p a b out₀ text₀ out text' next written l
+  done_skipped {out = out} {now = now} {written = written} {next = next} d h ra rb e f =
+      done_more d h ra rb e (put_none out written) (put_is (append-nil (stretch_line now (next - now))) f)
+
+  pub done_all : {out text : List ℕ} {now written listed : ℕ} → Done s n p a b out₀ text₀ out text now written listed
       → fill_of s n now (a - written) (b - listed) ≡ [] → written ≤ length out₀ → listed ≤ length text₀
-      → Took s p (fill_of s n p a b) out₀ text₀ (record { number = number; at = now; written = written; listed = listed }) out text
+      → Took s p (fill_of s n p a b) out₀ text₀ (record { at = now; written = written; listed = listed }) out text
   done_all {now = now} {written} {listed} d e h l =
       let all : fill_of s n p a b ≡ d.ps = d.rest ∙ ap (λ (xs : List Piece). d.ps ++ xs) e ∙ append-nil d.ps in
       record {

@@ -1,26 +1,14 @@
--- A part of a list, an octet longer; the digits of a number, from the last to the first.
+-- How long a part of a list is; the digits of a number, from the last to the first.
 use Prim.Native.Nat.{ℕ, zero, suc, ◌+◌, ◌-◌, ◌/◌, ◌%◌, ◌^◌, ◌≤◌, ◌<◌}
-use mathlib.Core.Path.{◌≡◌, refl, sym, ap, ◌∙◌}
+use mathlib.Core.Path.{◌≡◌, sym, ap, ◌∙◌}
 use mathlib.Core.List.{List, [], ◌∷◌, ◌++◌, append_assoc}
-use lib.ListN.{length, get_or, set, take, drop, length-drop, length-set}
-use lib.Seq.{length-take-le, take-suc, take_all, get_or-drop, drop-cons, drop-set-lt, get_or-set_same}
+use lib.ListN.{length, set, take, drop, length-drop, length-set}
+use lib.Seq.{length-take-le, take_all, drop-cons, drop-set-lt, get_or-set_same}
 use native.Mathlib.Nat.{pow-suc}
 use native.Mathlib.Omega.{arith}
 use borrow.Author.Tests.{lt-ltb, le-ltb}
 use Rattle.list_lines.specs.Text.{decimal}
 use Rattle.mend_fill.specs.Lines.{numeral}
-
-pub part_none : (s : List ℕ) (from : ℕ) → [] ≡ take (from - from) (drop from s)
-part_none s from = let z : 0 ≡ from - from = omega arith in ap (λ (k : ℕ). take k (drop from s)) z
-
-pub part_more : (s : List ℕ) (from i : ℕ) → from ≤ i → i < length s
-    → take (i + 1 - from) (drop from s) ≡ take (i - from) (drop from s) ++ (get_or s i 0 ∷ [])
-part_more s from i h l =
-    let z : i + 1 - from ≡ suc (i - from) = omega arith in
-    let y : from + (i - from) ≡ i = omega arith in
-    ap (λ (k : ℕ). take k (drop from s)) z
-    ∙ take-suc (drop from s) (i - from) 0 (omega (arith, length-drop from s))
-    ∙ ap (λ (x : ℕ). take (i - from) (drop from s) ++ (x ∷ [])) (get_or-drop from s (i - from) 0 ∙ ap (λ (k : ℕ). get_or s k 0) y)
 
 pub part_long : (s : List ℕ) (from to : ℕ) → from ≤ to → to ≤ length s → length (take (to - from) (drop from s)) ≡ to - from
 part_long s from to h l = length-take-le (to - from) (drop from s) (omega (arith, length-drop from s))

@@ -3,13 +3,15 @@
 --
 --   fill_of trace n p a b == the pieces that are taken from place p on, with room for a octets of records and b of lines
 --   end_of p ps           == the place behind the pieces ps that begin at p
---   number_at, pieces_at   == what a fill answers and takes, 17 included
-use Rattle.std.specs.Prelude.{ℕ, zero, suc, ◌+◌, ◌-◌, ◌≤◌, ◌≡◌, Bool, true, false, ◌&&◌, not, List, [], ◌∷◌, length}
+--   number_at, number_of   == what a fill answers, 17 included
+use Rattle.std.specs.Prelude.{ℕ, zero, suc, ◌+◌, ◌-◌, ◌≤◌, ◌≡◌, Bool, true, false, ◌&&◌, not, List, [], ◌∷◌, length, Result, Ok, Err}
 use Rattle.meaning.specs.Plain.{when◌then◌else◌, ◌<?◌, ◌≤?◌, ◌=?◌}
 use Rattle.list_lines.specs.Put.{Put}
 use Rattle.trace_record.specs.Trace.{long_ca}
-use Rattle.mend_step.specs.Salvage.{Reading, none, up_to, reads_to, step_at, Piece, keeps, skips, piece_of, written_of}
+use Rattle.mend_step.specs.Salvage.{Reading, none, up_to, reads_to, step_at, next_of, Piece, keeps, skips, piece_of, written_of}
 use Rattle.mend_fill.specs.declared.Filled.{Filled}
+use Rattle.mend_fill.specs.declared.FillError.{FillError}
+use Rattle.mend_fill.specs.declared.FillError.TheVariants.{NoHead}
 use Rattle.mend_fill.specs.Lines.{lines_of}
 
 -- the longest record; and twenty digits, a space, twenty digits, a line feed
@@ -24,7 +26,7 @@ fill_from trace n zero p a b = []
 fill_from trace n (suc k) p a b =
     when p <? n && (record_room ≤? a && line_room ≤? b)
     then piece_of p (step_at trace n p)
-    ∷ fill_from trace n k (step_at trace n p).next (a - length (written_of trace (piece_of p (step_at trace n p) ∷ [])))
+    ∷ fill_from trace n k (next_of (step_at trace n p)) (a - length (written_of trace (piece_of p (step_at trace n p) ∷ [])))
     (b - length (lines_of (piece_of p (step_at trace n p) ∷ [])))
     else []
 
@@ -55,9 +57,15 @@ refuses trace p = p =? 0 && not (begun (reads_to trace 0))
 abbrev pub number_at : List ℕ → ℕ → ℕ
 number_at trace p = when refuses trace p then 17 else 0
 
-abbrev pub pieces_at : List ℕ → ℕ → ℕ → ℕ → ℕ → List Piece
-pieces_at trace n p a b = when refuses trace p then [] else fill_of trace n p a b
+-- the number that an answer is, and what it says of the buffers: refused, they keep every octet
+abbrev pub number_of : Result Filled FillError → ℕ
+number_of (Ok f) = 0
+number_of (Err NoHead) = 17
 
-pub record FillPromise (trace : List ℕ) (n p : ℕ) (out text : List ℕ) (r : Filled) (out' text' : List ℕ) : Type 0 where
-  pub number : r.number ≡ number_at trace p
-  pub took : Took trace p (pieces_at trace n p (length out) (length text)) out text r out' text'
+abbrev pub TookOrKept : List ℕ → ℕ → ℕ → List ℕ → List ℕ → Result Filled FillError → List ℕ → List ℕ → Type 0
+TookOrKept trace n p out text (Ok f) out' text' = Took trace p (fill_of trace n p (length out) (length text)) out text f out' text'
+TookOrKept trace n p out text (Err e) out' text' = (out' ≡ out) × (text' ≡ text)
+
+pub record FillPromise (trace : List ℕ) (n p : ℕ) (out text : List ℕ) (r : Result Filled FillError) (out' text' : List ℕ) : Type 0 where
+  pub number : number_of r ≡ number_at trace p
+  pub took : TookOrKept trace n p out text r out' text'

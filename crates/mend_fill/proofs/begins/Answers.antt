@@ -6,7 +6,7 @@ use Rattle.mend_fill.proofs.PieceLaws.{read_begun}
 use Rattle.mend_fill.proofs.begins.Goals as goal
 
 pub returns-in_default : goal.returns-in_default
-returns-in_default c = sym (ap begun (answer_none _ _ c.event_at-found.result c.event_at-found.ensures c.in_default.not-Read))
+returns-in_default c = sym (ap begun (answer_none _ _ c.event_at.result c.event_at.ensures c.in_default.not-Read))
 
-pub returns : goal.returns
-returns c = read_begun _ _ c.event_at-found.result _ _ c.event_at-found.ensures c.in-Read.is
+pub returns-in-Read : goal.returns-in-Read
+returns-in-Read c = read_begun _ _ c.event_at.result _ _ c.event_at.ensures c.in-Read.is

@@ -9,7 +9,6 @@ use lib.ListN.{set, length-set}
 use Rattle.list_lines.proofs.Puts.{put_is, put_then, put_one}
 use Rattle.mend_fill.specs.Lines.{numeral}
 use Rattle.mend_fill.proofs.Parts.{part_long, digit_step, digit_last, digit_fewer}
-use Rattle.mend_fill.proofs.part.Reads as part-reads
 use Rattle.mend_fill.proofs.number.Goals as goal
 
 -- src/lib.rt:55:5
@@ -35,37 +34,32 @@ loop-rest-preserved c =
       digit_step _ h.i (h.i - 1) h.rest h.digits e (omega (arith, h.invariant.0, h.invariant.2)) c.loop-rest-test.true h.invariant.3,
     )
 
--- src/lib.rt:61:9
-pub part-end-requires : goal.part-end-requires
-part-end-requires c =
+pub text-end-requires : goal.text-end-requires
+text-end-requires c =
     let h = c.loop-rest in
     let e = length-set h.digits h.i (48 + h.rest) in
-    (omega (arith, h.invariant.0), omega (arith, e, h.invariant.2), omega (arith, c.requires))
+    let m = part_long (set h.digits h.i (48 + h.rest)) h.i 20 (omega (arith, h.invariant.0)) (omega (arith, e, h.invariant.2)) in
+    omega (arith, m, c.requires)
 
--- src/lib.rt:62:5
 pub bounds-text-end : goal.bounds-text-end
 bounds-text-end c =
     let h = c.loop-rest in
     let e = length-set h.digits h.i (48 + h.rest) in
     let m = part_long (set h.digits h.i (48 + h.rest)) h.i 20 (omega (arith, h.invariant.0)) (omega (arith, e, h.invariant.2)) in
-    let k = c.part-end in
-    omega (arith, k.ensures.next, m, c.requires)
+    omega (arith, c.text-end.ensures.next, m, c.requires)
 
--- src/lib.rt:63:5
 pub overflow_add-result : goal.overflow_add-result
 overflow_add-result c =
     let h = c.loop-rest in
     let e = length-set h.digits h.i (48 + h.rest) in
     let m = part_long (set h.digits h.i (48 + h.rest)) h.i 20 (omega (arith, h.invariant.0)) (omega (arith, e, h.invariant.2)) in
-    let k = c.part-end in
-    omega (arith, k.ensures.next, m, c.requires)
+    omega (arith, c.text-end.ensures.next, m, c.requires)
 
--- src/lib.rt:47:1
 pub returns : goal.returns
 returns c =
     let h = c.loop-rest in
     let e = length-set h.digits h.i (48 + h.rest) in
     let m = part_long (set h.digits h.i (48 + h.rest)) h.i 20 (omega (arith, h.invariant.0)) (omega (arith, e, h.invariant.2)) in
-    let k = c.part-end in
+    let k = c.text-end in
     let l = digit_last _ h.i h.rest h.digits (omega (arith, h.invariant.0, h.invariant.2)) h.invariant.2 c.loop-rest-test.false h.invariant.3 in
     record { put = put_is (ap (λ (x : List ℕ). x ++ (c.args.after ∷ [])) l) (put_then k.ensures (put_one _ _ _)); upper_bound = omega (arith, k.ensures.next, m, h.invariant.0) }

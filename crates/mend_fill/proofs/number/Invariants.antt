@@ -1,12 +1,11 @@
 -- `mend_fill::number` makes the digits from the last to the first: what is left of the number has its digits in front of those
 -- that stand already.
-use Prim.Native.Nat.{suc, ◌+◌, ◌-◌, ◌^◌, ◌≤◌, ◌<◌}
+use Prim.Native.Nat.{suc, ◌^◌, ◌≤◌, ◌<◌}
 use mathlib.Core.Path.{◌≡◌}
 use mathlib.Core.List.{◌++◌}
 use lib.ListN.{length, drop}
 use Rattle.list_lines.specs.Text.{decimal}
 use Rattle.mend_fill.specs.Lines.{numeral}
-use Rattle.mend_fill.proofs.part.Reads as part-reads
 use Rattle.mend_fill.proofs.number.Given as goal
 
 abbrev pub invariant-loop-rest : goal.invariant-loop-rest

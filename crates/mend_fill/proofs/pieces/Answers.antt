@@ -1,71 +1,78 @@
 -- `mend_fill::pieces` takes pieces while there are some and both buffers have room: the invariant is what was taken so far, and
 -- each step leads on.
-use Prim.Native.Nat.{◌-◌}
-use mathlib.Core.Path.{refl}
 use native.Mathlib.Omega.{arith}
-use borrow.Author.Rules.{rules}
-use Rattle.mend_fill.proofs.FillLaws.{none_at_end, none_record, none_line, done_none, done_more, done_all}
+use Rattle.mend_step.proofs.Pieces.{kept_within}
+use Rattle.mend_fill.proofs.Parts.{part_long}
+use Rattle.mend_fill.proofs.FillLaws.{none_at_end, none_record, none_line, done_none, done_kept, done_skipped, done_all}
 use Rattle.mend_fill.proofs.PieceLaws.{leads_on}
-use Rattle.mend_step.proofs.step.Reads as step-reads
-use Rattle.mend_fill.proofs.piece.Reads as piece-reads
 use Rattle.mend_fill.proofs.pieces.Goals as goal
 
--- src/lib.rt:115:5
-pub loop-now-init : goal.loop-now-init
-loop-now-init c = (done_none _ _ _ _ _ _ _, omega arith, omega arith, refl, refl)
+pub loop-f-init : goal.loop-f-init
+loop-f-init c = (done_none _ _ _ _ _ _ _, omega arith, omega arith)
 
--- src/lib.rt:116:12
-pub overflow_sub-out : goal.overflow_sub-out
-overflow_sub-out c = omega (arith, c.loop-now.invariant.1, c.loop-now.invariant.3)
+-- a kept record
 
--- src/lib.rt:117:13
-pub returns-then-out-written-lt-RECORD_ROOM : goal.returns-then-out-written-lt-RECORD_ROOM
-returns-then-out-written-lt-RECORD_ROOM c =
-    let h = c.loop-now in
-    record { number_value = refl; took = done_all _ _ _ _ _ _ _ h.invariant.0 (none_record _ _ _ _ _ (omega (arith, c.if-out-written-lt-RECORD_ROOM.true, h.invariant.3))) h.invariant.1 h.invariant.2 }
+pub slice_bounds-text-count : goal.slice_bounds-text-count
+slice_bounds-text-count c = (kept_within _ _ _ _ c.in-Kept.ensures).0
 
--- src/lib.rt:119:12
-pub overflow_sub-text : goal.overflow_sub-text
-overflow_sub-text c = omega (arith, c.loop-now.invariant.2, c.loop-now.invariant.4)
+pub slice_bounds-text-start : goal.slice_bounds-text-start
+slice_bounds-text-start c = (kept_within _ _ _ _ c.in-Kept.ensures).0
 
--- src/lib.rt:120:13
-pub returns-then-text-listed-lt-LINE_ROOM : goal.returns-then-text-listed-lt-LINE_ROOM
-returns-then-text-listed-lt-LINE_ROOM c =
-    let h = c.loop-now in
-    record { number_value = refl; took = done_all _ _ _ _ _ _ _ h.invariant.0 (none_line _ _ _ _ _ (omega (arith, c.if-text-listed-lt-LINE_ROOM.true, h.invariant.4))) h.invariant.1 h.invariant.2 }
+pub slice_bounds-text-end : goal.slice_bounds-text-end
+slice_bounds-text-end c = (kept_within _ _ _ _ c.in-Kept.ensures).1
 
--- src/lib.rt:123:13
-pub piece-f-requires : goal.piece-f-requires
-piece-f-requires c =
-    let h = c.loop-now in
-    record { s_value = (c.step-s.ensures, c.loop-now-test.true); record_room_in_bounds = (omega (arith, c.if-out-written-lt-RECORD_ROOM.false, h.invariant.1, h.invariant.3), omega (arith, c.if-text-listed-lt-LINE_ROOM.false, h.invariant.2, h.invariant.4)) }
+pub text-requires : goal.text-requires
+text-requires c =
+    let k = kept_within _ _ _ _ c.in-Kept.ensures in
+    let m = part_long c.args.trace.now c.loop-f.f.at c.in-Kept.next k.0 k.1 in
+    omega (arith, m, k.2, c.if-out-f-ge-RECORD_ROOM.true)
 
--- src/lib.rt:115:5
-pub loop-now-smaller : goal.loop-now-smaller
-loop-now-smaller c =
-    let st = c.step-s in
-    let a = c.args in
-    let t = c.loop-now-test.true in
-    omega (arith, t, leads_on c.loop-now.now st.result a.trace.now a.total st.ensures t)
+pub loop-f-smaller-in-Kept : goal.loop-f-smaller-in-Kept
+loop-f-smaller-in-Kept c = omega (arith, c.loop-f-test.true, leads_on _ _ _ _ c.in-Kept.ensures c.loop-f-test.true)
 
--- src/lib.rt:115:5
-pub loop-now-preserved : goal.loop-now-preserved
-loop-now-preserved c =
-    let h = c.loop-now in
-    let st = c.step-s in
-    let f = c.piece-f in
-    let x = c.if-out-written-lt-RECORD_ROOM.false in
-    let y = c.if-text-listed-lt-LINE_ROOM.false in (
-      done_more _ _ _ _ _ _ _ h.invariant.0 c.loop-now-test.true (omega (arith, x, h.invariant.1, h.invariant.3)) (omega (arith, y, h.invariant.2, h.invariant.4))
-          st.ensures f.ensures.put f.ensures.put_2,
-      omega (arith, f.ensures.written_bound.0, x, h.invariant.1, h.invariant.3),
-      omega (arith, f.ensures.written_bound.1, y, h.invariant.2, h.invariant.4),
-      search rules,
-      search rules,
+pub loop-f-preserved-in-Kept : goal.loop-f-preserved-in-Kept
+loop-f-preserved-in-Kept c =
+    let h = c.loop-f in
+    let k = kept_within _ _ _ _ c.in-Kept.ensures in
+    let m = part_long c.args.trace.now h.f.at c.in-Kept.next k.0 k.1 in
+    let x = c.if-out-f-ge-RECORD_ROOM.true in
+    let y = c.if-text-f-ge-LINE_ROOM.true in (
+      done_kept _ _ _ _ _ _ _ h.invariant.0 c.loop-f-test.true (omega (arith, x, h.auto.out)) (omega (arith, y, h.auto.text)) c.in-Kept.ensures c.text.ensures,
+      omega (arith, c.text.ensures.next, m, k.2, x, h.auto.out),
+      h.invariant.2,
     )
 
--- src/lib.rt:108:1
-pub returns : goal.returns
-returns c =
-    let h = c.loop-now in
-    record { number_value = refl; took = done_all _ _ _ _ _ _ _ h.invariant.0 (none_at_end _ _ _ _ _ c.loop-now-test.false) h.invariant.1 h.invariant.2 }
+-- a skipped stretch
+
+pub overflow_sub-next : goal.overflow_sub-next
+overflow_sub-next c = omega (arith, leads_on _ _ _ _ c.in-Skipped.ensures c.loop-f-test.true)
+
+pub loop-f-smaller : goal.loop-f-smaller
+loop-f-smaller c = omega (arith, c.loop-f-test.true, leads_on _ _ _ _ c.in-Skipped.ensures c.loop-f-test.true)
+
+pub loop-f-preserved : goal.loop-f-preserved
+loop-f-preserved c =
+    let h = c.loop-f in
+    let x = c.if-out-f-ge-RECORD_ROOM.true in
+    let y = c.if-text-f-ge-LINE_ROOM.true in (
+      done_skipped _ _ _ _ _ _ _ h.invariant.0 c.loop-f-test.true (omega (arith, x, h.auto.out)) (omega (arith, y, h.auto.text)) c.in-Skipped.ensures c.stretch_line.ensures.put,
+      h.invariant.1,
+      omega (arith, c.stretch_line.ensures.upper_bound, y, h.auto.text),
+    )
+
+-- the end, or no room
+
+pub returns-else-text-f-ge-LINE_ROOM : goal.returns-else-text-f-ge-LINE_ROOM
+returns-else-text-f-ge-LINE_ROOM c =
+    let h = c.loop-f in
+    done_all _ _ _ _ _ _ _ h.invariant.0 (none_line _ _ _ _ _ (omega (arith, c.if-text-f-ge-LINE_ROOM.false, h.auto.text))) h.invariant.1 h.invariant.2
+
+pub returns-else-out-f-ge-RECORD_ROOM : goal.returns-else-out-f-ge-RECORD_ROOM
+returns-else-out-f-ge-RECORD_ROOM c =
+    let h = c.loop-f in
+    done_all _ _ _ _ _ _ _ h.invariant.0 (none_record _ _ _ _ _ (omega (arith, c.if-out-f-ge-RECORD_ROOM.false, h.auto.out))) h.invariant.1 h.invariant.2
+
+pub returns-after-loop-f : goal.returns-after-loop-f
+returns-after-loop-f c =
+    let h = c.loop-f in
+    done_all _ _ _ _ _ _ _ h.invariant.0 (none_at_end _ _ _ _ _ c.loop-f-test.false) h.invariant.1 h.invariant.2

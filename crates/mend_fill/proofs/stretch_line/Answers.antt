@@ -2,7 +2,6 @@
 use native.Mathlib.Omega.{arith}
 use Rattle.list_lines.proofs.Puts.{put_is, put_then}
 use Rattle.mend_fill.proofs.PieceLaws.{line_of}
-use Rattle.mend_fill.proofs.number.Reads as number-reads
 use Rattle.mend_fill.proofs.stretch_line.Goals as goal
 
 -- src/lib.rt:75:9
