@@ -1,6 +1,6 @@
 -- What a mended trace handed over may leave: after so many fills one result only, and where all was handed over there is one
 -- number of fills. What stays open is the writer's: at which fill it says no.
-use Prim.Native.Nat.{ℕ, suc, ◌≤◌, ◌<◌}
+use Prim.Native.Nat.{ℕ, ◌≤◌, ◌<◌}
 use mathlib.Core.Path.{◌≡◌, refl, sym, ap, subst, ◌∙◌}
 use mathlib.Core.Bool.{Bool, true}
 use mathlib.Core.List.{List, ◌++◌}
@@ -8,19 +8,28 @@ use native.Mathlib.Omega.{arith}
 use native.Mathlib.Decide.{dec_lt}
 use lib.ListN.{take}
 use Rattle.list_lines.proofs.Puts.{put_once}
+use Rattle.std.specs.Prelude.{Result, Ok, Err}
 use Rattle.mend_fill.specs.declared.Filled.{Filled}
+use Rattle.mend_fill.specs.declared.FillError.{FillError}
+use Rattle.mend_fill.specs.declared.FillError.TheVariants.{NoHead}
 use Rattle.mend_fill.specs.Fill.{FillPromise}
 use Rattle.mend_write.specs.Handed.{Fills, no_fill, then_fill, Handed}
 
 module _ (s : List ℕ) (n : ℕ) where
-  pub fill_once : {p : ℕ} {out text a b c d : List ℕ} {q r : Filled} → FillPromise s n p out text q a b → FillPromise s n p out text r c d
+  filled_once : {p : ℕ} {out text a b c d : List ℕ} {q r : Filled} → FillPromise s n p out text (Ok q) a b → FillPromise s n p out text (Ok r) c d
       → (q ≡ r) × (a ≡ c) × (b ≡ d)
-  fill_once f g =
+  filled_once f g =
       let w = put_once f.took.written g.took.written in
       let l = put_once f.took.listed g.took.listed in
-      let m = f.number ∙ sym g.number in
       let e = f.took.at ∙ sym g.took.at in
-      (λ i. record { number = m i; at = e i; written = w.1 i; listed = l.1 i }, w.0, l.0)
+      (λ i. record { at = e i; written = w.1 i; listed = l.1 i }, w.0, l.0)
+
+  pub fill_once : {p : ℕ} {out text a b c d : List ℕ} (q r : Result Filled FillError) → FillPromise s n p out text q a b → FillPromise s n p out text r c d
+      → (q ≡ r) × (a ≡ c) × (b ≡ d)
+  fill_once (Ok q) (Ok r) f g = let h = filled_once f g in (ap (λ (x : Filled). Ok x) h.0, h.1, h.2)
+  fill_once (Err NoHead) (Err NoHead) f g = (refl, f.took.0 ∙ sym g.took.0, f.took.1 ∙ sym g.took.1)
+  fill_once (Ok q) (Err NoHead) f g = absurd (omega (arith, f.number, g.number))
+  fill_once (Err NoHead) (Ok r) f g = absurd (omega (arith, f.number, g.number))
 
   -- before the last of k fills the input's end was not reached
   record Before (out text : List ℕ) (j : ℕ) : Type 0 where
@@ -40,8 +49,8 @@ module _ (s : List ℕ) (n : ℕ) where
     fills_once no_fill no_fill = (refl, refl, refl, refl, refl)
     fills_once (then_fill {w = w} {l = l} {out' = o} {text' = t} {at = p} q o₂ t₂ a a-on f) (then_fill {w = v} {l = m} {out' = o'} {text' = t'} {at = p'} r o₃ t₃ b b-on g) =
         let e = fills_once a b in
-        let f' = subst (λ (x : ℕ). FillPromise s n x o' t' q o₂ t₂) e.2 (subst (λ (x : List ℕ). FillPromise s n p x t' q o₂ t₂) e.3 (subst (λ (x : List ℕ). FillPromise s n p o x q o₂ t₂) e.4 f)) in
-        let h = fill_once f' g in (
+        let f' = subst (λ (x : ℕ). FillPromise s n x o' t' (Ok q) o₂ t₂) e.2 (subst (λ (x : List ℕ). FillPromise s n p x t' (Ok q) o₂ t₂) e.3 (subst (λ (x : List ℕ). FillPromise s n p o x (Ok q) o₂ t₂) e.4 f)) in
+        let h = filled_once f' g in (
           ap (λ (x : List ℕ). x ++ take q.written o₂) e.0 ∙ ap (λ (x : Filled). v ++ take x.written o₂) h.0 ∙ ap (λ (x : List ℕ). v ++ take r.written x) h.1,
           ap (λ (x : List ℕ). x ++ take q.listed t₂) e.1 ∙ ap (λ (x : Filled). m ++ take x.listed t₂) h.0 ∙ ap (λ (x : List ℕ). m ++ take r.listed x) h.2,
           ap (λ (x : Filled). x.at) h.0,

@@ -2,12 +2,14 @@
 use Prim.Native.Nat.{ℕ, ◌+◌, ◌≤◌, ◌<◌}
 use mathlib.Core.Path.{◌≡◌, refl, sym, ap, ◌∙◌}
 use mathlib.Core.Bool.{Bool, true, false, ◌&&◌}
-use mathlib.Core.List.{List, [], ◌∷◌, ◌++◌, append-nil, append_assoc}
+use mathlib.Core.List.{List, [], ◌∷◌, ◌++◌, append_assoc}
 use borrow.Author.Tests.{lt-ltb, le-leb, ne_eqb}
 use native.Mathlib.Omega.{arith}
-use Rattle.meaning.specs.Plain.{when◌then◌else◌, ◌<?◌, ◌≤?◌, ◌=?◌}
-use Rattle.mend_write.specs.declared.Counted.{Counted}
-use Rattle.mend_write.specs.Reads.{chunk, most, Got, failed, octets, fits, stop, ended, counted, Reads}
+use Rattle.meaning.specs.Plain.{◌≤?◌}
+use Rattle.std.specs.Prelude.{Result, Ok, Err}
+use Rattle.mend_write.specs.declared.CountError.{CountError}
+use Rattle.mend_write.specs.declared.CountError.TheVariants.{Failed, TooLong}
+use Rattle.mend_write.specs.Reads.{chunk, most, Got, failed, octets, fits, counted, Reads}
 
 fits_append : (xs ys : List Got) → fits xs ≡ true → fits ys ≡ true → fits (xs ++ ys) ≡ true
 fits_append [] ys p q = q
@@ -29,21 +31,22 @@ reads_none before = record { gots = []; fit = refl; leads = λ more. refl }
 
 module _ (before total : ℕ) (s : Sofar before total) where
   -- with these answers at the last
-  reads_with : (r : Counted) (more : List Got) → fits more ≡ true → counted total more ≡ r → Reads before r
-  reads_with r more f e =
-      record { gots = s.gots ++ more; fit = fits_append s.gots more s.fit f; is = sym (s.leads more ∙ e) }
+  reads_with : (r : Result ℕ CountError) (more : List Got) → fits more ≡ true → counted total more ≡ r
+      → ((t : ℕ) → r ≡ Err (TooLong t) → most ≤ t) → Reads before r
+  reads_with r more f e l =
+      record { gots = s.gots ++ more; fit = fits_append s.gots more s.fit f; is = sym (s.leads more ∙ e); long = l }
 
-  pub reads_failed : Reads before (stop total)
+  pub reads_failed : Reads before (Err (Failed total))
   unfolding counted
-  reads_failed = reads_with (stop total) (failed ∷ []) refl refl
+  reads_failed = reads_with (Err (Failed total)) (failed ∷ []) refl refl (λ t q. cc)
 
-  pub reads_ended : total < most → Reads before (ended total)
+  pub reads_ended : total < most → Reads before (Ok total)
   unfolding counted
-  reads_ended low = reads_with (ended total) (octets 0 ∷ []) refl (rw (lt-ltb total most low) refl)
+  reads_ended low = reads_with (Ok total) (octets 0 ∷ []) refl (rw (lt-ltb total most low) refl) (λ t q. cc)
 
-  pub reads_long : Reads before (stop total)
+  pub reads_long : most ≤ total → Reads before (Err (TooLong total))
   unfolding counted
-  reads_long = reads_with (stop total) [] refl refl
+  reads_long h = reads_with (Err (TooLong total)) [] refl refl (λ t q. let e : total ≡ t = cc in omega (arith, h, e))
 
   pub reads_more : (n : ℕ) → total < most → (n ≡ 0 → ⊥) → n ≤ chunk → Sofar before (total + n)
   unfolding counted

@@ -1,6 +1,6 @@
 -- Fill after fill is the walk: what a fill takes is what the walk has from there, and the walk goes on where the fill ends;
 -- with room for a record and a line each fill leads on.
-use Prim.Native.Nat.{ℕ, zero, suc, ◌+◌, ◌-◌, ◌≤◌, ◌<◌}
+use Prim.Native.Nat.{ℕ, zero, suc, ◌-◌, ◌≤◌, ◌<◌}
 use mathlib.Core.Path.{◌≡◌, refl, sym, ap, subst, ◌∙◌}
 use mathlib.Core.Bool.{Bool, true, false, not, ◌&&◌}
 use mathlib.Core.List.{List, [], ◌∷◌, ◌++◌, append-nil, append_assoc}
@@ -9,17 +9,19 @@ use borrow.Author.Tests.{ltb-true, lt-ltb, le-ltb, le-leb, lt-leb}
 use native.Mathlib.Omega.{arith}
 use Rattle.std.specs.declared.option.Option.{Option}
 use Rattle.std.specs.Prelude.{Result, Ok, Err, OnOk}
-use Rattle.std.specs.Result.{is_err, is_ok}
+use Rattle.std.specs.Result.{is_err, is_ok, IsOk}
 use Rattle.std.specs.Io.KnownBytes.{Appends}
 use Rattle.std.proofs.KnownBytes.{Appends-nil, Appends-trans, Keeps-refl}
 use Rattle.meaning.specs.Plain.{when◌then◌else◌, ◌<?◌, ◌≤?◌, ◌=?◌}
 use Rattle.list_lines.proofs.Puts.{put_front}
-use Rattle.mend_step.specs.Salvage.{reads_to, step_at, Piece, piece_of, walk_from, walk, written_of}
+use Rattle.mend_step.specs.Salvage.{reads_to, step_at, next_of, Piece, piece_of, walk_from, walk, written_of}
 use Rattle.mend_step.proofs.Walk.{step_on}
 use Rattle.mend_step.proofs.Pieces.{written_append}
 use Rattle.mend_fill.specs.declared.Filled.{Filled}
+use Rattle.mend_fill.specs.declared.FillError.{FillError}
+use Rattle.mend_fill.specs.declared.FillError.TheVariants.{NoHead}
 use Rattle.mend_fill.specs.Lines.{lines_of}
-use Rattle.mend_fill.specs.Fill.{record_room, line_room, fill_from, fill_of, end_of, Took, begun, refuses, FillPromise}
+use Rattle.mend_fill.specs.Fill.{record_room, line_room, fill_from, fill_of, end_of, begun, refuses, number_at, FillPromise}
 use Rattle.mend_fill.proofs.FillLaws.{and_first, and_last, lines_append, end_one, one_more}
 use Rattle.mend_write.specs.Handed.{Fills, no_fill, then_fill, Handed, mends, MendPromise, Taken, stop_17, Written}
 
@@ -37,42 +39,42 @@ module _ (s : List ℕ) (n : ℕ) where
   unfolding walk_from
   walk_fuel zero zero p h l = refl
   walk_fuel zero (suc j) p h l =
-      sym (ap (λ (b : Bool). when b then piece_of p (step_at s n p) ∷ walk_from s n j (step_at s n p).next else []) (le-ltb p n (omega arith)))
+      sym (ap (λ (b : Bool). when b then piece_of p (step_at s n p) ∷ walk_from s n j (next_of (step_at s n p)) else []) (le-ltb p n (omega arith)))
   walk_fuel (suc k) zero p h l =
-      ap (λ (b : Bool). when b then piece_of p (step_at s n p) ∷ walk_from s n k (step_at s n p).next else []) (le-ltb p n (omega arith))
+      ap (λ (b : Bool). when b then piece_of p (step_at s n p) ∷ walk_from s n k (next_of (step_at s n p)) else []) (le-ltb p n (omega arith))
   walk_fuel (suc k) (suc j) p h l = go (p <? n) refl (λ q. walk_fuel k j q)
     where
       go : (b : Bool) → (p <? n) ≡ b → ((q : ℕ) → n - q ≤ k → n - q ≤ j → walk_from s n k q ≡ walk_from s n j q)
-          → (when b then piece_of p (step_at s n p) ∷ walk_from s n k (step_at s n p).next else [])
-          ≡ (when b then piece_of p (step_at s n p) ∷ walk_from s n j (step_at s n p).next else [])
+          → (when b then piece_of p (step_at s n p) ∷ walk_from s n k (next_of (step_at s n p)) else [])
+          ≡ (when b then piece_of p (step_at s n p) ∷ walk_from s n j (next_of (step_at s n p)) else [])
       go true e more =
           let o = step_on s n p (ltb-true p n e) in
-          ap (λ (xs : List Piece). piece_of p (step_at s n p) ∷ xs) (more (step_at s n p).next (omega (arith, o)) (omega (arith, o)))
+          ap (λ (xs : List Piece). piece_of p (step_at s n p) ∷ xs) (more (next_of (step_at s n p)) (omega (arith, o)) (omega (arith, o)))
       go false e more = refl
 
   abbrev to : ℕ → List Piece
   to p = walk_from s n (n - p) p
 
-  walk_one : (k p : ℕ) → p < n → walk_from s n (suc k) p ≡ piece_of p (step_at s n p) ∷ walk_from s n k (step_at s n p).next
+  walk_one : (k p : ℕ) → p < n → walk_from s n (suc k) p ≡ piece_of p (step_at s n p) ∷ walk_from s n k (next_of (step_at s n p))
   unfolding walk_from
   walk_one k p h =
-      ap (λ (b : Bool). when b then piece_of p (step_at s n p) ∷ walk_from s n k (step_at s n p).next else []) (lt-ltb p n h)
+      ap (λ (b : Bool). when b then piece_of p (step_at s n p) ∷ walk_from s n k (next_of (step_at s n p)) else []) (lt-ltb p n h)
 
   fill_walk : (k p a b : ℕ) → n - p ≤ k → walk_from s n k p ≡ fill_from s n k p a b ++ to (end_of p (fill_from s n k p a b))
   unfolding fill_from
   fill_walk zero p a b h = walk_fuel zero (n - p) p h (omega arith)
   fill_walk (suc k) p a b h =
       go (p <? n && (record_room ≤? a && line_room ≤? b)) refl
-      (λ o. fill_walk k (step_at s n p).next (a - length (written_of s (piece_of p (step_at s n p) ∷ []))) (b - length (lines_of (piece_of p (step_at s n p) ∷ []))) (omega (arith, o)))
+      (λ o. fill_walk k (next_of (step_at s n p)) (a - length (written_of s (piece_of p (step_at s n p) ∷ []))) (b - length (lines_of (piece_of p (step_at s n p) ∷ []))) (omega (arith, o)))
     where
       ys : List Piece
-      ys = fill_from s n k (step_at s n p).next (a - length (written_of s (piece_of p (step_at s n p) ∷ []))) (b - length (lines_of (piece_of p (step_at s n p) ∷ [])))
+      ys = fill_from s n k (next_of (step_at s n p)) (a - length (written_of s (piece_of p (step_at s n p) ∷ []))) (b - length (lines_of (piece_of p (step_at s n p) ∷ [])))
 
       P : List Piece → Type 0
       P zs = walk_from s n (suc k) p ≡ zs ++ to (end_of p zs)
 
       go : (t : Bool) → p <? n && (record_room ≤? a && line_room ≤? b) ≡ t
-          → (p < (step_at s n p).next → walk_from s n k (step_at s n p).next ≡ ys ++ to (end_of (step_at s n p).next ys))
+          → (p < next_of (step_at s n p) → walk_from s n k (next_of (step_at s n p)) ≡ ys ++ to (end_of (next_of (step_at s n p)) ys))
           → P (when t then piece_of p (step_at s n p) ∷ ys else [])
       go true e more =
           let i = ltb-true p n (and_first (p <? n) (record_room ≤? a && line_room ≤? b) e) in
@@ -87,12 +89,12 @@ module _ (s : List ℕ) (n : ℕ) where
   end_on zero p a b = omega arith
   end_on (suc k) p a b =
       go (p <? n && (record_room ≤? a && line_room ≤? b)) refl
-      (end_on k (step_at s n p).next (a - length (written_of s (piece_of p (step_at s n p) ∷ []))) (b - length (lines_of (piece_of p (step_at s n p) ∷ []))))
+      (end_on k (next_of (step_at s n p)) (a - length (written_of s (piece_of p (step_at s n p) ∷ []))) (b - length (lines_of (piece_of p (step_at s n p) ∷ []))))
     where
       ys : List Piece
-      ys = fill_from s n k (step_at s n p).next (a - length (written_of s (piece_of p (step_at s n p) ∷ []))) (b - length (lines_of (piece_of p (step_at s n p) ∷ [])))
+      ys = fill_from s n k (next_of (step_at s n p)) (a - length (written_of s (piece_of p (step_at s n p) ∷ []))) (b - length (lines_of (piece_of p (step_at s n p) ∷ [])))
 
-      go : (t : Bool) → p <? n && (record_room ≤? a && line_room ≤? b) ≡ t → (step_at s n p).next ≤ end_of (step_at s n p).next ys
+      go : (t : Bool) → p <? n && (record_room ≤? a && line_room ≤? b) ≡ t → next_of (step_at s n p) ≤ end_of (next_of (step_at s n p)) ys
           → p ≤ end_of p (when t then piece_of p (step_at s n p) ∷ ys else [])
       go true e more =
           let o = step_on s n p (ltb-true p n (and_first (p <? n) (record_room ≤? a && line_room ≤? b) e)) in
@@ -107,8 +109,8 @@ module _ (s : List ℕ) (n : ℕ) where
       let x = a - length (written_of s (piece_of p st ∷ [])) in
       let y = b - length (lines_of (piece_of p st ∷ [])) in
       let o = step_on s n p h in
-      let e = ap (end_of p) (one_more s n p a b h l m) ∙ end_one p p st (fill_from s n (n - st.next) st.next x y) o in
-      omega (arith, o, e, end_on (n - st.next) st.next x y)
+      let e = ap (end_of p) (one_more s n p a b h l m) ∙ end_one p p st (fill_from s n (n - next_of st) (next_of st) x y) o in
+      omega (arith, o, e, end_on (n - next_of st) (next_of st) x y)
 
   -- ---- the fills so far
 
@@ -132,21 +134,26 @@ module _ (s : List ℕ) (n : ℕ) where
   unfolding refuses
   not_refused p h = and_last (p =? 0) (ap not h)
 
-  pub promised : {p : ℕ} {out text out' text' : List ℕ} {r : Filled} → begun (reads_to s 0) ≡ true → FillPromise s n p out text r out' text'
-      → Took s p (fill_of s n p (length out) (length text)) out text r out' text'
-  promised {p} {out} {text} {out'} {text'} {r} h f =
-      subst (λ (qs : List Piece). Took s p qs out text r out' text')
-      (ap (λ (b : Bool). when b then [] else fill_of s n p (length out) (length text)) (not_refused p h)) f.took
+  -- nothing is refused of an input that begins with a record
+  pub filled : {p : ℕ} {out text out' text' : List ℕ} (r : Result Filled FillError) → begun (reads_to s 0) ≡ true → FillPromise s n p out text r out' text'
+      → IsOk r
+  filled (Ok f) h g = refl
+  filled {p} (Err NoHead) h g =
+      let z : number_at s p ≡ 0 = ap (λ (b : Bool). when b then 17 else 0) (not_refused p h) in absurd (omega (arith, g.number, z))
 
-  pub fill_leads : {p : ℕ} {out text out' text' : List ℕ} {r : Filled} → begun (reads_to s 0) ≡ true → FillPromise s n p out text r out' text'
+  pub unwrapped : {p : ℕ} {out text out' text' : List ℕ} {r : Result Filled FillError} {f : Filled} → r ≡ Ok f → FillPromise s n p out text r out' text'
+      → FillPromise s n p out text (Ok f) out' text'
+  unwrapped {p} {out} {text} {out'} {text'} e g = subst (λ (x : Result Filled FillError). FillPromise s n p out text x out' text') e g
+
+  pub fill_leads : {p : ℕ} {out text out' text' : List ℕ} {r : Filled} → FillPromise s n p out text (Ok r) out' text'
       → p < n → record_room ≤ length out → line_room ≤ length text → p < r.at
-  fill_leads {p} {out} {text} h f l a b = omega (arith, (promised h f).at, fill_on p (length out) (length text) l a b)
+  fill_leads {p} {out} {text} f l a b = omega (arith, f.took.at, fill_on p (length out) (length text) l a b)
 
-  pub sofar_more : {out₀ text₀ out text out' text' : List ℕ} {at : ℕ} {r : Filled} → begun (reads_to s 0) ≡ true
-      → Sofar out₀ text₀ at out text → at < n → FillPromise s n at out text r out' text' → Sofar out₀ text₀ r.at out' text'
+  pub sofar_more : {out₀ text₀ out text out' text' : List ℕ} {at : ℕ} {r : Filled}
+      → Sofar out₀ text₀ at out text → at < n → FillPromise s n at out text (Ok r) out' text' → Sofar out₀ text₀ r.at out' text'
   unfolding fill_of
-  sofar_more {out = out} {text} {out'} {text'} {at} {r} h d on f =
-      let t = promised h f in
+  sofar_more {out = out} {text} {out'} {text'} {at} {r} d on f =
+      let t = f.took in
       let qs = fill_of s n at (length out) (length text) in
       record {
         count = suc d.count;
@@ -210,14 +217,13 @@ module _ (s : List ℕ) (n : ℕ) where
   going_none out₀ text₀ a b = record { sofar = sofar_none out₀ text₀; mended = Appends-nil a; listed = Appends-nil b }
 
   pub going_more : {out₀ text₀ out text out' text' : List ℕ} {a a' b b' : Option (List ℕ)} {at : ℕ} {r : Filled} (a'' b'' : Option (List ℕ))
-      → begun (reads_to s 0) ≡ true
-      → Going out₀ text₀ a a' b b' at out text → at < n → FillPromise s n at out text r out' text'
+      → Going out₀ text₀ a a' b b' at out text → at < n → FillPromise s n at out text (Ok r) out' text'
       → Appends a' a'' (take r.written out') → Appends b' b'' (take r.listed text')
       → Going out₀ text₀ a a'' b b'' r.at out' text'
   unfolding sofar_more
-  going_more a'' b'' h d on f p q =
+  going_more a'' b'' d on f p q =
       record {
-        sofar = sofar_more h d.sofar on f;
+        sofar = sofar_more d.sofar on f;
         mended = Appends-trans _ _ _ _ _ d.mended p;
         listed = Appends-trans _ _ _ _ _ d.listed q;
       }

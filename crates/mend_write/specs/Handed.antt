@@ -2,6 +2,7 @@
 -- before left the place and the buffers; what they put, and in which order, is fixed, and so is what is left in the
 -- buffers. Which octets the system then writes is outside every contract.
 use Rattle.std.specs.Prelude.{ℕ, suc, ◌≤◌, ◌<◌, ◌≡◌, Bool, true, false, ◌&&◌, List, [], ◌∷◌, ◌++◌, length, take}
+use Rattle.std.specs.Prelude.{Ok}
 use Rattle.std.specs.declared.option.Option.{Option}
 use Rattle.std.specs.Io.KnownBytes.{Appends, Keeps}
 use Rattle.meaning.specs.Plain.{◌≤?◌}
@@ -16,7 +17,7 @@ pub data Fills (trace : List ℕ) (n : ℕ) (out text : List ℕ) : (k : ℕ) (w
   no_fill : Fills trace n out text 0 [] [] 0 out text
   then_fill : {k : ℕ} {w l out' text' : List ℕ} {at : ℕ} (r : Filled) (out'' text'' : List ℕ) → Fills trace n out text k w l at out' text'
       → at < n
-      → FillPromise trace n at out' text' r out'' text''
+      → FillPromise trace n at out' text' (Ok r) out'' text''
       → Fills trace n out text (suc k) (w ++ take r.written out'') (l ++ take r.listed text'') r.at out'' text''
 
 -- r says that every write took all: then all of the mended trace and all lines were handed over. Where a write failed, the

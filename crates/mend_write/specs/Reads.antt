@@ -2,10 +2,11 @@
 -- the input's end, or that it failed. Which answers come is the system's.
 --
 --   counted total gots == the count, where total octets came before and the reads from now on answer gots
---   Reads before r     == r is the count that some answers lead to
-use Rattle.std.specs.Prelude.{ℕ, ◌+◌, ◌≡◌, Bool, true, false, ◌&&◌, List, [], ◌∷◌}
+--   Reads before r     == r is the count that some answers lead to; too long only where it is
+use Rattle.std.specs.Prelude.{ℕ, ◌+◌, ◌≡◌, ◌≤◌, Bool, true, ◌&&◌, List, [], ◌∷◌, Result, Ok, Err}
 use Rattle.meaning.specs.Plain.{when◌then◌else◌, ◌<?◌, ◌≤?◌, ◌=?◌}
-use Rattle.mend_write.specs.declared.Counted.{Counted}
+use Rattle.mend_write.specs.declared.CountError.{CountError}
+use Rattle.mend_write.specs.declared.CountError.TheVariants.{Failed, TooLong}
 
 -- one read brings so many octets at most; a total that one more could bring to 2^64 is not counted on
 abbrev pub chunk : ℕ
@@ -23,21 +24,16 @@ fits [] = true
 fits (failed ∷ gots) = fits gots
 fits (octets n ∷ gots) = n ≤? chunk && fits gots
 
--- not good: a read failed, or the input is too long
-abbrev pub stop : ℕ → Counted
-stop total = record { good = false; total = total }
-
-abbrev pub ended : ℕ → Counted
-ended total = record { good = true; total = total }
-
-unfoldable pub counted : ℕ → List Got → Counted
-counted total [] = stop total
-counted total (failed ∷ gots) = stop total
+-- the count, or why there is none: a read failed, or the input is too long
+unfoldable pub counted : ℕ → List Got → Result ℕ CountError
+counted total [] = Err (TooLong total)
+counted total (failed ∷ gots) = Err (Failed total)
 counted total (octets n ∷ gots) =
-    when total <? most then (when n =? 0 then ended total else counted (total + n) gots)
-    else stop total
+    when total <? most then (when n =? 0 then Ok total else counted (total + n) gots)
+    else Err (TooLong total)
 
-pub record Reads (before : ℕ) (r : Counted) : Type 0 where
+pub record Reads (before : ℕ) (r : Result ℕ CountError) : Type 0 where
   pub gots : List Got
   pub fit : fits gots ≡ true
   pub is : r ≡ counted before gots
+  pub long : (total : ℕ) → r ≡ Err (TooLong total) → most ≤ total

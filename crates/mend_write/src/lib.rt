@@ -8,12 +8,8 @@ ghost use Rattle.mend_fill.specs.Fill.{record_room, line_room, begun};
 ghost use Rattle.mend_write.specs.Handed.{Handed, MendPromise, Taken, Written};
 ghost use Rattle.mend_write.specs.Reads.{Reads};
 
+use mend_fill::{LINE_ROOM, RECORD_ROOM};
 use std::io::{Read, Write};
-
-// As `mend_fill` has them: the longest record, the longest line.
-const RECORD_ROOM: usize = 55;
-
-const LINE_ROOM: usize = 42;
 
 // Fills both buffers and writes them out, until the input's end is reached, or until a write fails.
 fn hand_over<M: Write, L: Write>(
@@ -31,15 +27,13 @@ fn hand_over<M: Write, L: Write>(
         (L.contents list.old) (L.contents list.new) }
 {
     let mut at = 0usize;
+    // no `for`: each fill says where the next begins
     while at < total {
-        let f = mend_fill::fill(trace, total, at, out, text);
-        let written = f.written;
-        let listed = f.listed;
+        let f = mend_fill::fill(trace, total, at, out, text).unwrap();
         at = f.at;
-        if mended.write_all(&out[..written]).is_err() {
-            return false;
-        }
-        if list.write_all(&text[..listed]).is_err() {
+        if mended.write_all(&out[..f.written]).is_err()
+            || list.write_all(&text[..f.listed]).is_err()
+        {
             return false;
         }
     }
@@ -63,10 +57,7 @@ pub fn mend<M: Write, L: Write>(
     if !mend_fill::begins(trace) {
         return list.write_all(b"stop 17\n").is_ok();
     }
-    if out.len() < RECORD_ROOM {
-        return false;
-    }
-    if text.len() < LINE_ROOM {
+    if out.len() < RECORD_ROOM || text.len() < LINE_ROOM {
         return false;
     }
     hand_over(mended, list, trace, total, out, text)
@@ -78,28 +69,29 @@ const CHUNK: usize = 65536;
 // Up to here a further read can be counted: 2^64 less a read, less 1.
 const MOST: usize = 18446744073709486079;
 
-// An input counted to its end; not good where a read failed.
-#[derive(Clone, Copy)]
-pub struct Counted {
-    pub good: bool,
-    pub total: usize,
+// Why an input was not counted to its end, and how far it was: a read failed, or it is too long to count on.
+#[derive(Clone, Copy, PartialEq, Eq)]
+pub enum CountError {
+    Failed { total: usize },
+    TooLong { total: usize },
 }
 
 // Reads on to the input's end, and counts what it reads beside the octets that were read before. An input of 2^64 octets
-// would not be good either.
-pub fn count_on<R: Read>(from: &mut R, before: usize) -> Counted
+// would be too long.
+pub fn count_on<R: Read>(from: &mut R, before: usize) -> Result<usize, CountError>
     ensures { Reads before result }
 {
     let mut chunk = [0u8; CHUNK];
     let mut total = before;
+    // no `for`: how many reads there will be nobody knows
     while total < MOST {
         let Ok(more) = from.read(&mut chunk) else {
-            return Counted { good: false, total };
+            return Err(CountError::Failed { total });
         };
         if more == 0 {
-            return Counted { good: true, total };
+            return Ok(total);
         }
         total += more;
     }
-    Counted { good: false, total }
+    Err(CountError::TooLong { total })
 }

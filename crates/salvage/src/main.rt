@@ -9,15 +9,12 @@ fn main(rt: HostRuntime) {
     let mut from = rt.stdin();
     let mut input = [0u8; 524288];
     let long = input_read::read_full(&mut from, &mut input);
-    let counted = mend_write::count_on(&mut from, long);
-    if !counted.good {
+    let Ok(total) = mend_write::count_on(&mut from, long) else {
         return;
-    }
+    };
     // fewer octets were kept than there is room for, and yet more came: a read in between had failed
-    if long < 524288 {
-        if counted.total != long {
-            return;
-        }
+    if long < input.len() && total != long {
+        return;
     }
     let mut out = [0u8; 65536];
     let mut text = [0u8; 65536];
@@ -25,7 +22,7 @@ fn main(rt: HostRuntime) {
         &mut rt.stdout(),
         &mut rt.stderr(),
         &input[..long],
-        counted.total,
+        total,
         &mut out,
         &mut text,
     );

@@ -1,11 +1,8 @@
 -- `mend_write::count_on` counts what the reads answered: the invariant is the answers so far. It ends, since each read that
 -- goes on adds an octet, and the number is bounded.
-use Prim.Native.Nat.{ℕ, ◌-◌, ◌≤◌, ◌<◌}
-use mathlib.Core.Path.{◌≡◌, refl, sym}
-use native.Mathlib.Omega.{arith}
+use mathlib.Core.Path.{refl}
 use borrow.Author.Rules.{rules}
-use lib.ListN.{length}
-use Rattle.mend_write.proofs.ReadLaws.{Sofar, reads_none, reads_failed, reads_ended, reads_long, reads_more}
+use Rattle.mend_write.proofs.ReadLaws.{reads_none, reads_failed, reads_ended, reads_long, reads_more}
 use Rattle.mend_write.proofs.count_on.Goals as goal
 
 pub loop-total-init : goal.loop-total-init
@@ -24,4 +21,4 @@ loop-total-preserved g c =
     (reads_more _ _ h.invariant.0 _ c.loop-total-test.true c.if-more-eq0.false (search rules), search rules)
 
 pub returns : goal.returns
-returns g c = reads_long _ _ c.loop-total.invariant.0
+returns g c = reads_long _ _ c.loop-total.invariant.0 c.loop-total-test.false

@@ -1,13 +1,13 @@
 -- `mend_write::mend`: where the trace doesn't begin with a record, or a buffer is too short, both buffers stay as they are; else
 -- `hand_over` does what it promises.
 use mathlib.Core.Path.{◌≡◌, refl, sym, ◌∙◌}
-use mathlib.Core.Bool.{Bool, true, false, not}
-use native.Mathlib.Omega.{arith}
-use borrow.Author.Rules.{rules}
+use mathlib.Core.Bool.{false}
 use Rattle.mend_step.specs.Salvage.{reads_to}
 use Rattle.mend_fill.specs.Fill.{begun}
 use Rattle.mend_write.proofs.Whole.{not_mended, not_begun, is_mended, mends_17, mends_short, mends_narrow, mends_all, took_well, no_yes, all_taken, said_17}
+use Rattle.mend_write.specs.Handed.{mends}
 use Rattle.mend_write.proofs.mend.Goals as goal
+use Rattle.mend_write.proofs.mend.Goals.{then-out-lt-RECORD_ROOM-via-then-out-lt-RECORD_ROOM, then-out-lt-RECORD_ROOM-via-else-out-lt-RECORD_ROOM+then-text-lt-LINE_ROOM}
 
 pub returns-then-not-begins-clause-promise : goal.returns-then-not-begins-clause-promise
 returns-then-not-begins-clause-promise g c =
@@ -22,18 +22,14 @@ returns-then-not-begins-clause-written g c =
 pub returns-then-out-lt-RECORD_ROOM-clause-promise : goal.returns-then-out-lt-RECORD_ROOM-clause-promise
 returns-then-out-lt-RECORD_ROOM-clause-promise g c =
     let a = c.args in
-    not_mended _ _ _ _ (mends_short a.trace.now a.out.now a.text.now c.if-out-lt-RECORD_ROOM.true) (λ _. refl)
+    let short : mends a.trace.now a.out.now a.text.now ≡ false = elim c.then-out-lt-RECORD_ROOM.branch [
+      | then-out-lt-RECORD_ROOM-via-then-out-lt-RECORD_ROOM w ↦ mends_short a.trace.now a.out.now a.text.now w.if-out-lt-RECORD_ROOM.true
+      | then-out-lt-RECORD_ROOM-via-else-out-lt-RECORD_ROOM+then-text-lt-LINE_ROOM w ↦ mends_narrow a.trace.now a.out.now a.text.now w.if-text-lt-LINE_ROOM.true
+    ] in
+    not_mended _ _ _ _ short (λ _. refl)
 
 pub returns-then-out-lt-RECORD_ROOM-clause-written : goal.returns-then-out-lt-RECORD_ROOM-clause-written
 returns-then-out-lt-RECORD_ROOM-clause-written g c = no_yes _ _ _ _ _ _ (sym c.begins.ensures ∙ c.if-not-begins.false)
-
-pub returns-then-text-lt-LINE_ROOM-clause-promise : goal.returns-then-text-lt-LINE_ROOM-clause-promise
-returns-then-text-lt-LINE_ROOM-clause-promise g c =
-    let a = c.args in
-    not_mended _ _ _ _ (mends_narrow a.trace.now a.out.now a.text.now c.if-text-lt-LINE_ROOM.true) (λ _. refl)
-
-pub returns-then-text-lt-LINE_ROOM-clause-written : goal.returns-then-text-lt-LINE_ROOM-clause-written
-returns-then-text-lt-LINE_ROOM-clause-written g c = no_yes _ _ _ _ _ _ (sym c.begins.ensures ∙ c.if-not-begins.false)
 
 pub hand_over-requires : goal.hand_over-requires
 hand_over-requires g c =
