@@ -13,38 +13,42 @@ pub struct Reader<'a> {
     at: usize,
 }
 
-// A reader of a trace, at a place of it: 0 for the first record.
-pub fn make<'a>(trace: &'a [u8], at: usize) -> Reader<'a>
-    ensures { make_promise trace.entry at result }
-{
-    Reader { trace, at }
-}
+impl<'a> Reader<'a> {
+    // A reader of a trace, at a place of it: 0 for the first record.
+    pub fn make(trace: &'a [u8], at: usize) -> Reader<'a>
+        ensures { make_promise trace.entry at result }
+    {
+        Reader { trace, at }
+    }
 
-// What stands at the reader's place.
-pub fn read_next<'a>(r: Reader<'a>) -> Found
-    ensures { next_promise r.entry result }
-{
-    trace_record::event_at(r.trace, r.at)
-}
+    // What stands at the reader's place.
+    pub fn read_next(self) -> Found
+        ensures { next_promise self.entry result }
+    {
+        trace_record::event_at(self.trace, self.at)
+    }
 
-// The reader at the place after what it found.
-pub fn move_on<'a>(r: Reader<'a>, found: Found) -> Reader<'a>
-    ensures { on_promise r.entry found result }
-{
-    let at = trace_record::place_after(found, r.at);
-    Reader { trace: r.trace, at }
-}
+    // The reader at the place after what it found.
+    pub fn move_on(self, found: Found) -> Reader<'a>
+        ensures { on_promise self.entry found result }
+    {
+        Reader {
+            at: trace_record::place_after(found, self.at),
+            ..self
+        }
+    }
 
-// Where the reader stands.
-pub fn place<'a>(r: Reader<'a>) -> usize
-    ensures { here_promise r.entry result }
-{
-    r.at
+    // Where the reader stands.
+    pub fn place(self) -> usize
+        ensures { here_promise self.entry result }
+    {
+        self.at
+    }
 }
 
 // What stands at a place, with plain parameters: whoever calls this one needs no walk.
 pub fn read_at(trace: &[u8], at: usize) -> Found
     ensures { event_promise trace.now at result }
 {
-    read_next(make(trace, at))
+    Reader::make(trace, at).read_next()
 }
