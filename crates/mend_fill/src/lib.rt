@@ -11,7 +11,7 @@ ghost use Rattle.mend_fill.specs.Fill.{line_room, begun, fill_of, Took, FillProm
 use mend_step::Stride;
 use trace_record::Found;
 
-// What a fill did: the place to go on at, and how many octets stand in each buffer.
+// What a fill did: the place to go on at, and how many octets stand in each buffer. The buffers are lent, since there is no heap.
 #[derive(Clone, Copy)]
 pub struct Filled {
     pub at: usize,
