@@ -72,8 +72,8 @@ fn opening(mark: Mark, connection: u16, m: u8, f: u32, c: u32) -> [u8; 13]
     [mark1, mark2, i1, i2, m, f1, f2, f3, f4, c1, c2, c3, c4]
 }
 
-// A mark and one number: a closing, whatever its mark, or a pause.
-fn numbered(mark: Mark, number: u16) -> [u8; 4]
+// The octets of a mark and one number: a closing, whatever its mark, or a pause.
+pub fn numbered(mark: Mark, number: u16) -> [u8; 4]
     ensures { result ≡ closing_of (letters_of mark) number }
 {
     let [mark1, mark2] = mark.letters().to_be_bytes();

@@ -4,11 +4,11 @@
 --   step f e      == one event more
 --   ending f      == the octets when nothing follows
 --   stream text   == the octets of a text, or the place of its first line that isn't good
-use Rattle.std.specs.Prelude.{ℕ, zero, suc, ◌+◌, ◌/◌, ◌%◌, ◌&&◌, List, [], ◌++◌, length}
+use Rattle.std.specs.Prelude.{ℕ, zero, suc, ◌+◌, ◌/◌, ◌%◌, ◌&&◌, List, [], ◌++◌, length, Ok, Err}
 use Rattle.meaning.specs.Plain.{Out, refused, next, when◌then◌else◌, ◌<?◌, ◌≤?◌}
-use Rattle.text_meaning.specs.declared.Written.{Written}
+use Rattle.text_meaning.specs.declared.WriteError.TheVariants.{Unreadable, TooShort}
 use Rattle.text_meaning.specs.Events.{Event, told, pause, full, fulls, rest_of}
-use Rattle.text_meaning.specs.Writing.{Placed, line_at}
+use Rattle.text_meaning.specs.Writing.{Placed, line_at, Answer}
 
 pub record Flow : Type 0 where
   pub octets : List ℕ
@@ -40,7 +40,7 @@ stream_from (suc k) text p f =
 unfoldable pub stream : List ℕ → Streamed
 stream text = stream_from (length text + 1) text 0 (flow [] 0)
 
--- 10 at the place, 14, or 0 and how many octets
-unfoldable pub judged : ℕ → Streamed → Written
-judged room (stopped p) = record { number = 10; place = p }
-judged room (whole o) = when room <? length o then record { number = 14; place = 0 } else record { number = 0; place = length o }
+-- 10 at the place, 14, or how many octets
+unfoldable pub judged : ℕ → Streamed → Answer
+judged room (stopped p) = Err (Unreadable p)
+judged room (whole o) = when room <? length o then Err TooShort else Ok (length o)

@@ -5,12 +5,13 @@ use mathlib.Core.Bool.{Bool, true, false, ◌&&◌}
 use mathlib.Core.List.{List, [], ◌++◌}
 use native.Mathlib.Decide.{dec_lt}
 use native.Mathlib.Omega.{arith}
+use Rattle.std.proofs.Common.{Ok, Err}
 use borrow.Author.Tests.{lt-ltb, le-ltb}
 use lib.ListN.{length, length-append}
 use Rattle.meaning.specs.Plain.{Out, refused, next, when◌then◌else◌, ◌≤?◌}
-use Rattle.text_meaning.specs.declared.Written.{Written}
+use Rattle.text_meaning.specs.declared.WriteError.TheVariants.{Unreadable, TooShort}
 use Rattle.text_meaning.specs.Events.{Event, told, pause, full, fulls, rest_of}
-use Rattle.text_meaning.specs.Writing.{Placed, line_at}
+use Rattle.text_meaning.specs.Writing.{Placed, line_at, Answer}
 use Rattle.text_trip.specs.Flow.{Flow, flow, step, ending, Streamed, whole, stopped, stream_at, stream_from, stream, judged}
 use Rattle.text_write.proofs.Reach.{Reached}
 
@@ -19,27 +20,27 @@ pub record Fit (most : ℕ) (s : Streamed) : Type 0 where
   pub is : s ≡ whole octets
   pub fits : length octets ≤ most
 
-abbrev says : ℕ → List ℕ → Bool → Written
-says most o b = when b then record { number = 14; place = 0 } else record { number = 0; place = length o }
+abbrev says : List ℕ → Bool → Answer
+says o b = when b then Err TooShort else Ok (length o)
 
-pub judged_short : (most : ℕ) (o : List ℕ) → most < length o → judged most (whole o) ≡ record { number = 14; place = 0 }
+pub judged_short : (most : ℕ) (o : List ℕ) → most < length o → judged most (whole o) ≡ Err TooShort
 unfolding judged
-judged_short most o h = ap (says most o) (lt-ltb most (length o) h)
+judged_short most o h = ap (says o) (lt-ltb most (length o) h)
 
-pub judged_fits : (most : ℕ) (o : List ℕ) → length o ≤ most → judged most (whole o) ≡ record { number = 0; place = length o }
+pub judged_fits : (most : ℕ) (o : List ℕ) → length o ≤ most → judged most (whole o) ≡ Ok (length o)
 unfolding judged
-judged_fits most o h = ap (says most o) (le-ltb most (length o) h)
+judged_fits most o h = ap (says o) (le-ltb most (length o) h)
 
-pub judged_bad : (most p : ℕ) → judged most (stopped p) ≡ record { number = 10; place = p }
+pub judged_bad : (most p : ℕ) → judged most (stopped p) ≡ Err (Unreadable p)
 unfolding judged
 judged_bad most p = refl
 
-pub fit_of : (most : ℕ) (s : Streamed) → (judged most s).number ≡ 0 → Fit most s
-fit_of most (stopped p) e = let z : ◌≡◌ {A = ℕ} 10 0 = sym (ap (λ (w : Written). w.number) (judged_bad most p)) ∙ e in absurd (omega arith)
-fit_of most (whole o) e = go (dec_lt most (length o))
+pub fit_of : (most : ℕ) (s : Streamed) {n : ℕ} → judged most s ≡ Ok n → Fit most s
+fit_of most (stopped p) {n} e = let z : ◌≡◌ {A = Answer} (Err (Unreadable p)) (Ok n) = sym (judged_bad most p) ∙ e in absurd (cc)
+fit_of most (whole o) {n} e = go (dec_lt most (length o))
   where
     go : Dec (most < length o) → Fit most (whole o)
-    go (yes h) = let z : ◌≡◌ {A = ℕ} 14 0 = sym (ap (λ (w : Written). w.number) (judged_short most o h)) ∙ e in absurd (omega arith)
+    go (yes h) = let z : ◌≡◌ {A = Answer} (Err TooShort) (Ok n) = sym (judged_short most o h) ∙ e in absurd (cc)
     go (no h) = record { octets = o; is = refl; fits = omega arith }
 
 octets_in : Streamed → List ℕ

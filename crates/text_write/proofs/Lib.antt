@@ -2,6 +2,6 @@ pub mod RoomLaws
 pub mod AddLaws
 pub mod Reach
 pub mod Fit
-pub mod Answer
 pub mod Judging
 pub mod Laying
+pub mod Answer

@@ -1,27 +1,31 @@
--- What one line more brings to a text's octets, where a pause of rest slots, fewer than 65,535, stands before it: o are the
--- octets of its record, and none where the line is a pause of n slots.
+-- What one line more brings to a text's octets, where a pause of rest slots, fewer than 65,535, stands before it.
 --
---   adds rest n o      == the octets
---   leaves rest n o    == the slots of the pause that is left
---   laid_by s out       == the output with the octets of a text at its start
+--   adds rest e         == the octets of a line that says e
+--   adds_long rest l     == how many they are
+--   leaves rest l        == the slots of the pause that is left
+--   laid_by s out        == the output with the octets of a text at its start
 use Rattle.std.specs.Prelude.{ℕ, ◌+◌, ◌*◌, ◌/◌, ◌%◌, List, ◌++◌, length, drop}
 use Rattle.meaning.specs.Plain.{when◌then◌else◌, ◌=?◌}
-use Rattle.text_meaning.specs.Events.{full, fulls, rest_of}
+use Rattle.text_meaning.specs.Events.{Event, told, pause, full, fulls, rest_of}
+use Rattle.text_line.specs.declared.Line.{Line}
+use Rattle.text_line.specs.declared.Line.TheVariants.{Record, Pause}
 use Rattle.text_trip.specs.Flow.{Streamed, whole, stopped}
 
-unfoldable pub adds : ℕ → ℕ → List ℕ → List ℕ
-adds rest n o = when length o =? 0 then fulls ((rest + n) / full) else rest_of rest ++ o
+abbrev pub adds : ℕ → Event → List ℕ
+adds rest (told o) = rest_of rest ++ o
+adds rest (pause n) = fulls ((rest + n) / full)
 
 -- the octets of an SL, where a rest needs one
 unfoldable pub rest_long : ℕ → ℕ
 rest_long rest = when rest =? 0 then 0 else 4
 
--- how many octets, long being those of the record
-unfoldable pub adds_long : ℕ → ℕ → ℕ → ℕ
-adds_long rest n long = when long =? 0 then 4 * ((rest + n) / full) else rest_long rest + long
+abbrev pub adds_long : ℕ → Line → ℕ
+adds_long rest (Record long) = rest_long rest + long
+adds_long rest (Pause n) = 4 * ((rest + n) / full)
 
-unfoldable pub leaves : ℕ → ℕ → ℕ → ℕ
-leaves rest n long = when long =? 0 then (rest + n) % full else 0
+abbrev pub leaves : ℕ → Line → ℕ
+leaves rest (Record long) = 0
+leaves rest (Pause n) = (rest + n) % full
 
 unfoldable pub laid_by : Streamed → List ℕ → List ℕ
 laid_by (whole o) out = o ++ drop (length o) out

@@ -1,123 +1,82 @@
 // A whole text written as a trace: everything is judged before the first octet is written.
 #![tactic(auto)]
 
-ghost use Rattle.std.specs.Prelude.{◌≡◌, ◌+◌, ◌*◌, ◌≤◌, ◌<◌, length};
+ghost use Rattle.std.specs.Prelude.{◌≡◌, ◌+◌, ◌*◌, ◌≤◌, ◌<◌, length, IsOk};
 ghost use Rattle.list_lines.specs.Put.{Put};
 ghost use Rattle.text_meaning.specs.Events.{full, sl_of, rest_of, fulls as Events·fulls};
-ghost use Rattle.text_meaning.specs.Writing.{wrote, write_text};
+ghost use Rattle.text_meaning.specs.Writing.{wrote, write_text, PlaceWithin};
+ghost use Rattle.text_line.specs.Found.{event_found, LongWithin};
 ghost use Rattle.text_trip.specs.Flow.{stream, judged};
 ghost use Rattle.text_write.specs.Room.{less_of};
 ghost use Rattle.text_write.specs.Adds.{adds, rest_long, adds_long, leaves as Adds·leaves, laid_by};
 
-use text_meaning::Written;
-
-// Whether the output is too short, and where it isn't, how many octets of it are left.
-#[derive(Clone, Copy)]
-struct Room {
-    over: bool,
-    left: usize,
-}
+use text_line::Line;
+use text_meaning::WriteError;
+use trace_record::Mark;
 
 // The most slots of one SL.
 const FULL: usize = 65535;
 
-// The mark of a pause.
-const SL: u16 = 0x534c;
-
-// Nothing is counted beyond the output's end, so that no length wraps.
-fn less(room: Room, n: usize) -> Room
+// What is left of the output, unless it is too short. Nothing is counted beyond its end, so that no length wraps.
+fn less(room: Option<usize>, n: usize) -> Option<usize>
     ensures { result ≡ less_of room n }
 {
-    if room.over {
-        return room;
-    }
-    if room.left < n {
-        return Room {
-            over: true,
-            left: 0,
-        };
-    }
-    Room {
-        over: false,
-        left: room.left - n,
-    }
+    room?.checked_sub(n)
 }
 
 // A rest of slots takes one record, or none.
 fn rest_long(rest: usize) -> usize
     ensures { (result ≡ rest_long rest) × (result ≤ 4) }
 {
-    if rest == 0 {
-        return 0;
-    }
-    4
+    if rest == 0 { 0 } else { 4 }
 }
 
-// How many octets a line adds, of which `long` are its record's.
-fn adds_long(rest: usize, count: usize, long: usize) -> usize
-    requires { (rest < full) × (count < 4294967296) × (long ≤ 55) }
-    ensures { result ≡ adds_long rest count long }
+// How many octets a line adds.
+fn adds_long(rest: usize, line: Line) -> usize
+    requires { (rest < full) × LongWithin line }
+    ensures { result ≡ adds_long rest line }
 {
-    if long == 0 {
-        return 4 * ((rest + count) / FULL);
+    match line {
+        Line::Record { long } => rest_long(rest) + long,
+        Line::Pause { slots } => 4 * ((rest + slots as usize) / FULL),
     }
-    rest_long(rest) + long
 }
 
 // The slots of a pause that are left behind a line.
-fn leaves(rest: usize, count: usize, long: usize) -> usize
-    requires { (rest < full) × (count < 4294967296) }
-    ensures { (result ≡ Adds·leaves rest count long) × (result < full) }
+fn leaves(rest: usize, line: Line) -> usize
+    requires { rest < full }
+    ensures { (result ≡ Adds·leaves rest line) × (result < full) }
 {
-    if long == 0 {
-        return (rest + count) % FULL;
+    match line {
+        Line::Record { .. } => 0,
+        Line::Pause { slots } => (rest + slots as usize) % FULL,
     }
-    0
 }
 
 // What writing a text into an output of `most` octets answers.
-pub fn judge(text: &[u8], most: usize) -> Written
+pub fn judge(text: &[u8], most: usize) -> Result<usize, WriteError>
     ensures value { result ≡ judged most (stream text.now) }
-    ensures place_in_bounds { result.number ≡ 10 → result.place ≤ length text.now }
+    ensures place_in_bounds { PlaceWithin (length text.now) result }
 {
     let mut rec = [0u8; 55];
-    let mut room = Room {
-        over: false,
-        left: most,
-    };
+    let mut room = Some(most);
     let mut rest = 0usize;
     let mut p = 0usize;
+    // No `for`: each line says where the next one starts.
     while p < text.len() {
-        let l = text_line::line_at(text, p, &mut rec);
-        let next = l.next;
-        if next == 0 {
-            return Written {
-                number: 10,
-                place: p,
-            };
-        }
-        let count = l.count as usize;
-        let n = adds_long(rest, count, l.long);
-        room = less(room, n);
-        rest = leaves(rest, count, l.long);
+        let Some((line, next)) = text_line::line_at(text, p, &mut rec) else {
+            return Err(WriteError::Unreadable { place: p });
+        };
+        room = less(room, adds_long(rest, line));
+        rest = leaves(rest, line);
         p = next;
     }
     if p == 0 {
-        return Written {
-            number: 10,
-            place: 0,
-        };
+        return Err(WriteError::Unreadable { place: 0 });
     }
-    let last = less(room, rest_long(rest));
-    if last.over {
-        return Written {
-            number: 14,
-            place: 0,
-        };
-    }
-    Written {
-        number: 0,
-        place: most - last.left,
+    match less(room, rest_long(rest)) {
+        Some(left) => Ok(most - left),
+        None => Err(WriteError::TooShort),
     }
 }
 
@@ -126,8 +85,7 @@ fn pause_record(out: &mut [u8], at: usize, count: u16) -> usize
     requires { at + 4 ≤ length out.old }
     ensures { Put out.old at (sl_of count) out.new result }
 {
-    let a = text_record::two(out, at, SL);
-    text_record::two(out, a, count)
+    list_lines::text(out, at, &text_record::numbered(Mark::Sl, count))
 }
 
 // Full records of a pause.
@@ -136,10 +94,8 @@ fn fulls(out: &mut [u8], at: usize, count: usize) -> usize
     ensures { Put out.old at (Events·fulls count) out.new result }
 {
     let mut to = at;
-    let mut i = 0usize;
-    while i < count {
+    for _i in 0..count {
         to = pause_record(out, to, 65535);
-        i += 1;
     }
     to
 }
@@ -156,46 +112,43 @@ fn rest_record(out: &mut [u8], at: usize, rest: usize) -> usize
 }
 
 // What a line adds: full records of a pause, or the rest of the pause before it and its record's own octets.
-fn put_line(out: &mut [u8], at: usize, rest: usize, count: usize, octets: &[u8]) -> usize
-    requires { (at + adds_long rest count (length octets.now) ≤ length out.old) × (rest < full) × (count < 4294967296) }
-    ensures { Put out.old at (adds rest count octets.now) out.new result }
+fn put_line(out: &mut [u8], at: usize, rest: usize, line: Line, rec: &[u8]) -> usize
+    requires room { at + adds_long rest line ≤ length out.old }
+    requires bounds { (rest < full) × (55 ≤ length rec.now) × LongWithin line }
+    ensures { Put out.old at (adds rest (event_found rec.now line)) out.new result }
 {
-    if octets.len() == 0 {
-        return fulls(out, at, (rest + count) / FULL);
+    match line {
+        Line::Record { long } => {
+            let a = rest_record(out, at, rest);
+            list_lines::text(out, a, &rec[..long])
+        }
+        Line::Pause { slots } => fulls(out, at, (rest + slots as usize) / FULL),
     }
-    let a = rest_record(out, at, rest);
-    list_lines::text(out, a, octets)
 }
 
-// The octets of a text that was judged good and fits.
+// The octets of a text that was judged good and fits: every line stands, up to the text's end.
 fn lay(text: &[u8], out: &mut [u8])
-    requires { (judged (length out.old) (stream text.now)).number ≡ 0 }
+    requires { IsOk (judged (length out.old) (stream text.now)) }
     ensures { out.new ≡ laid_by (stream text.now) out.old }
 {
     let mut rec = [0u8; 55];
     let mut at = 0usize;
     let mut rest = 0usize;
     let mut p = 0usize;
-    while p < text.len() {
-        let l = text_line::line_at(text, p, &mut rec);
-        let long = l.long;
-        let count = l.count as usize;
-        at = put_line(out, at, rest, count, &rec[..long]);
-        rest = leaves(rest, count, long);
-        p = l.next;
+    while let Some((line, next)) = text_line::line_at(text, p, &mut rec) {
+        at = put_line(out, at, rest, line, &rec);
+        rest = leaves(rest, line);
+        p = next;
     }
     rest_record(out, at, rest);
 }
 
 // Writes a text as a trace. Nothing is written unless all of it is good and fits.
-pub fn write(text: &[u8], out: &mut [u8]) -> Written
-    ensures out_after { wrote result.number result.place out.new ≡ write_text text.now out.old }
-    ensures place_in_bounds { result.number ≡ 10 → result.place ≤ length text.now }
+pub fn write(text: &[u8], out: &mut [u8]) -> Result<usize, WriteError>
+    ensures out_after { wrote result out.new ≡ write_text text.now out.old }
+    ensures place_in_bounds { PlaceWithin (length text.now) result }
 {
-    let w = judge(text, out.len());
-    if w.number != 0 {
-        return w;
-    }
+    let long = judge(text, out.len())?;
     lay(text, out);
-    w
+    Ok(long)
 }

@@ -1,35 +1,21 @@
--- `text_write::put_line`: a line without octets is a pause, of which the full records are put; else the rest before it and its
--- octets.
-use native.Mathlib.Omega.{arith}
-use lib.ListN.{length}
+-- `text_write::put_line`: the full records of a pause; or the rest before a record, and its octets.
+use Rattle.std.proofs.Common.{subst, ap, arith}
+use lib.Seq.{length-take-le}
 use Rattle.list_lines.proofs.Puts.{put_is, put_then}
-use Rattle.text_write.proofs.AddLaws.{adds_pause, adds_told, long_pause, long_told, rest_long_lem}
+use Rattle.text_line.specs.declared.Line.{Line}
+use Rattle.text_line.specs.Found.{event_found, LongWithin}
+use Rattle.text_write.specs.Adds.{adds, adds_long}
+use Rattle.text_write.proofs.AddLaws.{rest_long_lem}
 use Rattle.text_write.proofs.put_line.Goals as goal
-
-pub fulls-requires : goal.fulls-requires
-fulls-requires c =
-    let a = c.args in
-    omega (arith, long_pause a.rest a.count (length a.octets.now) c.if-octets-eq0.true, c.requires.0)
-
-pub returns-then-octets-eq0 : goal.returns-then-octets-eq0
-returns-then-octets-eq0 c =
-    let a = c.args in
-    put_is (adds_pause a.rest a.count a.octets.now c.if-octets-eq0.true) c.fulls.ensures
-
-pub rest_record-a-requires : goal.rest_record-a-requires
-rest_record-a-requires c =
-    let a = c.args in
-    (omega (arith, long_told a.rest a.count (length a.octets.now) c.if-octets-eq0.false, c.requires.0), c.requires.1)
 
 pub text-requires : goal.text-requires
 text-requires c =
-    let a = c.args in
-    let t = c.if-octets-eq0.false in
-    let w = c.rest_record-a in
-    omega (arith, long_told a.rest a.count (length a.octets.now) t, c.requires.0, w.ensures.next, rest_long_lem a.rest)
+    let a = c.args in let r = c.in-Record in
+    let w = subst LongWithin r.is c.requires.bounds.2 in
+    let e = ap (adds_long a.rest) r.is in
+    omega (arith, c.requires.room, e, w.1, c.requires.bounds.1, c.rest_record-a.ensures.next, rest_long_lem a.rest, length-take-le r.long a.rec.now (omega (arith, w.1, c.requires.bounds.1)))
 
-pub returns : goal.returns
-returns c =
+pub returns-in-Record : goal.returns-in-Record
+returns-in-Record c =
     let a = c.args in
-    put_is (adds_told a.rest a.count a.octets.now c.if-octets-eq0.false)
-    (put_then c.rest_record-a.ensures c.text.ensures)
+    put_is (ap (λ (l : Line). adds a.rest (event_found a.rec.now l)) c.in-Record.is) (put_then c.rest_record-a.ensures c.text.ensures)

@@ -1,20 +1,10 @@
--- `text_write::write`: what the judge answers; where that is 0, the octets are laid.
-use mathlib.Core.Path.{sym, ap, ◌∙◌}
-use Rattle.text_meaning.specs.declared.Written.{Written}
+-- `text_write::write`: what the judge refuses; or the octets are laid.
 use Rattle.text_write.proofs.Answer.{text_refused, text_laid}
 use Rattle.text_write.proofs.write.Goals as goal
 
-pub returns-then-w-ne0 : goal.returns-then-w-ne0
-returns-then-w-ne0 c =
-    let a = c.args in let j = c.judge-w in
-    record { out_after = text_refused a.text.now a.out.now j.result j.ensures.value c.if-w-ne0.true; place_in_bounds = j.ensures.place_in_bounds }
+pub returns-in_err-long-clause-out_after : goal.returns-in_err-long-clause-out_after
+returns-in_err-long-clause-out_after c =
+    let a = c.args in let e = c.in_err-long in text_refused a.text.now a.out.now e.field-0.0 c.from_residual.result e.ensures.value c.from_residual.ensures.1
 
-pub lay-requires : goal.lay-requires
-lay-requires c = let j = c.judge-w in sym (ap (λ (w : Written). w.number) j.ensures.value) ∙ c.if-w-ne0.false
-
-pub returns : goal.returns
-returns c =
-    let a = c.args in
-    let j = c.judge-w in
-    let y = c.lay in
-    record { out_after = text_laid a.text.now a.out.now y.new.out j.result j.ensures.value c.if-w-ne0.false y.ensures; place_in_bounds = j.ensures.place_in_bounds }
+pub returns-clause-out_after : goal.returns-clause-out_after
+returns-clause-out_after c = let a = c.args in text_laid a.text.now a.out.now c.lay.new.out c.in_ok-long.long c.in_ok-long.ensures.value c.lay.ensures
