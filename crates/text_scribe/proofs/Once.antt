@@ -4,20 +4,19 @@
 use Prim.Native.Nat.{ℕ, ◌<◌}
 use mathlib.Core.Path.{◌≡◌, refl, sym, ap, subst, ◌∙◌}
 use mathlib.Core.Bool.{Bool, true, false}
-use mathlib.Core.List.{List, [], ◌++◌, append-nil}
+use mathlib.Core.List.{List, ◌++◌, append-nil}
 use native.Mathlib.Decide.{dec_lt}
 use native.Mathlib.Omega.{arith}
 use lib.ListN.{length, take, drop}
 use Rattle.list_lines.specs.Put.{Put}
 use Rattle.list_lines.proofs.Puts.{put_once}
-use Rattle.text_scribe.specs.declared.Scribed.{Scribed}
-use Rattle.text_scribe.specs.Scribe.{said_of, trace_of, error_of, ScribePromise}
+use Rattle.text_scribe.specs.Scribe.{said_of, trace_of, error_of, Scribed, trace_long, line_long, ScribePromise}
 use Rattle.text_scribe.specs.Handed.{Fills, no_fill, then_fill, Passed, Handed}
 
 -- what two results have in common
 pub record Same (r s : Scribed) (out line out' line' : List ℕ) : Type 0 where
-  pub trace : r.trace ≡ s.trace
-  pub error : r.line ≡ s.line
+  pub trace : trace_long r ≡ trace_long s
+  pub error : line_long r ≡ line_long s
   pub outs : out ≡ out'
   pub lines : line ≡ line'
 

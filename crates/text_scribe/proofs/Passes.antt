@@ -3,7 +3,7 @@
 use Prim.Native.Nat.{ℕ, suc, ◌+◌, ◌-◌, ◌≤◌, ◌<◌, min}
 use mathlib.Core.Path.{◌≡◌, refl, sym, ap, subst, ◌∙◌}
 use mathlib.Core.Bool.{Bool, true, false}
-use mathlib.Core.List.{List, [], ◌++◌, append-nil}
+use mathlib.Core.List.{List, [], ◌∷◌, ◌++◌, append-nil}
 use native.Mathlib.Decide.{dec_lt}
 use native.Mathlib.Omega.{arith}
 use lib.ListN.{length, take, drop, length-take, length-drop, take-append-drop}
@@ -12,11 +12,10 @@ use Rattle.std.specs.declared.option.Option.{Option}
 use Rattle.std.specs.Prelude.{Result, Ok, Err, OnOk}
 use Rattle.std.specs.Result.{is_err}
 use Rattle.std.specs.Io.KnownBytes.{Appends}
-use Rattle.std.proofs.KnownBytes.{Appends-trans}
+use Rattle.std.proofs.KnownBytes.{Appends-nil, Appends-trans}
 use Rattle.list_lines.specs.Put.{Put}
 use Rattle.list_lines.proofs.Puts.{put_is, put_front}
-use Rattle.text_scribe.specs.declared.Scribed.{Scribed}
-use Rattle.text_scribe.specs.Scribe.{line_room, said_of, trace_of, error_of, ScribePromise}
+use Rattle.text_scribe.specs.Scribe.{said_of, error_of, ScribePromise}
 use Rattle.text_scribe.specs.Handed.{Fills, no_fill, then_fill, Passed, Handed, Taken}
 
 never : {A : Type 0} → false ≡ true → A
@@ -109,40 +108,48 @@ took (Err x) failed P e f p = never (sym (sym e ∙ f))
 
 -- ---- both outputs
 
-module _ {input whole line out whole' line' middle : List ℕ} {r : Scribed} {good : Bool} (p : ScribePromise input whole line r whole' line')
-    (n : (r.trace ≤ length whole) × (r.line ≤ line_room)) (t : Passed (take r.trace whole') out good middle) where
-  trace : Passed (trace_of (said_of input) (length whole)) out good middle
-  trace = subst (λ (l : List ℕ). Passed l out good middle) (put_front p.trace n.0) t
+passed_none : (all out : List ℕ) → all ≡ [] → Passed all out true out
+passed_none all out e =
+    record { count = 0; sent = []; rest = []; fills = no_fill; begins = e; whole = λ _. refl; some = λ f. never (sym f) }
 
-  pub handed_cut : good ≡ false → Handed input whole line out false whole' line' middle
-  handed_cut e =
-      record {
-        made = r;
-        promise = p;
-        good = good;
-        middle = middle;
-        trace = trace;
-        error = λ g. never (sym e ∙ g);
-        cut = λ _. (refl, refl);
-      }
+-- what is put nowhere is nothing
+nothing : {l os l' : List ℕ} → Put l 0 os l' 0 → os ≡ []
+nothing {os = []} p = refl
+nothing {os = x ∷ os} p = absurd (omega (arith, p.next))
 
-  pub handed_on : {answer : Bool} {out' : List ℕ} → good ≡ true → line_room ≤ length line → Passed (take r.line line') middle answer out'
-      → Handed input whole line out answer whole' line' out'
-  handed_on {answer} {out'} e room q =
-      record {
-        made = r;
-        promise = p;
-        good = good;
-        middle = middle;
-        trace = trace;
-        error = λ _. subst (λ (l : List ℕ). Passed l middle answer out') (put_front p.error (omega (arith, n.1, room))) q;
-        cut = λ g. never (sym g ∙ e);
-      }
+module _ {input whole line whole' line' : List ℕ} (long : ℕ) where
+  -- the trace was made
+  module _ (p : ScribePromise input whole line (Ok long) whole' line') (n : long ≤ length whole) where
+    pub handed_trace : {out out' : List ℕ} {answer : Bool} → Passed (take long whole') out answer out' → Handed input whole line out answer whole' line' out'
+    handed_trace {out} {out'} {answer} t =
+        record {
+          made = Ok long;
+          promise = p;
+          good = answer;
+          middle = out';
+          trace = subst (λ (l : List ℕ). Passed l out answer out') (put_front p.trace n) t;
+          error = λ g. subst (λ (b : Bool). Passed (error_of (said_of input) (length whole)) out' b out') (sym g) (passed_none _ out' (nothing p.error));
+          cut = λ g. (g, refl);
+        }
 
-  pub taken_both : (a a' b b' : Option (List ℕ)) → line_room ≤ length line → Appends a a' (take r.trace whole') → Appends b b' (take r.line line')
-      → Taken input (length whole) a a' b b'
-  taken_both a a' b b' room v w =
-      record {
-        trace = subst (Appends a a') (put_front p.trace n.0) v;
-        error = subst (Appends b b') (put_front p.error (omega (arith, n.1, room))) w;
-      }
+    pub taken_trace : (a a' b : Option (List ℕ)) → Appends a a' (take long whole') → Taken input (length whole) a a' b b
+    taken_trace a a' b w =
+        record { trace = subst (Appends a a') (put_front p.trace n) w; error = subst (Appends b b) (sym (nothing p.error)) (Appends-nil b) }
+
+  -- the line was made
+  module _ (p : ScribePromise input whole line (Err long) whole' line') (n : long ≤ length line) where
+    pub handed_line : {out out' : List ℕ} {answer : Bool} → Passed (take long line') out answer out' → Handed input whole line out answer whole' line' out'
+    handed_line {out} {out'} {answer} t =
+        record {
+          made = Err long;
+          promise = p;
+          good = true;
+          middle = out;
+          trace = passed_none _ out (nothing p.trace);
+          error = λ _. subst (λ (l : List ℕ). Passed l out answer out') (put_front p.error n) t;
+          cut = λ g. never (sym g);
+        }
+
+    pub taken_line : (a b b' : Option (List ℕ)) → Appends b b' (take long line') → Taken input (length whole) a a b b'
+    taken_line a b b' w =
+        record { trace = subst (Appends a a) (sym (nothing p.trace)) (Appends-nil a); error = subst (Appends b b') (put_front p.error n) w }

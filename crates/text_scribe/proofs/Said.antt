@@ -1,10 +1,11 @@
--- What a text comes to, by the number of the answer: the trace in its buffer, or one line in the other.
+-- What a text comes to, by the answer: the trace in its buffer, or one line in the other.
 use Prim.Native.Nat.{ℕ, ◌≤◌, ◌<◌}
 use mathlib.Core.Path.{◌≡◌, refl, sym, ap, ◌∙◌}
 use mathlib.Core.Bool.{Bool}
 use mathlib.Core.List.{List, [], ◌∷◌, ◌++◌}
 use native.Mathlib.Decide.{dec_lt}
 use native.Mathlib.Omega.{arith}
+use Rattle.std.proofs.Common.{Ok, Err}
 use borrow.Author.Tests.{lt-ltb, le-ltb}
 use lib.ListN.{length, take, drop}
 use Rattle.meaning.specs.Plain.{when◌then◌else◌}
@@ -12,9 +13,9 @@ use Rattle.list_lines.specs.Text.{line}
 use Rattle.list_lines.specs.Lines.{stop_line}
 use Rattle.list_lines.specs.Put.{Put, puts}
 use Rattle.list_lines.proofs.Puts.{put_is, put_none, put_whole}
-use Rattle.text_meaning.specs.declared.Written.{Written}
+use Rattle.text_meaning.specs.declared.WriteError.TheVariants.{Unreadable, TooShort}
 use Rattle.text_meaning.specs.Events.{Event, octets_all, merge}
-use Rattle.text_meaning.specs.Writing.{Said, good, bad, events, Wrote, wrote, write_said, write_text}
+use Rattle.text_meaning.specs.Writing.{Answer, Said, good, bad, events, Wrote, wrote, write_said, write_text}
 use Rattle.text_trip.specs.Flow.{stream, judged}
 use Rattle.text_trip.proofs.Streams.{merged, stream_merged}
 use Rattle.text_write.proofs.Fit.{judged_short, judged_fits, judged_bad}
@@ -35,37 +36,36 @@ pub said_within : (input out : List ℕ) → length input ≤ limit → write_te
 unfolding write_text
 said_within input out h = ap (λ (s : Said). write_said s out) (sym (within input h))
 
-goes_stop : (n : ℕ) (s : Said) (w : Written) → w ≡ judged 0 (merged s) → w.number ≡ 10 → goes_further n s ≡ bad w.place
+goes_stop : (n : ℕ) (s : Said) (p : ℕ) → Err (Unreadable p) ≡ judged 0 (merged s) → goes_further n s ≡ bad p
 unfolding goes_further
-goes_stop n (bad p) w e z = ap (λ (k : ℕ). bad k) (sym (ap (λ (x : Written). x.place) (e ∙ judged_bad 0 p)))
-goes_stop n (good es) w e z = absurd (go (dec_lt 0 (length (octets_all (merge es)))))
+goes_stop n (bad q) p e = let z : ◌≡◌ {A = Answer} (Err (Unreadable p)) (Err (Unreadable q)) = e ∙ judged_bad 0 q in ap (λ (k : ℕ). bad k) (cc)
+goes_stop n (good es) p e = go (dec_lt 0 (length (octets_all (merge es))))
   where
     o : List ℕ
     o = octets_all (merge es)
 
-    go : Dec (0 < length o) → ⊥
-    go (yes h) = let y : ◌≡◌ {A = ℕ} 14 10 = sym (ap (λ (x : Written). x.number) (e ∙ judged_short 0 o h)) ∙ z in omega arith
-    go (no h) = let y : ◌≡◌ {A = ℕ} 0 10 = sym (ap (λ (x : Written). x.number) (e ∙ judged_fits 0 o (omega arith))) ∙ z in omega arith
+    go : Dec (0 < length o) → bad n ≡ bad p
+    go (yes h) = let z : ◌≡◌ {A = Answer} (Err (Unreadable p)) (Err TooShort) = e ∙ judged_short 0 o h in absurd (cc)
+    go (no h) = let z : ◌≡◌ {A = Answer} (Err (Unreadable p)) (Ok (length o)) = e ∙ judged_fits 0 o (omega arith) in absurd (cc)
 
-goes_good : (n : ℕ) (s : Said) (w : Written) → w ≡ judged 0 (merged s) → (w.number ≡ 10 → ⊥) → goes_further n s ≡ bad n
+goes_good : (n : ℕ) (s : Said) (a : Answer) → a ≡ judged 0 (merged s) → ((p : ℕ) → a ≡ Err (Unreadable p) → ⊥) → goes_further n s ≡ bad n
 unfolding goes_further
-goes_good n (good es) w e z = refl
-goes_good n (bad p) w e z = absurd (z (ap (λ (x : Written). x.number) (e ∙ judged_bad 0 p)))
+goes_good n (good es) a e z = refl
+goes_good n (bad p) a e z = absurd (z p (e ∙ judged_bad 0 p))
 
 -- the front was judged
-module _ (input out : List ℕ) (w : Written) (h : limit < length input) (e : w ≡ judged 0 (stream (take limit input))) where
-  front : w ≡ judged 0 (merged (events (take limit input)))
-  front = e ∙ ap (judged 0) (stream_merged (take limit input))
-
-  pub said_stop : w.number ≡ 10 → wrote w.number w.place out ≡ write_said (said_of input) out
+module _ (input out : List ℕ) (h : limit < length input) where
+  pub said_stop : (p : ℕ) → Err (Unreadable p) ≡ judged 0 (stream (take limit input)) → wrote (Err (Unreadable p)) out ≡ write_said (said_of input) out
   unfolding write_said
-  said_stop z =
-      ap (λ (n : ℕ). wrote n w.place out) z
-      ∙ ap (λ (s : Said). write_said s out) (sym (beyond input h ∙ goes_stop limit (events (take limit input)) w front z))
+  said_stop p e =
+      ap (λ (s : Said). write_said s out)
+      (sym (beyond input h ∙ goes_stop limit (events (take limit input)) p (e ∙ ap (judged 0) (stream_merged (take limit input)))))
 
-  pub said_beyond : (w.number ≡ 10 → ⊥) → wrote 10 limit out ≡ write_said (said_of input) out
+  pub said_beyond : (a : Answer) → a ≡ judged 0 (stream (take limit input)) → ((p : ℕ) → a ≡ Err (Unreadable p) → ⊥) → wrote (Err (Unreadable limit)) out ≡ write_said (said_of input) out
   unfolding write_said
-  said_beyond z = ap (λ (s : Said). write_said s out) (sym (beyond input h ∙ goes_good limit (events (take limit input)) w front z))
+  said_beyond a e z =
+      ap (λ (s : Said). write_said s out)
+      (sym (beyond input h ∙ goes_good limit (events (take limit input)) a (e ∙ ap (judged 0) (stream_merged (take limit input))) z))
 
 -- ---- what is handed over
 
@@ -83,12 +83,6 @@ traces_fits es room h = (
   ap (λ (b : Bool). when b then short_line else []) (le-ltb room (length (octets_all (merge es))) h),
 )
 
--- the three answers
-data Came (s : Said) (out out' : List ℕ) (w : Written) : Type 0 where
-  all : w.number ≡ 0 → Put out 0 (trace_of s (length out)) out' w.place → error_of s (length out) ≡ [] → w.place ≤ length out → Came s out out' w
-  none : w.number ≡ 10 → Put out 0 (trace_of s (length out)) out' 0 → error_of s (length out) ≡ stop_line w.place → Came s out out' w
-  short : w.number ≡ 14 → Put out 0 (trace_of s (length out)) out' 0 → error_of s (length out) ≡ short_line → Came s out out' w
-
 unwritten : {out out' o : List ℕ} → out' ≡ out → o ≡ [] → Put out 0 o out' 0
 unwritten {out} {out'} {o} e f = put_is f (rw e (put_none out 0))
 
@@ -97,53 +91,44 @@ written out o h e =
     let q : Put out 0 o (puts out 0 o) (length o) = record { list = refl; next = omega arith } in
     record { list = e ∙ sym (put_whole q h); next = omega arith }
 
-module _ (out out' : List ℕ) (w : Written) where
-  came : (s : Said) → wrote w.number w.place out' ≡ write_said s out → Came s out out' w
-  unfolding write_said trace_of error_of
-  came (bad p) e =
-      none (ap (λ (x : Wrote). x.answer.number) e) (unwritten (ap (λ (x : Wrote). x.output) e) refl)
-      (ap stop_line (sym (ap (λ (x : Wrote). x.answer.place) e)))
-  came (good es) e = go (dec_lt (length out) (length (octets_all (merge es))))
+-- the three answers
+module _ (out out' : List ℕ) where
+  pub came_all : (s : Said) (n : ℕ) → wrote (Ok n) out' ≡ write_said s out → Put out 0 (trace_of s (length out)) out' n × (error_of s (length out) ≡ []) × (n ≤ length out)
+  unfolding write_said
+  came_all (bad p) n e = let z : ◌≡◌ {A = Answer} (Ok n) (Err (Unreadable p)) = ap (λ (x : Wrote). x.answer) e in absurd (cc)
+  came_all (good es) n e = go (dec_lt (length out) (length (octets_all (merge es))))
     where
-      go : Dec (length out < length (octets_all (merge es))) → Came (good es) out out' w
-      go (yes h) =
-          let f = e ∙ laid_short (octets_all (merge es)) out h in
-          let t = traces_short es (length out) h in
-          short (ap (λ (x : Wrote). x.answer.number) f) (unwritten (ap (λ (x : Wrote). x.output) f) t.0) t.1
+      go : Dec (length out < length (octets_all (merge es))) → Put out 0 (trace_of (good es) (length out)) out' n × (error_of (good es) (length out) ≡ []) × (n ≤ length out)
+      go (yes h) = let z : ◌≡◌ {A = Answer} (Ok n) (Err TooShort) = ap (λ (x : Wrote). x.answer) (e ∙ laid_short (octets_all (merge es)) out h) in absurd (cc)
       go (no h) =
           let b : length (octets_all (merge es)) ≤ length out = omega arith in
           let f = e ∙ laid_fits (octets_all (merge es)) out b in
           let t = traces_fits es (length out) b in
-          let n : w.place ≡ length (octets_all (merge es)) = ap (λ (x : Wrote). x.answer.place) f in
-          all (ap (λ (x : Wrote). x.answer.number) f)
-          (put_is t.0 (rw n (written out (octets_all (merge es)) b (ap (λ (x : Wrote). x.output) f))))
-          t.1
-          (omega (arith, n, b))
+          let z : ◌≡◌ {A = Answer} (Ok n) (Ok (length (octets_all (merge es)))) = ap (λ (x : Wrote). x.answer) f in
+          let m : n ≡ length (octets_all (merge es)) = cc in
+          (put_is t.0 (rw m (written out (octets_all (merge es)) b (ap (λ (x : Wrote). x.output) f))), t.1, omega (arith, m, b))
 
-module _ (s : Said) (out out' : List ℕ) (w : Written) (e : wrote w.number w.place out' ≡ write_said s out) where
-  pub came_all : w.number ≡ 0 → Put out 0 (trace_of s (length out)) out' w.place × (error_of s (length out) ≡ []) × (w.place ≤ length out)
-  came_all z = go (came out out' w s e)
+  pub came_none : (s : Said) (p : ℕ) → wrote (Err (Unreadable p)) out' ≡ write_said s out → Put out 0 (trace_of s (length out)) out' 0 × (error_of s (length out) ≡ stop_line p)
+  unfolding write_said trace_of error_of
+  came_none (bad q) p e =
+      let z : ◌≡◌ {A = Answer} (Err (Unreadable p)) (Err (Unreadable q)) = ap (λ (x : Wrote). x.answer) e in
+      let m : p ≡ q = cc in (unwritten (ap (λ (x : Wrote). x.output) e) refl, ap stop_line (sym m))
+  came_none (good es) p e = go (dec_lt (length out) (length (octets_all (merge es))))
     where
-      go : Came s out out' w → Put out 0 (trace_of s (length out)) out' w.place × (error_of s (length out) ≡ []) × (w.place ≤ length out)
-      go (all n p q l) = (p, q, l)
-      go (none n p q) = absurd (omega (arith, n, z))
-      go (short n p q) = absurd (omega (arith, n, z))
+      go : Dec (length out < length (octets_all (merge es))) → Put out 0 (trace_of (good es) (length out)) out' 0 × (error_of (good es) (length out) ≡ stop_line p)
+      go (yes h) = let z : ◌≡◌ {A = Answer} (Err (Unreadable p)) (Err TooShort) = ap (λ (x : Wrote). x.answer) (e ∙ laid_short (octets_all (merge es)) out h) in absurd (cc)
+      go (no h) = let z : ◌≡◌ {A = Answer} (Err (Unreadable p)) (Ok (length (octets_all (merge es)))) = ap (λ (x : Wrote). x.answer) (e ∙ laid_fits (octets_all (merge es)) out (omega arith)) in absurd (cc)
 
-  pub came_none : w.number ≡ 10 → Put out 0 (trace_of s (length out)) out' 0 × (error_of s (length out) ≡ stop_line w.place)
-  came_none z = go (came out out' w s e)
+  pub came_short : (s : Said) → wrote (Err TooShort) out' ≡ write_said s out → Put out 0 (trace_of s (length out)) out' 0 × (error_of s (length out) ≡ short_line)
+  unfolding write_said
+  came_short (bad p) e = let z : ◌≡◌ {A = Answer} (Err TooShort) (Err (Unreadable p)) = ap (λ (x : Wrote). x.answer) e in absurd (cc)
+  came_short (good es) e = go (dec_lt (length out) (length (octets_all (merge es))))
     where
-      go : Came s out out' w → Put out 0 (trace_of s (length out)) out' 0 × (error_of s (length out) ≡ stop_line w.place)
-      go (all n p q l) = absurd (omega (arith, n, z))
-      go (none n p q) = (p, q)
-      go (short n p q) = absurd (omega (arith, n, z))
-
-  pub came_short : (w.number ≡ 0 → ⊥) → (w.number ≡ 10 → ⊥) → Put out 0 (trace_of s (length out)) out' 0 × (error_of s (length out) ≡ short_line)
-  came_short a b = go (came out out' w s e)
-    where
-      go : Came s out out' w → Put out 0 (trace_of s (length out)) out' 0 × (error_of s (length out) ≡ short_line)
-      go (all n p q l) = absurd (a n)
-      go (none n p q) = absurd (b n)
-      go (short n p q) = (p, q)
+      go : Dec (length out < length (octets_all (merge es))) → Put out 0 (trace_of (good es) (length out)) out' 0 × (error_of (good es) (length out) ≡ short_line)
+      go (yes h) =
+          let t = traces_short es (length out) h in
+          (unwritten (ap (λ (x : Wrote). x.output) (e ∙ laid_short (octets_all (merge es)) out h)) t.0, t.1)
+      go (no h) = let z : ◌≡◌ {A = Answer} (Err TooShort) (Ok (length (octets_all (merge es)))) = ap (λ (x : Wrote). x.answer) (e ∙ laid_fits (octets_all (merge es)) out (omega arith)) in absurd (cc)
 
 pub short_words : short_line ≡ 115 ∷ 116 ∷ 111 ∷ 112 ∷ 32 ∷ 49 ∷ 52 ∷ 10 ∷ []
 unfolding short_line line

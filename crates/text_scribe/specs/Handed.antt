@@ -10,8 +10,7 @@ use Rattle.std.specs.Prelude.{ℕ, suc, ◌<◌, ◌≡◌, Bool, true, false, L
 use Rattle.std.specs.declared.option.Option.{Option}
 use Rattle.std.specs.Io.KnownBytes.{Appends}
 use Rattle.list_lines.specs.Put.{Put}
-use Rattle.text_scribe.specs.declared.Scribed.{Scribed}
-use Rattle.text_scribe.specs.Scribe.{said_of, trace_of, error_of, ScribePromise}
+use Rattle.text_scribe.specs.Scribe.{said_of, trace_of, error_of, Scribed, ScribePromise}
 
 -- sent is what count fills put, one after the other; each was made before all was sent
 pub data Fills (all out : List ℕ) : (count : ℕ) (sent out' : List ℕ) → Type 0 where

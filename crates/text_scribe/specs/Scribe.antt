@@ -4,14 +4,13 @@
 --   said_of input       == the events of the input, or the first line that isn't good and wholly within the limit
 --   trace_of s room     == what goes to the first output, where its buffer has that much room
 --   error_of s room     == what goes to the second: nothing, or one line
-use Rattle.std.specs.Prelude.{ℕ, List, [], ◌∷◌, length, take}
+use Rattle.std.specs.Prelude.{ℕ, List, [], ◌∷◌, length, take, Result, Ok, Err}
 use Rattle.meaning.specs.Plain.{when◌then◌else◌, ◌<?◌}
 use Rattle.list_lines.specs.Text.{line}
 use Rattle.list_lines.specs.Lines.{stop_line}
 use Rattle.list_lines.specs.Put.{Put}
 use Rattle.text_meaning.specs.Events.{octets_all, merge}
 use Rattle.text_meaning.specs.Writing.{Said, good, bad, events}
-use Rattle.text_scribe.specs.declared.Scribed.{Scribed}
 
 abbrev pub limit : ℕ
 limit = 524_288
@@ -40,7 +39,19 @@ unfoldable pub error_of : Said → ℕ → List ℕ
 error_of (good es) room = when room <? length (octets_all (merge es)) then short_line else []
 error_of (bad p) room = stop_line p
 
+-- how many octets of the two buffers are to be handed over: of the trace, or of the line
+abbrev pub Scribed : Type 0
+Scribed = Result ℕ ℕ
+
+abbrev pub trace_long : Scribed → ℕ
+trace_long (Ok n) = n
+trace_long (Err n) = 0
+
+abbrev pub line_long : Scribed → ℕ
+line_long (Ok n) = 0
+line_long (Err n) = n
+
 -- both stand at the start of their buffers, and r says how long they are; every other octet is kept
 pub record ScribePromise (input out line : List ℕ) (r : Scribed) (out' line' : List ℕ) : Type 0 where
-  pub trace : Put out 0 (trace_of (said_of input) (length out)) out' r.trace
-  pub error : Put line 0 (error_of (said_of input) (length out)) line' r.line
+  pub trace : Put out 0 (trace_of (said_of input) (length out)) out' (trace_long r)
+  pub error : Put line 0 (error_of (said_of input) (length out)) line' (line_long r)

@@ -5,65 +5,42 @@
 
 ghost use Rattle.std.specs.Prelude.{◌≡◌, true, ◌+◌, ◌-◌, ◌≤◌, ◌<◌, min, length};
 ghost use Rattle.std.specs.Io.KnownBytes.{Appends};
-ghost use Rattle.text_meaning.specs.Writing.{wrote, write_said};
-ghost use Rattle.text_scribe.specs.Scribe.{limit, line_room, said_of, ScribePromise};
+ghost use Rattle.text_meaning.specs.Writing.{wrote, write_said, PlaceWithin};
+ghost use Rattle.text_scribe.specs.Scribe.{limit, line_room, said_of, trace_long, line_long, ScribePromise};
 ghost use Rattle.text_scribe.specs.Handed.{Passed, Handed, Taken};
 
 use std::io::Write;
-use text_meaning::Written;
+use text_meaning::WriteError;
 
 // The octets of a text that are taken.
 const LIMIT: usize = 524288;
 
-// How many octets of the two buffers are to be handed over.
-#[derive(Clone, Copy)]
-pub struct Scribed {
-    pub trace: usize,
-    pub line: usize,
-}
-
 // Writes a text of at most the limit; one that goes on beyond is refused.
-fn write_within(input: &[u8], out: &mut [u8]) -> Written
-    ensures out_after { wrote result.number result.place out.new ≡ write_said (said_of input.now) out.old }
-    ensures place_le_limit { result.number ≡ 10 → result.place ≤ limit }
+fn write_within(input: &[u8], out: &mut [u8]) -> Result<usize, WriteError>
+    ensures out_after { wrote result out.new ≡ write_said (said_of input.now) out.old }
+    ensures place_le_limit { PlaceWithin limit result }
 {
     if input.len() <= LIMIT {
         return text_write::write(input, out);
     }
-    let w = text_write::judge(&input[..LIMIT], 0);
-    if w.number == 10 {
-        return w;
-    }
-    Written {
-        number: 10,
-        place: LIMIT,
+    match text_write::judge(&input[..LIMIT], 0) {
+        Err(WriteError::Unreadable { place }) => Err(WriteError::Unreadable { place }),
+        Ok(_) => Err(WriteError::Unreadable { place: LIMIT }),
+        Err(WriteError::TooShort) => Err(WriteError::Unreadable { place: LIMIT }),
     }
 }
 
-// The trace of a text, and nothing in the line; or nothing of the trace, and in the line `stop 10 PLACE` or `stop 14`.
-fn scribe(input: &[u8], out: &mut [u8], line: &mut [u8]) -> Scribed
+// So many octets of the trace of a text, and nothing in the line; or nothing of the trace, and so many octets of the line
+// `stop 10 PLACE` or `stop 14`.
+fn scribe(input: &[u8], out: &mut [u8], line: &mut [u8]) -> Result<usize, usize>
     requires { line_room ≤ length line.old }
     ensures scribe_promise { ScribePromise input.now out.old line.old result out.new line.new }
-    ensures trace_in_bounds { (result.trace ≤ length out.old) × (result.line ≤ line_room) }
+    ensures trace_in_bounds { (trace_long result ≤ length out.old) × (line_long result ≤ line_room) }
 {
-    let w = write_within(input, out);
-    if w.number == 0 {
-        return Scribed {
-            trace: w.place,
-            line: 0,
-        };
-    }
-    if w.number == 10 {
-        let end = list_lines::stop_line(line, 0, w.place as u32);
-        return Scribed {
-            trace: 0,
-            line: end,
-        };
-    }
-    let end = list_lines::text(line, 0, b"stop 14\n");
-    Scribed {
-        trace: 0,
-        line: end,
+    match write_within(input, out) {
+        Ok(long) => Ok(long),
+        Err(WriteError::Unreadable { place }) => Err(list_lines::stop_line(line, 0, place as u32)),
+        Err(WriteError::TooShort) => Err(list_lines::text(line, 0, b"stop 14\n")),
     }
 }
 
@@ -97,7 +74,7 @@ fn pass<W: Write>(to: &mut W, all: &[u8], out: &mut [u8]) -> bool
     true
 }
 
-// Makes both, and hands them over.
+// Makes the one or the other, and hands it over.
 fn hand<W: Write, E: Write>(
     trace: &mut W,
     error: &mut E,
@@ -111,13 +88,10 @@ fn hand<W: Write, E: Write>(
     ensures written { result ≡ true → Taken input.now (length whole.old) (W.contents trace.old) (W.contents trace.new)
         (E.contents error.old) (E.contents error.new) }
 {
-    let made = scribe(input, whole, line);
-    let long = made.trace;
-    let end = made.line;
-    if !pass(trace, &whole[..long], out) {
-        return false;
+    match scribe(input, whole, line) {
+        Ok(long) => pass(trace, &whole[..long], out),
+        Err(long) => pass(error, &line[..long], out),
     }
-    pass(error, &line[..end], out)
 }
 
 // Makes the trace of a text, or the line that says why there is none, and hands the one to one writer, the other to the

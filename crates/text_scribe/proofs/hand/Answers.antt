@@ -1,37 +1,18 @@
--- `text_scribe::hand` makes both parts, which lie within their memories, and hands them over one after the other.
-use Prim.Native.Nat.{ℕ}
-use mathlib.Core.Path.{◌≡◌, sym}
-use native.Mathlib.Omega.{arith}
-use borrow.Author.Rules.{rules}
-use lib.Seq.{length-take-le}
-use Rattle.text_scribe.proofs.Passes.{handed_cut, handed_on, taken_both}
+-- `text_scribe::hand` makes the trace or the line, which lies within its memory, and hands it over.
+use Rattle.std.proofs.Common.{arith}
+use Rattle.text_scribe.proofs.Passes.{handed_trace, taken_trace, handed_line, taken_line}
 use Rattle.text_scribe.proofs.hand.Goals as goal
 
-pub slice_bounds-pass-end-2 : goal.slice_bounds-pass-end-2
-slice_bounds-pass-end-2 g c =
-    let s = c.scribe-made in
-    sym (length-take-le s.result.trace _ (omega (arith, s.ensures.trace_in_bounds.0)))
+pub returns-in-Ok-clause-handed : goal.returns-in-Ok-clause-handed
+returns-in-Ok-clause-handed g c = let k = c.in-Ok in handed_trace k.long k.ensures.scribe_promise k.ensures.trace_in_bounds.0 c.pass.ensures.passed
 
-pub returns-then-not-pass-clause-handed : goal.returns-then-not-pass-clause-handed
-returns-then-not-pass-clause-handed g c =
-    let s = c.scribe-made in
-    handed_cut s.ensures.scribe_promise s.ensures.trace_in_bounds c.pass.ensures.passed c.if-not-pass.true
+pub returns-in-Ok-clause-written : goal.returns-in-Ok-clause-written
+returns-in-Ok-clause-written g c = let k = c.in-Ok in λ e. taken_trace k.long k.ensures.scribe_promise k.ensures.trace_in_bounds.0 _ _ _ (c.pass.ensures.written e)
 
-pub returns-then-not-pass-clause-written : goal.returns-then-not-pass-clause-written
-returns-then-not-pass-clause-written g c = λ e. absurd (let z : ◌≡◌ {A = ℕ} 0 1 = cc in omega arith)
+pub returns-in-Err-clause-handed : goal.returns-in-Err-clause-handed
+returns-in-Err-clause-handed g c =
+    let k = c.in-Err in handed_line k.long k.ensures.scribe_promise (omega (arith, k.ensures.trace_in_bounds.1, c.requires.0)) c.pass-in-Err.ensures.passed
 
-pub slice_bounds-pass-end-4 : goal.slice_bounds-pass-end-4
-slice_bounds-pass-end-4 g c =
-    let s = c.scribe-made in
-    sym (length-take-le s.result.line _ (omega (arith, s.ensures.trace_in_bounds.1)))
-
-pub returns-clause-handed : goal.returns-clause-handed
-returns-clause-handed g c =
-    let s = c.scribe-made in
-    handed_on s.ensures.scribe_promise s.ensures.trace_in_bounds c.pass.ensures.passed c.if-not-pass.false c.requires.0 c.pass-2.ensures.passed
-
-pub returns-clause-written : goal.returns-clause-written
-returns-clause-written g c =
-    let s = c.scribe-made in
-    λ e. taken_both s.ensures.scribe_promise s.ensures.trace_in_bounds c.pass.ensures.passed _ _ _ _ c.requires.0
-    (c.pass.ensures.written c.if-not-pass.false) (c.pass-2.ensures.written e)
+pub returns-in-Err-clause-written : goal.returns-in-Err-clause-written
+returns-in-Err-clause-written g c =
+    let k = c.in-Err in λ e. taken_line k.long k.ensures.scribe_promise (omega (arith, k.ensures.trace_in_bounds.1, c.requires.0)) _ _ _ (c.pass-in-Err.ensures.written e)

@@ -3,10 +3,10 @@ use Prim.Native.Nat.{ℕ, ◌-◌}
 use mathlib.Core.Path.{◌≡◌, refl, sym}
 use native.Mathlib.Omega.{arith}
 use borrow.Author.Rules.{rules}
-use lib.ListN.{length, drop, length-take}
+use lib.ListN.{drop, length-take}
 use lib.Seq.{length-take-le}
 use Rattle.std.proofs.KnownBytes.{Appends-nil}
-use Rattle.text_scribe.proofs.Passes.{taken_more, taken_whole, took, Sofar, sofar_none, sofar_more, sofar_cut, sofar_all, used_within}
+use Rattle.text_scribe.proofs.Passes.{taken_more, taken_whole, took, sofar_none, sofar_more, sofar_cut, sofar_all, used_within}
 use Rattle.text_scribe.proofs.pass.Goals as goal
 
 pub loop-at-init : goal.loop-at-init

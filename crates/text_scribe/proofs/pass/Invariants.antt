@@ -1,12 +1,9 @@
 -- `text_scribe::pass` fills and writes until all is handed over: the invariant is the fills so far, the measure what is left.
 use Prim.Native.Nat.{◌-◌}
-use mathlib.Core.Path.{◌≡◌, refl, sym}
-use native.Mathlib.Omega.{arith}
-use borrow.Author.Rules.{rules}
-use lib.ListN.{length, take, drop, length-take}
-use lib.Seq.{length-take-le}
+use mathlib.Core.Path.{◌≡◌}
+use lib.ListN.{length, take}
 use Rattle.std.specs.Io.KnownBytes.{Appends}
-use Rattle.text_scribe.proofs.Passes.{Sofar, sofar_none, sofar_more, sofar_cut, sofar_all, used_within}
+use Rattle.text_scribe.proofs.Passes.{Sofar}
 use Rattle.text_scribe.proofs.pass.Given as goal
 
 abbrev pub invariant-loop-at : goal.invariant-loop-at
