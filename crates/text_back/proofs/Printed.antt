@@ -5,6 +5,8 @@ use mathlib.Core.Path.{◌≡◌, refl, sym, ap, subst, ◌∙◌}
 use mathlib.Core.Bool.{Bool, true, false, ◌&&◌}
 use mathlib.Core.List.{List, [], ◌∷◌, ◌++◌}
 use native.Mathlib.Omega.{arith}
+use Rattle.std.proofs.Common.{Ok, Err}
+use Rattle.text_meaning.specs.declared.WriteError.TheVariants.{TooShort}
 use borrow.Author.Tests.{le-leb, lt-leb, le-ltb, eq-eqb, ne_eqb, eqb-true, eqb-false}
 use lib.ListN.{length, get_or, take, drop, length-append, length-drop}
 use lib.Seq.{drop-drop, drop-append_seam, take_at}
@@ -14,7 +16,7 @@ use Rattle.trace_record.specs.Trace.{TraceRecord, GM, VO, VX, CA, SL, VS, PO, PX
 use Rattle.trace_record.specs.Fits.{Fits, stands_fits}
 use Rattle.text_meaning.specs.Events.{Event, octets_all, merge, event_of}
 use Rattle.text_meaning.specs.Grammar.{tells, line}
-use Rattle.text_meaning.specs.Writing.{placed, behind, line_at, Said, good, bad, onto, events_at, events_from, events, Wrote, wrote, laid, write_said, write_text}
+use Rattle.text_meaning.specs.Writing.{Answer, placed, behind, line_at, Said, good, bad, onto, events_at, events_from, events, Wrote, wrote, laid, write_said, write_text}
 use Rattle.text_trip.specs.Settled.{Settled}
 use Rattle.text_trip.specs.Reading.{read_at, read_from, read}
 use Rattle.text_trip.proofs.Trip.{trip}
@@ -137,26 +139,27 @@ module _ (s : List ℕ) (b : (i : ℕ) → get_or s i 0 < 256) where
 
   -- `scribe` of what `unscribe` prints gives a trace back that is in the form: 0, its length, its octets
   pub printed_written : (es : List Event) (output : List ℕ) → read s ≡ good es → Settled es → length s ≤ length output
-      → write_text (text_of s) output ≡ wrote 0 (length s) (s ++ drop (length s) output)
+      → write_text (text_of s) output ≡ wrote (Ok (length s)) (s ++ drop (length s) output)
   unfolding write_text write_said laid
   printed_written es output r f h =
       ap (λ (q : Said). write_said q output) (printed_events es r)
       ∙ ap (λ (o : List ℕ). laid o output) ((trip s b es r).0 f)
-      ∙ ap (λ (t : Bool). when t then wrote 14 0 output else wrote 0 (length s) (s ++ drop (length s) output)) (le-ltb (length output) (length s) h)
+      ∙ ap (λ (t : Bool). when t then wrote (Err TooShort) output else wrote (Ok (length s)) (s ++ drop (length s) output)) (le-ltb (length output) (length s) h)
 
   -- and no other: where it gives the trace back, each SL directly followed by an SL is full
   pub written_settled : (es : List Event) (output : List ℕ) → read s ≡ good es
-      → write_text (text_of s) output ≡ wrote 0 (length s) (s ++ drop (length s) output) → Settled es
+      → write_text (text_of s) output ≡ wrote (Ok (length s)) (s ++ drop (length s) output) → Settled es
   unfolding write_text write_said laid
   written_settled es output r w =
       let o = octets_all (merge es) in
-      let e : laid o output ≡ wrote 0 (length s) (s ++ drop (length s) output) = sym (ap (λ (q : Said). write_said q output) (printed_events es r)) ∙ w in
+      let e : laid o output ≡ wrote (Ok (length s)) (s ++ drop (length s) output) = sym (ap (λ (q : Said). write_said q output) (printed_events es r)) ∙ w in
       (trip s b es r).1 (laid_is o output (length output <? length o) e)
     where
-      laid_is : (o output : List ℕ) (t : Bool) → (when t then wrote 14 0 output else wrote 0 (length o) (o ++ drop (length o) output)) ≡ wrote 0 (length s) (s ++ drop (length s) output) → o ≡ s
-      laid_is o output true e = let z : ◌≡◌ {A = ℕ} 14 0 = ap (λ (x : Wrote). x.answer.number) e in absurd (omega arith)
+      laid_is : (o output : List ℕ) (t : Bool) → (when t then wrote (Err TooShort) output else wrote (Ok (length o)) (o ++ drop (length o) output)) ≡ wrote (Ok (length s)) (s ++ drop (length s) output) → o ≡ s
+      laid_is o output true e = let z : ◌≡◌ {A = Answer} (Err TooShort) (Ok (length s)) = ap (λ (x : Wrote). x.answer) e in absurd (cc)
       laid_is o output false e =
-          let l : length o ≡ length s = ap (λ (x : Wrote). x.answer.place) e in
+          let z : ◌≡◌ {A = Answer} (Ok (length o)) (Ok (length s)) = ap (λ (x : Wrote). x.answer) e in
+          let l : length o ≡ length s = cc in
           sym (take_at o (drop (length o) output) (length o) refl)
           ∙ ap (λ (x : Wrote). take (length o) x.output) e
           ∙ take_at s (drop (length s) output) (length o) (sym l)

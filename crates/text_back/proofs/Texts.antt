@@ -5,6 +5,8 @@ use mathlib.Core.Path.{◌≡◌, refl, ap, subst, ◌∙◌}
 use mathlib.Core.Bool.{Bool, true, false, ◌&&◌}
 use mathlib.Core.List.{List, [], ◌++◌}
 use native.Mathlib.Omega.{arith}
+use Rattle.std.proofs.Common.{Ok, Err}
+use Rattle.text_meaning.specs.declared.WriteError.TheVariants.{Unreadable, TooShort}
 use borrow.Author.Tests.{leb-true, ne_eqb}
 use lib.ListN.{length, take, drop, length-drop}
 use lib.Seq.{take_at}
@@ -69,30 +71,28 @@ unfolding events
 text_begun text es e = subst (Fine 0) e (fine_from text (length text + 1) 0)
 
 -- of what was laid into an output, the octets are those that it says
-laid_front : (o output : List ℕ) (b : Bool) → (length output <? length o) ≡ b
-    → (when b then wrote 14 0 output else wrote 0 (length o) (o ++ drop (length o) output)).answer.number ≡ 0
-    → take (when b then wrote 14 0 output else wrote 0 (length o) (o ++ drop (length o) output)).answer.place
-    (when b then wrote 14 0 output else wrote 0 (length o) (o ++ drop (length o) output)).output ≡ o
-laid_front o output true e z = let y : ◌≡◌ {A = ℕ} 14 0 = z in absurd (omega arith)
-laid_front o output false e z = take_at o (drop (length o) output) (length o) refl
+laid_front : (o output : List ℕ) (n : ℕ) (b : Bool) → (when b then wrote (Err TooShort) output else wrote (Ok (length o)) (o ++ drop (length o) output)).answer ≡ Ok n
+    → take n (when b then wrote (Err TooShort) output else wrote (Ok (length o)) (o ++ drop (length o) output)).output ≡ o
+laid_front o output n true z = absurd (cc)
+laid_front o output n false z = let m : length o ≡ n = cc in take_at o (drop (length o) output) n m
 
-written_said : (text output : List ℕ) (q : Said) → events text ≡ q → (write_said q output).answer.number ≡ 0
-    → write_text text output ≡ write_said q output → WrittenBack text output
+written_said : (text output : List ℕ) (n : ℕ) (q : Said) → events text ≡ q → (write_said q output).answer ≡ Ok n
+    → write_text text output ≡ write_said q output → WrittenBack text output n
 unfolding write_said laid
-written_said text output (bad p) e z w = let y : ◌≡◌ {A = ℕ} 10 0 = z in absurd (omega arith)
-written_said text output (good es) e z w =
+written_said text output n (bad p) e z w = absurd (cc)
+written_said text output n (good es) e z w =
     let r = read_back es (text_begun text es e) in
     record {
       says = es;
       found = r.found;
       told = e;
-      reads = ap (λ (x : Wrote). read (take x.answer.place x.output)) w
-          ∙ ap read (laid_front (octets_all (merge es)) output (length output <? length (octets_all (merge es))) refl z)
+      reads = ap (λ (x : Wrote). read (take n x.output)) w
+          ∙ ap read (laid_front (octets_all (merge es)) output n (length output <? length (octets_all (merge es))) z)
           ∙ r.reads;
       same = r.same;
     }
 
 -- "Reading what was written gives the events back", of every text and every output into which it was written
-pub written_back : (text output : List ℕ) → (write_text text output).answer.number ≡ 0 → WrittenBack text output
+pub written_back : (text output : List ℕ) (n : ℕ) → (write_text text output).answer ≡ Ok n → WrittenBack text output n
 unfolding write_text
-written_back text output z = written_said text output (events text) refl z refl
+written_back text output n z = written_said text output n (events text) refl z refl

@@ -5,7 +5,7 @@
 --   Later es          == events that never stand first
 --   Begun es          == events of which the first sets up, as GM, GR and GN do, and no other
 --   ReadBack es       == of events es, merged and written: what the reader reads in those octets
---   WrittenBack t o   == of a text t, written into the output o: what the reader reads in the octets that were written
+--   WrittenBack t o n == of a text t, written into the output o as n octets: what the reader reads in those
 use Rattle.std.specs.Prelude.{ℕ, ◌≤◌, ◌≡◌, true, List, [], ◌∷◌, take}
 use Rattle.text_meaning.specs.Events.{Event, octets_all, merge}
 use Rattle.text_meaning.specs.Writing.{good, events, write_text}
@@ -33,9 +33,9 @@ pub record ReadBack (es : List Event) : Type 0 where
   pub same : merge found ≡ merge es
 
 -- the same of the octets that a text's writer left, as many as it says
-pub record WrittenBack (text output : List ℕ) : Type 0 where
+pub record WrittenBack (text output : List ℕ) (n : ℕ) : Type 0 where
   pub says : List Event
   pub found : List Event
   pub told : events text ≡ good says
-  pub reads : read (take (write_text text output).answer.place (write_text text output).output) ≡ good found
+  pub reads : read (take n (write_text text output).output) ≡ good found
   pub same : merge found ≡ merge says
