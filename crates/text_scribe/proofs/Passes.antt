@@ -1,13 +1,13 @@
 -- Fill after fill is the whole: what a fill puts is what comes next, and each leads on. So what is handed to both outputs is
 -- what stands made in the two memories.
-use Prim.Native.Nat.{ℕ, suc, ◌+◌, ◌-◌, ◌≤◌, ◌<◌, min}
+use Prim.Native.Nat.{ℕ, suc, ◌+◌, ◌≤◌, ◌<◌, min}
 use mathlib.Core.Path.{◌≡◌, refl, sym, ap, subst, ◌∙◌}
 use mathlib.Core.Bool.{Bool, true, false}
-use mathlib.Core.List.{List, [], ◌∷◌, ◌++◌, append-nil}
+use mathlib.Core.List.{List, [], ◌∷◌, ◌++◌, append_assoc, append-nil}
 use native.Mathlib.Decide.{dec_lt}
 use native.Mathlib.Omega.{arith}
-use lib.ListN.{length, take, drop, length-take, length-drop, take-append-drop}
-use lib.Seq.{take_all, take-add, length-take-le}
+use lib.ListN.{length, take, drop, length-append}
+use lib.Seq.{take_all, take_at, drop_at}
 use Rattle.std.specs.declared.option.Option.{Option}
 use Rattle.std.specs.Prelude.{Result, Ok, Err, OnOk}
 use Rattle.std.specs.Result.{is_err}
@@ -21,85 +21,74 @@ use Rattle.text_scribe.specs.Handed.{Fills, no_fill, then_fill, Passed, Handed, 
 never : {A : Type 0} → false ≡ true → A
 never e = let z : ◌≡◌ {A = ℕ} 0 1 = cc in absurd (omega arith)
 
-take_least : (n room : ℕ) (l : List ℕ) → n ≡ min room (length l) → take n l ≡ take room l
-take_least n room l e = go (dec_lt room (length l))
-  where
-    go : Dec (room < length l) → take n l ≡ take room l
-    go (yes h) = let k : n ≡ room = omega (arith, e, h) in ap (λ (i : ℕ). take i l) k
-    go (no h) = take_all n l (omega (arith, e, h)) ∙ sym (take_all room l (omega (arith, h)))
+-- so many octets were handed over: what was sent, what is left, and what the writer took
+pub record Sofar (all out₀ : List ℕ) (a : Option (List ℕ)) (left out : List ℕ) (a' : Option (List ℕ)) : Type 0 where
+  pub count : ℕ
+  pub sent : List ℕ
+  pub fills : Fills all out₀ count sent out
+  pub is : all ≡ sent ++ left
+  pub taken : Appends a a' sent
 
-module _ (all out₀ : List ℕ) where
-  -- so many octets were handed over
-  pub record Sofar (at : ℕ) (out : List ℕ) : Type 0 where
-    pub count : ℕ
-    pub sent : List ℕ
-    pub fills : Fills all out₀ count sent out
-    pub is : sent ≡ take at all
-    pub within : at ≤ length all
+pub sofar_none : (all out₀ : List ℕ) (a : Option (List ℕ)) → Sofar all out₀ a all out₀ a
+sofar_none all out₀ a = record { count = 0; sent = []; fills = no_fill; is = refl; taken = Appends-nil a }
 
-  pub sofar_none : Sofar 0 out₀
-  sofar_none = record { count = 0; sent = []; fills = no_fill; is = refl; within = omega arith }
+no_octets : (l : List ℕ) → length l ≡ 0 → l ≡ []
+no_octets [] h = refl
+no_octets (x ∷ l) h = absurd (omega (arith, h))
 
-  pub sofar_all : {at : ℕ} {out : List ℕ} → Sofar at out → length all ≤ at → Passed all out₀ true out
-  sofar_all {at} s h =
-      record {
-        count = s.count;
-        sent = s.sent;
-        rest = [];
-        fills = s.fills;
-        begins = sym (ap (λ (l : List ℕ). l ++ []) (s.is ∙ take_all at all h) ∙ append-nil all);
-        whole = λ _. refl;
-        some = λ e. never (sym e);
-      }
+module _ {all out₀ : List ℕ} {a : Option (List ℕ)} {left out : List ℕ} {a' : Option (List ℕ)} (s : Sofar all out₀ a left out a') where
+  module _ (h : length left ≡ 0) where
+    whole : all ≡ s.sent ++ []
+    whole = s.is ∙ ap (λ (l : List ℕ). s.sent ++ l) (no_octets left h)
+
+    pub sofar_all : Passed all out₀ true out
+    sofar_all = record { count = s.count; sent = s.sent; rest = []; fills = s.fills; begins = whole; whole = λ _. refl; some = λ e. never (sym e) }
+
+    pub taken_all : Appends a a' all
+    taken_all = subst (Appends a a') (sym (whole ∙ append-nil s.sent)) s.taken
 
   -- one fill more
-  module _ {at end used : ℕ} {out out' : List ℕ} (s : Sofar at out) (less : at < length all) (same : length out ≡ length out₀)
-      (e : end ≡ at + min (length out) (length all - at)) (p : Put out 0 (take (end - at) (drop at all)) out' used) where
-    long : length s.sent ≡ at
-    long = ap length s.is ∙ length-take-le at all s.within
+  module _ (part left' : List ℕ) {out' : List ℕ} {room used : ℕ} (e : left ≡ part ++ left') (f : length part ≡ min room (length left)) (more : 0 < length left)
+      (size : room ≡ length out₀) (p : Put out 0 part out' used) (same : length out ≡ length out₀) where
+    next : drop (length s.sent) all ≡ left
+    next = ap (drop (length s.sent)) s.is ∙ drop_at s.sent left (length s.sent) refl
 
-    part : take (length out₀) (drop (length s.sent) all) ≡ take (end - at) (drop at all)
-    part =
-        ap (λ (k : ℕ). take (length out₀) (drop k all)) long
-        ∙ sym (take_least (end - at) (length out₀) (drop at all) (omega (arith, e, same, length-drop at all)))
+    front : take (length out₀) left ≡ part
+    front = go (dec_lt room (length left))
+      where
+        k : length part ≡ length part + 0
+        k = omega arith
+
+        go : Dec (room < length left) → take (length out₀) left ≡ part
+        go (yes h) =
+            let m : length out₀ ≡ length part = omega (arith, f, size) in
+            ap (λ (i : ℕ). take i left) m ∙ ap (take (length part)) e ∙ take_at part left' (length part) refl
+        go (no h) =
+            let z : length left' ≡ 0 = omega (arith, f, ap length e, length-append part left') in
+            let w : left ≡ part = e ∙ ap (λ (l : List ℕ). part ++ l) (no_octets left' z) ∙ append-nil part in
+            take_all (length out₀) left (omega (arith, size)) ∙ w
+
+    long : used ≡ length part
+    long = omega (arith, p.next)
 
     pub used_within : used ≤ length out
-    used_within = omega (arith, p.next, e, length-take (end - at) (drop at all))
+    used_within = omega (arith, long, f, size, same)
+
+    put : take used out' ≡ part
+    put = put_front p used_within
 
     fills : Fills all out₀ (suc s.count) (s.sent ++ take used out') out'
-    fills = then_fill used out' s.fills (omega (arith, long, less)) (put_is part p)
+    fills = then_fill used out' s.fills (omega (arith, ap length s.is, length-append s.sent left, more)) (put_is (ap (take (length out₀)) next ∙ front) p)
 
-    on : s.sent ++ take used out' ≡ take end all
-    on =
-        let f : take used out' ≡ take (end - at) (drop at all) = put_front p used_within in
-        let n : at + (end - at) ≡ end = omega (arith, e) in
-        ap (λ (l : List ℕ). l ++ take used out') s.is ∙ ap (λ (l : List ℕ). take at all ++ l) f
-        ∙ sym (take-add at (end - at) all) ∙ ap (λ (k : ℕ). take k all) n
+    on : all ≡ (s.sent ++ take used out') ++ left'
+    on = s.is ∙ ap (λ (l : List ℕ). s.sent ++ l) e ∙ sym (append_assoc s.sent part left') ∙ ap (λ (l : List ℕ). (s.sent ++ l) ++ left') (sym put)
 
-    pub sofar_more : Sofar end out'
-    sofar_more =
-        record { count = suc s.count; sent = s.sent ++ take used out'; fills = fills; is = on; within = omega (arith, e, less) }
-
-    -- what the writer took, with what this fill put
-    pub taken_more : (a a' a'' : Option (List ℕ)) → Appends a a' (take at all) → Appends a' a'' (take used out') → Appends a a'' (take end all)
-    taken_more a a' a'' v w =
-        subst (Appends a a'') (ap (λ (l : List ℕ). l ++ take used out') (sym s.is) ∙ on) (Appends-trans _ _ _ _ _ v w)
+    pub sofar_more : {a'' : Option (List ℕ)} → Appends a' a'' (take used out') → Sofar all out₀ a left' out' a''
+    sofar_more w = record { count = suc s.count; sent = s.sent ++ take used out'; fills = fills; is = on; taken = Appends-trans _ _ _ _ _ s.taken w }
 
     -- it was the last, since a write failed
     pub sofar_cut : Passed all out₀ false out'
-    sofar_cut =
-        record {
-          count = suc s.count;
-          sent = s.sent ++ take used out';
-          rest = drop end all;
-          fills = fills;
-          begins = sym (ap (λ (l : List ℕ). l ++ drop end all) on ∙ take-append-drop end all);
-          whole = λ f. never f;
-          some = λ _. omega arith;
-        }
-
-pub taken_whole : (all : List ℕ) (at : ℕ) (a a' : Option (List ℕ)) → length all ≤ at → Appends a a' (take at all) → Appends a a' all
-taken_whole all at a a' h w = subst (Appends a a') (take_all at all h) w
+    sofar_cut = record { count = suc s.count; sent = s.sent ++ take used out'; rest = left'; fills = fills; begins = on; whole = λ g. never g; some = λ _. omega arith }
 
 -- a write that didn't fail took all
 pub took : {T E : Type 0} (r : Result T E) (failed : Bool) (P : Type 0) → failed ≡ is_err r → failed ≡ false → OnOk r P → P

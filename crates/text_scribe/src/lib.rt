@@ -3,7 +3,7 @@
 // the operating system takes it is outside every contract.
 #![tactic(auto)]
 
-ghost use Rattle.std.specs.Prelude.{◌≡◌, true, ◌+◌, ◌-◌, ◌≤◌, ◌<◌, min, length};
+ghost use Rattle.std.specs.Prelude.{◌≡◌, true, ◌≤◌, ◌<◌, length};
 ghost use Rattle.std.specs.Io.KnownBytes.{Appends};
 ghost use Rattle.text_meaning.specs.Writing.{wrote, write_said, PlaceWithin};
 ghost use Rattle.text_scribe.specs.Scribe.{limit, line_room, said_of, trace_long, line_long, ScribePromise};
@@ -44,29 +44,14 @@ fn scribe(input: &[u8], out: &mut [u8], line: &mut [u8]) -> Result<usize, usize>
     }
 }
 
-// Where the next part ends, of as many octets as the buffer has.
-fn part_end(at: usize, long: usize, room: usize) -> usize
-    requires { at ≤ long }
-    ensures { result ≡ at + min room (long - at) }
-{
-    let left = long - at;
-    if left < room {
-        return long;
-    }
-    at + room
-}
-
 // Fills the buffer with what comes next and writes it out, until all is handed over, or until a write fails.
 fn pass<W: Write>(to: &mut W, all: &[u8], out: &mut [u8]) -> bool
     requires { 0 < length out.old }
     ensures passed { Passed all.now out.old result out.new }
     ensures written { result ≡ true → Appends (W.contents to.old) (W.contents to.new) all.now }
 {
-    let mut at = 0usize;
-    while at < all.len() {
-        let end = part_end(at, all.len(), out.len());
-        let used = list_lines::text(out, 0, &all[at..end]);
-        at = end;
+    for part in all.chunks(out.len()) {
+        let used = list_lines::text(out, 0, part);
         if to.write_all(&out[..used]).is_err() {
             return false;
         }
