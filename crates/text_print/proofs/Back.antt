@@ -1,13 +1,13 @@
 -- A printed line, read by the grammar of texts, says the very record that it was printed from: field after field, each is
 -- read back and put behind the octets before it.
-use Prim.Native.Nat.{ℕ, ◌+◌, ◌≤◌, ◌<◌}
+use Prim.Native.Nat.{ℕ, ◌≤◌, ◌<◌}
 use mathlib.Core.Path.{◌≡◌, refl, sym, ap, ◌∙◌}
 use mathlib.Core.Bool.{true, false}
 use mathlib.Core.List.{List, [], ◌∷◌, ◌++◌, append_assoc}
 use lib.ListN.{length, get_or, take, drop}
 use native.Mathlib.Omega.{arith}
 use borrow.Author.Tests.{ne_eqb}
-use Rattle.meaning.specs.Plain.{Out, refused, next, ◌and_then◌, when◌then◌else◌, ◌=?◌}
+use Rattle.meaning.specs.Plain.{Out, next, ◌and_then◌}
 use Rattle.meaning.specs.Numbers.{octets}
 use Rattle.meaning.specs.Words.{Second}
 use Rattle.trace_record.specs.declared.Head.{Head}
@@ -16,8 +16,8 @@ use Rattle.trace_record.specs.Trace.{GM, VO, VX, CA, SL, VS, PO, PX, mark_gm, ma
 use Rattle.list_lines.specs.Text.{decimal_of}
 use Rattle.list_lines.specs.Text.{line as Text·line}
 use Rattle.text_meaning.specs.Shapes.{Field, n8, n16, n32, cell, of16, of32, find}
-use Rattle.text_meaning.specs.Events.{Event, told, pause, opening_of, closing_of, event_of}
-use Rattle.text_meaning.specs.Grammar.{Number, number_of, Part, part, Told, tells, expect, digit_of, number, hexes, field_at, fields_at, slots_at, shaped_line, line}
+use Rattle.text_meaning.specs.Events.{told, opening_of, closing_of, event_of}
+use Rattle.text_meaning.specs.Grammar.{Part, part, Told, tells, expect, digit_of, hexes, field_at, fields_at, slots_at, shaped_line, line}
 use Rattle.text_print.specs.Print.{hex_of, opening_line, closing_line, line_of}
 use Rattle.text_print.proofs.Parse.{number_back, hexes_back}
 

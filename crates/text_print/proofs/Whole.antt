@@ -2,12 +2,11 @@
 -- stands there is nothing more to put.
 use Prim.Native.Nat.{ℕ, zero, suc, ◌+◌, ◌≤◌, ◌<◌}
 use mathlib.Core.Path.{◌≡◌, refl, sym, ap, ◌∙◌}
-use mathlib.Core.List.{List, [], ◌∷◌, ◌++◌, append_assoc, append-nil}
+use mathlib.Core.List.{List, [], ◌++◌, append_assoc}
 use lib.ListN.{length}
 use native.Mathlib.Omega.{arith}
 use Rattle.trace_record.specs.Trace.{TraceRecord, Stands, event, finish, refusal, stands_at}
-use Rattle.trace_record.specs.Fits.{Fits, stands_fits}
-use Rattle.text_print.specs.Print.{line_of, text_at, text_from, text_of}
+use Rattle.text_print.specs.Print.{line_of, text_at, text_from}
 use Rattle.text_print.specs.Fill.{Lines, none, then, NoRecord}
 use Rattle.text_print.proofs.Within.{read_within}
 

@@ -1,12 +1,11 @@
 -- A cell that the reader finds lies within the trace, and a record leads on: both are in what every answer of it fits.
-use Prim.Native.Nat.{ℕ, ◌+◌, ◌≤◌, ◌<◌}
+use Prim.Native.Nat.{ℕ, ◌≤◌, ◌<◌}
 use mathlib.Core.Path.{◌≡◌, subst}
 use mathlib.Core.List.{List}
 use lib.ListN.{length}
 use native.Mathlib.Omega.{arith}
-use Rattle.meaning.specs.Numbers.{octets}
 use Rattle.trace_record.specs.Trace.{TraceRecord, GM, VO, VX, CA, SL, VS, PO, PX, event, stands_at}
-use Rattle.trace_record.specs.Fits.{Fits, long_of, stands_fits}
+use Rattle.trace_record.specs.Fits.{Fits, stands_fits}
 use Rattle.text_print.specs.Print.{CellWithin}
 
 within_by : (trace : List ℕ) (at : ℕ) (r : TraceRecord) (next : ℕ) → Fits trace at (event r next)

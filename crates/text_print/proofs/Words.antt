@@ -1,7 +1,7 @@
 -- Each line part by part, in the order in which the functions put the parts; and hex digits, octet after octet.
 use mathlib.Core.Path.{◌≡◌, refl, sym, ap, ◌∙◌}
 use mathlib.Core.List.{List, [], ◌∷◌, ◌++◌, append_assoc}
-use Prim.Native.Nat.{ℕ, ◌+◌, ◌/◌, ◌%◌, ◌<◌}
+use Prim.Native.Nat.{ℕ, ◌+◌, ◌<◌}
 use native.Mathlib.Numerals.{add-one}
 use native.Mathlib.Omega.{arith}
 use lib.ListN.{length, get_or, take, drop, length-drop}
@@ -14,7 +14,7 @@ use Rattle.trace_record.specs.declared.Head.{Head}
 use Rattle.trace_record.specs.Trace.{GM, CA, SL, VS, head_mark, mark_ca, mark_sl, mark_vs}
 use Rattle.list_lines.specs.Text.{decimal_of, line}
 use Rattle.text_meaning.specs.Shapes.{of16}
-use Rattle.text_print.specs.Print.{hex_digit, hex_pair, hex_of, opening_line, closing_line, line_of}
+use Rattle.text_print.specs.Print.{hex_pair, hex_of, opening_line, closing_line, line_of}
 
 pub setup_words : (trace : List ℕ) (n v : ℕ) (head : Head) (mark : ℕ) → mark ≡ head_mark head
     → line_of trace (GM n v head) ≡ ((of16 mark ++ (32 ∷ [])) ++ (decimal_of n ++ (32 ∷ []))) ++ (decimal_of v ++ (10 ∷ []))
@@ -62,6 +62,6 @@ hex_take l start i h =
     ap (λ (k : ℕ). hex_of (take k (drop start l))) (add-one i) ∙ ap hex_of (take-suc (drop start l) i 0 m) ∙ hex_snoc (take i (drop start l)) (get_or (drop start l) i 0)
     ∙ ap (λ (x : ℕ). hex_of (take i (drop start l)) ++ hex_pair x) (get_or-drop start l i 0)
 
-pub hex_put : {l : List ℕ} {i h w : ℕ} {l' : List ℕ} {r : ℕ} (x : ℕ) → h ≡ hex_digit (x / 16) → w ≡ hex_digit (x % 16)
-    → Put l i (h ∷ w ∷ []) l' r → Put l i (hex_pair x) l' r
-hex_put x e f p = put_is (rw (e, f)) p
+-- a number by what it was widened from
+pub number_put : {l : List ℕ} {i n m : ℕ} {l' : List ℕ} {r : ℕ} (after : ℕ) → n ≡ m → Put l i (decimal_of n ++ (after ∷ [])) l' r → Put l i (decimal_of m ++ (after ∷ [])) l' r
+number_put after e p = put_is (ap (λ (k : ℕ). decimal_of k ++ (after ∷ [])) (sym e)) p

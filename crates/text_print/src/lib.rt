@@ -3,7 +3,8 @@
 
 ghost use Rattle.std.specs.Prelude.{◌≡◌, List, [], ◌∷◌, ◌++◌, ℕ, ◌+◌, ◌≤◌, ◌<◌, length, take, drop};
 ghost use Rattle.list_lines.specs.Put.{Put};
-ghost use Rattle.trace_record.specs.Trace.{record_of, head_mark};
+ghost use Rattle.trace_record.specs.Trace.{record_of};
+ghost use Rattle.trace_record.specs.Marks.{letters_of};
 ghost use Rattle.trace_record.specs.Trace.{GM as Trace-as-GM, CA as Trace-as-CA, SL as Trace-as-SL};
 ghost use Rattle.trace_record.specs.Trace.{VS as Trace-as-VS};
 ghost use Rattle.meaning.specs.Words.{second_of};
@@ -12,57 +13,23 @@ ghost use Rattle.text_print.specs.Print.{hex_digit, hex_pair, hex_of, opening_li
 ghost use Rattle.text_print.specs.Print.{line_room, CellWithin};
 ghost use Rattle.text_print.specs.Fill.{FillPromise};
 
-use trace_record::{Event, Found, Head};
+use trace_record::{Event, Found, Head, Mark};
 
-// Where a fill ended: the place in the trace, and how many octets of the buffer it used.
+// Where a fill ended: the place in the trace, and how many octets of the buffer it used. Both are always there, so no Option and
+// no Result says more.
 #[derive(Clone, Copy)]
 pub struct Printed {
     pub at: usize,
     pub used: usize,
 }
 
-// The two letters of each mark, high octet first.
-const GM: u16 = 0x474d;
-
-const GR: u16 = 0x4752;
-
-const GN: u16 = 0x474e;
-
-const VO: u16 = 0x564f;
-
-const VS: u16 = 0x5653;
-
-const VX: u16 = 0x5658;
-
-const PO: u16 = 0x504f;
-
-const PX: u16 = 0x5058;
-
-const CA: u16 = 0x4341;
-
-const SL: u16 = 0x534c;
-
-fn setup_mark(head: Head) -> u16
-    ensures { result ≡ head_mark head }
-{
-    match head {
-        Head::Gm => GM,
-        Head::Gr => GR,
-        Head::Gn => GN,
-    }
-}
-
 // A mark, and the space behind it.
-fn mark(out: &mut [u8], at: usize, letters: u16) -> usize
+fn mark(out: &mut [u8], at: usize, mark: Mark) -> usize
     requires { at + 3 ≤ length out.old }
-    ensures { Put out.old at (of16 letters ++ (32 ∷ [])) out.new result }
+    ensures { Put out.old at (of16 (letters_of mark) ++ (32 ∷ [])) out.new result }
 {
-    let b = at + 1;
-    let c = b + 1;
-    out[at] = (letters / 256) as u8;
-    out[b] = (letters % 256) as u8;
-    out[c] = 32;
-    c + 1
+    let [high, low] = mark.letters().to_be_bytes();
+    list_lines::text(out, at, &[high, low, b' '])
 }
 
 // Small letters, as most hex tools write them.
@@ -70,22 +37,14 @@ fn hex_digit(x: u8) -> u8
     requires { x < 16 }
     ensures { result ≡ hex_digit x }
 {
-    if x < 10 {
-        return 48 + x;
-    }
-    87 + x
+    if x < 10 { b'0' + x } else { 87 + x }
 }
 
 fn hex_pair(out: &mut [u8], at: usize, x: u8) -> usize
     requires { at + 2 ≤ length out.old }
     ensures { Put out.old at (hex_pair x) out.new result }
 {
-    let high = hex_digit(x / 16);
-    let low = hex_digit(x % 16);
-    let b = at + 1;
-    out[at] = high;
-    out[b] = low;
-    b + 1
+    list_lines::text(out, at, &[hex_digit(x / 16), hex_digit(x % 16)])
 }
 
 // The 53 octets of a cell that start at a place of the trace.
@@ -95,20 +54,10 @@ fn hexes(trace: &[u8], start: usize, out: &mut [u8], at: usize) -> usize
     ensures value { result ≡ at + 106 }
 {
     let mut to = at;
-    let mut i = 0;
-    while i < 53 {
+    for i in 0..53 {
         to = hex_pair(out, to, trace[start + i]);
-        i += 1;
     }
     to
-}
-
-fn feed(out: &mut [u8], at: usize) -> usize
-    requires { at + 1 ≤ length out.old }
-    ensures { Put out.old at (10 ∷ []) out.new result }
-{
-    out[at] = 10;
-    at + 1
 }
 
 fn setup_text(out: &mut [u8], at: usize, n: u16, v: u16, head: Head) -> usize
@@ -116,28 +65,28 @@ fn setup_text(out: &mut [u8], at: usize, n: u16, v: u16, head: Head) -> usize
     ensures by_index { (trace : List ℕ) → Put out.old at (line_of trace (Trace-as-GM n v head)) out.new result }
     ensures upper_bound { result ≤ at + line_room }
 {
-    let a = mark(out, at, setup_mark(head));
-    let b = list_lines::number(out, a, n as u32, 32);
-    list_lines::number(out, b, v as u32, 10)
+    let a = mark(out, at, head.mark());
+    let b = list_lines::number(out, a, u32::from(n), 32);
+    list_lines::number(out, b, u32::from(v), 10)
 }
 
 // An opening, whatever its mark: of a VC or of a path.
 fn open_text(
     out: &mut [u8],
     at: usize,
-    letters: u16,
+    letters: Mark,
     connection: u16,
     m: u8,
     f: u32,
     c: u32,
 ) -> usize
     requires { at + line_room ≤ length out.old }
-    ensures put { Put out.old at (opening_line letters connection m f c) out.new result }
+    ensures put { Put out.old at (opening_line (letters_of letters) connection m f c) out.new result }
     ensures upper_bound { result ≤ at + line_room }
 {
     let a = mark(out, at, letters);
-    let b = list_lines::number(out, a, connection as u32, 32);
-    let d = list_lines::number(out, b, m as u32, 32);
+    let b = list_lines::number(out, a, u32::from(connection), 32);
+    let d = list_lines::number(out, b, u32::from(m), 32);
     let e = list_lines::number(out, d, f, 32);
     list_lines::number(out, e, c, 10)
 }
@@ -159,24 +108,24 @@ fn sustain_text(
     ensures by_index { (trace : List ℕ) → Put out.old at (line_of trace (Trace-as-VS vci m f c (second_of m2 f2 c2 tag))) out.new result }
     ensures upper_bound { result ≤ at + line_room }
 {
-    let a = mark(out, at, VS);
-    let b = list_lines::number(out, a, vci as u32, 32);
-    let d = list_lines::number(out, b, m as u32, 32);
+    let a = mark(out, at, Mark::Vs);
+    let b = list_lines::number(out, a, u32::from(vci), 32);
+    let d = list_lines::number(out, b, u32::from(m), 32);
     let e = list_lines::number(out, d, f, 32);
     let g = list_lines::number(out, e, c, 32);
-    let h = list_lines::number(out, g, m2 as u32, 32);
+    let h = list_lines::number(out, g, u32::from(m2), 32);
     let i = list_lines::number(out, h, f2, 32);
     let j = list_lines::number(out, i, c2, 32);
-    list_lines::number(out, j, tag as u32, 10)
+    list_lines::number(out, j, u32::from(tag), 10)
 }
 
-fn close_text(out: &mut [u8], at: usize, letters: u16, connection: u16) -> usize
+fn close_text(out: &mut [u8], at: usize, letters: Mark, connection: u16) -> usize
     requires { at + line_room ≤ length out.old }
-    ensures put { Put out.old at (closing_line letters connection) out.new result }
+    ensures put { Put out.old at (closing_line (letters_of letters) connection) out.new result }
     ensures upper_bound { result ≤ at + line_room }
 {
     let a = mark(out, at, letters);
-    list_lines::number(out, a, connection as u32, 10)
+    list_lines::number(out, a, u32::from(connection), 10)
 }
 
 fn pause_text(out: &mut [u8], at: usize, slots: u16) -> usize
@@ -184,8 +133,8 @@ fn pause_text(out: &mut [u8], at: usize, slots: u16) -> usize
     ensures by_index { (trace : List ℕ) → Put out.old at (line_of trace (Trace-as-SL slots)) out.new result }
     ensures upper_bound { result ≤ at + line_room }
 {
-    let a = mark(out, at, SL);
-    list_lines::number(out, a, slots as u32, 10)
+    let a = mark(out, at, Mark::Sl);
+    list_lines::number(out, a, u32::from(slots), 10)
 }
 
 fn cell_text(trace: &[u8], start: usize, out: &mut [u8], at: usize) -> usize
@@ -193,9 +142,9 @@ fn cell_text(trace: &[u8], start: usize, out: &mut [u8], at: usize) -> usize
     ensures put { Put out.old at (line_of trace.now (Trace-as-CA start)) out.new result }
     ensures upper_bound { result ≤ at + line_room }
 {
-    let a = mark(out, at, CA);
+    let a = mark(out, at, Mark::Ca);
     let b = hexes(trace, start, out, a);
-    feed(out, b)
+    list_lines::text(out, b, b"\n")
 }
 
 // The line of a record.
@@ -206,8 +155,8 @@ fn line_text(trace: &[u8], event: Event, out: &mut [u8], at: usize) -> usize
 {
     match event {
         Event::Setup { n, v, head } => setup_text(out, at, n, v, head),
-        Event::Open { vci, m, f, c } => open_text(out, at, VO, vci, m, f, c),
-        Event::Close { vci } => close_text(out, at, VX, vci),
+        Event::Open { vci, m, f, c } => open_text(out, at, Mark::Vo, vci, m, f, c),
+        Event::Close { vci } => close_text(out, at, Mark::Vx, vci),
         Event::Cell { start } => cell_text(trace, start, out, at),
         Event::Pause { slots } => pause_text(out, at, slots),
         Event::Sustain {
@@ -220,8 +169,8 @@ fn line_text(trace: &[u8], event: Event, out: &mut [u8], at: usize) -> usize
             c2,
             tag,
         } => sustain_text(out, at, vci, m, f, c, m2, f2, c2, tag),
-        Event::OpenPath { vpi, m, f, c } => open_text(out, at, PO, vpi, m, f, c),
-        Event::ClosePath { vpi } => close_text(out, at, PX, vpi),
+        Event::OpenPath { vpi, m, f, c } => open_text(out, at, Mark::Po, vpi, m, f, c),
+        Event::ClosePath { vpi } => close_text(out, at, Mark::Px, vpi),
     }
 }
 
@@ -231,6 +180,7 @@ pub fn fill(trace: &[u8], at: usize, out: &mut [u8]) -> Printed
 {
     let mut place = at;
     let mut used = 0usize;
+    // No `for`: each record says where the next one starts.
     while 128 <= out.len() - used {
         let found = trace_record::event_at(trace, place);
         let Found::Read { event, next } = found else {

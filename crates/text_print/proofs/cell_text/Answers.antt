@@ -6,4 +6,4 @@ use Rattle.text_print.proofs.cell_text.Goals as goal
 
 pub returns : goal.returns
 returns c =
-    record { put = put_is (cell_words _ _) (put_then (put_then c.mark-a.ensures c.hexes-b.ensures.put) c.feed.ensures); upper_bound = omega (arith, c.mark-a.ensures.next, c.hexes-b.ensures.value, c.feed.ensures.next) }
+    record { put = put_is (cell_words _ _) (put_then (put_then c.mark-a.ensures c.hexes-b.ensures.put) c.text.ensures); upper_bound = omega (arith, c.mark-a.ensures.next, c.hexes-b.ensures.value, c.text.ensures.next) }

@@ -1,7 +1,7 @@
 -- `text_print::sustain_text` puts the line of a VS: its mark, then eight numbers.
 use native.Mathlib.Omega.{arith}
 use Rattle.list_lines.proofs.Puts.{put_is, put_then}
-use Rattle.text_print.proofs.Words.{sustain_words}
+use Rattle.text_print.proofs.Words.{number_put, sustain_words}
 use Rattle.text_print.proofs.sustain_text.Goals as goal
 
 pub number-i-requires : goal.number-i-requires
@@ -22,4 +22,4 @@ shape_of-out c =
 
 pub returns : goal.returns
 returns c =
-    record { by_index = λ trace. put_is (sustain_words trace _ _ _ _ _) (put_then (put_then (put_then (put_then (put_then (put_then (put_then (put_then c.mark-a.ensures c.number-b.ensures.put) c.number-d.ensures.put) c.number-e.ensures.put) c.number-g.ensures.put) c.number-h.ensures.put) c.number-i.ensures.put) c.number-j.ensures.put) c.number.ensures.put); upper_bound = omega (arith, c.mark-a.ensures.next, c.number-b.ensures.upper_bound, c.number-d.ensures.upper_bound, c.number-e.ensures.upper_bound, c.number-g.ensures.upper_bound, c.number-h.ensures.upper_bound, c.number-i.ensures.upper_bound, c.number-j.ensures.upper_bound, c.number.ensures.upper_bound) }
+    record { by_index = λ trace. put_is (sustain_words trace _ _ _ _ _) (put_then (put_then (put_then (put_then (put_then (put_then (put_then (put_then c.mark-a.ensures (number_put _ c.from.ensures c.number-b.ensures.put)) (number_put _ c.from-2.ensures c.number-d.ensures.put)) c.number-e.ensures.put) c.number-g.ensures.put) (number_put _ c.from-3.ensures c.number-h.ensures.put)) c.number-i.ensures.put) c.number-j.ensures.put) (number_put _ c.from-4.ensures c.number.ensures.put)); upper_bound = omega (arith, c.mark-a.ensures.next, c.number-b.ensures.upper_bound, c.number-d.ensures.upper_bound, c.number-e.ensures.upper_bound, c.number-g.ensures.upper_bound, c.number-h.ensures.upper_bound, c.number-i.ensures.upper_bound, c.number-j.ensures.upper_bound, c.number.ensures.upper_bound) }
