@@ -1,4 +1,3 @@
-pub mod Cases
 pub mod Whole
 pub mod Shows
 pub mod Once

@@ -7,8 +7,7 @@
 --   Fills             == so many fills, what they put and what they left
 --   Shown             == the fills that were handed over, and the refusal behind them
 --   Taken             == which octets the writers took
-use Rattle.std.specs.Prelude.{ℕ, zero, suc, ◌+◌, ◌≤◌, ◌<◌, ◌≡◌, Bool, true, false, ◌&&◌, List, [], ◌++◌, length, take}
-use Rattle.std.specs.declared.option.Option.{Option}
+use Rattle.std.specs.Prelude.{ℕ, zero, suc, ◌+◌, ◌≤◌, ◌<◌, ◌≡◌, Bool, true, false, ◌&&◌, List, [], ◌++◌, length, take, Option, Some, None}
 use Rattle.std.specs.Io.KnownBytes.{Appends}
 use Rattle.meaning.specs.Plain.{when◌then◌else◌, ◌≤?◌, ◌=?◌}
 use Rattle.trace_record.specs.Trace.{Stands, event, finish, refusal, stands_at}
@@ -65,6 +64,11 @@ pub record Handed (trace out : List ℕ) (good : Bool) (at : ℕ) (out' : List �
   pub begins : text_of trace ≡ text ++ rest
   pub within : at ≤ length trace
   pub whole : good ≡ true → (rest ≡ []) × (at ≡ end_of trace) × (standing (stands_at trace at) ≡ false)
+
+-- where the lines end, or nothing where a write failed
+abbrev pub HandedTo : List ℕ → List ℕ → Option ℕ → List ℕ → Type 0
+HandedTo trace out (Some at) out' = Handed trace out true at out'
+HandedTo trace out None out' = (at : ℕ) × Handed trace out false at out'
 
 -- The same with the refusal, for an input of total octets. It is put at the buffer's start once all lines are handed over;
 -- where there is none, or a write before it failed, the buffer stays as the last fill left it.

@@ -3,13 +3,13 @@
 // every contract.
 #![tactic(auto)]
 
-ghost use Rattle.std.specs.Prelude.{◌≡◌, ◌≤◌, true, length, take};
+ghost use Rattle.std.specs.Prelude.{◌≡◌, ◌≤◌, true, length, take, IfSome};
 ghost use Rattle.std.specs.Io.KnownBytes.{Appends};
 ghost use Rattle.trace_record.specs.Trace.{stands_at};
 ghost use Rattle.list_lines.specs.Put.{Put};
 ghost use Rattle.list_lines.specs.Lines.{stop_line};
 ghost use Rattle.text_print.specs.Print.{line_room, text_of};
-ghost use Rattle.text_show.specs.Shown.{limit, standing, at_end, Handed, Shown, ShowPromise, Taken};
+ghost use Rattle.text_show.specs.Shown.{limit, standing, at_end, HandedTo, Shown, ShowPromise, Taken};
 
 use std::io::Write;
 use trace_record::Found;
@@ -20,50 +20,37 @@ const LINE_ROOM: usize = 128;
 // So many octets of an input are read as a trace.
 const LIMIT: usize = 524288;
 
-// Where the lines end, and whether every write took all.
-#[derive(Clone, Copy)]
-struct Reached {
-    good: bool,
-    at: usize,
-}
-
 // Whether a record stands at a place.
 fn stands(trace: &[u8], at: usize) -> bool
     ensures { result ≡ standing (stands_at trace.now at) }
 {
-    let found = trace_record::event_at(trace, at);
-    let Found::Read { event: _, next: _ } = found else {
-        return false;
-    };
-    true
+    matches!(trace_record::event_at(trace, at), Found::Read { .. })
 }
 
-// Fills the buffer and writes it out, until no record stands there, or until a write fails.
-fn hand_over<W: Write>(to: &mut W, trace: &[u8], out: &mut [u8]) -> Reached
+// Fills the buffer and writes it out, until no record stands there: where the lines end. None where a write failed.
+fn hand_over<W: Write>(to: &mut W, trace: &[u8], out: &mut [u8]) -> Option<usize>
     requires { line_room ≤ length out.old }
-    ensures handed { Handed trace.now out.old result.good result.at out.new }
-    ensures written { result.good ≡ true → Appends (W.contents to.old) (W.contents to.new) (text_of trace.now) }
+    ensures handed { HandedTo trace.now out.old result out.new }
+    ensures written { IfSome result (λ at. Appends (W.contents to.old) (W.contents to.new) (text_of trace.now)) }
 {
     let mut at = 0usize;
+    // No `for`: each fill says where the next one starts.
     while stands(trace, at) {
         let f = text_print::fill(trace, at, out);
         let used = f.used;
         at = f.at;
         if to.write_all(&out[..used]).is_err() {
-            return Reached { good: false, at };
+            return None;
         }
     }
-    Reached { good: true, at }
+    Some(at)
 }
 
 // Whether a place is the end of an input of so many octets. An empty input has none.
 fn at_end(at: usize, total: usize) -> bool
     ensures { result ≡ at_end at total }
 {
-    if at == 0 {
-        return false;
-    }
-    at == total
+    0 < at && at == total
 }
 
 // The lines of a trace, then `stop 10 PLACE` where they end before the input of `total` octets does.
@@ -79,11 +66,9 @@ fn tell<W: Write, E: Write>(
     ensures written { result ≡ true → Taken trace.now total (W.contents to.old) (W.contents to.new)
         (E.contents beside.old) (E.contents beside.new) }
 {
-    let reached = hand_over(to, trace, out);
-    let at = reached.at;
-    if !reached.good {
+    let Some(at) = hand_over(to, trace, out) else {
         return false;
-    }
+    };
     if at_end(at, total) {
         return true;
     }

@@ -2,7 +2,6 @@
 use Prim.Native.Nat.{ℕ}
 use mathlib.Core.Path.{◌≡◌, sym}
 use native.Mathlib.Omega.{arith}
-use borrow.Author.Rules.{rules}
 use Rattle.text_show.proofs.Shows.{front_long, front_within, too_short, show_front, show_all, taken_all}
 use Rattle.text_show.proofs.show.Goals as goal
 
