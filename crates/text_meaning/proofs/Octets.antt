@@ -1,10 +1,7 @@
--- The octets of a number, high octet first: as `to_be_bytes` gives them.
-use Rattle.std.proofs.Common.{◌≡◌, ℕ, ◌/◌, ◌%◌, ◌<◌, List, [], ◌∷◌, sym, ap, ◌∙◌, arith}
-use Rattle.std.specs.Int.{w16, w32, to_be_bytes}
-use Rattle.text_meaning.specs.Shapes.{of16, of32}
-
-pub of16_bytes : (n : ℕ) → n < 65536 → of16 n ≡ to_be_bytes w16 n
-of16_bytes n h = let e : n / 256 ≡ n / 256 % 256 = omega arith in ap (λ (x : ℕ). x ∷ n % 256 ∷ []) e
+-- The octets of a number of 32 bits, high octet first, are those that `to_be_bytes` gives.
+use Rattle.std.proofs.Common.{◌≡◌, ℕ, ◌/◌, ◌%◌, ◌<◌, [], ◌∷◌, ap, ◌∙◌, arith}
+use Rattle.std.specs.Int.{w32, to_be_bytes}
+use Rattle.text_meaning.specs.Shapes.{of32}
 
 pub of32_bytes : (n : ℕ) → n < 4294967296 → of32 n ≡ to_be_bytes w32 n
 of32_bytes n h =

@@ -5,7 +5,7 @@
 --   number top s      == a decimal number of at most top
 --   fields_at fs o s   == the fields fs, a space before each and a line feed after the last, put behind the octets o
 --   line first s      == one line
-use Rattle.std.specs.Prelude.{ℕ, zero, suc, ◌+◌, ◌-◌, ◌*◌, Bool, true, false, ◌&&◌, List, [], ◌∷◌, ◌++◌}
+use Rattle.std.specs.Prelude.{ℕ, zero, suc, ◌+◌, ◌-◌, ◌*◌, Bool, ◌&&◌, List, [], ◌∷◌, ◌++◌}
 use Rattle.meaning.specs.Plain.{Out, refused, next, ◌and_then◌, when◌then◌else◌, ◌<?◌, ◌≤?◌, ◌=?◌}
 use Rattle.meaning.specs.Numbers.{octets}
 use Rattle.list_lines.specs.Text.{space, line_feed}

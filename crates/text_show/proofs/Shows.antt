@@ -1,11 +1,12 @@
 -- What was handed over, with the refusal behind it: none where a write failed or the input ends, else the line of the place.
-use Prim.Native.Nat.{ℕ, ◌≤◌, ◌<◌}
+use Prim.Native.Nat.{ℕ, ◌≤◌, ◌<◌, min}
 use mathlib.Core.Path.{◌≡◌, refl, sym, ap, subst, ◌∙◌}
 use mathlib.Core.Bool.{Bool, true, false, not}
 use mathlib.Core.List.{List, []}
 use lib.ListN.{length, take}
+use native.Mathlib.Decide.{dec_lt}
 use native.Mathlib.Omega.{arith}
-use lib.Seq.{take_all, length-take-le}
+use lib.Seq.{take_all}
 use Rattle.std.specs.declared.option.Option.{Option}
 use Rattle.std.specs.Io.KnownBytes.{Appends}
 use Rattle.std.proofs.KnownBytes.{Appends-nil}
@@ -97,22 +98,24 @@ module _ {trace out out' : List ℕ} {at : ℕ} (total : ℕ) (good : Bool) (d :
   taken_stop {b = b} {b'} e h w p l v =
       record { lines = w (over good e); stop = subst (Appends b b') (put_front p l ∙ sym (stop_here e false h)) v }
 
-pub front_long : (input : List ℕ) → limit < length input → length (take limit input) ≡ limit
-front_long input h = length-take-le limit input (omega arith)
-
-pub front_within : (input : List ℕ) → limit < length input → length (take limit input) ≤ limit
-front_within input h = let e = front_long input h in omega arith
+-- the octets that are read
+front_is : (input : List ℕ) → take (min (length input) limit) input ≡ take limit input
+front_is input = go (dec_lt limit (length input))
+  where
+    go : Dec (limit < length input) → take (min (length input) limit) input ≡ take limit input
+    go (yes h) = let e : min (length input) limit ≡ limit = omega arith in ap (λ (n : ℕ). take n input) e
+    go (no h) = take_all (min (length input) limit) input (omega arith) ∙ sym (take_all limit input (omega arith))
 
 pub too_short : (input out : List ℕ) → length out < line_room → ShowPromise input out false out
 too_short input out h = record { shown = λ l. absurd (omega arith); short = λ _. (refl, refl) }
 
-module _ (input out out' : List ℕ) (answer : Bool) (h : line_room ≤ length out) where
-  pub show_front : Shown (take limit input) (length input) out answer out' → ShowPromise input out answer out'
-  show_front d = record { shown = λ _. d; short = λ l. absurd (omega arith) }
+module _ (input : List ℕ) (n : ℕ) (e : n ≡ min (length input) limit) where
+  read_is : take n input ≡ take limit input
+  read_is = ap (λ (k : ℕ). take k input) e ∙ front_is input
 
-  pub show_all : length input ≤ limit → Shown input (length input) out answer out' → ShowPromise input out answer out'
-  show_all l d = show_front (subst (λ (x : List ℕ). Shown x (length input) out answer out') (sym (take_all limit input l)) d)
+  pub show_front : (out out' : List ℕ) (answer : Bool) → line_room ≤ length out → Shown (take n input) (length input) out answer out' → ShowPromise input out answer out'
+  show_front out out' answer h d =
+      record { shown = λ _. subst (λ (x : List ℕ). Shown x (length input) out answer out') read_is d; short = λ l. absurd (omega arith) }
 
-pub taken_all : (input : List ℕ) (a a' b b' : Option (List ℕ)) → length input ≤ limit → Taken input (length input) a a' b b'
-    → Taken (take limit input) (length input) a a' b b'
-taken_all input a a' b b' l t = subst (λ (x : List ℕ). Taken x (length input) a a' b b') (sym (take_all limit input l)) t
+  pub taken_front : (a a' b b' : Option (List ℕ)) → Taken (take n input) (length input) a a' b b' → Taken (take limit input) (length input) a a' b b'
+  taken_front a a' b b' t = subst (λ (x : List ℕ). Taken x (length input) a a' b b') read_is t

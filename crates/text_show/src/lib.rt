@@ -87,8 +87,5 @@ pub fn show<W: Write, E: Write>(to: &mut W, beside: &mut E, input: &[u8], out: &
         return false;
     }
     let total = input.len();
-    if LIMIT < total {
-        return tell(to, beside, &input[..LIMIT], total, out);
-    }
-    tell(to, beside, input, total, out)
+    tell(to, beside, &input[..total.min(LIMIT)], total, out)
 }
