@@ -2,7 +2,7 @@
 #![tactic(auto)]
 
 // The end line's counts, each modulo 2^32.
-#[derive(Clone, Copy)]
+#[derive(Clone, Copy, Default)]
 pub struct Tally {
     pub accepted: u32,
     pub excess: u32,

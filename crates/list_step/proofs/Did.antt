@@ -44,6 +44,12 @@ serve_did run at left cells links calendar words bits arrived cell out used r ce
       few = f;
     }
 
+-- counts that are all 0
+pub no_counts : (t : Tally) → (t.accepted ≡ 0) × ((t.excess ≡ 0) × ((t.unknown ≡ 0) × (t.sent ≡ 0))) → t ≡ no_tally
+no_counts t h =
+    let e : record { accepted = t.accepted; excess = t.excess; unknown = t.unknown; sent = t.sent } ≡ no_tally = rw (h.0, h.1.0, h.1.1.0, h.1.1.1) in
+    e
+
 -- ---- open and close
 
 module _ (run run' : Run) (next : ℕ) (cells links calendar words words' bits arrived out out' : List ℕ) (used used' number : ℕ)

@@ -1,5 +1,5 @@
 -- The cases of a step: by what stands at the run's place.
-use Rattle.std.proofs.Common.{◌≡◌, ℕ, ◌+◌, ◌-◌, ◌≤◌, Bool, true, false, ◌⊎◌, List, [], length, take, drop, sym, refl, ap, ◌∙◌, subst, inl, inr, arith}
+use Rattle.std.proofs.Common.{◌≡◌, ℕ, ◌+◌, ◌-◌, ◌≤◌, Bool, true, false, List, [], length, take, drop, sym, refl, ap, ◌∙◌, subst, arith}
 use Rattle.meaning.specs.Numbers.{octets}
 use Rattle.list_lines.specs.Lines.{stop_line}
 use Rattle.trace_record.specs.declared.Event.{Event}

@@ -13,23 +13,20 @@ ghost use Rattle.list_whole.specs.Run.{World, onward, counted_if, called, ended,
 ghost use Rattle.list_whole.specs.declared.Run.{Run as AnyRun};
 ghost use Rattle.list_whole.specs.Run.{counted as Run·counted};
 ghost use Rattle.list_whole.specs.Fill.{room, CellWithin};
-ghost use Rattle.list_whole.specs.Lent.{world_before, DidLent, DidAlone};
+ghost use Rattle.list_whole.specs.Lent.{world_in, SameMemory, DidLent, DidAlone};
 
 mod connection;
 
+use call_connection::{NO_SECOND, Name, Peak, Second};
 use list_meaning::Tally;
-use list_whole::{Filled, Run};
+use list_whole::{Filled, Memory, Run};
 use meaning::Answer;
 use trace_record::{Event, Found, Head};
 
 fn counted_if(n: u32, on: bool) -> u32
     ensures { result ≡ counted_if on n }
 {
-    if on {
-        std::num::wrapping_add_u32(n, 1)
-    } else {
-        n
-    }
+    n.wrapping_add(u32::from(on))
 }
 
 fn counted(t: Tally, a: Answer) -> Tally
@@ -48,31 +45,33 @@ pub fn serve(
     run: Run,
     at: u32,
     left: u16,
-    cells: &mut [u8],
-    links: &mut [u16],
-    calendar: &mut [u16],
-    words: &mut [u32],
-    bits: &mut [u64],
-    arrived: &mut [u32],
+    memory: &mut Memory,
     cell: &[u8],
     out: &mut [u8],
     used: usize,
 ) -> Filled
     requires { used + 64 ≤ length out.old }
-    ensures { DidLent (called (world_before run cells links calendar words bits arrived) (Trace·serve cell.now) at left) 64 cells links calendar words bits arrived out used result }
+    ensures did { DidLent (called (world_in run memory.old) (Trace·serve cell.now) at left) 64 memory out used result }
+    ensures same { SameMemory memory.old memory.new }
 {
-    let served = call_slot::slot(run.ctl, cells, links, calendar, words, bits, arrived, cell);
-    let ctl = served.ctl;
-    let answer = served.answer;
-    let end = list_lines::slot_line(out, used, ctl.t, answer);
-    let tally = counted(run.tally, answer);
+    let served = call_slot::slot(
+        run.ctl,
+        memory.cells,
+        memory.links,
+        memory.calendar,
+        memory.words,
+        memory.bits,
+        memory.arrived,
+        cell,
+    );
+    let end = list_lines::slot_line(out, used, served.ctl.t, served.answer);
     Filled {
         run: Run {
-            ctl,
+            ctl: served.ctl,
             at,
             left,
             done: false,
-            tally,
+            tally: counted(run.tally, served.answer),
         },
         used: end,
     }
@@ -84,7 +83,7 @@ fn end_tally(out: &mut [u8], at: usize, t: Tally) -> usize
     ensures put { Put out.old at (end_of t) out.new result }
     ensures upper_bound { result ≤ at + 80 }
 {
-    let waiting = std::num::wrapping_sub_u32(t.accepted, t.sent);
+    let waiting = t.accepted.wrapping_sub(t.sent);
     list_lines::end_line(out, at, t.accepted, t.excess, t.unknown, t.sent, waiting)
 }
 
@@ -92,11 +91,7 @@ fn end_tally(out: &mut [u8], at: usize, t: Tally) -> usize
 fn is_raw(head: Head) -> bool
     ensures { result ≡ (head_options head).raw }
 {
-    match head {
-        Head::Gm => false,
-        Head::Gr => true,
-        Head::Gn => false,
-    }
+    matches!(head, Head::Gr)
 }
 
 // The line kind that it chooses: 0 UNI, 1 NNI.
@@ -104,8 +99,7 @@ fn line_kind(head: Head) -> u16
     ensures { result ≡ kind_number (head_options head).kind }
 {
     match head {
-        Head::Gm => 0,
-        Head::Gr => 0,
+        Head::Gm | Head::Gr => 0,
         Head::Gn => 1,
     }
 }
@@ -117,53 +111,44 @@ fn set_up(
     v: u16,
     head: Head,
     next: u32,
-    cells: &mut [u8],
-    links: &mut [u16],
-    calendar: &mut [u16],
-    words: &mut [u32],
-    bits: &mut [u64],
-    arrived: &mut [u32],
+    memory: &mut Memory,
     out: &mut [u8],
     used: usize,
 ) -> Filled
     requires { used + room ≤ length out.old }
-    ensures { (run : AnyRun) → DidLent (called (world_before run cells links calendar words bits arrived) (set_up n v (head_options head)) next 0)
-        room cells links calendar words bits arrived out used result }
+    ensures did { (run : AnyRun) → DidLent (called (world_in run memory.old) (set_up n v (head_options head)) next 0) room memory out used result }
+    ensures same { SameMemory memory.old memory.new }
 {
     let raw = is_raw(head);
     let kind = line_kind(head);
     let fresh = call_setup::setup(
-        n, v, raw, kind, 1, 1, cells, links, calendar, words, bits, arrived,
+        n,
+        v,
+        raw,
+        kind,
+        1,
+        1,
+        memory.cells,
+        memory.links,
+        memory.calendar,
+        memory.words,
+        memory.bits,
+        memory.arrived,
     );
-    let ctl = fresh.ctl;
     let line = list_lines::setup_line(out, used, n, v, fresh.number);
-    let tally = Tally {
-        accepted: 0,
-        excess: 0,
-        unknown: 0,
-        sent: 0,
+    let run = Run {
+        ctl: fresh.ctl,
+        at: next,
+        left: 0,
+        done: false,
+        tally: Tally::default(),
     };
     if fresh.number == 0 {
-        return Filled {
-            run: Run {
-                ctl,
-                at: next,
-                left: 0,
-                done: false,
-                tally,
-            },
-            used: line,
-        };
+        return Filled { run, used: line };
     }
-    let end = end_tally(out, line, tally);
+    let end = end_tally(out, line, run.tally);
     Filled {
-        run: Run {
-            ctl,
-            at: next,
-            left: 0,
-            done: true,
-            tally,
-        },
+        run: Run { done: true, ..run },
         used: end,
     }
 }
@@ -172,15 +157,7 @@ fn set_up(
 fn over(run: Run) -> Run
     ensures { result ≡ onward run.ctl run.at run.left true run.tally }
 {
-    let ctl = run.ctl;
-    let tally = run.tally;
-    Run {
-        ctl,
-        at: run.at,
-        left: run.left,
-        done: true,
-        tally,
-    }
+    Run { done: true, ..run }
 }
 
 // The end line.
@@ -214,54 +191,46 @@ fn happen(
     run: Run,
     event: Event,
     next: u32,
-    cells: &mut [u8],
-    links: &mut [u16],
-    calendar: &mut [u16],
-    words: &mut [u32],
-    bits: &mut [u64],
-    arrived: &mut [u32],
+    memory: &mut Memory,
     out: &mut [u8],
     used: usize,
 ) -> Filled
     requires room_in_bounds { (used + room ≤ length out.old) × (run.done ≡ false) }
     requires cell_within { CellWithin trace.now (record_of event) }
-    ensures { DidLent (record_step trace.now (world_before run cells links calendar words bits arrived) (record_of event) next)
-        room cells links calendar words bits arrived out used result }
+    ensures did { DidLent (record_step trace.now (world_in run memory.old) (record_of event) next) room memory out used result }
+    ensures same { SameMemory memory.old memory.new }
 {
     match event {
-        Event::Setup { n, v, head } => {
-            set_up(
-                n, v, head, next, cells, links, calendar, words, bits, arrived, out, used,
-            )
-        }
-        Event::Open { vci, m, f, c } => connection::open_connection(
-            run, vci, m, f, c, 0, 0, 0, 0, next, words, out, used,
-        ),
-        Event::Close { vci } => connection::close_connection(run, vci, next, words, out, used),
-        Event::Cell { start } => {
-            let end = start + 53;
-            serve(
+        Event::Setup { n, v, head } => set_up(n, v, head, next, memory, out, used),
+        Event::Open { vci, m, f, c } => {
+            let peak = Peak { m, f, c };
+            connection::open_connection(
                 run,
+                Name::Vc(vci),
+                peak,
+                NO_SECOND,
                 next,
-                0,
-                cells,
-                links,
-                calendar,
-                words,
-                bits,
-                arrived,
-                &trace[start..end],
+                memory.words,
                 out,
                 used,
             )
         }
-        Event::Pause { slots } => {
-            let next_run = connection::moved(run, next, slots);
-            Filled {
-                run: next_run,
-                used,
-            }
+        Event::Close { vci } => connection::close_connection(
+            run,
+            Name::Vc(vci),
+            next,
+            memory.words,
+            out,
+            used,
+        ),
+        Event::Cell { start } => {
+            let end = start + 53;
+            serve(run, next, 0, memory, &trace[start..end], out, used)
         }
+        Event::Pause { slots } => Filled {
+            run: connection::moved(run, next, slots),
+            used,
+        },
         Event::Sustain {
             vci,
             m,
@@ -272,12 +241,45 @@ fn happen(
             c2,
             tag,
         } => {
-            connection::open_connection(run, vci, m, f, c, m2, f2, c2, tag, next, words, out, used)
+            let peak = Peak { m, f, c };
+            let second = Second {
+                m: m2,
+                f: f2,
+                c: c2,
+                tag,
+            };
+            connection::open_connection(
+                run,
+                Name::Vc(vci),
+                peak,
+                second,
+                next,
+                memory.words,
+                out,
+                used,
+            )
         }
         Event::OpenPath { vpi, m, f, c } => {
-            connection::open_path(run, vpi, m, f, c, next, words, out, used)
+            let peak = Peak { m, f, c };
+            connection::open_connection(
+                run,
+                Name::Path(vpi),
+                peak,
+                NO_SECOND,
+                next,
+                memory.words,
+                out,
+                used,
+            )
         }
-        Event::ClosePath { vpi } => connection::close_path(run, vpi, next, words, out, used),
+        Event::ClosePath { vpi } => connection::close_connection(
+            run,
+            Name::Path(vpi),
+            next,
+            memory.words,
+            out,
+            used,
+        ),
     }
 }
 
@@ -286,41 +288,23 @@ pub fn one(
     trace: &[u8],
     more: bool,
     run: Run,
-    cells: &mut [u8],
-    links: &mut [u16],
-    calendar: &mut [u16],
-    words: &mut [u32],
-    bits: &mut [u64],
-    arrived: &mut [u32],
+    memory: &mut Memory,
     out: &mut [u8],
     used: usize,
 ) -> Filled
     requires room_in_bounds { (used + room ≤ length out.old) × (run.done ≡ false) }
     requires trace_len_bound { length trace.now ≤ limit }
-    ensures { DidLent (read_step more trace.now (world_before run cells links calendar words bits arrived)) room cells links calendar words bits arrived out used result }
+    ensures did { DidLent (read_step more trace.now (world_in run memory.old)) room memory out used result }
+    ensures same { SameMemory memory.old memory.new }
 {
     let found = trace_record::event_at(trace, run.at as usize);
+    // Document 01 asks for a let .. else here, whose else branch carries the place to the stop line.
     let Found::Read { event, next } = found else {
-        let Found::Unreadable { place } = found else {
-            if more {
-                return stop_run(run, run.at, out, used);
-            }
-            return end_run(run, out, used);
+        return match found {
+            Found::Unreadable { place } => stop_run(run, place as u32, out, used),
+            _ if more => stop_run(run, run.at, out, used),
+            _ => end_run(run, out, used),
         };
-        return stop_run(run, place as u32, out, used);
     };
-    happen(
-        trace,
-        run,
-        event,
-        next as u32,
-        cells,
-        links,
-        calendar,
-        words,
-        bits,
-        arrived,
-        out,
-        used,
-    )
+    happen(trace, run, event, next as u32, memory, out, used)
 }

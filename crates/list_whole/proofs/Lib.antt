@@ -6,3 +6,4 @@ pub mod Recount
 pub mod Rest
 pub mod Whole
 pub mod Once
+pub mod Same

@@ -29,3 +29,14 @@ pub struct Sizes {
     pub n: u16,
     pub v: u16,
 }
+
+// The memory lent to a run: its six parts travel together.
+#[derive(Drop)]
+pub struct Memory<'a> {
+    pub cells: &'a mut [u8],
+    pub links: &'a mut [u16],
+    pub calendar: &'a mut [u16],
+    pub words: &'a mut [u32],
+    pub bits: &'a mut [u64],
+    pub arrived: &'a mut [u32],
+}

@@ -1,13 +1,16 @@
 -- `list_step::counted_if` counts one more or none, modulo 2^32.
-use Rattle.std.proofs.Common.{arith}
+use Rattle.std.proofs.Common.{◌≡◌, Bool, true, false, refl}
+use mir.Val.{bool_byte}
+use Rattle.meaning.specs.Plain.{when◌then◌else◌}
 use Rattle.meaning.specs.Numbers.{slot_numbers}
 use Rattle.list_whole.specs.Run.{counted_if}
 use Rattle.list_step.proofs.counted_if.Goals as goal
 
-pub returns-then-on : goal.returns-then-on
-unfolding counted_if slot_numbers
-returns-then-on c = simp c.if-on.true c.wrapping_add_u32.ensures.value
+-- a test as a number
+as_number : (b : Bool) → bool_byte b ≡ (when b then 1 else 0)
+as_number true = refl
+as_number false = refl
 
-pub returns-else-on : goal.returns-else-on
+pub returns : goal.returns
 unfolding counted_if slot_numbers
-returns-else-on c = simp c.if-on.false (omega arith)
+returns c = rw (c.from.ensures, as_number c.args.on)

@@ -1,13 +1,7 @@
--- `list_step::connection::open_connection` opens a VC and puts the line; the other memories are not touched.
-use Rattle.std.proofs.Common.{refl}
-use Rattle.meaning.specs.Header.{number_in}
+-- `list_step::connection::open_connection` opens a connection and puts the line; the other memories are not touched.
 use Rattle.list_step.proofs.Did.{open_did}
 use Rattle.list_step.proofs.connection.open_connection.Goals as goal
 
 pub returns : goal.returns
-unfolding number_in
 returns c cells links calendar bits arrived =
-    let l = c.before.before.before in
-    let o = l.before.before.before.before in
-    let s = o.before.before.before.before in
-    open_did s.args.run _ _ cells links calendar _ _ bits arrived _ _ _ _ _ s.requires.1 c.moved-next_run.ensures l.open_line-line.ensures.upper_bound _ _ _ _ _ _ refl o.open_sustained-answer.ensures l.open_line-line.ensures.put
+    open_did c.args.run _ _ cells links calendar _ _ bits arrived _ _ _ _ _ c.requires.1 c.moved.ensures c.open_line-line.ensures.upper_bound _ _ _ _ _ _ c.listed_number-number.ensures (rw c.given_number.ensures c.open-opened.ensures) c.open_line-line.ensures.put
