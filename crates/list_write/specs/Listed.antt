@@ -16,7 +16,7 @@ use Rattle.list_whole.specs.declared.Run.{Run}
 use Rattle.list_whole.specs.declared.Sizes.{Sizes}
 use Rattle.list_whole.specs.Run.{World}
 use Rattle.list_whole.specs.Fill.{Fills, start_run, sizes_of}
-use Rattle.list_whole.specs.Lent.{world_before, world_after, Lent, LentMut}
+use Rattle.list_whole.specs.Lent.{world_in, world_before, world_after, Lent, LentMut, MemoryMut}
 
 -- what a call leaves: the memories after it hold, with the run that is named, this world
 abbrev pub Left : Type 0
@@ -80,6 +80,10 @@ abbrev pub HandedLent : (input : Lent) (cells links calendar words bits arrived 
 HandedLent input cells links calendar words bits arrived out answer =
     Handed input.entry.now (world_before start_run cells links calendar words bits arrived) out.entry.now
     (λ (run : Run). world_after run cells links calendar words bits arrived) out.exit.now answer
+
+abbrev pub HandedIn : (input : Lent) (memory : MemoryMut) (out : LentMut) → Bool → Type 0
+HandedIn input memory out answer =
+    Handed input.entry.now (world_in start_run memory.entry.now) out.entry.now (λ (run : Run). world_in run memory.exit.now) out.exit.now answer
 
 abbrev pub ListedLent : (input : Lent) (cells links calendar words bits arrived out : LentMut) → Bool → Type 0
 ListedLent input cells links calendar words bits arrived out answer =

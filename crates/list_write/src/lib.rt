@@ -3,14 +3,35 @@
 #![tactic(auto)]
 
 ghost use Rattle.std.specs.Prelude.{◌≤◌, length};
-ghost use Rattle.list_write.specs.Listed.{HandedLent, Ample, ListedLent, Written};
-ghost use Rattle.list_whole.specs.Lent.{world_here};
+ghost use Rattle.list_write.specs.Listed.{HandedIn, HandedLent, Ample, ListedLent, Written};
+ghost use Rattle.list_whole.specs.Lent.{world_here, world_in, SameMemory};
 ghost use Rattle.list_whole.specs.Fill.{room, LentFor, start_run, sizes_of};
 
+use list_whole::Memory;
 use meaning::{PATHS, WORDS_PER_CONNECTION};
 use std::io::Write;
 
 // Fills the buffer and writes it out, until the listing is whole, or until a write fails.
+fn write_fills<W: Write>(to: &mut W, input: &[u8], memory: &mut Memory, out: &mut [u8]) -> bool
+    requires lent_for { LentFor (sizes_of input.now) (world_in start_run memory.old) }
+    requires room_in_bounds { room ≤ length out.old }
+    ensures handed { HandedIn input memory out result }
+    ensures same { SameMemory memory.old memory.new }
+    ensures written { Written (W.contents to.old) (W.contents to.new) input result }
+{
+    let mut run = list_fill::start();
+    // No for: how many fills there are is known only when the run is done.
+    while !run.done {
+        let filled = list_fill::fill(input, run, memory, out);
+        if to.write_all(&out[..filled.used]).is_err() {
+            return false;
+        }
+        run = filled.run;
+    }
+    true
+}
+
+// The same with the memory part by part.
 fn hand_over<W: Write>(
     to: &mut W,
     input: &[u8],
@@ -27,18 +48,15 @@ fn hand_over<W: Write>(
     ensures handed { HandedLent input cells links calendar words bits arrived out result }
     ensures written { Written (W.contents to.old) (W.contents to.new) input result }
 {
-    let mut run = list_fill::start();
-    while !run.done {
-        let filled = list_fill::fill(
-            input, run, cells, links, calendar, words, bits, arrived, out,
-        );
-        let used = filled.used;
-        if to.write_all(&out[..used]).is_err() {
-            return false;
-        }
-        run = filled.run;
-    }
-    true
+    let mut memory = Memory {
+        cells,
+        links,
+        calendar,
+        words,
+        bits,
+        arrived,
+    };
+    write_fills(to, input, &mut memory, out)
 }
 
 // Lends those parts of its memory that N and V of the first record ask for.
@@ -59,11 +77,10 @@ fn lend<W: Write>(
     ensures written { Written (W.contents to.old) (W.contents to.new) input result }
 {
     let sizes = list_fill::sizes_of(input);
-    let n = sizes.n as usize;
-    let v = sizes.v as usize;
+    let n = usize::from(sizes.n);
     let octets = 53 * n;
     let ends = 2 * n;
-    let many = WORDS_PER_CONNECTION * (v + PATHS as usize);
+    let many = WORDS_PER_CONNECTION * (usize::from(sizes.v) + PATHS as usize);
     hand_over(
         to,
         input,

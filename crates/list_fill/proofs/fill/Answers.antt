@@ -8,13 +8,13 @@ use Rattle.list_fill.proofs.fill.Goals as goal
 
 pub slice_bounds-fill_trace-end : goal.slice_bounds-fill_trace-end
 slice_bounds-fill_trace-end c =
-    let l = c.least-end in
+    let l = c.min-end in
     sym (length-take-le l.result c.args.input.now (omega (arith, l.ensures)))
 
 pub fill_trace-requires : goal.fill_trace-requires
 fill_trace-requires c =
-    let l = c.least-end in
+    let l = c.min-end in
     omega (arith, length-take l.result c.args.input.now, l.ensures)
 
 pub returns : goal.returns
-returns c = fill_cut _ _ _ _ _ _ _ c.least-end.ensures c.fill_trace.ensures
+returns c = record { filled = fill_cut _ _ _ _ _ _ _ c.min-end.ensures c.fill_trace.ensures.fill; same = c.fill_trace.ensures.same }

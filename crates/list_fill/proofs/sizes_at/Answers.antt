@@ -20,8 +20,8 @@ returns-then-ranges_hold c =
     ∙ ap (λ (x : Event). sizes_at (event (record_of x) c.in-Read.next)) (sym c.in-Setup.is)
     ∙ ap (λ (x : Found). sizes_at (said_of x)) (sym c.in-Read.is)
 
-pub returns : goal.returns
-returns c =
+pub returns-else-ranges_hold : goal.returns-else-ranges_hold
+returns-else-ranges_hold c =
     setup_large _ _ _ _ (sym c.ranges_hold.ensures ∙ c.if-ranges_hold.false)
     ∙ ap (λ (x : Event). sizes_at (event (record_of x) c.in-Read.next)) (sym c.in-Setup.is)
     ∙ ap (λ (x : Found). sizes_at (said_of x)) (sym c.in-Read.is)

@@ -14,12 +14,12 @@ use Rattle.list_fill.proofs.sizes_of.Goals as goal
 
 pub slice_bounds-event_at-end : goal.slice_bounds-event_at-end
 slice_bounds-event_at-end c =
-    let l = c.least-end in
+    let l = c.min-end in
     sym (length-take-le l.result c.args.input.now (omega (arith, l.ensures)))
 
 pub returns : goal.returns
 unfolding sizes_of
 returns c =
     let e = c.sizes_at.ensures ∙ ap sizes_at c.event_at.ensures
-    ∙ ap (λ (x : List ℕ). sizes_at (stands_at x 0)) (take_cut c.args.input.now _ c.least-end.ensures) in
+    ∙ ap (λ (x : List ℕ). sizes_at (stands_at x 0)) (take_cut c.args.input.now _ c.min-end.ensures) in
     record { value = e; n_le_most_n = subst (λ (x : Sizes). (x.n ≤ most_n) × (x.v ≤ most_v)) (sym e) (sizes_small _) }

@@ -1,110 +1,16 @@
--- `list_write::hand_over` fills and writes until the run is done: the invariant is the fills so far, the measure the run's
--- weight. A write that fails leaves the fills that were handed over, the last among them.
-use Prim.Native.Nat.{ℕ}
-use mathlib.Core.Path.{◌≡◌, refl, sym, ap, subst, ◌∙◌}
-use mathlib.Core.Bool.{Bool, true, false, not}
-use mathlib.Core.List.{[]}
-use native.Mathlib.Omega.{arith}
+-- `list_write::hand_over` fills and writes with the memory that it was lent, part by part: the parts are the struct's, and come back with it.
+use mathlib.Core.Path.{sym}
 use borrow.Author.Rules.{rules}
-use lib.Seq.{length-take-le}
-use Rattle.std.specs.Io.KnownBytes.{Appends}
-use Rattle.std.proofs.KnownBytes.{Appends-nil, Appends-trans}
-use Rattle.list_whole.specs.declared.Run.{Run}
-use Rattle.list_whole.specs.Fill.{no_fill, start_run}
-use Rattle.list_whole.proofs.Whole.{fill_falls}
-use Rattle.list_whole.proofs.Once.{fills_some}
-use Rattle.list_write.proofs.Made.{Made, more, handed, listed, took}
+use Rattle.list_write.proofs.Parts.{handed_back}
 use Rattle.list_write.proofs.hand_over.Goals as goal
 
-off : (b : Bool) → not b ≡ true → b ≡ false
-off true e = sym e
-off false e = refl
-
-over : (b : Bool) → not b ≡ false → b ≡ true
-over true e = refl
-over false e = sym e
-
-pub loop-run-init : goal.loop-run-init
-loop-run-init g c = (record { count = 0; text = []; fills = no_fill }, Appends-nil _, refl, refl, refl, refl, refl, refl, refl)
-
-pub slice_bounds-write_all-end : goal.slice_bounds-write_all-end
-slice_bounds-write_all-end g c = omega (arith, c.fill-filled.ensures.within)
-
-pub slice_bounds-write_all-end-in-loop-run : goal.slice_bounds-write_all-end-in-loop-run
-slice_bounds-write_all-end-in-loop-run g c =
-    let f = c.fill-filled in
-    sym (length-take-le f.result.used _ (omega (arith, f.ensures.within)))
-
--- a write that fails leaves the memories as the fill left them, as long as they were lent: one after the other
-pub shape_of-cells-then-is_err : goal.shape_of-cells-then-is_err
-shape_of-cells-then-is_err g c = c.fill-filled.auto.cells ∙ c.loop-run.invariant.2
-
-pub shape_of-links-then-is_err : goal.shape_of-links-then-is_err
-shape_of-links-then-is_err g c = c.fill-filled.auto.links ∙ c.loop-run.invariant.3
-
-pub shape_of-calendar-then-is_err : goal.shape_of-calendar-then-is_err
-shape_of-calendar-then-is_err g c = c.fill-filled.auto.calendar ∙ c.loop-run.invariant.4
-
-pub shape_of-words-then-is_err : goal.shape_of-words-then-is_err
-shape_of-words-then-is_err g c = c.fill-filled.auto.words ∙ c.loop-run.invariant.5
-
-pub shape_of-bits-then-is_err : goal.shape_of-bits-then-is_err
-shape_of-bits-then-is_err g c = c.fill-filled.auto.bits ∙ c.loop-run.invariant.6
-
-pub shape_of-arrived-then-is_err : goal.shape_of-arrived-then-is_err
-shape_of-arrived-then-is_err g c = c.fill-filled.auto.arrived ∙ c.loop-run.invariant.7
-
-pub shape_of-out-then-is_err : goal.shape_of-out-then-is_err
-shape_of-out-then-is_err g c = c.fill-filled.auto.out ∙ c.loop-run.invariant.8
-
-pub returns-then-is_err-clause-handed : goal.returns-then-is_err-clause-handed
-returns-then-is_err-clause-handed g c =
-    let a = c.args in
-    let f = c.fill-filled in
-    handed a.input.now a.cells.now a.links.now a.calendar.now a.words.now a.bits.now a.arrived.now a.out.now
-    c.start-run.result f.result.run _ _ false c.start-run.ensures c.requires.lent_for
-    (more _ c.loop-run.invariant.0 (off _ c.loop-run-test.true) f.ensures) (omega arith)
-    (λ e. absurd (let z : ◌≡◌ {A = ℕ} 0 1 = cc in omega arith))
-
-pub returns-then-is_err-clause-written : goal.returns-then-is_err-clause-written
-returns-then-is_err-clause-written g c = λ e. absurd (let z : ◌≡◌ {A = ℕ} 0 1 = cc in omega arith)
-
-pub loop-run-smaller : goal.loop-run-smaller
-loop-run-smaller g c =
-    let f = c.fill-filled in
-    let h = c.loop-run in
-    fill_falls _ (omega (arith, h.invariant.8, c.requires.room_in_bounds)) (off _ c.loop-run-test.true) (omega arith) f.ensures
-
-pub loop-run-preserved : goal.loop-run-preserved
-loop-run-preserved g c =
-    let f = c.fill-filled in
-    let h = c.loop-run.invariant in (
-      more _ h.0 (off _ c.loop-run-test.true) f.ensures,
-      Appends-trans _ _ _ _ _ h.1 (took _ _ _ c.is_err.ensures.value c.if-is_err.false c.write_all.ensures.bytes),
-      f.auto.cells ∙ h.2,
-      f.auto.links ∙ h.3,
-      f.auto.calendar ∙ h.4,
-      f.auto.words ∙ h.5,
-      f.auto.bits ∙ h.6,
-      f.auto.arrived ∙ h.7,
-      f.auto.out ∙ h.8,
-    )
-
-pub returns-clause-handed : goal.returns-clause-handed
-unfolding start_run
-returns-clause-handed g c =
-    let a = c.args in
-    let h = c.loop-run in
-    let d = over _ c.loop-run-test.false in
-    let e = c.start-run.ensures in
-    handed a.input.now a.cells.now a.links.now a.calendar.now a.words.now a.bits.now a.arrived.now a.out.now
-    c.start-run.result h.run _ _ true e c.requires.lent_for h.invariant.0
-    (fills_some h.invariant.0.fills (ap (λ (x : Run). x.done) e) d) (λ _. d)
-
-pub returns-clause-written : goal.returns-clause-written
-returns-clause-written g c =
-    let a = c.args in
-    let h = c.loop-run.invariant in
-    λ _. subst (Appends _ _)
-    (listed a.input.now a.cells.now a.links.now a.calendar.now a.words.now a.bits.now a.arrived.now a.out.now
-    c.start-run.ensures c.requires.lent_for h.0 (over _ c.loop-run-test.false)) h.1
+pub returns : goal.returns
+returns g c =
+    let o = c.write_fills in
+    let n = o.ensures.same in
+    record {
+      handed = handed_back o.new.memory
+          (search (rules, sym n.cells.name)) (search (rules, sym n.links.name)) (search (rules, sym n.calendar.name))
+          (search (rules, sym n.words.name)) (search (rules, sym n.bits.name)) (search (rules, sym n.arrived.name)) o.ensures.handed;
+      written = o.ensures.written;
+    }
