@@ -40,12 +40,9 @@ fn one_case(rt: &HostRuntime, k: u8) -> bool {
 }
 
 fn main(rt: HostRuntime) {
-    let mut k = 0u8;
-    while k < 100 {
-        if one_case(&rt, k) {
-            k += 1;
-        } else {
-            k = 100;
+    for k in 0..100 {
+        if !one_case(&rt, k) {
+            break;
         }
     }
 }

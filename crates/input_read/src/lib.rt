@@ -14,6 +14,7 @@ pub fn read_full<R: Read>(from: &mut R, buf: &mut [u8]) -> usize
     ensures octets { Consumes (R.remaining from.old) (R.remaining from.new) (take result buf.new) }
 {
     let mut done = 0usize;
+    // No for: how many reads there are is the reader's to say.
     while done < buf.len() {
         let Ok(n) = from.read(&mut buf[done..]) else {
             break;

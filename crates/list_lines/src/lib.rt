@@ -1,7 +1,7 @@
 // The lines of the listing, each put into a lent buffer at a place. Every function answers the place behind its text.
 #![tactic(auto)]
 
-ghost use Rattle.std.specs.Prelude.{◌≡◌, [], ◌∷◌, ◌++◌, ◌+◌, ◌≤◌, ◌<◌, length};
+ghost use Rattle.std.specs.Prelude.{◌≡◌, [], ◌∷◌, ◌++◌, ◌+◌, ◌≤◌, length};
 ghost use Rattle.list_lines.specs.Text.{decimal_of, word_of};
 ghost use Rattle.list_lines.specs.Put.{Put};
 ghost use Rattle.list_lines.specs.Lines.{setup_line, open_line, close_line, served_line, refused_line, slot_line, stop_line, end_line};
