@@ -4,6 +4,7 @@ use mathlib.Core.Path.{◌≡◌, refl}
 use mathlib.Core.Bool.{Bool, true, false, ◌&&◌}
 use native.Mathlib.Omega.{arith}
 use borrow.Author.Tests.{leb-true}
+use Rattle.std.proofs.lemmas.Bool.{and_parts}
 use Rattle.meaning.specs.Plain.{when◌then◌else◌, ◌≤?◌}
 use Rattle.meaning.specs.Numbers.{ranges_hold, most_n, least_v, most_v}
 use Rattle.trace_record.specs.declared.Event.{Event}
@@ -43,17 +44,12 @@ pub setup_large : (N z : ℕ) (head : Head) (next : ℕ) → ranges_hold N z ≡
 unfolding sizes_at
 setup_large N z head next e = rw e
 
-both : (a b : Bool) → a && b ≡ true → (a ≡ true) × (b ≡ true)
-both true true h = (refl, refl)
-both true false h = (refl, h)
-both false b h = (h, cc)
-
 ranges_most : (N z : ℕ) → ranges_hold N z ≡ true → (N ≤ most_n) × (z ≤ most_v)
 unfolding ranges_hold
 ranges_most N z h =
-    let a = both (1 ≤? N && N ≤? most_n && least_v ≤? z) (z ≤? most_v) h in
-    let b = both (1 ≤? N && N ≤? most_n) (least_v ≤? z) a.0 in
-    let c = both (1 ≤? N) (N ≤? most_n) b.0 in
+    let a = and_parts (1 ≤? N && N ≤? most_n && least_v ≤? z) (z ≤? most_v) h in
+    let b = and_parts (1 ≤? N && N ≤? most_n) (least_v ≤? z) a.0 in
+    let c = and_parts (1 ≤? N) (N ≤? most_n) b.0 in
     (leb-true N most_n c.1, leb-true z most_v a.1)
 
 abbrev Small : Sizes → Type 0

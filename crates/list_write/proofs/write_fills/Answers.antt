@@ -2,10 +2,11 @@
 -- weight. A write that fails leaves the fills that were handed over, the last among them.
 use Prim.Native.Nat.{ℕ}
 use mathlib.Core.Path.{◌≡◌, refl, sym, ap, subst, ◌∙◌}
-use mathlib.Core.Bool.{Bool, true, false, not}
+use mathlib.Core.Bool.{true, false}
 use mathlib.Core.List.{[]}
 use native.Mathlib.Omega.{arith}
 use lib.Seq.{length-take-le}
+use Rattle.std.proofs.lemmas.Bool.{not-true, not-false}
 use Rattle.std.specs.Io.KnownBytes.{Appends}
 use Rattle.std.proofs.KnownBytes.{Appends-nil, Appends-trans}
 use Rattle.list_whole.specs.declared.Run.{Run}
@@ -15,14 +16,6 @@ use Rattle.list_whole.proofs.Whole.{fill_falls}
 use Rattle.list_whole.proofs.Once.{fills_some}
 use Rattle.list_write.proofs.Made.{more, handed, listed, took}
 use Rattle.list_write.proofs.write_fills.Goals as goal
-
-off : (b : Bool) → not b ≡ true → b ≡ false
-off true e = sym e
-off false e = refl
-
-over : (b : Bool) → not b ≡ false → b ≡ true
-over true e = refl
-over false e = sym e
 
 pub loop-run-init : goal.loop-run-init
 loop-run-init g c = (record { count = 0; text = []; fills = no_fill }, Appends-nil _, same_memory _, refl)
@@ -45,7 +38,7 @@ returns-then-is_err-clause-handed g c =
     let f = c.fill-filled in
     handed a.input.now a.memory.now.cells.now a.memory.now.links.now a.memory.now.calendar.now a.memory.now.words.now a.memory.now.bits.now a.memory.now.arrived.now a.out.now
     c.start-run.result f.result.run _ _ false c.start-run.ensures c.requires.lent_for
-    (more _ c.loop-run.invariant.0 (off _ c.loop-run-test.true) f.ensures.filled) (omega arith)
+    (more _ c.loop-run.invariant.0 (not-true _ c.loop-run-test.true) f.ensures.filled) (omega arith)
     (λ e. absurd (let z : ◌≡◌ {A = ℕ} 0 1 = cc in omega arith))
 
 pub returns-then-is_err-clause-same : goal.returns-then-is_err-clause-same
@@ -58,13 +51,13 @@ pub loop-run-smaller : goal.loop-run-smaller
 loop-run-smaller g c =
     let f = c.fill-filled in
     let h = c.loop-run in
-    fill_falls _ (omega (arith, h.invariant.3, c.requires.room_in_bounds)) (off _ c.loop-run-test.true) (omega arith) f.ensures.filled
+    fill_falls _ (omega (arith, h.invariant.3, c.requires.room_in_bounds)) (not-true _ c.loop-run-test.true) (omega arith) f.ensures.filled
 
 pub loop-run-preserved : goal.loop-run-preserved
 loop-run-preserved g c =
     let f = c.fill-filled in
     let h = c.loop-run.invariant in (
-      more _ h.0 (off _ c.loop-run-test.true) f.ensures.filled,
+      more _ h.0 (not-true _ c.loop-run-test.true) f.ensures.filled,
       Appends-trans _ _ _ _ _ h.1 (took _ _ _ c.is_err.ensures.value c.if-is_err.false c.write_all.ensures.bytes),
       same_then h.2 f.ensures.same,
       f.auto.out ∙ h.3,
@@ -75,7 +68,7 @@ unfolding start_run
 returns-clause-handed g c =
     let a = c.args in
     let h = c.loop-run in
-    let d = over _ c.loop-run-test.false in
+    let d = not-false _ c.loop-run-test.false in
     let e = c.start-run.ensures in
     handed a.input.now a.memory.now.cells.now a.memory.now.links.now a.memory.now.calendar.now a.memory.now.words.now a.memory.now.bits.now a.memory.now.arrived.now a.out.now
     c.start-run.result h.run _ _ true e c.requires.lent_for h.invariant.0
@@ -90,4 +83,4 @@ returns-clause-written g c =
     let h = c.loop-run.invariant in
     λ _. subst (Appends _ _)
     (listed a.input.now a.memory.now.cells.now a.memory.now.links.now a.memory.now.calendar.now a.memory.now.words.now a.memory.now.bits.now a.memory.now.arrived.now a.out.now
-    c.start-run.ensures c.requires.lent_for h.0 (over _ c.loop-run-test.false)) h.1
+    c.start-run.ensures c.requires.lent_for h.0 (not-false _ c.loop-run-test.false)) h.1
