@@ -21,7 +21,8 @@ use Rattle.meaning.specs.Work.{Work, with_state, with_connection, with_arrival}
 use Rattle.meaning.specs.Arrival.{place, verdict_on, second_after, sent_as, accept, judge}
 use Rattle.meaning.specs.Slot.{step1, step2, step3}
 use Rattle.list_meaning.specs.Listing.{is_accepted}
-use Rattle.list_counts.proofs.Balance.{Holds, holds_then, holds_if, holds_needs, not_not, one, Words, Quiet, Fresh, write_words, write_same}
+use Rattle.std.proofs.lemmas.Bool.{not-false}
+use Rattle.list_counts.proofs.Balance.{Holds, holds_then, holds_if, holds_needs, one, Words, Quiet, Fresh, write_words, write_same}
 
 module _ (all base : ℕ) where
   -- ---- steps 1 and 2
@@ -164,5 +165,5 @@ module _ (all base : ℕ) where
       (λ _. holds_if (Holds (Quiet all base)) (conn.opened =? 0) _ _ (λ _. unknown_quiet w 3 h.vci f refl)
       (λ o. holds_then (Kept conn) (Quiet all base) (up_to_date s.ctl.n s.ctl.t conn) _ (date_kept s.ctl.n s.ctl.t conn)
       (λ now k. judge_quiet x cell c w now f
-      (subst (λ (k : ℕ). c < k) f.v_is (names_low s.ctl.v h (not_not (names_connection s.ctl.v h) n)))
+      (subst (λ (k : ℕ). c < k) f.v_is (names_low s.ctl.v h (not-false (names_connection s.ctl.v h) n)))
       k (λ q. eqb-false _ _ o (sym k.0 ∙ q)))))))))

@@ -1,7 +1,7 @@
 -- What waits, followed through a slot: words of which so many cells wait, and what a write of one connection does to them.
-use Prim.Native.Nat.{ℕ, ◌+◌, ◌-◌, ◌*◌, ◌≤◌, ◌<◌}
+use Prim.Native.Nat.{ℕ, ◌+◌, ◌*◌, ◌≤◌, ◌<◌}
 use mathlib.Core.Path.{◌≡◌, refl, sym, ap, ◌∙◌}
-use mathlib.Core.Bool.{Bool, true, false, not, ◌&&◌}
+use mathlib.Core.Bool.{Bool, true, false}
 use mathlib.Core.Logic.{◌⊎◌, inl, inr, ⊎_elim, ◌≢◌}
 use mathlib.Core.List.{List}
 use native.Mathlib.Omega.{arith}
@@ -35,15 +35,6 @@ holds_if P false x y f g = g refl
 pub holds_needs : {A : Type 0} (P : A → Type 0) (b : Bool) (x : Out A) → (b ≡ true → Holds P x) → Holds P (needs b x)
 holds_needs P true x f = f refl
 holds_needs P false x f = omega arith
-
-pub both : (a b : Bool) → a && b ≡ true → (a ≡ true) × (b ≡ true)
-both true true h = (refl, refl)
-both true false h = (refl, h)
-both false b h = (h, cc)
-
-pub not_not : (b : Bool) → not b ≡ false → b ≡ true
-not_not true e = refl
-not_not false e = sym e
 
 abbrev pub one : Bool → ℕ
 one b = when b then 1 else 0

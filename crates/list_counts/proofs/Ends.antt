@@ -1,5 +1,5 @@
 -- THE END LINE: in every listing its waiting is the sum of the waiting words, modulo 2^32, and accepted less sent.
-use Prim.Native.Nat.{ℕ, zero, suc, ◌+◌, ◌-◌, ◌*◌, ◌%◌, ◌≤◌, ◌<◌}
+use Prim.Native.Nat.{ℕ, zero, suc, ◌+◌, ◌*◌, ◌%◌, ◌≤◌, ◌<◌}
 use mathlib.Core.Path.{◌≡◌, refl, sym, ap, subst, ◌∙◌}
 use mathlib.Core.Bool.{Bool, true, false, not, ◌&&◌}
 use mathlib.Core.Logic.{⊎_elim, ◌≢◌}
@@ -25,7 +25,7 @@ use Rattle.list_meaning.specs.Trace.{Call, set_up, open_connection, close_connec
 use Rattle.list_meaning.specs.Listing.{many_of, is_accepted, has_sent, recount, less_modulo, end_of, line_of, state_after, answers_after, ends_run, lines_of, lent_for, listing_of}
 use Rattle.list_counts.specs.Waiting.{records_of, sum_waiting, Balanced, end_at, end_of_input}
 use Rattle.list_counts.proofs.Sums.{same_or_not, sum_after}
-use Rattle.list_counts.proofs.Balance.{both, not_not}
+use Rattle.std.proofs.lemmas.Bool.{and_parts, not-false}
 use Rattle.list_counts.proofs.Served.{records_all, ranges_some, slot_balanced}
 
 -- ---- the printed number
@@ -108,7 +108,7 @@ zero_opened N vc f o = go (vc.opened =? 0) refl
     go false e =
         let g : (when vc.opened =? 0 then true else (vc.opened ≤? 1 && buckets_fit N vc && vc.waiting ≤? N)) ≡ true = f in
         let k : vc.opened ≤? 1 && buckets_fit N vc && vc.waiting ≤? N ≡ true = rw e at g in
-        let l : vc.opened ≤ 1 = leb-true _ _ (both (vc.opened ≤? 1) (buckets_fit N vc) (both (vc.opened ≤? 1 && buckets_fit N vc) (vc.waiting ≤? N) k).0).0 in
+        let l : vc.opened ≤ 1 = leb-true _ _ (and_parts (vc.opened ≤? 1) (buckets_fit N vc) (and_parts (vc.opened ≤? 1 && buckets_fit N vc) (vc.waiting ≤? N) k).0).0 in
         let n : vc.opened ≢ 1 = eqb-false _ _ o in
         omega (arith, l, n)
 
@@ -122,7 +122,7 @@ open_balanced s h who name m F C x b =
     let P : Called → Type 0 = λ k. Balanced (with_words s k.words) h in
     let kept = kept_balanced s h b in
     choose_called P (not (k =? 0)) _ _ (λ _. kept) (λ e.
-    let p = passed r s.words who name (eqb-true k 0 (not_not (k =? 0) e)) in
+    let p = passed r s.words who name (eqb-true k 0 (not-false (k =? 0) e)) in
     choose_called P ((connection_at s.words c).opened =? 1) _ _ (λ _. kept) (λ o.
     choose_called P (not (obeys_rules r.n (bucket_of m F C 0))) _ _ (λ _. kept) (λ _.
     choose_called P (not (second_obeys (bucket_of x.m x.F x.C 0) x.tag)) _ _ (λ _. kept) (λ _.
@@ -142,12 +142,12 @@ close_balanced s h who name b =
     let P : Called → Type 0 = λ x. Balanced (with_words s x.words) h in
     let kept = kept_balanced s h b in
     choose_called P (not (k =? 0)) _ _ (λ _. kept) (λ e.
-    let p = passed r s.words who name (eqb-true k 0 (not_not (k =? 0) e)) in
+    let p = passed r s.words who name (eqb-true k 0 (not-false (k =? 0) e)) in
     choose_called P ((connection_at s.words c).opened =? 0) _ _ (λ _. kept) (λ _.
     let none = (connection_at s.words c).waiting =? 0 in
     let paid = debt r.t (connection_at s.words c) =? 0 in
     choose_called P (not (none && paid)) _ _ (λ _. kept) (λ w.
-    written_balanced s h c closed_connection b p.inside p.low (sym (eqb-true _ 0 (both none paid (not_not (none && paid) w)).0)) (λ _. refl))))
+    written_balanced s h c closed_connection b p.inside p.low (sym (eqb-true _ 0 (and_parts none paid (not-false (none && paid) w)).0)) (λ _. refl))))
 
 -- no connection, no cell: a record of zeros
 zeros_balanced : (lent : State) → Balanced (with_record lent zeros) []

@@ -23,7 +23,8 @@ use Rattle.meaning.proofs.CheckedLaws.{dropped_none}
 use Rattle.list_meaning.specs.Listing.{many_of, is_accepted, has_sent}
 use Rattle.list_counts.specs.Waiting.{records_of, sum_waiting, Balanced}
 use Rattle.list_counts.proofs.Sums.{sum_part}
-use Rattle.list_counts.proofs.Balance.{Holds, holds_then, holds_if, holds_needs, both, not_not, one, Quiet, Fresh, Done, write_words}
+use Rattle.std.proofs.lemmas.Bool.{and_parts, not-false}
+use Rattle.list_counts.proofs.Balance.{Holds, holds_then, holds_if, holds_needs, one, Quiet, Fresh, Done, write_words}
 use Rattle.list_counts.proofs.Arrives.{step1_even, step2_even, step3_even}
 use Rattle.list_counts.proofs.Silent.{Silent, five_silent, told_holds}
 
@@ -74,9 +75,9 @@ module _ (all base : ℕ) where
       let fits = spaces_fit s.ctl.n s.ctl.free s.bits && not (is_free_space s.bits t.space) in
       let many = base + one (is_accepted w.answer) in
       let left : named ≡ true → waits ≡ true → Done all base w2 = λ n m.
-      let names = both (names_connection s.ctl.v h) (conn.opened =? 1) (both (kind_in_range s.ctl.kind) (names_open s.ctl.v s.words h) n).1 in
+      let names = and_parts (names_connection s.ctl.v h) (conn.opened =? 1) (and_parts (kind_in_range s.ctl.kind) (names_open s.ctl.v s.words h) n).1 in
       let low : c < all = subst (λ (y : ℕ). c < y) q.v_is (names_low s.ctl.v h names.0) in
-      let some : 1 ≤ conn.waiting = leb-true 1 conn.waiting (both (1 ≤? conn.waiting) (conn.waiting ≤? s.ctl.n) m).0 in
+      let some : 1 ≤ conn.waiting = leb-true 1 conn.waiting (and_parts (1 ≤? conn.waiting) (conn.waiting ≤? s.ctl.n) m).0 in
       let opened : conn.opened ≡ 1 = eqb-true conn.opened 1 names.1 in
       let part : 1 ≤ many = omega (arith, some, sum_part s.words c all low, q.words.sum) in
       let less : many - 1 + conn.waiting ≡ many + (conn.waiting - 1) = omega (arith, some, part) in
@@ -117,8 +118,8 @@ unfolding lengths_hold words_length
 lengths_words N z cells links calendar words bits arrived l =
     let first = length cells =? octets * N && length links =? N && length calendar =? per_entry * N in
     eqb-true (length words) (words_in z)
-    (both first (length words =? words_in z) (both (first && length words =? words_in z) (length bits =? bit_words)
-    (both (first && length words =? words_in z && length bits =? bit_words) (length arrived =? N) l).0).0).1
+    (and_parts first (length words =? words_in z) (and_parts (first && length words =? words_in z) (length bits =? bit_words)
+    (and_parts (first && length words =? words_in z && length bits =? bit_words) (length arrived =? N) l).0).0).1
 
 one_more : (test : Answer → Bool) (a : Answer) (h : List Answer) → many_of test (a ∷ h) ≡ many_of test h + one (test a)
 unfolding many_of
@@ -159,7 +160,7 @@ finish_balanced s h (next w) p b d = done_balanced s w h p b d
 pub ranges_some : (N z : ℕ) → ranges_hold N z ≡ true → 0 < z
 unfolding ranges_hold
 ranges_some N z e =
-    let l = leb-true least_v z (both (1 ≤? N && N ≤? most_n) (least_v ≤? z) (both (1 ≤? N && N ≤? most_n && least_v ≤? z) (z ≤? most_v) e).0).1 in
+    let l = leb-true least_v z (and_parts (1 ≤? N && N ≤? most_n) (least_v ≤? z) (and_parts (1 ≤? N && N ≤? most_n && least_v ≤? z) (z ≤? most_v) e).0).1 in
     omega (arith, l)
 
 choose_work : (P : Work → Type 0) (b : Bool) (x y : Work) → P x → (b ≡ false → P y) → P (when b then x else y)
@@ -203,7 +204,7 @@ slot_balanced s cell h b =
     let z = s.ctl.v in
     let P : Work → Type 0 = λ w. Balanced w.state (w.answer ∷ h) in
     choose_work P (not (ranges_hold N z)) _ _ (stay_balanced s h 1 b) (λ r.
-    let p : 0 < z = ranges_some N z (not_not (ranges_hold N z) r) in
+    let p : 0 < z = ranges_some N z (not-false (ranges_hold N z) r) in
     choose_work P (not (sizes_hold s)) _ _ (stay_balanced s h 2 b) (λ l.
     choose_work P (not (length cell =? 0 || length cell =? octets)) _ _ (stay_balanced s h 9 b) (λ _.
-    finish_balanced s h _ p b (checked_even s cell h p b (lowest_free s.bits) (not_not _ l)))))
+    finish_balanced s h _ p b (checked_even s cell h p b (lowest_free s.bits) (not-false _ l)))))
