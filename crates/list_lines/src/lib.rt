@@ -43,6 +43,7 @@ fn word(out: &mut [u8], at: usize, n: Option<u32>, after: u8) -> usize
     }
 }
 
+// A verdict is a number here, as the answer that C is handed has it.
 #[tactic(auto, unfolding(crate::specs::Lines::letter))]
 fn letter(verdict: u16) -> u8
     ensures { result ≡ Lines·letter verdict }

@@ -29,6 +29,7 @@ fn counted_if(n: u32, on: bool) -> u32
     n.wrapping_add(u32::from(on))
 }
 
+// Verdict and space are numbers, as the answer that C is handed has them.
 fn counted(t: Tally, a: Answer) -> Tally
     ensures { result ≡ Run·counted t a }
 {

@@ -31,7 +31,7 @@ fn write_fills<W: Write>(to: &mut W, input: &[u8], memory: &mut Memory, out: &mu
     true
 }
 
-// The same with the memory part by part.
+// The same with the memory part by part: what a part of a larger slice holds afterwards is known only where it went into a call as a slice.
 fn hand_over<W: Write>(
     to: &mut W,
     input: &[u8],
