@@ -4,6 +4,7 @@ use mathlib.Core.Path.{◌≡◌, refl, sym, ◌∙◌, ap}
 use mathlib.Core.Logic.{◌≢◌}
 use mathlib.Core.Bool.{Bool, true, false}
 use mathlib.Core.List.{List}
+use Rattle.std.specs.Prelude.{Some, None}
 use native.Mathlib.Omega.{arith}
 use native.Mathlib.Decide.{ℕ_discrete}
 use native.Mathlib.Nat.{div-lt_iff_lt-mul, mul-le-mul}
@@ -18,7 +19,7 @@ use Rattle.meaning.proofs.NamesLaws.{names_not_0}
 use Rattle.leaf_header.specs.Name.{name_of, no_name, name_at, Reads, number_for, numbered}
 use Rattle.leaf_header.proofs.NameLaws.{name_none, name_user, number_named, number_no_name, numbered_yes, numbered_no, numbered_fits}
 use Rattle.mem_words.proofs.Fits.{opened_at}
-use Rattle.slot_arrive.specs.Arrival.{connection_now, judged_as, out_of_range, judged_connection, cell_name, judged_name, judged_of}
+use Rattle.slot_arrive.specs.Arrival.{connection_now, judged_as, judged_connection, cell_name, judged_name, judged_of}
 use Rattle.slot_arrive.specs.Both.{judged_both}
 use Rattle.slot_arrive.proofs.BothLaws.{both_is}
 
@@ -36,7 +37,7 @@ room_low N m room low small near =
 
 -- ---- a connection
 module _ (N t : ℕ) (words : List ℕ) (vci c clp : ℕ) where
-  pub judged_closed : get_or words (words_per_connection * c) 0 ≡ 0 → judged_as true unknown vci 0 0 0 0 ≡ judged_connection N t words vci c clp
+  pub judged_closed : get_or words (words_per_connection * c) 0 ≡ 0 → Some (judged_as unknown vci 0 0 0 0) ≡ judged_connection N t words vci c clp
   unfolding judged_connection
   judged_closed o = simp (eq-eqb _ _ (opened_at words c ∙ o))
 
@@ -49,12 +50,12 @@ module _ (N t : ℕ) (words : List ℕ) (vci c clp : ℕ) where
       simp (opened_at words c ∙ o, fits) (both_is N t c clp s (connection_at words c) e)
 
   pub judged_unfit : get_or words (words_per_connection * c) 0 ≡ 1 → bucket_fits N (connection_at words c).bucket ≡ false
-      → out_of_range ≡ judged_connection N t words vci c clp
+      → None ≡ judged_connection N t words vci c clp
   unfolding judged_connection buckets_fit
   judged_unfit o fits = simp (opened_at words c ∙ o, fits)
 
   pub judged_other : get_or words (words_per_connection * c) 0 ≢ 0 → get_or words (words_per_connection * c) 0 ≢ 1
-      → out_of_range ≡ judged_connection N t words vci c clp
+      → None ≡ judged_connection N t words vci c clp
   unfolding judged_connection
   judged_other o₀ o₁ =
       simp (
@@ -64,7 +65,7 @@ module _ (N t : ℕ) (words : List ℕ) (vci c clp : ℕ) where
 
 -- ---- a name
 module _ (N z t : ℕ) (words : List ℕ) (name clp : ℕ) where
-  pub by_none : name ≡ 0 → judged_as true nothing 0 0 0 0 0 ≡ judged_name N z t words name clp
+  pub by_none : name ≡ 0 → Some (judged_as nothing 0 0 0 0 0) ≡ judged_name N z t words name clp
   unfolding judged_name
   by_none e = simp (eq-eqb _ _ e)
 
@@ -73,12 +74,12 @@ module _ (N z t : ℕ) (words : List ℕ) (name clp : ℕ) where
   unfolding judged_name
   by_connection c is user some = rw is (simp (ne_eqb _ _ user, ne_eqb _ _ (λ e. some (is ∙ e))))
 
-  pub by_no_kind : number_for z name ≡ 0 → name ≢ 0 → name ≡ no_name → out_of_range ≡ judged_name N z t words name clp
+  pub by_no_kind : number_for z name ≡ 0 → name ≢ 0 → name ≡ no_name → None ≡ judged_name N z t words name clp
   unfolding judged_name
   by_no_kind none user bad = simp (ne_eqb _ _ user, eq-eqb _ _ none, eq-eqb _ _ bad)
 
   pub by_unknown : number_for z name ≡ 0 → name ≢ 0 → name ≢ no_name
-      → judged_as true unknown (name % 65536) 0 0 0 0 ≡ judged_name N z t words name clp
+      → Some (judged_as unknown (name % 65536) 0 0 0 0) ≡ judged_name N z t words name clp
   unfolding judged_name
   by_unknown none user good = simp (ne_eqb _ _ user, eq-eqb _ _ none, ne_eqb _ _ good)
 

@@ -1,18 +1,18 @@
 -- `slot_arrive::judge_both` meets its contract: case by case, in the order of its tests.
 use Rattle.meaning.specs.Words.{connection_at}
-use mathlib.Core.Path.{sym, ◌∙◌}
+use mathlib.Core.Path.{sym, ◌∙◌, ap}
+use Rattle.std.specs.Prelude.{Some}
 use native.Mathlib.Omega.{arith}
 use Rattle.mem_words.proofs.Fits.{bucket_facts}
 use borrow.Author.Tests.{lt-ltb, le-ltb, eq-eqb, ne_eqb}
 use Rattle.meaning.specs.Bucket.{is_excess}
 use Rattle.mem_words.proofs.Fits.{second_facts}
 use Rattle.slot_arrive.specs.Both.{judged_both}
-use borrow.Author.Rules.{rules}
 use Rattle.slot_arrive.proofs.judge_both.Goals as goal
 
 pub returns-then-not-second_fits : goal.returns-then-not-second_fits
 unfolding judged_both
-returns-then-not-second_fits c = c.out_of_range.ensures ∙ simp (sym c.second_fits.ensures ∙ c.if-not-second_fits.true)
+returns-then-not-second_fits c = simp (sym c.second_fits.ensures ∙ c.if-not-second_fits.true)
 
 pub second_now-second-requires : goal.second_now-second-requires
 second_now-second-requires c = (c.requires.0, (second_facts _ _ (sym c.second_fits.ensures ∙ c.if-not-second_fits.false)).m_low)
@@ -23,7 +23,7 @@ overflow_sub-words c = omega (arith, (bucket_facts _ _ c.requires.1).rules.C_lea
 
 pub returns-then-words-b : goal.returns-then-words-b
 unfolding connection_at judged_both is_excess
-returns-then-words-b c = c.above.ensures ∙ simp ((sym c.second_fits.ensures ∙ c.if-not-second_fits.false), lt-ltb _ _ c.if-words-b.true, sym c.second_now-second.ensures)
+returns-then-words-b c = ap Some c.above.ensures ∙ simp ((sym c.second_fits.ensures ∙ c.if-not-second_fits.false), lt-ltb _ _ c.if-words-b.true, sym c.second_now-second.ensures)
 
 pub judge_second-requires : goal.judge_second-requires
 unfolding connection_at

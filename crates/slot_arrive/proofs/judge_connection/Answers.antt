@@ -3,15 +3,14 @@ use Rattle.meaning.specs.Words.{connection_at}
 use Rattle.mem_words.proofs.Fits.{bucket_facts}
 use Prim.Native.Nat.{ℕ}
 use mathlib.Core.Path.{sym, ◌∙◌, ap}
+use Rattle.std.specs.Prelude.{Some}
 use Rattle.slot_arrive.specs.Both.{judged_both}
 use Rattle.slot_arrive.proofs.BothLaws.{none_is}
 use Rattle.slot_arrive.proofs.JudgedLaws.{judged_closed, judged_both_lem, judged_unfit, judged_other}
-use borrow.Author.Rules.{rules}
 use Rattle.slot_arrive.proofs.judge_connection.Goals as goal
-use Rattle.slot_arrive.proofs.judge_connection.Goals.{then-o-eq1+else-bucket_fits, else-o-eq1}
 
 pub returns-then-o-eq0 : goal.returns-then-o-eq0
-returns-then-o-eq0 c = let a = c.args in c.no_connection.ensures ∙ judged_closed a.n a.t a.words.now _ a.vci _ c.if-o-eq0.true
+returns-then-o-eq0 c = let a = c.args in ap Some c.no_connection.ensures ∙ judged_closed a.n a.t a.words.now _ a.vci _ c.if-o-eq0.true
 
 pub peak_now-s-requires : goal.peak_now-s-requires
 peak_now-s-requires c = (c.requires.0, (bucket_facts _ _ (sym c.bucket_fits.ensures ∙ c.if-bucket_fits.true)).rules.m_low)
@@ -40,11 +39,12 @@ returns-then-bucket_fits c =
     ∙ judged_both_lem a.n a.t a.words.now _ a.vci _ _ fits.if-o-eq1.true (sym fits.bucket_fits.ensures ∙ fits.if-bucket_fits.true)
     c.peak_now-s.ensures
 
-pub returns : goal.returns
-returns c =
+pub returns-else-bucket_fits : goal.returns-else-bucket_fits
+returns-else-bucket_fits c =
     let a = c.args in
-    c.out_of_range.ensures
-    ∙ elim c.if-o-eq1.branch [
-      | then-o-eq1+else-bucket_fits w ↦ judged_unfit a.n a.t a.words.now _ a.vci _ w.if-o-eq1.true (sym w.bucket_fits.ensures ∙ w.if-bucket_fits.false)
-      | else-o-eq1 w ↦ judged_other a.n a.t a.words.now _ a.vci _ c.if-o-eq0.false w.if-o-eq1.false
-    ]
+    judged_unfit a.n a.t a.words.now _ a.vci _ c.if-o-eq1.true (sym c.bucket_fits.ensures ∙ c.if-bucket_fits.false)
+
+pub returns-else-o-eq1 : goal.returns-else-o-eq1
+returns-else-o-eq1 c =
+    let a = c.args in
+    judged_other a.n a.t a.words.now _ a.vci _ c.if-o-eq0.false c.if-o-eq1.false

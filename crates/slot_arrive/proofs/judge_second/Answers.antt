@@ -1,6 +1,7 @@
 -- `slot_arrive::judge_second` meets its contract: the tests of the second bucket and the flag, one after the other.
 use Rattle.meaning.specs.Words.{connection_at}
-use mathlib.Core.Path.{◌∙◌}
+use mathlib.Core.Path.{◌∙◌, ap}
+use Rattle.std.specs.Prelude.{Some}
 use native.Mathlib.Omega.{arith}
 use borrow.Author.Tests.{lt-ltb, le-ltb, eq-eqb, ne_eqb}
 use Rattle.meaning.specs.Bucket.{is_excess, fill}
@@ -14,7 +15,7 @@ overflow_sub-words c = omega (arith, (second_facts _ _ c.requires.second_in).C_l
 
 pub returns-then-words-b-eq0 : goal.returns-then-words-b-eq0
 unfolding connection_at judged_second is_excess
-returns-then-words-b-eq0 c = c.above.ensures ∙ simp (lt-ltb _ _ c.if-words-b.true, eq-eqb _ _ c.if-words-b-eq0.true)
+returns-then-words-b-eq0 c = ap Some c.above.ensures ∙ simp (lt-ltb _ _ c.if-words-b.true, eq-eqb _ _ c.if-words-b-eq0.true)
 
 pub returns-then-words-b : goal.returns-then-words-b
 unfolding connection_at judged_second is_excess

@@ -1,13 +1,12 @@
 -- `slot_arrive::let_in` meets its contract: waiting is judged, D is below N.
 use Rattle.meaning.specs.Words.{connection_at}
-use mathlib.Core.Path.{sym, ◌∙◌}
+use mathlib.Core.Path.{sym}
 use native.Mathlib.Omega.{arith}
 use Rattle.mem_words.proofs.Fits.{bucket_facts}
 use borrow.Author.Tests.{lt-ltb, le-ltb}
 use Rattle.meaning.specs.Bucket.{delay, fill}
 use Rattle.slot_arrive.specs.Both.{let_in_as}
 use Rattle.slot_arrive.proofs.JudgedLaws.{delay_below, room_low}
-use borrow.Author.Rules.{rules}
 use Rattle.slot_arrive.proofs.let_in.Goals as goal
 
 pub overflow_add-full-then-waiting-n : goal.overflow_add-full-then-waiting-n
@@ -33,4 +32,4 @@ returns-then-waiting-n c = simp (lt-ltb _ _ c.if-waiting-n.true, sym c.delay_of-
 
 pub returns : goal.returns
 unfolding connection_at let_in_as
-returns c = c.out_of_range.ensures ∙ simp (le-ltb _ _ c.if-waiting-n.false)
+returns c = simp (le-ltb _ _ c.if-waiting-n.false)
