@@ -3,7 +3,7 @@
 --   linked on i x l   == the links l, with link i naming x where on
 --   seat_of            == where an accepted cell goes: its space, its entry and that entry's ends
 --   off_of             == what departs from a list of spaces: space, connection, and what is left of the list
-use Rattle.std.specs.Prelude.{ℕ, ◌+◌, ◌-◌, ◌≤◌, ◌≡◌, ◌≢◌, Bool, true, false, ◌&&◌, List, get_or, set}
+use Rattle.std.specs.Prelude.{ℕ, ◌+◌, ◌-◌, ◌≤◌, ◌≡◌, ◌≢◌, Bool, ◌&&◌, Option, Some, None, List, get_or, set}
 use Rattle.meaning.specs.Plain.{when◌then◌else◌, ◌<?◌, ◌≤?◌, ◌=?◌}
 use Rattle.meaning.specs.Numbers.{empty, cell_start, kind_in_range}
 use Rattle.meaning.specs.State.{Ends}
@@ -18,30 +18,24 @@ use Rattle.mem_lists.specs.declared.Off.{Off}
 unfoldable pub linked : Bool → ℕ → ℕ → List ℕ → List ℕ
 linked on i x l = when on then set l i x else l
 
-abbrev pub seat_as : Bool → ℕ → ℕ → Ends → Seat
-seat_as ok x e entry = record { ok = ok; x = x; e = e; head = entry.head; tail = entry.tail }
-
-abbrev pub no_seat : Seat
-no_seat = seat_as false 0 0 (ends_of 0 0)
+abbrev pub seat_as : ℕ → ℕ → Ends → Seat
+seat_as x e entry = record { x = x; e = e; head = entry.head; tail = entry.tail }
 
 -- a cell that takes space x joins entry e, if that entry's ends fit
-unfoldable pub seat_at : ℕ → List ℕ → ℕ → ℕ → Seat
+unfoldable pub seat_at : ℕ → List ℕ → ℕ → ℕ → Option Seat
 seat_at N calendar e x =
     let entry = entry_at calendar e in
-    when ends_fit N entry then seat_as true x e entry else no_seat
+    when ends_fit N entry then Some (seat_as x e entry) else None
 
 -- (T + D) modulo N, where both are below N
 unfoldable pub entry_of : ℕ → ℕ → ℕ → ℕ
 entry_of N T D = when T + D <? N then T + D else T + D - N
 
-unfoldable pub seat_of : ℕ → List ℕ → ℕ → ℕ → ℕ → Seat
+unfoldable pub seat_of : ℕ → List ℕ → ℕ → ℕ → ℕ → Option Seat
 seat_of N calendar T D x = seat_at N calendar (entry_of N T D) x
 
-abbrev pub off_as : Bool → ℕ → ℕ → Ends → Off
-off_as ok space vci left = record { ok = ok; space = space; vci = vci; head = left.head; tail = left.tail }
-
-abbrev pub none_off : Off
-none_off = off_as false 0 0 (ends_of 0 0)
+abbrev pub off_as : ℕ → ℕ → Ends → Off
+off_as space vci left = record { space = space; vci = vci; head = left.head; tail = left.tail }
 
 -- the cell in space x may depart: "the departing header names an open VC", or an open path, by the line kind, which fits;
 -- "waiting at most N .. above 0"
@@ -52,15 +46,15 @@ may_leave N z kind cells words x =
     (kind_in_range kind && names_open z words h) && 1 ≤? waiting && waiting ≤? N
 
 -- the head of the list from x to tail departs
-unfoldable pub off_of : ℕ → ℕ → ℕ → List ℕ → List ℕ → List ℕ → ℕ → ℕ → Off
+unfoldable pub off_of : ℕ → ℕ → ℕ → List ℕ → List ℕ → List ℕ → ℕ → ℕ → Option Off
 off_of N z kind cells links words x tail =
     let c = connection z (header_at kind cells (cell_start x)) in
     let follower = get_or links x 0 in
     when may_leave N z kind cells words x
-    then (when x =? tail then off_as true x c (ends_of empty empty)
-    else when follower <? N then off_as true x c (ends_of follower tail)
-    else none_off)
-    else none_off
+    then (when x =? tail then Some (off_as x c (ends_of empty empty))
+    else when follower <? N then Some (off_as x c (ends_of follower tail))
+    else None)
+    else None
 
 -- cells' are the cells once a cell of the connection own stands in space x
 pub record Stored (z kind own x : ℕ) (cells cells' : List ℕ) : Type 0 where

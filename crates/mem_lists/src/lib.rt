@@ -7,7 +7,7 @@ ghost use Rattle.meaning.specs.State.{HasConnection};
 ghost use Rattle.meaning.specs.Header.{header_at};
 ghost use Rattle.meaning.specs.Lists.{ends_fit, write_entry};
 ghost use Rattle.leaf_header.specs.Name.{numbered};
-ghost use Rattle.mem_lists.specs.Spaces.{ends_of, linked, no_seat, seat_at, seat_of, off_of};
+ghost use Rattle.mem_lists.specs.Spaces.{ends_of, linked, seat_at, seat_of, off_of};
 ghost use Rattle.mem_lists.specs.Leaver.{may_go, goes_as, leaver_of, off_from, leaver_after, off_after};
 
 use meaning::{AT_WAITING, WORDS_PER_CONNECTION};
@@ -15,7 +15,6 @@ use meaning::{AT_WAITING, WORDS_PER_CONNECTION};
 // Where an accepted cell goes: its space x, its entry e and that entry's head and tail.
 #[derive(Clone, Copy)]
 pub struct Seat {
-    pub ok: bool,
     pub x: u16,
     pub e: u16,
     pub head: u16,
@@ -25,7 +24,6 @@ pub struct Seat {
 // What departs: the space, its connection, and what is left of the Output List.
 #[derive(Clone, Copy)]
 pub struct Off {
-    pub ok: bool,
     pub space: u16,
     pub vci: u16,
     pub head: u16,
@@ -46,21 +44,9 @@ pub fn pair(n: u16, head: u16, tail: u16) -> bool
     false
 }
 
-fn no_seat() -> Seat
-    ensures { result ≡ no_seat }
-{
-    Seat {
-        ok: false,
-        x: 0,
-        e: 0,
-        head: 0,
-        tail: 0,
-    }
-}
-
 // The seat of a cell that takes space x and joins entry e, whose head and tail are read and judged: one number after the other,
 // since a pair's test as one truth value costs twice as much.
-pub fn seat_at(n: u16, calendar: &[u16], e: u16, x: u16) -> Seat
+pub fn seat_at(n: u16, calendar: &[u16], e: u16, x: u16) -> Option<Seat>
     requires { (n ≤ most_n) × (length calendar.now ≡ per_entry * n) × (e < n) }
     ensures { result ≡ seat_at n calendar.now e x }
 {
@@ -68,27 +54,21 @@ pub fn seat_at(n: u16, calendar: &[u16], e: u16, x: u16) -> Seat
     let tail = calendar[2 * (e as usize) + 1];
     if head == 65535 {
         if tail != 65535 {
-            return no_seat();
+            return None;
         }
     } else {
         if head >= n {
-            return no_seat();
+            return None;
         }
         if tail >= n {
-            return no_seat();
+            return None;
         }
     }
-    Seat {
-        ok: true,
-        x: x,
-        e: e,
-        head: head,
-        tail: tail,
-    }
+    Some(Seat { x, e, head, tail })
 }
 
 // The seat of a cell with delay d: it joins entry (T+D) modulo N, which one comparison gives.
-pub fn seat_for(n: u16, calendar: &[u16], turn: u16, d: u16, x: u16) -> Seat
+pub fn seat_for(n: u16, calendar: &[u16], turn: u16, d: u16, x: u16) -> Option<Seat>
     requires { (n ≤ most_n) × (length calendar.now ≡ per_entry * n) × (turn < n) × (d < n) }
     ensures { result ≡ seat_of n calendar.now turn d x }
 {
@@ -98,6 +78,7 @@ pub fn seat_for(n: u16, calendar: &[u16], turn: u16, d: u16, x: u16) -> Seat
 }
 
 // The connection u is open and has 1 to N cells waiting.
+#[inline(always)]
 fn may_go(n: u16, words: &[u32], u: u16) -> bool
     requires { HasConnection u words.now }
     ensures { result ≡ may_go n words.now u }
@@ -113,6 +94,7 @@ fn may_go(n: u16, words: &[u32], u: u16) -> bool
 }
 
 // The connection u, if a cell of it may depart, else 0; 0 is no connection.
+#[inline(always)]
 fn goes(n: u16, words: &[u32], u: u16) -> u16
     requires { HasConnection u words.now }
     ensures { result ≡ goes_as n words.now u }
@@ -126,6 +108,7 @@ fn goes(n: u16, words: &[u32], u: u16) -> u16
 }
 
 // The connection that the header in space x names, by its number; 0 for none.
+#[inline(always)]
 fn number_in(v: u16, kind: u16, cells: &[u8], x: u16) -> u16
     requires { (v ≤ most_v) × (cell_start x + octets ≤ length cells.now) }
     ensures number { result ≡ numbered kind v (header_at kind cells.now (cell_start x)) }
@@ -145,6 +128,7 @@ pub fn leaver(n: u16, v: u16, kind: u16, cells: &[u8], words: &[u32], x: u16) ->
 }
 
 // The same once a cell of the connection own has been accepted into space s: own's words need no reading.
+#[inline(always)]
 fn leaver_after(
     n: u16,
     v: u16,
@@ -169,40 +153,32 @@ fn leaver_after(
 }
 
 // Space x departs with a cell of the connection vci (0: it may not), follower being the next in its list, if it is not the tail.
-fn off_from(n: u16, vci: u16, x: u16, follower: u16, tail: u16) -> Off
+#[inline(always)]
+fn off_from(n: u16, vci: u16, x: u16, follower: u16, tail: u16) -> Option<Off>
     ensures { result ≡ off_from n vci x follower tail }
 {
     if vci != 0 {
         if x == tail {
-            return Off {
-                ok: true,
+            return Some(Off {
                 space: x,
-                vci: vci,
+                vci,
                 head: 65535,
                 tail: 65535,
-            };
+            });
         }
         if follower < n {
-            return Off {
-                ok: true,
+            return Some(Off {
                 space: x,
-                vci: vci,
+                vci,
                 head: follower,
-                tail: tail,
-            };
+                tail,
+            });
         }
     }
-    Off {
-        ok: false,
-        space: 0,
-        vci: 0,
-        head: 0,
-        tail: 0,
-    }
+    None
 }
 
-// The head x of a list that ends at tail departs, in memory as it is. The answer is handed on field by field: as a whole it
-// would be packed into one word.
+// The head x of a list that ends at tail departs, in memory as it is.
 pub fn off_head(
     n: u16,
     v: u16,
@@ -212,23 +188,17 @@ pub fn off_head(
     words: &[u32],
     x: u16,
     tail: u16,
-) -> Off
+) -> Option<Off>
     requires { (n ≤ most_n) × (v ≤ most_v) × (x < n) × (length cells.now ≡ octets * n) × (length links.now ≡ n) × (length words.now ≡ words_in v) }
     ensures { result ≡ off_of n v kind cells.now links.now words.now x tail }
 {
     let vci = leaver(n, v, kind, cells, words, x);
     let follower = if x == tail { 65535 } else { links[x as usize] };
-    let o = off_from(n, vci, x, follower, tail);
-    Off {
-        ok: o.ok,
-        space: o.space,
-        vci: o.vci,
-        head: o.head,
-        tail: o.tail,
-    }
+    off_from(n, vci, x, follower, tail)
 }
 
 // Link x once link i names y, where on.
+#[inline(always)]
 fn link_after(links: &[u16], on: bool, i: u16, y: u16, x: u16) -> u16
     requires { x < length links.now }
     ensures { result ≡ get_or (linked on i y links.now) x 0 }
@@ -253,7 +223,7 @@ pub fn off_joined(
     old: u16,
     head: u16,
     tail: u16,
-) -> Off
+) -> Option<Off>
     requires { (n ≤ most_n) × (v ≤ most_v) × (x < n) × (length cells.now ≡ octets * n) × (length links.now ≡ n) × (length words.now ≡ words_in v) }
     ensures { result ≡ off_of n v kind cells.now (set links.now old head) words.now x tail }
 {
@@ -263,17 +233,11 @@ pub fn off_joined(
     } else {
         link_after(links, true, old, head, x)
     };
-    let o = off_from(n, vci, x, follower, tail);
-    Off {
-        ok: o.ok,
-        space: o.space,
-        vci: o.vci,
-        head: o.head,
-        tail: o.tail,
-    }
+    off_from(n, vci, x, follower, tail)
 }
 
 // Link x once link s names y, where named, and then link old names head, where joins.
+#[inline(always)]
 fn links_after(
     links: &[u16],
     s: u16,
@@ -296,6 +260,7 @@ fn links_after(
 }
 
 // The same once a cell of the connection own has been accepted into space s, whose link names y where named, and, where joins, link old names head.
+#[inline(always)]
 pub fn off_after(
     n: u16,
     v: u16,
@@ -312,7 +277,7 @@ pub fn off_after(
     head: u16,
     x: u16,
     tail: u16,
-) -> Off
+) -> Option<Off>
     requires { (n ≤ most_n) × (v ≤ most_v) × (x < n) × (length cells.now ≡ octets * n) × (length links.now ≡ n) × (length words.now ≡ words_in v) }
     ensures { result ≡ off_after n v kind cells.now (linked joins old head (linked named s y links.now)) words.now own s x tail }
 {
@@ -322,14 +287,7 @@ pub fn off_after(
     } else {
         links_after(links, s, named, y, joins, old, head, x)
     };
-    let o = off_from(n, vci, x, follower, tail);
-    Off {
-        ok: o.ok,
-        space: o.space,
-        vci: o.vci,
-        head: o.head,
-        tail: o.tail,
-    }
+    off_from(n, vci, x, follower, tail)
 }
 
 // One link, where on.

@@ -11,7 +11,7 @@ unfolding off_after
 returns c =
     let a = c.args in
     let next = c.if-x-tail.follower in
-    (c.off_from-o.ensures
+    (c.off_from.ensures
     ∙ ap (λ (g : ℕ). off_from a.n g a.x next a.tail) c.leaver_after-vci.ensures)
     ∙ from_same a.n _ a.x next _ a.tail
     (elim c.if-x-tail.branch [ then-x-tail w ↦ λ ne. absurd (ne w.if-x-tail.true) | else-x-tail w ↦ λ ne. w.follower-is ∙ w.links_after-follower.ensures ])

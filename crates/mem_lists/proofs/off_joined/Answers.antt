@@ -13,6 +13,6 @@ unfolding linked
 returns c =
     let a = c.args in
     let next = c.if-x-tail.follower in
-    (c.off_from-o.ensures ∙ ap (λ (g : ℕ). off_from a.n g a.x next a.tail) c.leaver-vci.ensures)
+    (c.off_from.ensures ∙ ap (λ (g : ℕ). off_from a.n g a.x next a.tail) c.leaver-vci.ensures)
     ∙ off_is a.n a.v a.kind a.cells.now (set a.links.now a.old a.head) a.words.now a.x a.tail next
     (elim c.if-x-tail.branch [ then-x-tail w ↦ λ ne. absurd (ne w.if-x-tail.true) | else-x-tail w ↦ λ ne. w.follower-is ∙ w.link_after-follower.ensures ])

@@ -3,24 +3,22 @@ use Rattle.mem_lists.specs.Spaces.{seat_at}
 use Rattle.meaning.specs.Lists.{entry_at}
 use Rattle.mem_lists.proofs.PairLaws.{head_high, tail_high, both_low, tail_left, both_empty}
 use Prim.Native.Nat.{◌+◌, ◌*◌}
-use mathlib.Core.Path.{◌∙◌}
 use lib.ListN.{get_or}
 use Rattle.mem_lists.proofs.seat_at.Goals as goal
 
 pub returns-then-tail : goal.returns-then-tail
 unfolding seat_at entry_at
-returns-then-tail c = c.no_seat.ensures ∙ simp (tail_left _ _ _ c.requires.0 c.if-head.true c.if-tail.true)
+returns-then-tail c = simp (tail_left _ _ _ c.requires.0 c.if-head.true c.if-tail.true)
 
 pub returns-then-head-n : goal.returns-then-head-n
 unfolding seat_at entry_at
 returns-then-head-n c =
     let a = c.args in
-    c.no_seat-then-head-n.ensures
-    ∙ simp (head_high _ _ (get_or a.calendar.now (2 * a.e + 1) 0) c.if-head.false c.if-head-n.true)
+    simp (head_high _ _ (get_or a.calendar.now (2 * a.e + 1) 0) c.if-head.false c.if-head-n.true)
 
 pub returns-then-tail-n : goal.returns-then-tail-n
 unfolding seat_at entry_at
-returns-then-tail-n c = c.no_seat-then-tail-n.ensures ∙ simp (tail_high _ _ _ c.requires.0 c.if-head-n.false c.if-tail-n.true)
+returns-then-tail-n c = simp (tail_high _ _ _ c.requires.0 c.if-head-n.false c.if-tail-n.true)
 
 pub returns-else-tail : goal.returns-else-tail
 unfolding seat_at entry_at
