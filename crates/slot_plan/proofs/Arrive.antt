@@ -4,6 +4,7 @@ use mathlib.Core.Path.{◌≡◌, refl, ap, ◌∙◌}
 use mathlib.Core.Logic.{◌⊎◌, inl, inr}
 use mathlib.Core.Bool.{Bool, true, false, ◌&&◌}
 use mathlib.Core.List.{List}
+use Rattle.std.specs.Prelude.{Option, Some, None}
 use native.Mathlib.Omega.{arith}
 use borrow.Author.Tests.{eq-eqb, ne_eqb, le-leb, lt-leb}
 use lib.ListN.{length}
@@ -54,12 +55,11 @@ fill_is words vci t clp verdict =
     ∙ write_fill words vci _ t _ _
 
 -- what step 3 comes to, from what was found
-unfoldable pub arriving : Record → Judged → ℕ → List ℕ → List ℕ → List ℕ → List ℕ → List ℕ → List ℕ → List ℕ → Out Work
-arriving k j x cell cells links calendar words bits arrived =
-    when j.ok
-    then (when lets_in j.verdict then seating k j x cell cells links calendar words bits arrived
-    else next (quiet_work k j cells links calendar words bits arrived))
-    else refused
+unfoldable pub arriving : Record → Option Judged → ℕ → List ℕ → List ℕ → List ℕ → List ℕ → List ℕ → List ℕ → List ℕ → Out Work
+arriving k None x cell cells links calendar words bits arrived = refused
+arriving k (Some j) x cell cells links calendar words bits arrived =
+    when lets_in j.verdict then seating k j x cell cells links calendar words bits arrived
+    else next (quiet_work k j cells links calendar words bits arrived)
 
 module _ (k : Record) (x : ℕ) (cell cells links calendar words bits arrived : List ℕ) where
   abbrev h : Header
@@ -94,7 +94,7 @@ module _ (k : Record) (x : ℕ) (cell cells links calendar words bits arrived : 
       )
   judge_is false false ex ea = rw (ex, ea)
 
-  abbrev found : Judged
+  abbrev found : Option Judged
   found = judged_of k.n k.v k.kind k.t words cell
 
   -- a header is read: there is a cell, the line kind fits, and it is a user's

@@ -5,11 +5,12 @@ use mathlib.Core.Path.{◌≡◌, refl, sym, ◌∙◌, ap}
 use mathlib.Core.Logic.{◌≢◌}
 use mathlib.Core.Bool.{Bool, true, false, ◌&&◌}
 use mathlib.Core.List.{List}
+use Rattle.std.specs.Prelude.{Option, Some, None}
 use native.Mathlib.Omega.{arith}
 use borrow.Author.Tests.{eq-eqb, ne_eqb, eqb-true, eqb-false}
 use lib.ListN.{length, get_or}
 use Rattle.meaning.specs.declared.Record.{Record}
-use Rattle.meaning.specs.Plain.{when◌then◌else◌, ◌=?◌, Out, refused, next, ◌and_then◌}
+use Rattle.meaning.specs.Plain.{when◌then◌else◌, ◌=?◌, refused, next, ◌and_then◌}
 use Rattle.meaning.specs.Numbers.{empty, excess}
 use Rattle.meaning.specs.State.{Ends, output_list}
 use Rattle.meaning.specs.Lists.{empty_list, is_empty, ends_fit, entry_at, write_entry}
@@ -85,25 +86,21 @@ module _ (w : Work) where
           output w empty_list is (fit_empty _) p refl (eqb-false _ _ q) ∙ sym (unmarked_output p (eqb-false _ _ q))
 
 -- ---- what departs, or not
-pub leaving_go : (w : Work) (links calendar bits : List ℕ) (o : Off) → o.ok ≡ true
+pub leaving_go : (w : Work) (links calendar bits : List ℕ) (o : Off)
     → may_be_freed w.state.ctl.n w.state.ctl.free w.state.bits o.space ≡ true
-    → leaving w links calendar bits o ≡ next (left_by w links calendar bits o)
+    → leaving w links calendar bits (Some o) ≡ next (left_by w links calendar bits o)
 unfolding leaving
-leaving_go w links calendar bits o p q = rw (p, q)
+leaving_go w links calendar bits o q = rw q
 
-pub leaving_off : (w : Work) (links calendar bits : List ℕ) (o : Off) → o.ok ≡ false → leaving w links calendar bits o ≡ refused
+pub leaving_none : (w : Work) (links calendar bits : List ℕ) → leaving w links calendar bits None ≡ refused
 unfolding leaving
-leaving_off w links calendar bits o p = rw p
+leaving_none w links calendar bits = refl
 
 pub leaving_unfit : (w : Work) (links calendar bits : List ℕ) (o : Off)
     → may_be_freed w.state.ctl.n w.state.ctl.free w.state.bits o.space ≡ false
-    → leaving w links calendar bits o ≡ refused
+    → leaving w links calendar bits (Some o) ≡ refused
 unfolding leaving
-leaving_unfit w links calendar bits o q = rw q (go o.ok)
-  where
-    go : (b : Bool) → (when◌then◌else◌ {A = Out Work} b refused refused) ≡ refused
-    go true = refl
-    go false = refl
+leaving_unfit w links calendar bits o q = rw q
 
 -- ---- the head of the Output List, once entry T has joined it
 pub joined_low : (k : Record) (entry : Ends) → ends_fit k.n (ends_of k.outhead k.outtail) ≡ true → entry.head < k.n → joined_head k entry < k.n
@@ -148,14 +145,21 @@ module _ (calendar : List ℕ) (a : Seat) (T : ℕ) where
   far_tail ne = ap (λ (x : Ends). x.tail) (sym (far_entry ne))
 
 -- ---- where no cell is accepted, what departs is what the words before steps 2 and 3 show
-module _ (k : Record) (b : Fall) (j : Judged) (cells links calendar words bits arrived : List ℕ) where
+module _ (k : Record) (b : Option Fall) (j : Judged) (cells links calendar words bits arrived : List ℕ) where
   abbrev w : Work
   w = quiet_work k j cells links calendar (rotated k b words) bits arrived
 
+  pub rotated_kept : Kept words (rotated k b words)
+  unfolding rotated fallen
+  rotated_kept = elim b as (λ (x : Option Fall). Kept words (rotated k x words)) [
+    | Some f ↦ kept_fall true k.rotation f.s f.second k.t words
+    | None ↦ record { long = refl; opened = λ u. refl; waiting = λ u. refl }
+  ]
+
   pub quiet_kept : Kept words (fallen (j.verdict =? excess) j.vci j.s j.second k.t (rotated k b words))
-  unfolding fallen rotated
+  unfolding fallen
   quiet_kept =
-      let one = kept_fall b.on k.rotation b.s b.second k.t words in
+      let one = rotated_kept in
       let two = kept_fall (j.verdict =? excess) j.vci j.s j.second k.t (rotated k b words) in
       record {
         long = two.long ∙ one.long;

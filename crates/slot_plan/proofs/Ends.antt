@@ -4,6 +4,7 @@ use Prim.Native.Nat.{ℕ, ◌+◌, ◌-◌, ◌≤◌}
 use mathlib.Core.Path.{◌≡◌, sym, ◌∙◌}
 use mathlib.Core.Bool.{Bool, true, false, not}
 use mathlib.Core.List.{List}
+use Rattle.std.specs.Prelude.{Option}
 use native.Mathlib.Omega.{arith}
 use borrow.Author.Tests.{not-true, not-false}
 use lib.ListN.{get_or, set}
@@ -30,7 +31,7 @@ pub read_same : (l l' : List ℕ) (i : ℕ) → l' ≡ l → 1 ≤ get_or l i 0 
 read_same l l' i e h = rw e h
 
 -- no cell accepted
-pub quiet_left_lem : (k : Record) (b : Fall) (j : Judged) (o : Off) (cells links calendar words bits arrived : List ℕ) (s : Served)
+pub quiet_left_lem : (k : Record) (b : Option Fall) (j : Judged) (o : Off) (cells links calendar words bits arrived : List ℕ) (s : Served)
     (links₁ links' calendar' words₁ words' bits₄ bits' : List ℕ)
     → (s.ctl ≡ with_ends k (k.free + 1) (ends_of o.head o.tail)) × (s.answer ≡ answer_of 0 j.verdict j.vci 0 o.space o.vci)
     → links' ≡ links₁
@@ -42,7 +43,7 @@ unfolding left_by quiet_work
 quiet_left_lem k b j o cells links calendar words bits arrived s links₁ links' calendar' words₁ words' bits₄ bits' r l f w g = rw (r.0, r.1, l, w, f, g)
 
 -- a cell accepted, and nothing departs
-pub accept_served : (k : Record) (b : Fall) (j : Judged) (a : Seat) (cell cells links calendar words bits arrived : List ℕ) (s : Served)
+pub accept_served : (k : Record) (b : Option Fall) (j : Judged) (a : Seat) (cell cells links calendar words bits arrived : List ℕ) (s : Served)
     (cells' links' calendar' words' bits' arrived' : List ℕ)
     → s.ctl ≡ with_ends k (k.free - 1) (ends_of k.outhead k.outtail)
     → s.answer ≡ answer_of 0 j.verdict j.vci j.d 65535 0
@@ -61,7 +62,7 @@ accept_served k b j a cell cells links calendar words bits arrived s cells' link
 again : (free : ℕ) → 1 ≤ free → free - 1 + 1 ≡ free
 again free some = omega arith
 
-pub accept_left_lem : (k : Record) (b : Fall) (j : Judged) (a : Seat) (o : Off) (cell cells links calendar words bits arrived : List ℕ)
+pub accept_left_lem : (k : Record) (b : Option Fall) (j : Judged) (a : Seat) (o : Off) (cell cells links calendar words bits arrived : List ℕ)
     (s : Served) (cells' links₁ links' calendar₁ calendar' words₃ words' bits₁ bits₄ bits' arrived' : List ℕ)
     → 1 ≤ k.free
     → (s.ctl ≡ with_ends k k.free (ends_of o.head o.tail)) × (s.answer ≡ answer_of 0 j.verdict j.vci j.d o.space o.vci)

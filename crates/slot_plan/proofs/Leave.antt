@@ -3,6 +3,7 @@ use Prim.Native.Nat.{ℕ, ◌+◌, ◌-◌}
 use mathlib.Core.Path.{◌≡◌, refl, ◌∙◌, ap}
 use mathlib.Core.Bool.{Bool, true, false, not, ◌&&◌}
 use mathlib.Core.List.{List}
+use Rattle.std.specs.Prelude.{Option, Some, None}
 use lib.ListN.{get_or, set}
 use Rattle.meaning.specs.Plain.{when◌then◌else◌, ◌<?◌, ◌≤?◌, ◌=?◌, refused, next, needs, ◌and_then◌}
 use Rattle.meaning.specs.Numbers.{empty, cell_start, waiting_place, kind_in_range}
@@ -17,7 +18,7 @@ use Rattle.meaning.proofs.WordsLaws.{write_waiting}
 use Rattle.meaning.proofs.MarksLaws.{unmarked_free, unmarked_fits}
 use Rattle.slot_arrive.specs.Arrival.{one_less}
 use Rattle.mem_lists.specs.declared.Off.{Off}
-use Rattle.mem_lists.specs.Spaces.{ends_of, linked, off_as, none_off, may_leave, off_of}
+use Rattle.mem_lists.specs.Spaces.{ends_of, linked, off_as, may_leave, off_of}
 use Rattle.slot_plan.specs.Plan.{with_ends, left_by, may_be_freed, leaving, joined_links, joined_head, off_marked, off_unmarked, leaving_marked, leaving_output}
 
 abbrev grown : Ends → List ℕ → Grown
@@ -32,7 +33,7 @@ less_is words v = write_waiting words v (get_or words (waiting_place v) 0 - 1)
 depart_is : (w : Work) (x : ℕ) (left : Ends)
     → depart w (record { space = x; left = left })
     ≡ (when may_leave w.state.ctl.n w.state.ctl.v w.state.ctl.kind w.state.cells w.state.words x
-    then leaving w w.state.links w.state.calendar w.state.bits (off_as true x (connection w.state.ctl.v (header_at w.state.ctl.kind w.state.cells (cell_start x))) left)
+    then leaving w w.state.links w.state.calendar w.state.bits (Some (off_as x (connection w.state.ctl.v (header_at w.state.ctl.kind w.state.cells (cell_start x))) left))
     else refused)
 unfolding depart may_leave may_be_freed leaving left_by with_ends with_output_list with_free with_bits with_words with_record record_with
 depart_is w x left =
@@ -57,12 +58,12 @@ depart_is w x left =
         (state_of (record_with s.ctl s.ctl.t s.ctl.turn s.ctl.rotation (s.ctl.free + 1) left) s.cells s.links s.calendar words (given s.bits x) s.arrived)
         (answer_of w.answer.number w.answer.verdict w.answer.vci w.answer.d x at)
 
-    same : made (write_connection s.words at (with_waiting vc (vc.waiting - 1))) ≡ left_by w s.links s.calendar s.bits (off_as true x at left)
+    same : made (write_connection s.words at (with_waiting vc (vc.waiting - 1))) ≡ left_by w s.links s.calendar s.bits (off_as x at left)
     same = ap made (less_is s.words at)
 
     go : (a p q e : Bool)
         → needs a (needs (p && q) (needs e (next (made (write_connection s.words at (with_waiting vc (vc.waiting - 1)))))))
-        ≡ (when a && p && q then (when e then next (left_by w s.links s.calendar s.bits (off_as true x at left)) else refused) else refused)
+        ≡ (when a && p && q then (when e then next (left_by w s.links s.calendar s.bits (off_as x at left)) else refused) else refused)
     go true true true true = ap next same
     go true true true false = refl
     go true true false e = refl
@@ -88,19 +89,19 @@ take_off w e = go (e.head =? e.tail) (follower <? s.ctl.n)
     may : Bool
     may = may_leave s.ctl.n s.ctl.v s.ctl.kind s.cells s.words e.head
 
-    inside : (m : Bool) (o : Off) → (when m then leaving w s.links s.calendar s.bits o else refused) ≡ leaving w s.links s.calendar s.bits (when m then o else none_off)
+    inside : (m : Bool) (o : Option Off) → (when m then leaving w s.links s.calendar s.bits o else refused) ≡ leaving w s.links s.calendar s.bits (when m then o else None)
     inside true o = refl
     inside false o = refl
 
-    none : (m : Bool) → refused ≡ leaving w s.links s.calendar s.bits (when m then none_off else none_off)
+    none : (m : Bool) → refused ≡ leaving w s.links s.calendar s.bits (when m then None else None)
     none true = refl
     none false = refl
 
     go : (a f : Bool)
         → ((when a then next (record { space = e.head; left = empty_list }) else needs f (next (record { space = e.head; left = record { head = follower; tail = e.tail } }))) and_then depart w)
-        ≡ leaving w s.links s.calendar s.bits (when may then (when a then off_as true e.head vci (ends_of empty empty) else when f then off_as true e.head vci (ends_of follower e.tail) else none_off) else none_off)
-    go true f = depart_is w e.head empty_list ∙ inside may (off_as true e.head vci empty_list)
-    go false true = depart_is w e.head (ends_of follower e.tail) ∙ inside may (off_as true e.head vci (ends_of follower e.tail))
+        ≡ leaving w s.links s.calendar s.bits (when may then (when a then Some (off_as e.head vci (ends_of empty empty)) else when f then Some (off_as e.head vci (ends_of follower e.tail)) else None) else None)
+    go true f = depart_is w e.head empty_list ∙ inside may (Some (off_as e.head vci empty_list))
+    go false true = depart_is w e.head (ends_of follower e.tail) ∙ inside may (Some (off_as e.head vci (ends_of follower e.tail)))
     go false false = none may
 
 -- entry T joined to the Output List, as numbers
@@ -139,11 +140,12 @@ module _ (w : Work) where
       w.answer
 
   -- a mark says nothing of what may be freed
-  after_is : (g : Grown) (o : Off)
+  after_is : (g : Grown) (o : Option Off)
       → leaving (after4 g) g.links (write_entry s.calendar s.ctl.turn empty_list) (unmarked s.bits s.ctl.turn) o
       ≡ leaving w g.links (write_entry s.calendar s.ctl.turn empty_list) (unmarked s.bits s.ctl.turn) o
   unfolding leaving left_by may_be_freed with_ends record_with
-  after_is g o =
+  after_is g None = refl
+  after_is g (Some o) =
       rw (unmarked_fits s.bits s.ctl.turn s.ctl.n s.ctl.free, unmarked_free s.bits s.ctl.turn o.space)
 
   module _ (fits : ends_fit N entry_t && ends_fit N (output_list s) ≡ true) where
@@ -164,7 +166,7 @@ module _ (w : Work) where
         (ap (λ (g : Grown). step5 (after4 g)) (join_tail_is s.links (output_list s) entry_t)
         ∙ some (s.ctl.outhead =? empty) refl)
       where
-        goes : Grown → ℕ → Off
+        goes : Grown → ℕ → Option Off
         goes g x = off_of N s.ctl.v s.ctl.kind s.cells g.links s.words x entry_t.tail
 
         some : (b : Bool) → s.ctl.outhead =? empty ≡ b

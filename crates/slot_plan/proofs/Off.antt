@@ -1,8 +1,10 @@
 -- What departs: what its tests have shown, of it and of the words of free spaces; and that it depends on the words only by open words and waiting.
 use Prim.Native.Nat.{ℕ, ◌≤◌, ◌<◌}
-use mathlib.Core.Path.{◌≡◌, refl, sym, ◌∙◌, ap}
+use mathlib.Core.Path.{◌≡◌, refl, sym, ap, subst}
 use mathlib.Core.Bool.{Bool, true, false, not, ◌&&◌}
 use mathlib.Core.List.{List}
+use Rattle.std.specs.Prelude.{Option, Some, None}
+use Rattle.std.proofs.lemmas.Option.{none-some, same_Some}
 use native.Mathlib.Omega.{arith}
 use borrow.Author.Tests.{leb-true, not-true}
 use lib.ListN.{get_or}
@@ -14,10 +16,10 @@ use Rattle.meaning.specs.Words.{connection_at}
 use Rattle.meaning.proofs.NamesLaws.{names_low}
 use Rattle.meaning.proofs.BitsLaws.{free_most}
 use Rattle.mem_lists.specs.declared.Off.{Off}
-use Rattle.mem_lists.specs.Spaces.{ends_of, off_as, none_off, may_leave, off_of}
+use Rattle.mem_lists.specs.Spaces.{ends_of, off_as, may_leave, off_of}
 use Rattle.mem_lists.proofs.After.{Kept}
 use Rattle.slot_plan.specs.Plan.{may_be_freed}
-use Rattle.slot_plan.proofs.Found.{no, and}
+use Rattle.slot_plan.proofs.Found.{and}
 
 module _ (N z kind : ℕ) (cells links words : List ℕ) (x tail : ℕ) where
   abbrev h : Header
@@ -26,7 +28,7 @@ module _ (N z kind : ℕ) (cells links words : List ℕ) (x tail : ℕ) where
   abbrev at : ℕ
   at = connection z h
 
-  abbrev off : Off
+  abbrev off : Option Off
   off = off_of N z kind cells links words x tail
 
   may_shows : may_leave N z kind cells words x ≡ true → (at < connections_in z) × (1 ≤ get_or words (waiting_place at) 0)
@@ -38,33 +40,37 @@ module _ (N z kind : ℕ) (cells links words : List ℕ) (x tail : ℕ) where
       let r = and (kind_in_range kind) (names_connection z h && get_or words (open_place at) 0 =? 1) q.0 in
       (names_low z h (and (names_connection z h) (get_or words (open_place at) 0 =? 1) r.1).0, leb-true _ _ q.1)
 
-  pub off_shows : off.ok ≡ true → (off.vci < connections_in z) × (1 ≤ get_or words (waiting_place off.vci) 0)
+  -- the tests, one after the other
+  abbrev by_tests : Bool → Bool → Bool → Option Off
+  by_tests m a f =
+      when m then (when a then Some (off_as x at (ends_of empty empty)) else when f then Some (off_as x at (ends_of (get_or links x 0) tail)) else None) else None
+
+  none_off : {A : Type 0} {o : Off} → None ≡ Some o → A
+  none_off {o = o} e = absurd (none-some o e)
+
+  pub off_shows : (o : Off) → off ≡ Some o → (o.vci < connections_in z) × (1 ≤ get_or words (waiting_place o.vci) 0)
   unfolding off_of
-  off_shows = go (may_leave N z kind cells words x) (x =? tail) (get_or links x 0 <? N) refl
+  off_shows o = go (may_leave N z kind cells words x) (x =? tail) (get_or links x 0 <? N) refl
     where
-      go : (m a f : Bool) → may_leave N z kind cells words x ≡ m
-          → (let o = when m then (when a then off_as true x at (ends_of empty empty) else when f then off_as true x at (ends_of (get_or links x 0) tail) else none_off) else none_off in
-          o.ok ≡ true → (o.vci < connections_in z) × (1 ≤ get_or words (waiting_place o.vci) 0))
-      go true true f e = λ ok. may_shows e
-      go true false true e = λ ok. may_shows e
-      go true false false e = λ ok. no ok
-      go false a f e = λ ok. no ok
+      go : (m a f : Bool) → may_leave N z kind cells words x ≡ m → by_tests m a f ≡ Some o → (o.vci < connections_in z) × (1 ≤ get_or words (waiting_place o.vci) 0)
+      go true true f e is = let P : Off → Type 0 = λ y. (y.vci < connections_in z) × (1 ≤ get_or words (waiting_place y.vci) 0) in subst P (same_Some _ _ is) (may_shows e)
+      go true false true e is = let P : Off → Type 0 = λ y. (y.vci < connections_in z) × (1 ≤ get_or words (waiting_place y.vci) 0) in subst P (same_Some _ _ is) (may_shows e)
+      go true false false e is = none_off is
+      go false a f e is = none_off is
 
   -- what departs is the head
-  pub off_space : off.ok ≡ true → off.space ≡ x
+  pub off_space : (o : Off) → off ≡ Some o → o.space ≡ x
   unfolding off_of
-  off_space = go (may_leave N z kind cells words x) (x =? tail) (get_or links x 0 <? N)
+  off_space o = go (may_leave N z kind cells words x) (x =? tail) (get_or links x 0 <? N)
     where
-      go : (m a f : Bool)
-          → (let o = when m then (when a then off_as true x at (ends_of empty empty) else when f then off_as true x at (ends_of (get_or links x 0) tail) else none_off) else none_off in
-          o.ok ≡ true → o.space ≡ x)
-      go true true f = λ ok. refl
-      go true false true = λ ok. refl
-      go true false false = λ ok. no ok
-      go false a f = λ ok. no ok
+      go : (m a f : Bool) → by_tests m a f ≡ Some o → o.space ≡ x
+      go true true f is = ap (λ (y : Off). y.space) (sym (same_Some _ _ is))
+      go true false true is = ap (λ (y : Off). y.space) (sym (same_Some _ _ is))
+      go true false false is = none_off is
+      go false a f is = none_off is
 
-  pub off_low : (o : Off) → o ≡ off → o.ok ≡ true → x < N → o.space < N
-  off_low o e ok h = rw (ap (λ (y : Off). y.space) e ∙ off_space (ap (λ (y : Off). y.ok) (sym e) ∙ ok)) h
+  pub off_low : (o : Off) → off ≡ Some o → x < N → o.space < N
+  off_low o e h = rw (off_space o e) h
 
   pub off_kept : (words' : List ℕ) → Kept words words' → off_of N z kind cells links words' x tail ≡ off
   unfolding off_of may_leave names_open connection_at

@@ -3,6 +3,7 @@ use Prim.Native.Nat.{ℕ, ◌+◌, ◌*◌}
 use mathlib.Core.Path.{◌≡◌, refl, sym, ◌∙◌, ap}
 use mathlib.Core.Bool.{true, false, not}
 use mathlib.Core.List.{List}
+use Rattle.std.specs.Prelude.{Option, Some, None}
 use lib.ListN.{get_or}
 use Rattle.meaning.specs.declared.Record.{Record}
 use Rattle.meaning.specs.declared.Served.{Served}
@@ -17,11 +18,11 @@ use Rattle.slot_arrive.specs.Arrival.{fallen}
 use Rattle.mem_lists.specs.declared.Off.{Off}
 use Rattle.mem_lists.specs.Spaces.{ends_of, linked, off_of}
 use Rattle.slot_plan.specs.Plan.{rotated, quiet_work, left_by, may_be_freed, leaving, joined_links, joined_head, off_marked, leaving_marked, leaving_output}
-use Rattle.slot_plan.proofs.Cases.{leaving_go, leaving_off, leaving_unfit, quiet_marked_off, quiet_output_off}
+use Rattle.slot_plan.proofs.Cases.{leaving_go, leaving_none, leaving_unfit, quiet_marked_off, quiet_output_off}
 use Rattle.slot_plan.specs.Plan.{served_work}
 
 -- ---- no cell accepted
-module _ (k : Record) (b : Fall) (j : Judged) (cells links calendar words bits arrived : List ℕ) where
+module _ (k : Record) (b : Option Fall) (j : Judged) (cells links calendar words bits arrived : List ℕ) where
   abbrev pub quiet_work_lem : Work
   quiet_work_lem = quiet_work k j cells links calendar (rotated k b words) bits arrived
 
@@ -37,44 +38,44 @@ module _ (k : Record) (b : Fall) (j : Judged) (cells links calendar words bits a
   quiet_served s words' p q e = rw (p, q, e)
 
   -- entry T is marked, from head to tail
-  module _ (head tail : ℕ) (o : Off) (is : o ≡ off_of k.n k.v k.kind cells (joined_links k (ends_of head tail) links) words (joined_head k (ends_of head tail)) tail) where
-    off_is : off_marked quiet_work_lem (ends_of head tail) ≡ o
+  module _ (head tail : ℕ) (found : Option Off) (is : found ≡ off_of k.n k.v k.kind cells (joined_links k (ends_of head tail) links) words (joined_head k (ends_of head tail)) tail) where
+    off_is : off_marked quiet_work_lem (ends_of head tail) ≡ found
     off_is = quiet_marked_off k b j cells links calendar words bits arrived (ends_of head tail) ∙ sym is
 
-    abbrev now : Off → Out Work
+    abbrev now : Option Off → Out Work
     now x = leaving quiet_work_lem (linked (not (k.outhead =? empty)) k.outtail head links) (write_entry calendar k.turn empty_list) (unmarked bits k.turn) x
 
-    marked_is : leaving_marked quiet_work_lem (ends_of head tail) ≡ now o
+    marked_is : leaving_marked quiet_work_lem (ends_of head tail) ≡ now found
     unfolding leaving_marked joined_links quiet_work
     marked_is = ap now off_is
 
-    pub marked_none : o.ok ≡ false → leaving_marked quiet_work_lem (ends_of head tail) ≡ refused
-    marked_none e = marked_is ∙ leaving_off quiet_work_lem _ _ _ o e
+    pub marked_none : found ≡ None → leaving_marked quiet_work_lem (ends_of head tail) ≡ refused
+    marked_none e = marked_is ∙ ap now e ∙ leaving_none quiet_work_lem _ _ _
 
-    pub marked_unfit : may_be_freed k.n k.free bits o.space ≡ false → leaving_marked quiet_work_lem (ends_of head tail) ≡ refused
+    pub marked_unfit : (o : Off) → found ≡ Some o → may_be_freed k.n k.free bits o.space ≡ false → leaving_marked quiet_work_lem (ends_of head tail) ≡ refused
     unfolding quiet_work
-    marked_unfit e = marked_is ∙ leaving_unfit quiet_work_lem _ _ _ o e
+    marked_unfit o e f = marked_is ∙ ap now e ∙ leaving_unfit quiet_work_lem _ _ _ o f
 
-    pub marked_goes : o.ok ≡ true → may_be_freed k.n k.free bits o.space ≡ true
+    pub marked_goes : (o : Off) → found ≡ Some o → may_be_freed k.n k.free bits o.space ≡ true
         → leaving_marked quiet_work_lem (ends_of head tail)
         ≡ next (left_by quiet_work_lem (linked (not (k.outhead =? empty)) k.outtail head links) (write_entry calendar k.turn empty_list) (unmarked bits k.turn) o)
     unfolding quiet_work
-    marked_goes e f = marked_is ∙ leaving_go quiet_work_lem _ _ _ o e f
+    marked_goes o e f = marked_is ∙ ap now e ∙ leaving_go quiet_work_lem _ _ _ o f
 
   -- it is not, and the Output List has a head
-  module _ (o : Off) (is : o ≡ off_of k.n k.v k.kind cells links words k.outhead k.outtail) where
-    output_is : leaving_output quiet_work_lem ≡ leaving quiet_work_lem links calendar bits o
+  module _ (found : Option Off) (is : found ≡ off_of k.n k.v k.kind cells links words k.outhead k.outtail) where
+    output_is : leaving_output quiet_work_lem ≡ leaving quiet_work_lem links calendar bits found
     unfolding leaving_output quiet_work
     output_is = ap (leaving quiet_work_lem links calendar bits) (quiet_output_off k b j cells links calendar words bits arrived ∙ sym is)
 
-    pub output_none : o.ok ≡ false → leaving_output quiet_work_lem ≡ refused
-    output_none e = output_is ∙ leaving_off quiet_work_lem _ _ _ o e
+    pub output_none : found ≡ None → leaving_output quiet_work_lem ≡ refused
+    output_none e = output_is ∙ ap (leaving quiet_work_lem links calendar bits) e ∙ leaving_none quiet_work_lem _ _ _
 
-    pub output_unfit : may_be_freed k.n k.free bits o.space ≡ false → leaving_output quiet_work_lem ≡ refused
+    pub output_unfit : (o : Off) → found ≡ Some o → may_be_freed k.n k.free bits o.space ≡ false → leaving_output quiet_work_lem ≡ refused
     unfolding quiet_work
-    output_unfit e = output_is ∙ leaving_unfit quiet_work_lem _ _ _ o e
+    output_unfit o e f = output_is ∙ ap (leaving quiet_work_lem links calendar bits) e ∙ leaving_unfit quiet_work_lem _ _ _ o f
 
-    pub output_goes : o.ok ≡ true → may_be_freed k.n k.free bits o.space ≡ true
+    pub output_goes : (o : Off) → found ≡ Some o → may_be_freed k.n k.free bits o.space ≡ true
         → leaving_output quiet_work_lem ≡ next (left_by quiet_work_lem (linked false k.outtail 0 links) calendar bits o)
     unfolding quiet_work linked
-    output_goes e f = output_is ∙ leaving_go quiet_work_lem _ _ _ o e f
+    output_goes o e f = output_is ∙ ap (leaving quiet_work_lem links calendar bits) e ∙ leaving_go quiet_work_lem _ _ _ o f

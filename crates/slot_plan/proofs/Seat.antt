@@ -4,6 +4,7 @@ use mathlib.Core.Path.{◌≡◌, refl, ◌∙◌}
 use mathlib.Core.Logic.{◌≢◌}
 use mathlib.Core.Bool.{Bool, true, false, not}
 use mathlib.Core.List.{List}
+use Rattle.std.specs.Prelude.{Option, Some, None}
 use native.Mathlib.Omega.{arith}
 use native.Mathlib.Nat.{mod-eq_of_lt, mod-eq-sub-mod}
 use native.Mathlib.Decide.{dec_lt}
@@ -19,7 +20,7 @@ use Rattle.meaning.specs.Work.{Work}
 use Rattle.meaning.specs.Arrival.{sent_as, place}
 use Rattle.slot_arrive.specs.declared.Judged.{Judged}
 use Rattle.mem_lists.specs.declared.Seat.{Seat}
-use Rattle.mem_lists.specs.Spaces.{ends_of, linked, seat_as, no_seat, seat_at, entry_of, seat_of}
+use Rattle.mem_lists.specs.Spaces.{ends_of, linked, seat_as, seat_at, entry_of, seat_of}
 use Rattle.slot_plan.specs.Plan.{with_ends, seat_ends, seeking_work, seating, accept_work}
 
 -- (T + D) modulo N without a division
@@ -62,17 +63,18 @@ module _ (k : Record) (j : Judged) (x : ℕ) (cell cells links calendar words bi
 
     -- the cell takes space x
     place_is : place (sent_as j.verdict cell) j.d x (seeking_work k j cells links calendar words bits arrived)
-        ≡ (when ends_fit N entry then next (accept_work k j (seat_as true x e entry) cell cells links calendar words bits arrived) else refused)
+        ≡ (when ends_fit N entry then next (accept_work k j (seat_as x e entry) cell cells links calendar words bits arrived) else refused)
     unfolding place seeking_work accept_work seat_ends with_ends with_free with_bits with_arrived with_cells with_links with_calendar with_record record_with e entry
     place_is =
         rw (entry_is N k.turn j.d turn near, join_head_is links (entry_at calendar (entry_of N k.turn j.d)) x)
 
-    abbrev seated : Seat → Out Work
-    seated a = when a.ok then next (accept_work k j a cell cells links calendar words bits arrived) else refused
+    abbrev pub seated : Option Seat → Out Work
+    seated None = refused
+    seated (Some a) = next (accept_work k j a cell cells links calendar words bits arrived)
 
     inside : (t : Bool)
-        → (when t then next (accept_work k j (seat_as true x e entry) cell cells links calendar words bits arrived) else refused)
-        ≡ seated (when t then seat_as true x e entry else no_seat)
+        → (when t then next (accept_work k j (seat_as x e entry) cell cells links calendar words bits arrived) else refused)
+        ≡ seated (when t then Some (seat_as x e entry) else None)
     inside true = refl
     inside false = refl
 

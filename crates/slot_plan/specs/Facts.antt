@@ -5,7 +5,7 @@
 --   Accepted k j ..  == of an accepted cell: its connection, its D and its waiting
 --   Seated k a bits  == of an accepted cell: its space, which is free, and its entry; the words of free spaces and their number fit
 --   OffStored k ..   == what departs once the cell is stored and counted, from memory as it came
-use Rattle.std.specs.Prelude.{ℕ, ◌*◌, ◌≤◌, ◌<◌, ◌≡◌, Bool, true, not, List, length}
+use Rattle.std.specs.Prelude.{ℕ, ◌*◌, ◌≤◌, ◌<◌, ◌≡◌, Bool, true, not, Option, List, length}
 use Rattle.meaning.specs.declared.Record.{Record}
 use Rattle.meaning.specs.Plain.{◌=?◌}
 use Rattle.meaning.specs.Numbers.{most_n, least_v, most_v, octets, per_entry, connections_in, words_in, bit_words, empty, lets_in}
@@ -60,7 +60,7 @@ pub record Seated (k : Record) (a : Seat) (bits : List ℕ) : Type 0 where
   pub is_free : is_free_space bits a.x ≡ true
 
 -- entry is what has joined the Output List, where joins: the cell's header and its connection's words need no second reading
-abbrev pub OffStored : Record → Judged → Seat → List ℕ → List ℕ → List ℕ → Bool → Ends → Off → Type 0
+abbrev pub OffStored : Record → Judged → Seat → List ℕ → List ℕ → List ℕ → Bool → Ends → Option Off → Type 0
 OffStored k j a cells links words joins entry o =
     o
     ≡ off_after k.n k.v k.kind cells (linked joins k.outtail entry.head (linked (not (a.head =? empty)) a.x a.head links)) words

@@ -1,7 +1,7 @@
 -- A slot as the code runs it: all is read and judged first, as numbers; then each case writes, a slice at a time.
 --
 --   clocked r                == the record once step 1 has moved the clock
---   rotated k b words        == the words once step 2 has written what it found
+--   rotated k b words        == the words once step 2 has written what falls, if anything does
 --   rotated_work k ..         == the work after step 2, of which words are the words
 --   quiet_work k j ..         == the work after step 3 where no cell is accepted; words are as step 2 left them
 --   seating k j x ..         == what is left of step 3 once the cell is judged accepted, x being the space that it takes
@@ -10,9 +10,9 @@
 --   left_by w links cal bits o == the work after step 5 where o departs: w is the work after step 3, links, cal and bits are as
 --                               step 4 left them
 --   may_be_freed N free bits x    == the words of free spaces and their number fit, and space x is not free
---   leaving w links cal bits o == left_by, or refused where o is, or where its space may not be freed; a mark says nothing of that, so
---                               the bits of w are judged
-use Rattle.std.specs.Prelude.{ℕ, ◌+◌, ◌-◌, ◌%◌, Bool, not, ◌&&◌, List, set}
+--   leaving w links cal bits o == left_by, or refused where nothing may depart, or where its space may not be freed; a mark says nothing
+--                               of that, so the bits of w are judged
+use Rattle.std.specs.Prelude.{ℕ, ◌+◌, ◌-◌, ◌%◌, Bool, true, not, ◌&&◌, Option, Some, None, List, set}
 use Rattle.meaning.specs.declared.Record.{Record}
 use Rattle.meaning.specs.declared.Served.{Served}
 use Rattle.meaning.specs.Plain.{when◌then◌else◌, ◌=?◌, Out, refused, next, needs}
@@ -27,7 +27,7 @@ use Rattle.slot_arrive.specs.declared.Judged.{Judged}
 use Rattle.slot_arrive.specs.Arrival.{fallen, filled, one_less}
 use Rattle.mem_lists.specs.declared.Seat.{Seat}
 use Rattle.mem_lists.specs.declared.Off.{Off}
-use Rattle.mem_lists.specs.Spaces.{ends_of, linked, no_seat, seat_of, off_of}
+use Rattle.mem_lists.specs.Spaces.{ends_of, linked, seat_of, off_of}
 
 -- the record with another number of free spaces and another Output List
 unfoldable pub with_ends : Record → ℕ → Ends → Record
@@ -40,8 +40,9 @@ unfoldable pub clocked : Record → Record
 clocked r =
     record_with r ((r.t + 1) % slot_numbers) ((r.turn + 1) % r.n) ((r.rotation + 1) % connections_in r.v) r.free (output_ends r)
 
-unfoldable pub rotated : Record → Fall → List ℕ → List ℕ
-rotated k b words = fallen b.on k.rotation b.s b.second k.t words
+unfoldable pub rotated : Record → Option Fall → List ℕ → List ℕ
+rotated k None words = words
+rotated k (Some f) words = fallen true k.rotation f.s f.second k.t words
 
 unfoldable pub quiet_work : Record → Judged → List ℕ → List ℕ → List ℕ → List ℕ → List ℕ → List ℕ → Work
 quiet_work k j cells links calendar words bits arrived =
@@ -63,9 +64,9 @@ seating k j x cell cells links calendar words bits arrived =
     needs (spaces_fit k.n k.free bits && not (k.free =? 0))
     (needs (is_free_space bits x) (place (sent_as j.verdict cell) j.d x (seeking_work k j cells links calendar words bits arrived)))
 
-unfoldable pub seat_now : Record → ℕ → List ℕ → List ℕ → Seat
+unfoldable pub seat_now : Record → ℕ → List ℕ → List ℕ → Option Seat
 seat_now k D calendar bits =
-    when spaces_fit k.n k.free bits && not (k.free =? 0) then seat_of k.n calendar k.turn D (lowest_free bits) else no_seat
+    when spaces_fit k.n k.free bits && not (k.free =? 0) then seat_of k.n calendar k.turn D (lowest_free bits) else None
 
 -- the entry that the cell has joined: at the head, and at the tail where it was empty
 unfoldable pub seat_ends : Seat → Ends
@@ -102,11 +103,11 @@ left_by w links calendar bits o =
 unfoldable pub may_be_freed : ℕ → ℕ → List ℕ → ℕ → Bool
 may_be_freed N free bits x = spaces_fit N free bits && not (is_free_space bits x)
 
-unfoldable pub leaving : Work → List ℕ → List ℕ → List ℕ → Off → Out Work
-leaving w links calendar bits o =
+unfoldable pub leaving : Work → List ℕ → List ℕ → List ℕ → Option Off → Out Work
+leaving w links calendar bits None = refused
+leaving w links calendar bits (Some o) =
     let s = w.state in
-    when o.ok then (when may_be_freed s.ctl.n s.ctl.free s.bits o.space then next (left_by w links calendar bits o) else refused)
-    else refused
+    when may_be_freed s.ctl.n s.ctl.free s.bits o.space then next (left_by w links calendar bits o) else refused
 
 -- step 4: the links once entry T has joined the Output List, and that list's head
 unfoldable pub joined_links : Record → Ends → List ℕ → List ℕ
@@ -116,12 +117,12 @@ unfoldable pub joined_head : Record → Ends → ℕ
 joined_head r entry = when r.outhead =? empty then entry.head else r.outhead
 
 -- what departs from a work after step 3, where entry T is marked, and where it is not
-unfoldable pub off_marked : Work → Ends → Off
+unfoldable pub off_marked : Work → Ends → Option Off
 off_marked w entry =
     let s = w.state in
     off_of s.ctl.n s.ctl.v s.ctl.kind s.cells (joined_links s.ctl entry s.links) s.words (joined_head s.ctl entry) entry.tail
 
-unfoldable pub off_unmarked : Work → Off
+unfoldable pub off_unmarked : Work → Option Off
 off_unmarked w =
     let s = w.state in
     off_of s.ctl.n s.ctl.v s.ctl.kind s.cells s.links s.words s.ctl.outhead s.ctl.outtail
