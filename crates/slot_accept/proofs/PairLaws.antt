@@ -2,8 +2,9 @@
 -- not fit the slot is refused.
 use Prim.Native.Nat.{ℕ}
 use mathlib.Core.Path.{◌≡◌, sym, ◌∙◌}
-use mathlib.Core.Bool.{true, false}
+use mathlib.Core.Bool.{false}
 use mathlib.Core.List.{List}
+use Rattle.std.specs.Prelude.{Option, Some}
 use Rattle.meaning.specs.declared.Record.{Record}
 use Rattle.meaning.specs.declared.Served.{Served}
 use Rattle.meaning.specs.Plain.{◌and_then◌}
@@ -28,17 +29,18 @@ pub both_read : (e : Ends) (head tail : ℕ) → head ≡ e.head → tail ≡ e.
 both_read e head tail p q h t = λ i. record { head = (sym p ∙ h) i; tail = (sym q ∙ t) i }
 
 -- refused, and nothing is written
-module _ (r k : Record) (b : Fall) (j : Judged) (a : Seat) (cell cells links calendar words bits arrived : List ℕ) (s : Served)
+module _ (r k : Record) (b : Option Fall) (j : Judged) (a : Seat) (cell cells links calendar words bits arrived : List ℕ) (s : Served)
     (refuses : (s.ctl ≡ r) × (s.answer ≡ bare_answer 3)) where
   pub output_unfit : Sized (state_of k cells links calendar words bits arrived) → Accepted k j cell words
-      → a ≡ seat_now k j.d calendar bits
-      → a.ok ≡ true
+      → (found : Option Seat)
+      → found ≡ seat_now k j.d calendar bits
+      → found ≡ Some a
       → ends_fit k.n (ends_of k.outhead k.outtail) ≡ false
       → served_work s cells links calendar words bits arrived
       ≡ finish (state_of r cells links calendar words bits arrived) (seating k j (lowest_free bits) cell cells links calendar (rotated k b words) bits arrived and_then step4 and_then step5)
-  output_unfit z acc is ok unfit =
+  output_unfit z acc found is some unfit =
       as_came r cells links calendar words bits arrived _ s refuses
-      (now_unfit k j cell cells links calendar (rotated k b words) bits arrived z.turn_low acc.near a is ok unfit)
+      (now_unfit k j cell cells links calendar (rotated k b words) bits arrived z.turn_low acc.near found is a some unfit)
 
   pub entry_unfit : (x y : ℕ) → x ≡ (entry_at (write_entry calendar a.e (seat_ends a)) k.turn).head
       → y ≡ (entry_at (write_entry calendar a.e (seat_ends a)) k.turn).tail

@@ -4,24 +4,25 @@ use mathlib.Core.Path.{◌≡◌, refl, sym, ◌∙◌, ap}
 use mathlib.Core.Logic.{◌≢◌}
 use mathlib.Core.Bool.{Bool, true, false, ◌&&◌}
 use mathlib.Core.List.{List}
+use Rattle.std.specs.Prelude.{None}
 use borrow.Author.Tests.{eq-eqb, ne_eqb}
 use Rattle.meaning.specs.declared.Record.{Record}
 use Rattle.meaning.specs.Plain.{when◌then◌else◌}
 use Rattle.meaning.specs.Bits.{is_free_space, spaces_fit, lowest_free, taken}
 use Rattle.meaning.proofs.BitsLaws.{taken_own, taken_other}
-use Rattle.mem_lists.specs.Spaces.{no_seat, seat_of}
+use Rattle.mem_lists.specs.Spaces.{seat_of}
 use Rattle.slot_plan.specs.Plan.{seat_now}
 
 module _ (k : Record) (D : ℕ) (calendar bits : List ℕ) where
-  pub none_free : k.free ≡ 0 → no_seat ≡ seat_now k D calendar bits
+  pub none_free : k.free ≡ 0 → None ≡ seat_now k D calendar bits
   unfolding seat_now
   none_free e = rw (eq-eqb k.free 0 e) (go (spaces_fit k.n k.free bits))
     where
-      go : (b : Bool) → no_seat ≡ (when b && false then seat_of k.n calendar k.turn D (lowest_free bits) else no_seat)
+      go : (b : Bool) → None ≡ (when b && false then seat_of k.n calendar k.turn D (lowest_free bits) else None)
       go true = refl
       go false = refl
 
-  pub unfit_spaces : spaces_fit k.n k.free bits ≡ false → no_seat ≡ seat_now k D calendar bits
+  pub unfit_spaces : spaces_fit k.n k.free bits ≡ false → None ≡ seat_now k D calendar bits
   unfolding seat_now
   unfit_spaces e = rw e
 

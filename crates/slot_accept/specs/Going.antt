@@ -1,10 +1,10 @@
 -- What departs once an accepted cell has its seat, found before anything is written.
 --
---   going_of k j a ..      == what departs: nothing, or a space, with what becomes of entry T; not ok where the slot is refused
+--   going_of k j a ..      == what departs: Some None for nothing, or a space, with what becomes of entry T; None where the slot is refused
 --   going_unmarked k j a.. == the same where entry T is not marked
 --   going_marked k j a e.. == the same where entry T is marked, with these ends
 --   going_with bits a o .. == o departs, if it may: it is in range, and its space is not free once the cell has taken its own
-use Rattle.std.specs.Prelude.{ℕ, ◌+◌, ◌*◌, ◌≤◌, ◌<◌, ◌≡◌, Bool, true, false, not, List, length, get_or}
+use Rattle.std.specs.Prelude.{ℕ, ◌+◌, ◌*◌, ◌≤◌, ◌<◌, ◌≡◌, Bool, true, false, not, Option, Some, None, List, length, get_or}
 use Rattle.meaning.specs.declared.Record.{Record}
 use Rattle.meaning.specs.Plain.{when◌then◌else◌, ◌=?◌}
 use Rattle.meaning.specs.Numbers.{most_n, most_v, octets, words_in, bit_words, empty, waiting_place}
@@ -15,45 +15,40 @@ use Rattle.meaning.specs.Lent.{Slice, SliceMut}
 use Rattle.slot_arrive.specs.declared.Judged.{Judged}
 use Rattle.mem_lists.specs.declared.Seat.{Seat}
 use Rattle.mem_lists.specs.declared.Off.{Off}
-use Rattle.mem_lists.specs.Spaces.{ends_of, linked, off_as}
+use Rattle.mem_lists.specs.Spaces.{ends_of, linked}
 use Rattle.mem_lists.specs.Leaver.{off_after}
 use Rattle.slot_plan.specs.Plan.{joined_head, seat_ends}
 use Rattle.slot_accept.specs.declared.departure.Departing.{Departing}
 
-abbrev pub no_off : Off
-no_off = off_as false 0 0 (ends_of 0 0)
-
-abbrev pub going_as : Bool → Bool → Off → Bool → ℕ → Bool → Departing
-going_as ok none o joins from clears = record { ok = ok; none = none; off = o; joins = joins; from = from; clears = clears }
-
-abbrev pub stuck_going : Departing
-stuck_going = going_as false false no_off false 0 false
+abbrev pub going_as : Off → Bool → ℕ → Bool → Departing
+going_as o joins from clears = record { off = o; joins = joins; from = from; clears = clears }
 
 -- what departs from memory as the stored cell leaves it, once the chain of entry has joined the Output List, where joins
-abbrev pub off_then : Record → Judged → Seat → List ℕ → List ℕ → List ℕ → Bool → Ends → Off
+abbrev pub off_then : Record → Judged → Seat → List ℕ → List ℕ → List ℕ → Bool → Ends → Option Off
 off_then k j a cells links words joins entry =
     off_after k.n k.v k.kind cells (linked joins k.outtail entry.head (linked (not (a.head =? empty)) a.x a.head links)) words
     j.vci a.x (joined_head k entry) entry.tail
 
-unfoldable pub going_with : List ℕ → Seat → Off → Bool → ℕ → Bool → Departing
-going_with bits a o joins from clears =
-    when o.ok then (when is_free_space (taken bits a.x) o.space then stuck_going else going_as true false o joins from clears) else stuck_going
+unfoldable pub going_with : List ℕ → Seat → Option Off → Bool → ℕ → Bool → Option (Option Departing)
+going_with bits a None joins from clears = None
+going_with bits a (Some o) joins from clears =
+    when is_free_space (taken bits a.x) o.space then None else Some (Some (going_as o joins from clears))
 
-unfoldable pub going_unmarked : Record → Judged → Seat → List ℕ → List ℕ → List ℕ → List ℕ → Departing
+unfoldable pub going_unmarked : Record → Judged → Seat → List ℕ → List ℕ → List ℕ → List ℕ → Option (Option Departing)
 going_unmarked k j a cells links words bits =
-    when k.outhead =? empty then going_as true true no_off false 0 false
+    when k.outhead =? empty then Some None
     else going_with bits a (off_then k j a cells links words false (ends_of 0 k.outtail)) false 0 false
 
-unfoldable pub going_marked : Record → Judged → Seat → Ends → List ℕ → List ℕ → List ℕ → List ℕ → Departing
+unfoldable pub going_marked : Record → Judged → Seat → Ends → List ℕ → List ℕ → List ℕ → List ℕ → Option (Option Departing)
 going_marked k j a entry cells links words bits =
     going_with bits a (off_then k j a cells links words (not (k.outhead =? empty)) entry) (not (k.outhead =? empty)) entry.head true
 
-unfoldable pub going_of : Record → Judged → Seat → List ℕ → List ℕ → List ℕ → List ℕ → List ℕ → Departing
+unfoldable pub going_of : Record → Judged → Seat → List ℕ → List ℕ → List ℕ → List ℕ → List ℕ → Option (Option Departing)
 going_of k j a cells links calendar words bits =
     let entry = entry_at (write_entry calendar a.e (seat_ends a)) k.turn in
     when ends_fit k.n entry
     then (when entry.head =? empty then going_unmarked k j a cells links words bits else going_marked k j a entry cells links words bits)
-    else stuck_going
+    else None
 
 -- ---- what is asked of lent memories, for contracts
 abbrev pub MayGo : Record → Seat → Slice → Slice → Slice → Slice → Type 0

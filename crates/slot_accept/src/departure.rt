@@ -6,14 +6,15 @@ ghost use Rattle.meaning.specs.Lists.{entry_at, write_entry};
 ghost use Rattle.mem_lists.specs.Spaces.{ends_of};
 ghost use Rattle.slot_plan.specs.Plan.{seat_ends, joined_head};
 ghost use Rattle.slot_plan.specs.Facts.{OffStored};
-ghost use Rattle.slot_accept.specs.Going.{MayGo, stuck_going, going_unmarked, going_marked, going_of};
+ghost use Rattle.slot_accept.specs.Going.{MayGo, going_unmarked, going_marked, going_of};
 
 use meaning::Record;
 use mem_lists::{Off, Seat};
 use slot_arrive::Judged;
 
-// What departs once the cell is stored and, where joins, the chain from head to tail has joined the Output List. Field by
-// field: as a whole the answer would be packed into one word.
+// What departs once the cell is stored and, where joins, the chain from head to tail has joined the Output List. Laid in place in both
+// its callers: as a call of its own it costs a slot with an accepted cell a tenth more.
+#[inline(always)]
 fn off_stored(
     k: Record,
     j: Judged,
@@ -24,13 +25,13 @@ fn off_stored(
     cells: &[u8],
     links: &[u16],
     words: &[u32],
-) -> Off
+) -> Option<Off>
     requires n_le_most_n { (k.n ≤ most_n) × (k.v ≤ most_v) × (length cells.now ≡ octets * k.n) × (length links.now ≡ k.n) × (length words.now ≡ words_in k.v) }
     requires tail_bound { joined_head k (ends_of head tail) < k.n }
     ensures { OffStored k j a cells.now links.now words.now joins (ends_of head tail) result }
 {
     let x = slot_depart::first_of(k.outhead, head);
-    let o = mem_lists::off_after(
+    mem_lists::off_after(
         k.n,
         k.v,
         k.kind,
@@ -46,14 +47,7 @@ fn off_stored(
         head,
         x,
         tail,
-    );
-    Off {
-        ok: o.ok,
-        space: o.space,
-        vci: o.vci,
-        head: o.head,
-        tail: o.tail,
-    }
+    )
 }
 
 // Whether space y is free once space x, which is free, is taken. Taking keeps the words and their number as they fit, so that of a
@@ -90,35 +84,14 @@ fn tail_joined(turn: u16, a: Seat, calendar: &[u16]) -> u16
     calendar[2 * (turn as usize) + 1]
 }
 
-// What departs once the cell is stored: nothing, or the space and its connection and what is left of the Output List; whether entry T
-// joins that list, from which head, and whether it is emptied. Not ok where the slot is refused.
+// What departs once the cell is stored: the space and its connection and what is left of the Output List; whether entry T joins that
+// list, from which head, and whether it is emptied.
 #[derive(Clone, Copy)]
 pub struct Departing {
-    pub ok: bool,
-    pub none: bool,
     pub off: Off,
     pub joins: bool,
     pub from: u16,
     pub clears: bool,
-}
-
-fn stuck() -> Departing
-    ensures { result ≡ stuck_going }
-{
-    Departing {
-        ok: false,
-        none: false,
-        off: Off {
-            ok: false,
-            space: 0,
-            vci: 0,
-            head: 0,
-            tail: 0,
-        },
-        joins: false,
-        from: 0,
-        clears: false,
-    }
 }
 
 // Entry T is not marked: the head of the Output List departs, if it has one.
@@ -130,41 +103,23 @@ fn going_unmarked(
     links: &[u16],
     words: &[u32],
     bits: &[u64],
-) -> Departing
+) -> Option<Option<Departing>>
     requires { MayGo k a cells links words bits }
     ensures { result ≡ going_unmarked k j a cells.now links.now words.now bits.now }
 {
     if k.outhead == 65535 {
-        return Departing {
-            ok: true,
-            none: true,
-            off: Off {
-                ok: false,
-                space: 0,
-                vci: 0,
-                head: 0,
-                tail: 0,
-            },
-            joins: false,
-            from: 0,
-            clears: false,
-        };
+        return Some(None);
     }
-    let o = off_stored(k, j, a, false, 0, k.outtail, cells, links, words);
-    if !o.ok {
-        return stuck();
-    }
+    let o = off_stored(k, j, a, false, 0, k.outtail, cells, links, words)?;
     if free_after(bits, a.x, o.space) {
-        return stuck();
+        return None;
     }
-    Departing {
-        ok: true,
-        none: false,
+    Some(Some(Departing {
         off: o,
         joins: false,
         from: 0,
         clears: false,
-    }
+    }))
 }
 
 // Entry T is marked, from head to tail: it joins the Output List, whose head departs.
@@ -178,30 +133,25 @@ fn going_marked(
     links: &[u16],
     words: &[u32],
     bits: &[u64],
-) -> Departing
+) -> Option<Option<Departing>>
     requires may_go { MayGo k a cells links words bits }
     requires head_lt_n { head < k.n }
     ensures { result ≡ going_marked k j a (ends_of head tail) cells.now links.now words.now bits.now }
 {
     let joins = k.outhead != 65535;
-    let o = off_stored(k, j, a, joins, head, tail, cells, links, words);
-    if !o.ok {
-        return stuck();
-    }
+    let o = off_stored(k, j, a, joins, head, tail, cells, links, words)?;
     if free_after(bits, a.x, o.space) {
-        return stuck();
+        return None;
     }
-    Departing {
-        ok: true,
-        none: false,
+    Some(Some(Departing {
         off: o,
-        joins: joins,
+        joins,
         from: head,
         clears: true,
-    }
+    }))
 }
 
-// What departs, entry T being read as the cell leaves it. A head and a tail are tested by one comparison after the other: as one truth
+// What departs, entry T being read as the cell leaves it: None where the slot is refused, Some(None) where nothing does. A head and a tail are tested by one comparison after the other: as one truth
 // value a pair is worked out without branches, in twice as many instructions.
 pub(crate) fn going(
     k: Record,
@@ -212,7 +162,7 @@ pub(crate) fn going(
     calendar: &[u16],
     words: &[u32],
     bits: &[u64],
-) -> Departing
+) -> Option<Option<Departing>>
     requires may_go { MayGo k a cells links words bits }
     requires turn_in_bounds { 2 * k.turn + 2 ≤ length calendar.now }
     ensures { result ≡ going_of k j a cells.now links.now calendar.now words.now bits.now }
@@ -221,15 +171,15 @@ pub(crate) fn going(
     let y = tail_joined(k.turn, a, calendar);
     if x == 65535 {
         if y != 65535 {
-            return stuck();
+            return None;
         }
         return going_unmarked(k, j, a, cells, links, words, bits);
     }
     if x >= k.n {
-        return stuck();
+        return None;
     }
     if y >= k.n {
-        return stuck();
+        return None;
     }
     going_marked(k, j, a, x, y, cells, links, words, bits)
 }

@@ -73,7 +73,7 @@ fn stay(k: Record, j: Judged) -> Served
 fn accept_seated(
     r: Record,
     k: Record,
-    b: Fall,
+    b: Option<Fall>,
     j: Judged,
     a: Seat,
     cells: &mut [u8],
@@ -90,23 +90,22 @@ fn accept_seated(
     requires outtail_value { ends_fit k.n (ends_of k.outhead k.outtail) ≡ true }
     ensures { Gives r (last_steps (accept_of (before k cells links calendar words bits arrived) b j a cell.now)) result cells links calendar words bits arrived }
 {
-    let g = departure::going(k, j, a, cells, links, calendar, words, bits);
-    if !g.ok {
+    let Some(departs) = departure::going(k, j, a, cells, links, calendar, words, bits) else {
         return slot_depart::refuse(r, 3);
-    }
+    };
     slot_store::store(
         k, b, j, a, cells, links, calendar, words, bits, arrived, cell,
     );
-    if g.none {
+    let Some(g) = departs else {
         return stay(k, j);
-    }
+    };
     leave(
         k, j, g.off, g.joins, g.from, g.clears, links, calendar, words, bits,
     )
 }
 
 // Where a cell with delay d goes: it takes the lowest free space, once the words of free spaces fit and have one.
-fn seat_now(k: Record, d: u16, calendar: &[u16], bits: &[u64]) -> Seat
+fn seat_now(k: Record, d: u16, calendar: &[u16], bits: &[u64]) -> Option<Seat>
     requires n_le_most_n { (k.n ≤ most_n) × (k.turn < k.n) × (d < k.n) }
     requires calendar_len { (length calendar.now ≡ per_entry * k.n) × (length bits.now ≡ bit_words) }
     ensures { result ≡ seat_now k d calendar.now bits.now }
@@ -117,20 +116,14 @@ fn seat_now(k: Record, d: u16, calendar: &[u16], bits: &[u64]) -> Seat
             return mem_lists::seat_for(k.n, calendar, k.turn, d, x);
         }
     }
-    Seat {
-        ok: false,
-        x: 0,
-        e: 0,
-        head: 0,
-        tail: 0,
-    }
+    None
 }
 
 // A cell was judged, and is let in.
 pub fn accept(
     r: Record,
     k: Record,
-    b: Fall,
+    b: Option<Fall>,
     j: Judged,
     cells: &mut [u8],
     links: &mut [u16],
@@ -144,10 +137,9 @@ pub fn accept(
     requires accepted { Accepted k j cell.now words.old }
     ensures { Gives r (seating_of (before k cells links calendar words bits arrived) b j cell.now and_then step4 and_then step5) result cells links calendar words bits arrived }
 {
-    let a = seat_now(k, j.d, calendar, bits);
-    if !a.ok {
+    let Some(a) = seat_now(k, j.d, calendar, bits) else {
         return slot_depart::refuse(r, 3);
-    }
+    };
     if k.outhead == 65535 {
         if k.outtail != 65535 {
             return slot_depart::refuse(r, 3);

@@ -1,10 +1,10 @@
 -- What the last function of a case gives back is the work after step 5: its record, its answer and each memory, put
 -- together.
 use Prim.Native.Nat.{ℕ, ◌+◌, ◌-◌, ◌≤◌}
-use mathlib.Core.Path.{◌≡◌, sym, ◌∙◌}
+use mathlib.Core.Path.{◌≡◌, sym, ◌∙◌, ap}
 use mathlib.Core.Bool.{Bool, true, false, not}
 use mathlib.Core.List.{List}
-use Rattle.std.specs.Prelude.{Option}
+use Rattle.std.specs.Prelude.{Option, Some, None}
 use native.Mathlib.Omega.{arith}
 use borrow.Author.Tests.{not-true, not-false}
 use lib.ListN.{get_or, set}
@@ -108,3 +108,12 @@ shown p e q n = sym q ∙ not-false p n
 
 pub not_shown : (p e : Bool) → p ≡ e → not p ≡ true → e ≡ false
 not_shown p e q n = sym q ∙ not-true p n
+
+-- ---- the words once step 2 has written, by whether something falls
+pub rotated_some : (k : Record) (b : Option Fall) (f : Fall) (words l : List ℕ) → b ≡ Some f → l ≡ fallen true k.rotation f.s f.second k.t words → l ≡ rotated k b words
+unfolding rotated
+rotated_some k b f words l e is = is ∙ ap (λ (x : Option Fall). rotated k x words) (sym e)
+
+pub rotated_none : (k : Record) (b : Option Fall) (words l : List ℕ) → b ≡ None → l ≡ words → l ≡ rotated k b words
+unfolding rotated
+rotated_none k b words l e is = is ∙ ap (λ (x : Option Fall). rotated k x words) (sym e)

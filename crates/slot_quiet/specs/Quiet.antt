@@ -7,7 +7,7 @@
 --   AllWith r k b j f ..    == the same, only the arrival slots not being lent
 --   KeepsWith k b j ..      == nothing departs: only the words are written
 --   MayEnd k o ..           == links and words are there, and the connection of what departs has a cell waiting
-use Rattle.std.specs.Prelude.{ℕ, ◌≤◌, ◌<◌, ◌≡◌, Bool, List, length, get_or}
+use Rattle.std.specs.Prelude.{ℕ, ◌≤◌, ◌<◌, ◌≡◌, Bool, Option, List, length, get_or}
 use Rattle.meaning.specs.declared.Record.{Record}
 use Rattle.meaning.specs.declared.Served.{Served}
 use Rattle.meaning.specs.Plain.{when◌then◌else◌, Out}
@@ -23,25 +23,25 @@ use Rattle.mem_lists.specs.declared.Off.{Off}
 use Rattle.slot_plan.specs.Plan.{served_work}
 use Rattle.slot_plan.specs.Works.{quiet_of, quiet_left}
 
-abbrev pub EndsWith : List ℕ → List ℕ → List ℕ → List ℕ → Record → Fall → Judged → Off → Bool → ℕ → Bool → Served → LentMut → LentMut → LentMut → Type 0
+abbrev pub EndsWith : List ℕ → List ℕ → List ℕ → List ℕ → Record → Option Fall → Judged → Off → Bool → ℕ → Bool → Served → LentMut → LentMut → LentMut → Type 0
 EndsWith cells calendar calendar' arrived k b j o joins head clears s links words bits =
     served_work s cells links.exit.now calendar' words.exit.now bits.exit.now arrived
     ≡ quiet_left (state_of k cells links.entry.now calendar words.entry.now bits.entry.now arrived) b j o joins head calendar'
     (when clears then unmarked bits.entry.now k.turn else bits.entry.now)
 
-abbrev pub GivesWith : List ℕ → List ℕ → Record → Record → Fall → Judged → (Work → Out Work) → Served → Lent → LentMut → LentMut → LentMut → Type 0
+abbrev pub GivesWith : List ℕ → List ℕ → Record → Record → Option Fall → Judged → (Work → Out Work) → Served → Lent → LentMut → LentMut → LentMut → Type 0
 GivesWith calendar arrived r k b j steps s cells links words bits =
     served_work s cells.entry.now links.exit.now calendar words.exit.now bits.exit.now arrived
     ≡ finish (state_of r cells.entry.now links.entry.now calendar words.entry.now bits.entry.now arrived)
     (steps (quiet_of (state_of k cells.entry.now links.entry.now calendar words.entry.now bits.entry.now arrived) b j))
 
-abbrev pub AllWith : List ℕ → Record → Record → Fall → Judged → (Work → Out Work) → Served → Lent → LentMut → LentMut → LentMut → LentMut → Type 0
+abbrev pub AllWith : List ℕ → Record → Record → Option Fall → Judged → (Work → Out Work) → Served → Lent → LentMut → LentMut → LentMut → LentMut → Type 0
 AllWith arrived r k b j steps s cells links calendar words bits =
     served_work s cells.entry.now links.exit.now calendar.exit.now words.exit.now bits.exit.now arrived
     ≡ finish (state_of r cells.entry.now links.entry.now calendar.entry.now words.entry.now bits.entry.now arrived)
     (steps (quiet_of (state_of k cells.entry.now links.entry.now calendar.entry.now words.entry.now bits.entry.now arrived) b j))
 
-abbrev pub KeepsWith : List ℕ → List ℕ → List ℕ → List ℕ → List ℕ → Record → Fall → Judged → Served → LentMut → Type 0
+abbrev pub KeepsWith : List ℕ → List ℕ → List ℕ → List ℕ → List ℕ → Record → Option Fall → Judged → Served → LentMut → Type 0
 KeepsWith cells links calendar bits arrived k b j s words =
     served_work s cells links calendar words.exit.now bits arrived ≡ quiet_of (state_of k cells links calendar words.entry.now bits arrived) b j
 

@@ -19,13 +19,17 @@ use mem_lists::Off;
 use slot_arrive::{Fall, Judged};
 
 // Steps 2 and 3 in the words where no cell is accepted.
-fn words_fall(k: Record, b: Fall, j: Judged, words: &mut [u32])
-    requires has_connection { b.on ≡ true → HasConnection k.rotation words.old }
+fn words_fall(k: Record, b: Option<Fall>, j: Judged, words: &mut [u32])
+    requires has_connection { HasConnection k.rotation words.old }
     requires has_connection_2 { j.verdict =? excess ≡ true → HasConnection j.vci words.old }
     ensures { words.new ≡ fallen (j.verdict =? excess) j.vci j.s j.second k.t (rotated k b words.old) }
 {
-    slot_arrive::put_fall(words, b.on, k.rotation, b.s, b.second, k.t);
-    slot_arrive::put_fall(words, j.verdict == 2, j.vci, j.s, j.second, k.t);
+    if let Some(f) = b {
+        slot_arrive::put_fall(words, k.rotation, f.s, f.second, k.t);
+    }
+    if j.verdict == 2 {
+        slot_arrive::put_fall(words, j.vci, j.s, j.second, k.t);
+    }
 }
 
 // Space x may be freed: the words of free spaces and their number fit, and it is not free.
@@ -42,7 +46,7 @@ fn may_free(n: u16, free: u16, bits: &[u64], x: u16) -> bool
 // A departure where no cell was accepted: all writes but the entry's; where clears, its mark is cleared.
 fn quiet_end(
     k: Record,
-    b: Fall,
+    b: Option<Fall>,
     j: Judged,
     o: Off,
     joins: bool,
@@ -65,39 +69,32 @@ fn quiet_end(
     slot_depart::left(k, k.free + 1, j.verdict, j.vci, 0, o)
 }
 
-// What departs once entry T, from head to tail, has joined the Output List; field by field, as a whole would be packed.
-fn off_marked(k: Record, head: u16, tail: u16, cells: &[u8], links: &[u16], words: &[u32]) -> Off
+// What departs once entry T, from head to tail, has joined the Output List.
+fn off_marked(
+    k: Record,
+    head: u16,
+    tail: u16,
+    cells: &[u8],
+    links: &[u16],
+    words: &[u32],
+) -> Option<Off>
     requires n_le_most_n { (k.n ≤ most_n) × (k.v ≤ most_v) × (head < k.n) × (length cells.now ≡ octets * k.n) × (length links.now ≡ k.n) × (length words.now ≡ words_in k.v) }
     requires outtail_value { ends_fit k.n (ends_of k.outhead k.outtail) ≡ true }
     ensures { result ≡ off_of k.n k.v k.kind cells.now (joined_links k (ends_of head tail) links.now) words.now (joined_head k (ends_of head tail)) tail }
 {
     if k.outhead == 65535 {
-        let o = mem_lists::off_head(k.n, k.v, k.kind, cells, links, words, head, tail);
-        return Off {
-            ok: o.ok,
-            space: o.space,
-            vci: o.vci,
-            head: o.head,
-            tail: o.tail,
-        };
+        return mem_lists::off_head(k.n, k.v, k.kind, cells, links, words, head, tail);
     }
-    let o = mem_lists::off_joined(
+    mem_lists::off_joined(
         k.n, k.v, k.kind, cells, links, words, k.outhead, k.outtail, head, tail,
-    );
-    Off {
-        ok: o.ok,
-        space: o.space,
-        vci: o.vci,
-        head: o.head,
-        tail: o.tail,
-    }
+    )
 }
 
 // No cell was accepted, and entry T is marked, from head to tail.
 fn quiet_marked(
     r: Record,
     k: Record,
-    b: Fall,
+    b: Option<Fall>,
     j: Judged,
     head: u16,
     tail: u16,
@@ -112,10 +109,9 @@ fn quiet_marked(
     requires head_lt_n { (head < k.n) × (ends_fit k.n (ends_of k.outhead k.outtail) ≡ true) }
     ensures { (arrived : List ℕ) → AllWith arrived r k b j (λ w. leaving_marked w (ends_of head tail)) result cells links calendar words bits }
 {
-    let o = off_marked(k, head, tail, cells, links, words);
-    if !o.ok {
+    let Some(o) = off_marked(k, head, tail, cells, links, words) else {
         return slot_depart::refuse(r, 3);
-    }
+    };
     if !may_free(k.n, k.free, bits, o.space) {
         return slot_depart::refuse(r, 3);
     }
@@ -138,7 +134,7 @@ fn quiet_marked(
 fn quiet_output(
     r: Record,
     k: Record,
-    b: Fall,
+    b: Option<Fall>,
     j: Judged,
     cells: &[u8],
     links: &mut [u16],
@@ -151,10 +147,10 @@ fn quiet_output(
     requires vci_bound { j.verdict =? excess ≡ true → j.vci < connections_in k.v }
     ensures { (calendar arrived : List ℕ) → GivesWith calendar arrived r k b j leaving_output result cells links words bits }
 {
-    let o = mem_lists::off_head(k.n, k.v, k.kind, cells, links, words, k.outhead, k.outtail);
-    if !o.ok {
+    let Some(o) = mem_lists::off_head(k.n, k.v, k.kind, cells, links, words, k.outhead, k.outtail)
+    else {
         return slot_depart::refuse(r, 3);
-    }
+    };
     if !may_free(k.n, k.free, bits, o.space) {
         return slot_depart::refuse(r, 3);
     }
@@ -162,7 +158,7 @@ fn quiet_output(
 }
 
 // No cell was accepted, and nothing departs.
-fn quiet_none(k: Record, b: Fall, j: Judged, words: &mut [u32]) -> Served
+fn quiet_none(k: Record, b: Option<Fall>, j: Judged, words: &mut [u32]) -> Served
     requires words_len { (length words.old ≡ words_in k.v) × (k.rotation < connections_in k.v) }
     requires vci_bound { j.verdict =? excess ≡ true → j.vci < connections_in k.v }
     ensures { (cells links calendar bits arrived : List ℕ) → KeepsWith cells links calendar bits arrived k b j result words }
@@ -186,7 +182,7 @@ fn quiet_none(k: Record, b: Fall, j: Judged, words: &mut [u32]) -> Served
 fn quiet_unmarked(
     r: Record,
     k: Record,
-    b: Fall,
+    b: Option<Fall>,
     j: Judged,
     cells: &[u8],
     links: &mut [u16],
@@ -217,7 +213,7 @@ fn quiet_unmarked(
 pub fn quiet(
     r: Record,
     k: Record,
-    b: Fall,
+    b: Option<Fall>,
     j: Judged,
     cells: &[u8],
     links: &mut [u16],

@@ -47,15 +47,13 @@ fn steps(
     requires cell_len { (length cell.now ≢ 0) → length cell.now ≡ 53 }
     ensures { Gives r (later_steps (before k cells links calendar words bits arrived) cell.now) result cells links calendar words bits arrived }
 {
-    let b = slot_arrive::bring(k.n, k.v, words, k.rotation, k.t);
-    if !b.ok {
+    let Some(b) = slot_arrive::bring(k.n, k.v, words, k.rotation, k.t) else {
         return slot_depart::refuse(r, 3);
-    }
+    };
     let name = slot_arrive::name_of(cell, k.kind);
-    let j = slot_arrive::judge(k.n, k.v, words, name, k.t, cell);
-    if !j.ok {
+    let Some(j) = slot_arrive::judge(k.n, k.v, words, name, k.t, cell) else {
         return slot_depart::refuse(r, 3);
-    }
+    };
     if meaning::lets_in(j.verdict) {
         return slot_accept::accept(
             r, k, b, j, cells, links, calendar, words, bits, arrived, cell,

@@ -19,12 +19,14 @@ use mem_lists::Seat;
 use slot_arrive::{Fall, Judged};
 
 // Steps 2 and 3 in the words where a cell is accepted.
-fn words_fill(k: Record, b: Fall, j: Judged, words: &mut [u32])
-    requires has_connection { b.on ≡ true → HasConnection k.rotation words.old }
+fn words_fill(k: Record, b: Option<Fall>, j: Judged, words: &mut [u32])
+    requires has_connection { HasConnection k.rotation words.old }
     requires has_connection_2 { HasConnection j.vci words.old }
     ensures { words.new ≡ filled j.vci j.s j.second k.t j.waiting (rotated k b words.old) }
 {
-    slot_arrive::put_fall(words, b.on, k.rotation, b.s, b.second, k.t);
+    if let Some(f) = b {
+        slot_arrive::put_fall(words, k.rotation, f.s, f.second, k.t);
+    }
     slot_arrive::put_fill(words, j.vci, j.s, j.second, k.t, j.waiting);
 }
 
@@ -66,7 +68,7 @@ pub fn seated(k: Record) -> Record
 // Step 3 of an accepted cell: all that it writes.
 pub fn store(
     k: Record,
-    b: Fall,
+    b: Option<Fall>,
     j: Judged,
     a: Seat,
     cells: &mut [u8],

@@ -11,7 +11,7 @@ overflow_add-k c = record { fits = omega (arith, c.requires.free_le_most_n.0) }
 pub words_fall-requires : goal.words_fall-requires
 words_fall-requires c =
     let pre = c.requires in
-    record { has_connection = λ e. omega arith; has_connection_2 = λ e. let h = pre.vci_bound e in omega (arith, h) }
+    record { has_connection = omega arith; has_connection_2 = λ e. let h = pre.vci_bound e in omega (arith, h) }
 
 pub put_less-requires : goal.put_less-requires
 put_less-requires c =

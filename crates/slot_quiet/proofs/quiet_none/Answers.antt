@@ -7,7 +7,7 @@ use Rattle.slot_quiet.proofs.quiet_none.Goals as goal
 pub words_fall-requires : goal.words_fall-requires
 words_fall-requires c =
     let pre = c.requires in
-    record { has_connection = λ e. omega arith; has_connection_2 = λ e. let h = pre.vci_bound e in omega (arith, h) }
+    record { has_connection = omega arith; has_connection_2 = λ e. let h = pre.vci_bound e in omega (arith, h) }
 
 pub returns : goal.returns
 returns c =

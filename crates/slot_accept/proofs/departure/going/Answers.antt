@@ -7,8 +7,7 @@ use Rattle.slot_accept.proofs.departure.going.Goals as goal
 pub returns-then-y : goal.returns-then-y
 returns-then-y c =
     let a = c.args in
-    c.stuck.ensures
-    ∙ going_unfit a.k a.j a.a a.cells.now a.links.now a.calendar.now a.words.now a.bits.now _ _ c.head_joined-x.ensures c.tail_joined-y.ensures
+    going_unfit a.k a.j a.a a.cells.now a.links.now a.calendar.now a.words.now a.bits.now _ _ c.head_joined-x.ensures c.tail_joined-y.ensures
     (tail_left _ _ _ c.requires.may_go.0 c.if-x.true c.if-y.true)
 
 pub going_unmarked-requires : goal.going_unmarked-requires
@@ -25,15 +24,13 @@ returns-then-x c =
 pub returns-then-x-k : goal.returns-then-x-k
 returns-then-x-k c =
     let a = c.args in
-    c.stuck-then-x-k.ensures
-    ∙ going_unfit a.k a.j a.a a.cells.now a.links.now a.calendar.now a.words.now a.bits.now _ _ c.head_joined-x.ensures c.tail_joined-y.ensures
+    going_unfit a.k a.j a.a a.cells.now a.links.now a.calendar.now a.words.now a.bits.now _ _ c.head_joined-x.ensures c.tail_joined-y.ensures
     (head_high _ _ _ c.if-x.false c.if-x-k.true)
 
 pub returns-then-y-k : goal.returns-then-y-k
 returns-then-y-k c =
     let a = c.args in
-    c.stuck-then-y-k.ensures
-    ∙ going_unfit a.k a.j a.a a.cells.now a.links.now a.calendar.now a.words.now a.bits.now _ _ c.head_joined-x.ensures c.tail_joined-y.ensures
+    going_unfit a.k a.j a.a a.cells.now a.links.now a.calendar.now a.words.now a.bits.now _ _ c.head_joined-x.ensures c.tail_joined-y.ensures
     (tail_high _ _ _ c.requires.may_go.0 c.if-x-k.false c.if-y-k.true)
 
 pub going_marked-requires : goal.going_marked-requires
