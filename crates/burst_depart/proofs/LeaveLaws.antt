@@ -1,11 +1,12 @@
 -- What departs on a likely way: what is left of its list and the connection that was found give what the slot's definition says, in
 -- memory as it is and once a cell has been accepted.
-use Prim.Native.Nat.{ℕ, ◌<◌}
-use mathlib.Core.Path.{◌≡◌, refl, sym, ◌∙◌, ap}
-use Rattle.std.specs.Prelude.{Some, None}
+use Prim.Native.Nat.{ℕ, ◌≤◌, ◌<◌}
+use mathlib.Core.Path.{◌≡◌, refl, sym, ◌∙◌, ap, subst}
+use Rattle.std.specs.Prelude.{Option, Some, None, MatchOption}
 use mathlib.Core.Logic.{◌≢◌}
 use mathlib.Core.Bool.{Bool, true, false, not}
 use mathlib.Core.List.{List}
+use native.Mathlib.Omega.{arith}
 use native.Mathlib.Decide.{ℕ_discrete}
 use borrow.Author.Tests.{lt-ltb, eqb-true, eqb-false, eq-eqb, ne_eqb}
 use lib.ListN.{length, get_or}
@@ -15,7 +16,7 @@ use Rattle.meaning.specs.Numbers.{empty, cell_start}
 use Rattle.meaning.specs.Bits.{is_free_space, taken}
 use Rattle.meaning.specs.State.{Ends}
 use Rattle.meaning.specs.Header.{header_at}
-use Rattle.meaning.specs.Lists.{ends_fit}
+use Rattle.meaning.specs.Lists.{ends_fit, entry_at}
 use Rattle.meaning.proofs.BitsLaws.{taken_other}
 use Rattle.meaning.proofs.ListsLaws.{fit_marked, fit_empty}
 use Rattle.leaf_header.specs.Name.{numbered}
@@ -25,11 +26,13 @@ use Rattle.mem_lists.specs.Leaver.{may_go, goes_as, leaver_of, off_from, leaver_
 use Rattle.mem_lists.proofs.LeaverLaws.{leaver_is}
 use Rattle.mem_lists.proofs.LinkLaws.{linked_off, linked_own, linked_other, linked_length}
 use Rattle.mem_lists.proofs.OffLaws.{off_is, from_same}
-use Rattle.slot_plan.specs.Plan.{joined_links, joined_head}
+use Rattle.slot_plan.specs.Plan.{joined_links, joined_head, seat_ends}
 use Rattle.slot_plan.proofs.Found as found
 use Rattle.burst_arrive.specs.declared.Spot.{Spot}
+use Rattle.burst_arrive.specs.Arriving.{seat_at}
 use Rattle.burst_depart.specs.declared.Leave.{Leave}
-use Rattle.burst_depart.specs.Leaving.{Left, PlannedUnmarked, PlannedMarked, Planned, leave_with, Goes, Leaves, OffHere, OffThen}
+use Rattle.burst_depart.proofs.PlanLaws.{joined_some}
+use Rattle.burst_depart.specs.Leaving.{Left, PlannedUnmarked, PlannedMarked, Planned, Regular, RegularNow, RegularThen, leave_with, Goes, Leaves, OffHere, OffThen, entry_then}
 
 -- ---- what is left of a list
 module _ (N : ℕ) (links : List ℕ) (x tail next tail' : ℕ) (l : Left N links x tail next tail') where
@@ -202,6 +205,27 @@ plan_low k links entry o plan = go (ℕ_discrete entry.head empty)
     go (yes e) = (plan.unmarked e).space_low
     go (no ne) = (plan.marked ne).space_low
 
+-- ---- a plan that is not kept: its space is free, or names no connection of which a cell may depart
+pub plan_head : (k : Record) (links : List ℕ) (entry : Ends) (o : Leave) → Planned k links entry (Some o) → joined_head k entry ≡ o.space
+plan_head k links entry o plan = go (ℕ_discrete entry.head empty)
+  where
+    go : Dec (entry.head ≡ empty) → joined_head k entry ≡ o.space
+    go (yes e) = let p = plan.unmarked e in sym (p.space ∙ joined_some k entry p.some)
+    go (no ne) = sym (plan.marked ne).space
+
+-- the space that would depart, x, is an entry of the Output List once it is joined
+module _ (k : Record) (cells links words bits : List ℕ) (entry : Ends) (x : ℕ) (is : joined_head k entry ≡ x) (few : k.n ≤ 1024) (low : x < k.n)
+    (r : Regular k cells links words bits entry)
+  where
+    some : joined_head k entry ≢ empty
+    some e = omega (arith, sym is ∙ e, low, few)
+
+    pub not_held : is_free_space bits x ≡ true → ⊥
+    not_held free = found.no (sym (ap (is_free_space bits) (sym is) ∙ r.held some) ∙ free)
+
+    pub not_named : leaver_of k.n k.v k.kind cells words x ≡ 0 → ⊥
+    not_named none = r.of_connection some (ap (leaver_of k.n k.v k.kind cells words) is ∙ none)
+
 -- ---- the plan with the connection that was found
 module _ (k : Record) (cells links words bits : List ℕ) (entry : Ends) (o : Leave) (u : ℕ)
     (plan : Planned k links entry (Some o)) (held : is_free_space bits o.space ≡ false)
@@ -224,3 +248,30 @@ module _ (k : Record) (cells links words bits : List ℕ) (entry : Ends) (o : Le
       later_leaves low =
           plan_leaves k links (taken bits p.x) entry o u (OffThen k p cells links words) plan still_held
           (λ joins f head l. off_then_lem k cells links words joins f o.space o.next o.tail u is ok head l p low other)
+
+-- ---- where the cell joined entry T, and where it joined another: T's ends are then the cell's, or as they were
+module _ (k : Record) (p : Spot) (cells links calendar words bits : List ℕ) where
+  pub accept_now : entry_then k p calendar ≡ seat_ends (seat_at p) → p.d ≡ 0 → (result : Option (Option Leave))
+      → MatchOption result (RegularNow k p cells links words bits → ⊥)
+      (λ found. Leaves k (taken bits p.x) (seat_ends (seat_at p)) found (OffThen k p cells links words))
+      → MatchOption result (RegularThen k p cells links calendar words bits → ⊥)
+      (λ found. Leaves k (taken bits p.x) (entry_then k p calendar) found (OffThen k p cells links words))
+  accept_now e zero None why =
+      λ r.
+      why
+      (record {
+        alone = λ q. r.alone q zero;
+        other = λ ne. subst (λ (f : Ends). Regular k cells links words bits f) e (r.other (λ q. absurd (ne q)));
+      })
+  accept_now e zero (Some found) l =
+      subst (λ (f : Ends). Leaves k (taken bits p.x) f found (OffThen k p cells links words)) (sym e) l
+
+  pub accept_later : entry_then k p calendar ≡ entry_at calendar k.turn → p.d ≢ 0 → (result : Option (Option Leave))
+      → MatchOption result (Regular k cells links words bits (entry_at calendar k.turn) → ⊥)
+      (λ found. Leaves k (taken bits p.x) (entry_at calendar k.turn) found (OffThen k p cells links words))
+      → MatchOption result (RegularThen k p cells links calendar words bits → ⊥)
+      (λ found. Leaves k (taken bits p.x) (entry_then k p calendar) found (OffThen k p cells links words))
+  accept_later e some None why =
+      λ r. why (subst (λ (f : Ends). Regular k cells links words bits f) e (r.other (λ q. some)))
+  accept_later e some (Some found) l =
+      subst (λ (f : Ends). Leaves k (taken bits p.x) f found (OffThen k p cells links words)) (sym e) l

@@ -1,11 +1,13 @@
--- What steps 4 and 5 have found out on a likely way: what departs. Only what passed is stated, and never that something else
--- is refused: each test that fails leaves the likely way, and the slot is served as the call has it. k is the record in the
--- slot, its clock moved.
+-- What steps 4 and 5 have found out on a likely way: what departs. What passed is stated, and never that something is refused: each
+-- test that fails leaves the likely way, and the slot is served as the call has it. Nor is the likely way left where the lists are
+-- regular. k is the record in the slot, its clock moved.
 --
 --   Left N links x tail .. == what is left of a list from x to tail once x has gone
 --   Planned k links ..     == what departs, if anything, but for its connection
 --   Leaves k bits entry .. == what departs, if anything, Is being what "departs" means in memory as it then is; bits are the words of free spaces as
 --                             step 3 left them, and its space is not free
+--   Linked k links entry   == entry T's ends fit, and the head of the Output List, once the entry has joined, is its tail or links on
+--   Regular k .. entry     == and that space is not free, and a cell of the connection that it names may depart
 use Rattle.std.specs.Prelude.{ℕ, ◌*◌, ◌≤◌, ◌<◌, ◌≡◌, ◌≢◌, Bool, true, false, not, Option, Some, None, MatchOption, List, length, get_or}
 use Rattle.meaning.specs.declared.Record.{Record}
 use Rattle.meaning.specs.Plain.{when◌then◌else◌, ◌=?◌}
@@ -16,7 +18,7 @@ use Rattle.meaning.specs.Lists.{ends_fit, entry_at, write_entry}
 use Rattle.meaning.specs.Lent.{Slice, Lent}
 use Rattle.mem_lists.specs.declared.Off.{Off}
 use Rattle.mem_lists.specs.Spaces.{ends_of, linked, off_as, off_of}
-use Rattle.mem_lists.specs.Leaver.{off_after}
+use Rattle.mem_lists.specs.Leaver.{leaver_of, off_after}
 use Rattle.slot_plan.specs.Plan.{joined_links, joined_head, seat_ends}
 use Rattle.burst_way.specs.declared.Way.{Way}
 use Rattle.burst_way.specs.Way.{slot_record}
@@ -57,6 +59,22 @@ pub record Planned (k : Record) (links : List ℕ) (entry : Ends) (found : Optio
   pub unmarked : entry.head ≡ empty → MatchOption found (k.outhead ≡ empty) (λ o. PlannedUnmarked k links o)
   pub marked : entry.head ≢ empty → MatchOption found ⊥ (λ o. PlannedMarked k links entry o)
 
+-- the tail of the Output List once entry T has joined
+abbrev pub joined_tail : Record → Ends → ℕ
+joined_tail k entry = when entry.head =? empty then k.outtail else entry.tail
+
+-- where the lists are so, the likely way is kept: apart is that the Output List's head is not the tail of the chain that joins it
+pub record Linked (k : Record) (links : List ℕ) (entry : Ends) : Type 0 where
+  pub entry_fits : ends_fit k.n entry ≡ true
+  pub apart : entry.head ≢ empty → k.outhead ≢ empty → k.outhead ≢ entry.tail
+  pub link : joined_head k entry ≢ empty → joined_head k entry ≢ joined_tail k entry
+      → get_or (joined_links k entry links) (joined_head k entry) 0 < k.n
+
+pub record Regular (k : Record) (cells links words bits : List ℕ) (entry : Ends) : Type 0 where
+  pub linked : Linked k links entry
+  pub held : joined_head k entry ≢ empty → is_free_space bits (joined_head k entry) ≡ false
+  pub of_connection : joined_head k entry ≢ empty → leaver_of k.n k.v k.kind cells words (joined_head k entry) ≢ 0
+
 abbrev pub leave_with : Leave → ℕ → Leave
 leave_with o vci =
     record { space = o.space; vci = vci; next = o.next; tail = o.tail; marked = o.marked; follows = o.follows }
@@ -86,6 +104,16 @@ OffHere k cells links words joins entry o =
 -- entry T once a cell has its seat
 abbrev pub entry_then : Record → Spot → List ℕ → Ends
 entry_then k p calendar = entry_at (write_entry calendar p.e (seat_ends (seat_at p))) k.turn
+
+-- the same where a cell is accepted into the seat of p and joins entry T, and where it joins any entry; memory is as it was before. The
+-- cell itself departs where it has D 0 and the Output List is empty: its entry then had another tail than its space
+pub record RegularNow (k : Record) (p : Spot) (cells links words bits : List ℕ) : Type 0 where
+  pub alone : k.outhead ≡ empty → p.tail ≢ p.x
+  pub other : k.outhead ≢ empty → Regular k cells links words bits (seat_ends (seat_at p))
+
+pub record RegularThen (k : Record) (p : Spot) (cells links calendar words bits : List ℕ) : Type 0 where
+  pub alone : k.outhead ≡ empty → p.d ≡ 0 → p.tail ≢ p.x
+  pub other : (k.outhead ≡ empty → p.d ≢ 0) → Regular k cells links words bits (entry_then k p calendar)
 
 -- where a cell is accepted into the seat of p, and its connection is p's: of the judgement nothing else matters here
 abbrev pub OffThen : Record → Spot → List ℕ → List ℕ → List ℕ → Bool → Ends → Off → Type 0

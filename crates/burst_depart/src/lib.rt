@@ -3,7 +3,7 @@
 // and nothing here refuses.
 #![tactic(auto)]
 
-ghost use Rattle.std.specs.Prelude.{◌≡◌, true, ◌+◌, ◌*◌, ◌≤◌, ◌<◌, length, set, IfSome, MatchOption};
+ghost use Rattle.std.specs.Prelude.{◌≡◌, ◌≢◌, true, ◌+◌, ◌*◌, ◌≤◌, ◌<◌, length, get_or, set, MatchOption};
 ghost use Rattle.meaning.specs.Numbers.{most_n, most_v, octets, cell_start, connections_in, words_in, bit_words, empty};
 ghost use Rattle.meaning.specs.Bits.{is_free_space, taken};
 ghost use Rattle.meaning.specs.Lists.{ends_fit, entry_at};
@@ -13,7 +13,8 @@ ghost use Rattle.slot_plan.specs.Plan.{seat_ends};
 ghost use Rattle.slot_plan.specs.Facts.{SizedWith};
 ghost use Rattle.burst_way.specs.Way.{slot_record, NamesBy};
 ghost use Rattle.burst_arrive.specs.Arriving.{seat_at, Seats};
-ghost use Rattle.burst_depart.specs.Leaving.{Left, PlannedUnmarked, PlannedMarked, Planned, Leaves, OffHereIn, OffThenIn, entry_then, MayRead};
+ghost use Rattle.burst_depart.specs.Leaving.{Left, PlannedUnmarked, PlannedMarked, Linked, Planned, Leaves, Regular};
+ghost use Rattle.burst_depart.specs.Leaving.{RegularNow, RegularThen, OffHereIn, OffThenIn, entry_then, MayRead};
 
 use burst_arrive::Spot;
 use burst_way::Way;
@@ -66,7 +67,8 @@ struct Rest {
 
 fn rest_of(links: &[u16], x: usize, tail: usize) -> Option<Rest>
     requires { x < length links.now }
-    ensures { IfSome result (λ r. Left (length links.now) links.now x tail r.next r.tail) }
+    ensures { MatchOption result ((x ≢ tail) × (length links.now ≤ get_or links.now x 0))
+        (λ r. Left (length links.now) links.now x tail r.next r.tail) }
 {
     if x == tail {
         return Some(Rest {
@@ -84,7 +86,8 @@ fn rest_of(links: &[u16], x: usize, tail: usize) -> Option<Rest>
 // The same where the chain from head to tail has joined the list's old end, and x is not that tail.
 fn rest_joined(links: &[u16], x: usize, old: usize, head: usize, tail: usize) -> Option<Rest>
     requires { (x < length links.now) × (head < length links.now) }
-    ensures { IfSome result (λ r. Left (length links.now) (set links.now old head) x tail r.next r.tail) }
+    ensures { MatchOption result (x ≢ tail → length links.now ≤ get_or (set links.now old head) x 0)
+        (λ r. Left (length links.now) (set links.now old head) x tail r.next r.tail) }
 {
     if x == tail {
         return None;
@@ -100,7 +103,8 @@ fn rest_joined(links: &[u16], x: usize, old: usize, head: usize, tail: usize) ->
 // there is none in it.
 fn plan_unmarked(w: Way, links: &[u16]) -> Option<Option<Leave>>
     requires { (w.n ≤ most_n) × (length links.now ≡ w.n) × (ends_fit w.n (ends_of w.outhead w.outtail) ≡ true) }
-    ensures { IfSome result (λ found. MatchOption found (w.outhead ≡ empty) (λ o. PlannedUnmarked (slot_record w) links.now o)) }
+    ensures { MatchOption result ((w.outhead ≢ empty) × (w.outhead ≢ w.outtail) × (w.n ≤ get_or links.now w.outhead 0))
+        (λ found. MatchOption found (w.outhead ≡ empty) (λ o. PlannedUnmarked (slot_record w) links.now o)) }
 {
     if w.outhead == 65535 {
         return Some(None);
@@ -119,7 +123,8 @@ fn plan_unmarked(w: Way, links: &[u16]) -> Option<Option<Leave>>
 // The same where it is marked, from head to tail.
 fn plan_marked(w: Way, links: &[u16], head: usize, tail: usize) -> Option<Option<Leave>>
     requires { (w.n ≤ most_n) × (length links.now ≡ w.n) × (ends_fit w.n (ends_of w.outhead w.outtail) ≡ true) × (head < w.n) × (tail < w.n) }
-    ensures { IfSome result (λ found. MatchOption found ⊥ (λ o. PlannedMarked (slot_record w) links.now (ends_of head tail) o)) }
+    ensures { MatchOption result (Linked (slot_record w) links.now (ends_of head tail) → ⊥)
+        (λ found. MatchOption found ⊥ (λ o. PlannedMarked (slot_record w) links.now (ends_of head tail) o)) }
 {
     if w.outhead == 65535 {
         let r = rest_of(links, head, tail)?;
@@ -146,7 +151,8 @@ fn plan_marked(w: Way, links: &[u16], head: usize, tail: usize) -> Option<Option
 // Steps 4 and 5 but for the departing connection.
 fn plan(w: Way, links: &[u16], calendar: &[u16]) -> Option<Option<Leave>>
     requires { MayRead w links calendar }
-    ensures { IfSome result (λ found. Planned (slot_record w) links.now (entry_at calendar.now w.turn) found) }
+    ensures { MatchOption result (Linked (slot_record w) links.now (entry_at calendar.now w.turn) → ⊥)
+        (λ found. Planned (slot_record w) links.now (entry_at calendar.now w.turn) found) }
 {
     let head = calendar[2 * w.turn] as usize;
     let tail = calendar[2 * w.turn + 1] as usize;
@@ -177,7 +183,7 @@ pub fn off_quiet(
     requires sized_with { SizedWith (slot_record w) cells.now links.now calendar.now words.now bits.now }
     requires outtail_value { ends_fit w.n (ends_of w.outhead w.outtail) ≡ true }
     requires names_by { NamesBy w }
-    ensures { IfSome result
+    ensures { MatchOption result (Regular (slot_record w) cells.now links.now words.now bits.now (entry_at calendar.now w.turn) → ⊥)
         (λ found. Leaves (slot_record w) bits.now (entry_at calendar.now w.turn) found (OffHereIn w cells links words)) }
 {
     let Some(o) = plan(w, links, calendar)? else {
@@ -208,7 +214,7 @@ fn off_now(
     requires outtail_value { (ends_fit w.n (ends_of w.outhead w.outtail) ≡ true) × (ends_fit w.n (ends_of p.head p.tail) ≡ true)
         × (p.x < w.n) × (1 ≤ p.vci) × (p.vci < connections_in w.v) × (is_free_space bits.now p.x ≡ true) }
     requires names_by { NamesBy w }
-    ensures { IfSome result
+    ensures { MatchOption result (RegularNow (slot_record w) p cells.now links.now words.now bits.now → ⊥)
         (λ found. Leaves (slot_record w) (taken bits.now p.x) (seat_ends (seat_at p)) found (OffThenIn w p cells links words)) }
 {
     if w.outhead == 65535 {
@@ -257,7 +263,7 @@ fn off_later(
     requires outtail_value { (ends_fit w.n (ends_of w.outhead w.outtail) ≡ true) × (1 ≤ p.vci) × (p.vci < connections_in w.v)
         × (is_free_space bits.now p.x ≡ true) }
     requires names_by { NamesBy w }
-    ensures { IfSome result
+    ensures { MatchOption result (Regular (slot_record w) cells.now links.now words.now bits.now (entry_at calendar.now w.turn) → ⊥)
         (λ found. Leaves (slot_record w) (taken bits.now p.x) (entry_at calendar.now w.turn) found (OffThenIn w p cells links words)) }
 {
     let Some(o) = plan(w, links, calendar)? else {
@@ -288,7 +294,7 @@ pub fn off_accept(
     requires seats { Seats (slot_record w) calendar.now bits.now p }
     requires d_lt_n { (p.d < w.n) × (1 ≤ p.vci) × (p.vci < connections_in w.v) }
     requires names_by { NamesBy w }
-    ensures { IfSome result
+    ensures { MatchOption result (RegularThen (slot_record w) p cells.now links.now calendar.now words.now bits.now → ⊥)
         (λ found. Leaves (slot_record w) (taken bits.now p.x) (entry_then (slot_record w) p calendar.now) found (OffThenIn w p cells links words)) }
 {
     if p.d == 0 {

@@ -1,5 +1,5 @@
 -- `burst_depart::off_later` meets its contract: as off_quiet, and the cell that was accepted is in another space, which was free.
-use Rattle.burst_depart.proofs.LeaveLaws.{later_leaves, plan_low}
+use Rattle.burst_depart.proofs.LeaveLaws.{later_leaves, plan_low, plan_head, not_held, not_named}
 use Rattle.burst_depart.proofs.PlanLaws.{low_in}
 use Rattle.burst_depart.specs.declared.Leave.{Leave}
 use Rattle.burst_depart.specs.Leaving.{Planned}
@@ -23,3 +23,27 @@ returns c =
     a.p
     c.requires.outtail_value.3
     (low_in _ a.w.n _ (plan_low k a.links.now entry o plan) c.requires.sized_with.1.links_long)
+
+pub returns-then-is_free : goal.returns-then-is_free
+returns-then-is_free c =
+    let a = c.args in
+    let k = slot_record a.w in
+    let entry = entry_at a.calendar.now a.w.turn in
+    let o = c.in-Some.o in
+    let plan = subst (λ (found : Option Leave). Planned k a.links.now entry found) c.in-Some.is c.in_ok-o.ensures in
+    λ r.
+    not_held k a.cells.now a.links.now a.words.now a.bits.now entry o.space (plan_head k a.links.now entry o plan) c.requires.sized_with.1.n_high
+    (plan_low k a.links.now entry o plan) r
+    (sym c.is_free.ensures ∙ c.if-is_free.true)
+
+pub returns-then-vci-eq0 : goal.returns-then-vci-eq0
+returns-then-vci-eq0 c =
+    let a = c.args in
+    let k = slot_record a.w in
+    let entry = entry_at a.calendar.now a.w.turn in
+    let o = c.in-Some.o in
+    let plan = subst (λ (found : Option Leave). Planned k a.links.now entry found) c.in-Some.is c.in_ok-o.ensures in
+    λ r.
+    not_named k a.cells.now a.links.now a.words.now a.bits.now entry o.space (plan_head k a.links.now entry o plan) c.requires.sized_with.1.n_high
+    (plan_low k a.links.now entry o plan) r
+    (sym c.seen-vci.ensures ∙ c.if-vci-eq0.true)

@@ -1,10 +1,11 @@
 -- `burst_depart::plan_marked` meets its contract: entry T is the Output List, or has joined its end.
 use Rattle.burst_depart.proofs.LeaveLaws.{left_fit}
-use Rattle.burst_depart.proofs.PlanLaws.{low_in, left_count, joined_alone, joined_some, rest_alone, rest_joins}
+use Rattle.burst_depart.proofs.PlanLaws.{low_in, left_count, alone_unlinked, joined_unlinked, joined_alone, joined_some, rest_alone, rest_joins}
 use Rattle.burst_way.specs.Way.{slot_record}
 use Rattle.mem_lists.specs.Spaces.{ends_of}
 use Rattle.meaning.proofs.ListsLaws.{fit_head}
 use borrow.Author.Tests.{eq-eqb, ne_eqb}
+use native.Mathlib.Omega.{arith}
 use lib.ListN.{length, set}
 use mathlib.Core.Path.{refl}
 use Rattle.burst_depart.proofs.plan_marked.Goals as goal
@@ -51,3 +52,17 @@ returns c =
       space_low = fit_head w.n (ends_of w.outhead w.outtail) c.requires.2 c.if-w-eq65535.false;
       left_fits = left_fit w.n links w.outhead a.tail r.next r.tail l c.requires.4;
     }
+
+pub returns-in_err-r : goal.returns-in_err-r
+returns-in_err-r c =
+    let a = c.args in
+    rw c.from_residual.ensures
+    (alone_unlinked (slot_record a.w) a.links.now (ends_of a.head a.tail) c.if-w-eq65535.true (λ e. omega (arith, e, c.requires.0, c.requires.3))
+    c.in_err-r.ensures.0 (omega (arith, c.in_err-r.ensures.1, c.requires.1)))
+
+pub returns-in_err-r-2 : goal.returns-in_err-r-2
+returns-in_err-r-2 c =
+    let a = c.args in
+    rw c.from_residual-in_err-r-2.ensures
+    (joined_unlinked (slot_record a.w) a.links.now (ends_of a.head a.tail) c.if-w-eq65535.false (λ e. omega (arith, e, c.requires.0, c.requires.3))
+    (λ far. omega (arith, c.in_err-r-2.ensures far, c.requires.1)))
