@@ -1,3 +1,4 @@
 pub mod PlanLaws
 pub mod LeaveLaws
 pub mod NowLaws
+pub mod SeenLaws
