@@ -6,6 +6,8 @@ use mathlib.Core.Path.{◌≡◌, refl, sym, ◌∙◌, ap}
 use mathlib.Core.Logic.{◌≢◌}
 use mathlib.Core.Bool.{Bool, true, false}
 use mathlib.Core.List.{List}
+use Rattle.std.specs.Prelude.{Some, None}
+use Rattle.std.specs.Option.{option_map}
 use native.Mathlib.Omega.{arith}
 use borrow.Author.Tests.{eq-eqb, le-leb, lt-leb}
 use lib.Bits.{bit_or, or_add_and, and_le_l, and_le_r}
@@ -19,10 +21,10 @@ use Rattle.mem_words.proofs.NoneLaws.{no_rate}
 use Rattle.slot_arrive.specs.Arrival.{fall_of, connection_now, brought_of}
 use Rattle.slot_arrive.proofs.BroughtLaws.{brought_unused, brought_closed, brought_both_lem, brought_none, brought_unfit}
 
-pub turned_closed : (N z t : ℕ) (words : List ℕ) (vci : ℕ) → get_or words (connection_place vci) 0 ≡ 0 → fall_of true false 0 0 ≡ brought_of N z t words vci
+pub turned_closed : (N z t : ℕ) (words : List ℕ) (vci : ℕ) → get_or words (connection_place vci) 0 ≡ 0 → Some None ≡ brought_of N z t words vci
 turned_closed N z t words vci o = go (unused z vci) refl
   where
-    go : (b : Bool) → unused z vci ≡ b → fall_of true false 0 0 ≡ brought_of N z t words vci
+    go : (b : Bool) → unused z vci ≡ b → Some None ≡ brought_of N z t words vci
     go true e = brought_unused N z t words vci e
     go false e = brought_closed N z t words vci e o
 
@@ -87,18 +89,18 @@ module _ (N z t : ℕ) (words : List ℕ) (vci : ℕ) where
   pub turned_bare : unused z vci ≡ false → get_or words (connection_place vci) 0 ≡ 1 → ruled ≡ true
       → bit_or (bit_or vc.bucket.S vc.second.m) vc.second.F ≡ 0
       → bit_or (bit_or vc.second.C vc.second.S) vc.tag ≡ 0
-      → fall_of true true 0 0 ≡ brought_of N z t words vci
+      → Some (Some (fall_of 0 0)) ≡ brought_of N z t words vci
   unfolding connection_now fallen_to fall
   turned_bare ne o obeys first rest =
       let zero = each vc.bucket.S vc.second.m vc.second.F first in
       let zero2 = each vc.second.C vc.second.S vc.tag rest in
-      brought_none N z t words vci 0 (none_told vc (rw (zero.1, zero.2, zero2.0)) (rw (zero2.1, zero2.2)))
+      ap (option_map Some) (brought_none N z t words vci 0 (none_told vc (rw (zero.1, zero.2, zero2.0)) (rw (zero2.1, zero2.2))))
       ∙ brought_both_lem N z t words vci 0 ne o (turned_fits obeys (omega (arith, zero.0))) (omega (arith, zero.0))
 
   pub turned_broken : unused z vci ≡ false → get_or words (connection_place vci) 0 ≡ 1 → ruled ≡ false
-      → fall_of false false 0 0 ≡ brought_of N z t words vci
+      → None ≡ brought_of N z t words vci
   turned_broken ne o breaks = brought_unfit N z t words vci ne o (sym (bucket_breaks N vc.bucket breaks))
 
   pub turned_above : unused z vci ≡ false → get_or words (connection_place vci) 0 ≡ 1 → ruled ≡ true → vc.bucket.C < vc.bucket.S
-      → fall_of false false 0 0 ≡ brought_of N z t words vci
+      → None ≡ brought_of N z t words vci
   turned_above ne o obeys above = brought_unfit N z t words vci ne o (sym (bucket_obeys N vc.bucket obeys) ∙ lt-leb _ _ above)
