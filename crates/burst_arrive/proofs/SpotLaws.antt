@@ -2,7 +2,7 @@
 -- and below N.
 use Prim.Native.Nat.{ℕ, ◌+◌, ◌-◌, ◌*◌, ◌<◌}
 use mathlib.Core.Path.{◌≡◌, refl, sym}
-use Rattle.std.specs.Prelude.{Some, None}
+use Rattle.std.specs.Prelude.{Option, Some, None}
 use Rattle.std.proofs.lemmas.Option.{none-some, same_Some}
 use mathlib.Core.Logic.{◌≢◌}
 use mathlib.Core.Bool.{Bool, true, false}
@@ -18,9 +18,8 @@ use Rattle.meaning.specs.Lists.{ends_fit, entry_at}
 use Rattle.meaning.proofs.BitsLaws.{lowest_free_lem, lowest_below}
 use Rattle.mem_lists.specs.declared.Seat.{Seat}
 use Rattle.mem_lists.specs.Spaces as spaces
-use Rattle.mem_lists.specs.Spaces.{ends_of, seat_as, no_seat, entry_of}
+use Rattle.mem_lists.specs.Spaces.{ends_of, seat_as, entry_of}
 use Rattle.slot_plan.specs.Plan.{seat_now}
-use Rattle.slot_plan.proofs.Found.{no}
 use Rattle.burst_arrive.specs.declared.Spot.{Spot}
 use Rattle.burst_arrive.specs.Arriving.{spot_as, spot_of, seat_at, Seats}
 
@@ -34,19 +33,16 @@ entry_below N T D e t d is = rw is (go (T + D <? N) refl)
     go false q = omega arith
 
 -- a spot is there where there is a seat, and is that seat
-pub record Spotted (vci D : ℕ) (a : Seat) (p : Spot) : Type 0 where
-  pub ok : a.ok ≡ true
-  pub is : p ≡ spot_as vci D a
-  pub seat : seat_at p ≡ a
+pub record Spotted (vci D : ℕ) (found : Option Seat) (p : Spot) : Type 0 where
+  pub is : found ≡ Some (seat_at p)
+  pub vci_is : p.vci ≡ vci
+  pub d_is : p.d ≡ D
 
-pub spotted : (vci D : ℕ) (a : Seat) (p : Spot) → Some p ≡ spot_of vci D a → Spotted vci D a p
-spotted vci D a p = go a.ok refl
-  where
-    go : (b : Bool) → a.ok ≡ b → Some p ≡ (when b then Some (spot_as vci D a) else None) → Spotted vci D a p
-    go true ok e =
-        let is = same_Some p (spot_as vci D a) e in
-        record { ok = ok; is = is; seat = rw (is, ← ok) refl }
-    go false ok e = absurd (none-some p (sym e))
+pub spotted : (vci D : ℕ) (found : Option Seat) (p : Spot) → Some p ≡ spot_of vci D found → Spotted vci D found p
+spotted vci D None p e = absurd (none-some p (sym e))
+spotted vci D (Some a) p e =
+    let is = same_Some p (spot_as vci D a) e in
+    rw is record { is = refl; vci_is = refl; d_is = refl }
 
 module _ (k : Record) (D : ℕ) (calendar bits : List ℕ) (spaces_fit_lem : spaces_fit k.n k.free bits ≡ true) where
   abbrev entry_now : ℕ
@@ -54,29 +50,29 @@ module _ (k : Record) (D : ℕ) (calendar bits : List ℕ) (spaces_fit_lem : spa
 
   -- the tests one after the other: whether no space is free, and whether the entry's ends fit
   by_tests : (z f : Bool) → k.free =? 0 ≡ z → ends_fit k.n (entry_at calendar entry_now) ≡ f
-      → (when z then no_seat else when f then seat_as true (lowest_free bits) entry_now (entry_at calendar entry_now) else no_seat) ≡ seat_now k D calendar bits
+      → (when z then None else when f then Some (seat_as (lowest_free bits) entry_now (entry_at calendar entry_now)) else None) ≡ seat_now k D calendar bits
   unfolding seat_now spaces.seat_of spaces.seat_at
   by_tests true f ez ef = rw (spaces_fit_lem, ez)
   by_tests false true ez ef = rw (spaces_fit_lem, ez, ef)
   by_tests false false ez ef = rw (spaces_fit_lem, ez, ef)
 
-  pub spot_none : k.free ≡ 0 → no_seat ≡ seat_now k D calendar bits
+  pub spot_none : k.free ≡ 0 → None ≡ seat_now k D calendar bits
   spot_none e = by_tests true (ends_fit k.n (entry_at calendar entry_now)) (eq-eqb k.free 0 e) refl
 
   module _ (e : ℕ) (is : e ≡ entry_of k.n k.turn D) (some : k.free ≢ 0) where
     abbrev entry : Ends
     entry = ends_of (get_or calendar (2 * e) 0) (get_or calendar (2 * e + 1) 0)
 
-    pub spot_unfit : ends_fit k.n entry ≡ false → no_seat ≡ seat_now k D calendar bits
+    pub spot_unfit : ends_fit k.n entry ≡ false → None ≡ seat_now k D calendar bits
     unfolding entry_at
     spot_unfit unfit = by_tests false false (ne_eqb k.free 0 some) (rw (← is) unfit)
 
-    pub spot_seated : (x : ℕ) → x ≡ lowest_free bits → ends_fit k.n entry ≡ true → seat_as true x e entry ≡ seat_now k D calendar bits
+    pub spot_seated : (x : ℕ) → x ≡ lowest_free bits → ends_fit k.n entry ≡ true → Some (seat_as x e entry) ≡ seat_now k D calendar bits
     unfolding entry_at
     spot_seated x lowest fit = rw (lowest, is) (by_tests false true (ne_eqb k.free 0 some) (rw (← is) fit))
 
   seats : (vci : ℕ) → k.free ≢ 0 → ends_fit k.n (entry_at calendar entry_now) ≡ true
-      → Seats k calendar bits (spot_as vci D (seat_as true (lowest_free bits) entry_now (entry_at calendar entry_now)))
+      → Seats k calendar bits (spot_as vci D (seat_as (lowest_free bits) entry_now (entry_at calendar entry_now)))
   unfolding spaces.seat_of spaces.seat_at
   seats vci some fit =
       record {
@@ -88,19 +84,15 @@ module _ (k : Record) (D : ℕ) (calendar bits : List ℕ) (spaces_fit_lem : spa
         entry_fits = fit;
       }
 
-  -- what a seat shows
-  pub seat_shows : (vci : ℕ) → (seat_now k D calendar bits).ok ≡ true → Seats k calendar bits (spot_as vci D (seat_now k D calendar bits))
-  seat_shows vci = go (k.free =? 0) (ends_fit k.n (entry_at calendar entry_now)) refl refl
+  -- what a seat shows, of a spot that is it
+  pub spot_shows : (vci : ℕ) (p : Spot) → Some p ≡ spot_of vci D (seat_now k D calendar bits) → Seats k calendar bits p
+  spot_shows vci p = go (k.free =? 0) (ends_fit k.n (entry_at calendar entry_now)) refl refl
     where
       go : (z f : Bool) → k.free =? 0 ≡ z → ends_fit k.n (entry_at calendar entry_now) ≡ f
-          → (seat_now k D calendar bits).ok ≡ true
-          → Seats k calendar bits (spot_as vci D (seat_now k D calendar bits))
-      go true f ez ef = rw (← by_tests true f ez ef) (λ q. no q)
-      go false true ez ef = rw (← by_tests false true ez ef) (λ q. seats vci (eqb-false k.free 0 ez) ef)
-      go false false ez ef = rw (← by_tests false false ez ef) (λ q. no q)
-
-  -- the same of a spot that is it
-  pub spot_shows : (vci : ℕ) (p : Spot) → Some p ≡ spot_of vci D (seat_now k D calendar bits) → Seats k calendar bits p
-  spot_shows vci p e =
-      let s = spotted vci D (seat_now k D calendar bits) p e in
-      rw s.is (seat_shows vci s.ok)
+          → Some p ≡ spot_of vci D (seat_now k D calendar bits)
+          → Seats k calendar bits p
+      go true f ez ef = rw (← by_tests true f ez ef) (λ q. absurd (none-some p (sym q)))
+      go false true ez ef =
+          rw (← by_tests false true ez ef)
+          (λ q. rw (same_Some p (spot_as vci D (seat_as (lowest_free bits) entry_now (entry_at calendar entry_now))) q) (seats vci (eqb-false k.free 0 ez) ef))
+      go false false ez ef = rw (← by_tests false false ez ef) (λ q. absurd (none-some p (sym q)))

@@ -4,9 +4,9 @@
 --   spot_of vci D a  == the same where there is a seat, and else None
 --   Seats k .. p     == the cell has its space, the lowest free one, and its entry
 --   MaySeat w ..     == what is asked of the policer in the slot to come, and of lent memories
-use Rattle.std.specs.Prelude.{ℕ, ◌*◌, ◌≤◌, ◌<◌, ◌≡◌, true, Option, Some, None, List, length}
+use Rattle.std.specs.Prelude.{ℕ, ◌*◌, ◌≤◌, ◌<◌, ◌≡◌, true, Option, Some, List, length}
+use Rattle.std.specs.Option.{option_map}
 use Rattle.meaning.specs.declared.Record.{Record}
-use Rattle.meaning.specs.Plain.{when◌then◌else◌}
 use Rattle.meaning.specs.Numbers.{most_n, per_entry, bit_words}
 use Rattle.meaning.specs.Bits.{is_free_space, spaces_fit, lowest_free}
 use Rattle.meaning.specs.Lists.{ends_fit}
@@ -19,14 +19,14 @@ use Rattle.burst_arrive.specs.declared.Spot.{Spot}
 abbrev pub spot_as : ℕ → ℕ → Seat → Spot
 spot_as vci D a = record { x = a.x; d = D; vci = vci; e = a.e; head = a.head; tail = a.tail }
 
-abbrev pub spot_of : ℕ → ℕ → Seat → Option Spot
-spot_of vci D a = when a.ok then Some (spot_as vci D a) else None
+abbrev pub spot_of : ℕ → ℕ → Option Seat → Option Spot
+spot_of vci D found = option_map (spot_as vci D) found
 
 abbrev pub seat_at : Spot → Seat
-seat_at p = seat_as true p.x p.e (ends_of p.head p.tail)
+seat_at p = seat_as p.x p.e (ends_of p.head p.tail)
 
 pub record Seats (k : Record) (calendar bits : List ℕ) (p : Spot) : Type 0 where
-  pub seat : seat_at p ≡ seat_of k.n calendar k.turn p.d (lowest_free bits)
+  pub seat : Some (seat_at p) ≡ seat_of k.n calendar k.turn p.d (lowest_free bits)
   pub e_is : p.e ≡ entry_of k.n k.turn p.d
   pub some_free : 1 ≤ k.free
   pub is_free : is_free_space bits p.x ≡ true
