@@ -36,23 +36,23 @@ use Rattle.burst_depart.specs.Leaving.{Left, PlannedUnmarked, PlannedMarked, Pla
 
 -- ---- what is left of a list
 module _ (N : ℕ) (links : List ℕ) (x tail next tail' : ℕ) (l : Left N links x tail next tail') where
-  left_from : (u : ℕ) → u ≢ 0 → off_as true x u (ends_of next tail') ≡ off_from N u x next tail
+  left_from : (u : ℕ) → u ≢ 0 → Some (off_as x u (ends_of next tail')) ≡ off_from N u x next tail
   unfolding off_from
   left_from u ne = go (x =? tail) refl
     where
-      go : (b : Bool) → x =? tail ≡ b → off_as true x u (ends_of next tail') ≡ off_from N u x next tail
+      go : (b : Bool) → x =? tail ≡ b → Some (off_as x u (ends_of next tail')) ≡ off_from N u x next tail
       go true e = let o = l.one (eqb-true x tail e) in simp (ne_eqb u 0 ne, e, o.0, o.1)
       go false e = let m = l.more (eqb-false x tail e) in simp (ne_eqb u 0 ne, e, lt-ltb next N m.1, m.2)
 
   pub left_off : (z kind : ℕ) (cells words : List ℕ) (u : ℕ) → leaver_of N z kind cells words x ≡ u → u ≢ 0
-      → off_as true x u (ends_of next tail') ≡ off_of N z kind cells links words x tail
+      → Some (off_as x u (ends_of next tail')) ≡ off_of N z kind cells links words x tail
   left_off z kind cells words u is ne =
       (left_from u ne ∙ ap (λ (g : ℕ). off_from N g x next tail) (sym is))
       ∙ off_is N z kind cells links words x tail next (λ far. (l.more far).0)
 
   -- the same once a cell has been accepted
   pub left_after : (z kind : ℕ) (cells words : List ℕ) (own s u : ℕ) → leaver_after N z kind cells words own s x ≡ u → u ≢ 0
-      → off_as true x u (ends_of next tail') ≡ off_after N z kind cells links words own s x tail
+      → Some (off_as x u (ends_of next tail')) ≡ off_after N z kind cells links words own s x tail
   unfolding off_after
   left_after z kind cells words own s u is ne =
       (left_from u ne ∙ ap (λ (g : ℕ). off_from N g x next tail) (sym is))
@@ -133,7 +133,7 @@ module _ (k : Record) (cells links words : List ℕ) (joins : Bool) (entry : End
     abbrev joined : List ℕ
     joined = linked joins k.outtail entry.head links
 
-    pub off_here : OffHere k cells links words joins entry (off_as true x u (ends_of next tail'))
+    pub off_here : OffHere k cells links words joins entry (off_as x u (ends_of next tail'))
     off_here =
         left_off k.n joined x entry.tail next tail' l k.v k.kind cells words u is ok
         ∙ ap (λ (y : ℕ). off_of k.n k.v k.kind cells joined words y entry.tail) head
@@ -142,7 +142,7 @@ module _ (k : Record) (cells links words : List ℕ) (joins : Bool) (entry : End
       abbrev stored : List ℕ
       stored = linked joins k.outtail entry.head (linked (not (p.head =? empty)) p.x p.head links)
 
-      pub off_then_lem : OffThen k p cells links words joins entry (off_as true x u (ends_of next tail'))
+      pub off_then_lem : OffThen k p cells links words joins entry (off_as x u (ends_of next tail'))
       off_then_lem =
           left_after k.n stored x entry.tail next tail'
           (left_links k.n joined x entry.tail next tail' l stored
@@ -155,7 +155,7 @@ module _ (k : Record) (links bits : List ℕ) (entry : Ends) (o : Leave) (u : �
     (plan : Planned k links entry (Some o)) (held : is_free_space bits o.space ≡ false)
     (off : (joins : Bool) (e : Ends) → o.space ≡ joined_head k e
     → Left k.n (linked joins k.outtail e.head links) o.space e.tail o.next o.tail
-    → Is joins e (off_as true o.space u (ends_of o.next o.tail)))
+    → Is joins e (off_as o.space u (ends_of o.next o.tail)))
   where
     goes_unmarked : entry.head ≡ empty → PlannedUnmarked k links o → Goes k bits entry (leave_with o u) Is
     unfolding joined_head linked
@@ -271,7 +271,7 @@ module _ (k : Record) (p : Spot) (cells links calendar words bits : List ℕ) wh
       (λ found. Leaves k (taken bits p.x) (entry_at calendar k.turn) found (OffThen k p cells links words))
       → MatchOption result (RegularThen k p cells links calendar words bits → ⊥)
       (λ found. Leaves k (taken bits p.x) (entry_then k p calendar) found (OffThen k p cells links words))
-  accept_later e some None why =
-      λ r. why (subst (λ (f : Ends). Regular k cells links words bits f) e (r.other (λ q. some)))
-  accept_later e some (Some found) l =
+  accept_later e ne None why =
+      λ r. why (subst (λ (f : Ends). Regular k cells links words bits f) e (r.other (λ q. ne)))
+  accept_later e ne (Some found) l =
       subst (λ (f : Ends). Leaves k (taken bits p.x) f found (OffThen k p cells links words)) (sym e) l

@@ -101,7 +101,7 @@ module _ (k : Record) (p : Spot) (cells links words bits : List ℕ)
     alone = record { space = p.x; vci = p.vci; next = p.head; tail = p.tail; marked = true; follows = None }
 
     alone_off : k.outhead ≡ empty → p.tail ≢ p.x
-        → OffThen k p cells links words (not (k.outhead =? empty)) entry (off_as true p.x p.vci (ends_of p.head p.tail))
+        → OffThen k p cells links words (not (k.outhead =? empty)) entry (off_as p.x p.vci (ends_of p.head p.tail))
     alone_off q ok =
         let joins = not (k.outhead =? empty) in
         let stored = linked joins k.outtail entry.head (linked (not (p.head =? empty)) p.x p.head links) in

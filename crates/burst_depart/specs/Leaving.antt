@@ -81,7 +81,7 @@ leave_with o vci =
 
 -- what departs, as one record
 abbrev pub off_at : Leave → Off
-off_at o = off_as true o.space o.vci (ends_of o.next o.tail)
+off_at o = off_as o.space o.vci (ends_of o.next o.tail)
 
 pub record Goes (k : Record) (bits : List ℕ) (entry : Ends) (o : Leave) (Is : Bool → Ends → Off → Type 0) : Type 0 where
   pub marked : o.marked ≡ true
@@ -99,7 +99,7 @@ pub record Leaves (k : Record) (bits : List ℕ) (entry : Ends) (found : Option 
 -- where no cell is accepted: memory is as it is, but for the chain of entry T that has joined the Output List, where joins
 abbrev pub OffHere : Record → List ℕ → List ℕ → List ℕ → Bool → Ends → Off → Type 0
 OffHere k cells links words joins entry o =
-    o ≡ off_of k.n k.v k.kind cells (linked joins k.outtail entry.head links) words (joined_head k entry) entry.tail
+    Some o ≡ off_of k.n k.v k.kind cells (linked joins k.outtail entry.head links) words (joined_head k entry) entry.tail
 
 -- entry T once a cell has its seat
 abbrev pub entry_then : Record → Spot → List ℕ → Ends
@@ -118,7 +118,7 @@ pub record RegularThen (k : Record) (p : Spot) (cells links calendar words bits 
 -- where a cell is accepted into the seat of p, and its connection is p's: of the judgement nothing else matters here
 abbrev pub OffThen : Record → Spot → List ℕ → List ℕ → List ℕ → Bool → Ends → Off → Type 0
 OffThen k p cells links words joins entry o =
-    o
+    Some o
     ≡ off_after k.n k.v k.kind cells (linked joins k.outtail entry.head (linked (not (p.head =? empty)) p.x p.head links)) words
     p.vci p.x (joined_head k entry) entry.tail
 
