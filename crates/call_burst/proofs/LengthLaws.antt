@@ -1,13 +1,13 @@
 -- A slot keeps the lengths of the five memories: each step is followed. So a slot of a burst is never refused with 1, 2 or
 -- 9: it is served, or refused with 3.
-use Prim.Native.Nat.{ℕ, ◌+◌, ◌*◌, ◌%◌, ◌≤◌, ◌<◌}
+use Prim.Native.Nat.{ℕ, ◌+◌, ◌*◌, ◌%◌}
 use mathlib.Core.Path.{◌≡◌, refl, ◌∙◌}
 use mathlib.Core.Bool.{Bool, true, false, not, ◌&&◌}
 use mathlib.Core.List.{List}
 use native.Mathlib.Omega.{arith}
 use borrow.Author.Tests.{eqb-false}
 use lib.ListN.{length, set, length-set}
-use Rattle.meaning.specs.Plain.{when◌then◌else◌, ◌<?◌, ◌≤?◌, ◌=?◌, refused, ◌and_then◌}
+use Rattle.meaning.specs.Plain.{when◌then◌else◌, ◌<?◌, ◌≤?◌, ◌=?◌, ◌and_then◌}
 use Rattle.meaning.specs.Numbers.{cell_start, connections_in, unused, kind_in_range, excess, unknown, words_in, bit_words}
 use Rattle.meaning.specs.Bits.{is_free_space, spaces_fit, taken}
 use Rattle.meaning.specs.State.{Ends, output_list, with_record, with_cells, with_links, with_calendar, with_words, with_bits, with_arrived}
@@ -18,7 +18,7 @@ use Rattle.meaning.specs.Words.{Connection, connection_at, open_word_fits, up_to
 use Rattle.meaning.specs.Lists.{is_empty, ends_fit, entry_at, take_head, Grown, join_head, join_tail}
 use Rattle.meaning.specs.Work.{Work, with_arrival}
 use Rattle.meaning.specs.Arrival.{place, verdict_on, sent_as, accept, judge}
-use Rattle.meaning.specs.Slot.{step1, step2, step3, step4, depart, step5, five_steps, slot}
+use Rattle.meaning.specs.Slot.{step1, step2, step3, step4, depart, step5, five_steps}
 use Rattle.meaning.proofs.BitsLaws.{free_low, taken_length, given_length}
 use Rattle.meaning.proofs.MarksLaws.{marked_length, unmarked_length}
 use Rattle.meaning.proofs.ListsLaws.{entry_length}

@@ -2,20 +2,19 @@
 -- or is raw in correction and is lent no cell or one whose header is clean.
 use Prim.Native.Nat.{ℕ, ◌+◌, ◌-◌, ◌*◌, ◌%◌, ◌≤◌, ◌<◌}
 use mathlib.Core.Path.{◌≡◌, refl, sym, ◌∙◌, ap}
-use mathlib.Core.Logic.{◌≢◌, ◌⊎◌, inl, inr}
-use mathlib.Core.Bool.{Bool, true, false, not, ◌&&◌, ◌||◌}
+use mathlib.Core.Logic.{◌⊎◌, inl, inr}
+use mathlib.Core.Bool.{Bool, true, false, ◌&&◌, ◌||◌}
 use mathlib.Core.List.{List}
 use native.Mathlib.Omega.{arith}
 use borrow.Author.Tests.{eq-eqb, eqb-true, eqb-false, le-leb, leb-true, ltb-true}
 use native.Mathlib.Nat.{mod-lt}
-use lib.ListN.{length, get_or, drop, length-drop}
-use lib.Seq.{length-take-le}
+use lib.ListN.{length, get_or, drop}
 use Rattle.meaning.specs.declared.Record.{Record}
-use Rattle.meaning.specs.Plain.{when◌then◌else◌, ◌<?◌, ◌≤?◌, ◌=?◌, Out, next}
+use Rattle.meaning.specs.Plain.{when◌then◌else◌, ◌<?◌, ◌≤?◌, ◌=?◌, next}
 use Rattle.meaning.specs.Numbers.{ranges_hold, connections_in, unused, kind_in_range, slot_numbers, words_in, bit_words}
 use Rattle.meaning.specs.Bits.{spaces_fit}
 use Rattle.meaning.specs.State.{State, Ends, state_of, record_with, lengths_hold, words_length}
-use Rattle.meaning.specs.Work.{Work, work_of}
+use Rattle.meaning.specs.Work.{Work}
 use Rattle.meaning.specs.Slot.{unchecked_slot, slot, finish}
 use Rattle.meaning.proofs.BitsLaws.{free_most}
 use Rattle.meaning.proofs.NamesLaws.{used_is}
@@ -30,12 +29,12 @@ use Rattle.burst_way.specs.declared.Way.{Way}
 use Rattle.burst_way.specs.Way.{way_with, slot_record, last_record, stepped_way, rounded_way, Fits}
 use Rattle.burst_way.proofs.WayLaws.{last_clocked, stepped_last, rounded_last}
 use Rattle.burst_likely.specs.Served.{from2, Done}
-use Rattle.call_burst.specs.Burst.{Stretch, stretch_of, size_fits, cell_lent, one_slot, slots}
+use Rattle.call_burst.specs.Burst.{stretch_of, size_fits, cell_lent, one_slot, slots}
 use Rattle.call_burst.specs.declared.Far.{Far}
 use Rattle.call_burst.specs.Way.{Shaped, RawFits, Tries, Held, Room, way_stretch}
 use Rattle.call_burst.proofs.TurnLaws.{turn_serves}
-use Rattle.call_burst.proofs.Loop.{turn_on}
-use Rattle.call_burst.proofs.StopLaws.{Fit}
+use Rattle.call_burst.proofs.Loop.{turn_on, still_shaped}
+use Rattle.call_burst.proofs.StopLaws.{Fit, lengths_plain, lent_long, second}
 use Rattle.call_burst.proofs.RawLaws.{Passed, check_passes}
 
 -- a size of 0 or 53 fits
@@ -43,17 +42,6 @@ pub size_is : (size : ℕ) → (size ≡ 0) ⊎ (size ≡ 53) → size_fits size
 unfolding size_fits
 size_is size (inl e) = rw e
 size_is size (inr e) = rw e
-
-lent_long : (arrivals : List ℕ) (i size : ℕ) → 53 * i + 53 ≤ length arrivals → size ≤ 53 → length (cell_lent arrivals i size) ≡ size
-unfolding cell_lent
-lent_long arrivals i size room small = length-take-le size (drop (53 * i) arrivals) (rw length-drop (omega arith))
-
-or_right : (a b : Bool) → b ≡ true → a || b ≡ true
-or_right true b e = refl
-or_right false b e = e
-
-or_left : (a b : Bool) → a ≡ true → a || b ≡ true
-or_left a b e = rw e
 
 -- refusals 1, 2 and 9 are not given
 shape_none : (r : Record) (cells links calendar words bits arrived cell : List ℕ) → Shaped r cells links calendar words bits arrived → (length cell ≡ 0) ⊎ (length cell ≡ 53)
@@ -75,8 +63,8 @@ shape_none r cells links calendar words bits arrived cell z long =
     )
   where
     lengths : (length cell ≡ 0) ⊎ (length cell ≡ 53) → length cell =? 0 || length cell =? 53 ≡ true
-    lengths (inl e) = or_left (length cell =? 0) (length cell =? 53) (eq-eqb (length cell) 0 e)
-    lengths (inr e) = or_right (length cell =? 0) (length cell =? 53) (eq-eqb (length cell) 53 e)
+    lengths (inl e) = rw (eq-eqb (length cell) 0 e)
+    lengths (inr e) = second (length cell =? 0) (length cell =? 53) (eq-eqb (length cell) 53 e)
 
 module _ (arrivals : List ℕ) (size : ℕ) (w : Way) (cells links calendar words bits arrived : List ℕ) (departures answers : List ℕ) (i : ℕ) where
   abbrev r : Record
@@ -91,7 +79,7 @@ module _ (arrivals : List ℕ) (size : ℕ) (w : Way) (cells links calendar word
   module _ (z : Shaped (slot_record w) cells links calendar words bits arrived) (t_low : w.t < 4294967296) (turn : w.turn < w.n) (rotation : w.rotation < connections_in w.v) (raw : RawFits w.raw w.mode) (clean : Passed w.raw size cell) (room : 53 * i + 53 ≤ length arrivals) (fits : (size ≡ 0) ⊎ (size ≡ 53)) where
     shaped : Shaped r cells links calendar words bits arrived
     unfolding last_record
-    shaped = record { n_low = z.n_low; n_high = z.n_high; v_low = z.v_low; v_high = z.v_high; cells_long_lem = z.cells_long_lem; links_long = z.links_long; calendar_long = z.calendar_long; words_long = z.words_long; bits_long = z.bits_long; arrived_long = z.arrived_long }
+    shaped = still_shaped _ _ _ _ _ _ _ _ _ _ _ _ _ _ z (refl, refl) refl refl refl refl refl refl
 
     sized : (size ≡ 0) ⊎ (size ≡ 53) → length cell ≡ size
     sized (inl e) = lent_long arrivals i size room (omega (arith, e))
@@ -157,7 +145,7 @@ module _ (arrivals sizes : List ℕ) (stop i : ℕ) (w : Way) (cells links calen
   next_held a b e f g h =
       let z = held.shaped in
       record {
-        shaped = record { n_low = z.n_low; n_high = z.n_high; v_low = z.v_low; v_high = z.v_high; cells_long_lem = a ∙ z.cells_long_lem; links_long = b ∙ z.links_long; calendar_long = e ∙ z.calendar_long; words_long = f ∙ z.words_long; bits_long = g ∙ z.bits_long; arrived_long = h ∙ z.arrived_long };
+        shaped = still_shaped _ _ _ _ _ _ _ _ _ _ _ _ _ _ z (refl, refl) a b e f g h;
         t_low = mod-lt (w.t + 1) (omega arith);
         turn_most = omega (arith, room.turn_room);
         rotation_most = omega (arith, room.rotation_room);
@@ -203,18 +191,8 @@ module _ (arrivals sizes : List ℕ) (i : ℕ) (w : Way) (cells links calendar w
 
 -- ---- how far a run has come: where it began (₀), and where it is
 pub record Running (arrivals sizes : List ℕ) (begin stop : ℕ) (cells₀ links₀ calendar₀ words₀ bits₀ arrived₀ departures₀ answers₀ : List ℕ) (w₀ : Way) (cells links calendar words bits arrived departures answers : List ℕ) (w : Way) (i : ℕ) : Type 0 where
-  pub low : begin ≤ i
-  pub most : i ≤ stop
   pub held : Held w cells links calendar words bits arrived
   pub room : Room w words (stop - i)
-  pub cells_kept : length cells ≡ length cells₀
-  pub links_kept : length links ≡ length links₀
-  pub calendar_kept : length calendar ≡ length calendar₀
-  pub words_kept : length words ≡ length words₀
-  pub bits_kept : length bits ≡ length bits₀
-  pub arrived_kept : length arrived ≡ length arrived₀
-  pub departures_kept : length departures ≡ length departures₀
-  pub answers_kept : length answers ≡ length answers₀
   pub rest : slots arrivals (drop i sizes) (way_stretch w cells links calendar words bits arrived departures answers i)
       ≡ slots arrivals (drop begin sizes) (way_stretch w₀ cells₀ links₀ calendar₀ words₀ bits₀ arrived₀ departures₀ answers₀ begin)
 
@@ -235,7 +213,7 @@ module _ (w : Way) (cells links calendar words bits arrived : List ℕ) (h : Hel
   rounded_held =
       let z = h.shaped in
       record {
-        shaped = record { n_low = z.n_low; n_high = z.n_high; v_low = z.v_low; v_high = z.v_high; cells_long_lem = z.cells_long_lem; links_long = z.links_long; calendar_long = z.calendar_long; words_long = z.words_long; bits_long = z.bits_long; arrived_long = z.arrived_long };
+        shaped = still_shaped _ _ _ _ _ _ _ _ _ _ _ _ _ _ z (refl, refl) refl refl refl refl refl refl;
         t_low = h.t_low;
         turn_most = let l = rounded_low.0 in omega (arith, l);
         rotation_most = let l = rounded_low.1 in omega (arith, l);
@@ -253,26 +231,12 @@ module _ (w : Way) (cells links calendar words bits arrived : List ℕ) (h : Hel
       (rounded_last w h.shaped.n_low)
 
 -- how far the runs have come: where they began (₀), and where they are
-pub record Going (arrivals sizes : List ℕ) (begin : ℕ) (cells₀ links₀ calendar₀ words₀ bits₀ arrived₀ departures₀ answers₀ : List ℕ) (f₀ : Far) (cells links calendar words bits arrived departures answers : List ℕ) (f : Far) : Type 0 where
-  pub low : begin ≤ f.i
-  pub most : f.i ≤ length sizes
-  pub held : Held f.way cells links calendar words bits arrived
-  pub cells_kept : length cells ≡ length cells₀
-  pub links_kept : length links ≡ length links₀
-  pub calendar_kept : length calendar ≡ length calendar₀
-  pub words_kept : length words ≡ length words₀
-  pub bits_kept : length bits ≡ length bits₀
-  pub arrived_kept : length arrived ≡ length arrived₀
-  pub departures_kept : length departures ≡ length departures₀
-  pub answers_kept : length answers ≡ length answers₀
-  pub rest : slots arrivals (drop f.i sizes) (way_stretch f.way cells links calendar words bits arrived departures answers f.i)
-      ≡ slots arrivals (drop f₀.i sizes) (way_stretch f₀.way cells₀ links₀ calendar₀ words₀ bits₀ arrived₀ departures₀ answers₀ f₀.i)
-
--- a run that came to its end has served slots, and one that did not is the last
-pub runs_less : (b : Bool) (long i i' stop : ℕ) → i ≤ i' → i' ≤ stop → stop ≤ long → i ≤ stop → stop ≢ i → (b ≡ true → i' ≡ stop)
-    → long - i' + (when b then 1 else 0) < long - i + 1
-runs_less true long i i' stop a b d l ne e = let q = e refl in omega (arith, q, ne)
-runs_less false long i i' stop a b d l ne e = omega arith
+pub record Going (arrivals sizes : List ℕ) (begin : ℕ) (cells₀ links₀ calendar₀ words₀ bits₀ arrived₀ departures₀ answers₀ : List ℕ) (far₀ : Far) (cells links calendar words bits arrived departures answers : List ℕ) (far : Far) : Type 0 where
+  pub low : begin ≤ far.i
+  pub most : far.i ≤ length sizes
+  pub held : Held far.way cells links calendar words bits arrived
+  pub rest : slots arrivals (drop far.i sizes) (way_stretch far.way cells links calendar words bits arrived departures answers far.i)
+      ≡ slots arrivals (drop far₀.i sizes) (way_stretch far₀.way cells₀ links₀ calendar₀ words₀ bits₀ arrived₀ departures₀ answers₀ far₀.i)
 
 -- ---- from a record to its way and back
 module _ (r : Record) (cells links calendar words bits arrived : List ℕ) (z : Shaped r cells links calendar words bits arrived) (t : Tries r bits) (w : Way) (e : slot_record w ≡ clocked r) (m : w.mask ≡ mask_for w.kind) where
@@ -355,31 +319,27 @@ module _ (w : Way) (cells links calendar words bits arrived : List ℕ) (h : Hel
   unfolding last_record
   last_shaped =
       let z = h.shaped in
-      record { n_low = z.n_low; n_high = z.n_high; v_low = z.v_low; v_high = z.v_high; cells_long_lem = z.cells_long_lem; links_long = z.links_long; calendar_long = z.calendar_long; words_long = z.words_long; bits_long = z.bits_long; arrived_long = z.arrived_long }
+      still_shaped _ _ _ _ _ _ _ _ _ _ _ _ _ _ z (refl, refl) refl refl refl refl refl refl
 
 -- ---- a policer of which refusals 1 and 2 are not given
 pub fit_shaped : (s : State) → Fit s → Shaped s.ctl s.cells s.links s.calendar s.words s.bits s.arrived
-unfolding ranges_hold lengths_hold words_length
+unfolding ranges_hold
 fit_shaped s f =
     let N = s.ctl.n in
     let z = s.ctl.v in
     let v2 = both_true (1 ≤? N && N ≤? 1024 && 2 ≤? z) (z ≤? 1024) f.ranges in
     let v1 = both_true (1 ≤? N && N ≤? 1024) (2 ≤? z) v2.0 in
     let n2 = both_true (1 ≤? N) (N ≤? 1024) v1.0 in
-    let a = both_true (length s.cells =? 53 * N && length s.links =? N && length s.calendar =? 2 * N && length s.words =? words_in z && length s.bits =? bit_words) (length s.arrived =? N) f.lengths in
-    let b = both_true (length s.cells =? 53 * N && length s.links =? N && length s.calendar =? 2 * N && length s.words =? words_in z) (length s.bits =? bit_words) a.0 in
-    let w = both_true (length s.cells =? 53 * N && length s.links =? N && length s.calendar =? 2 * N) (length s.words =? words_in z) b.0 in
-    let c = both_true (length s.cells =? 53 * N && length s.links =? N) (length s.calendar =? 2 * N) w.0 in
-    let l = both_true (length s.cells =? 53 * N) (length s.links =? N) c.0 in
+    let l = lengths_plain s f.lengths in
     record {
       n_low = leb-true _ _ n2.0;
       n_high = leb-true _ _ n2.1;
       v_low = leb-true _ _ v1.1;
       v_high = leb-true _ _ v2.1;
-      cells_long_lem = eqb-true _ _ l.0;
-      links_long = eqb-true _ _ l.1;
-      calendar_long = eqb-true _ _ c.1;
-      words_long = eqb-true _ _ w.1;
-      bits_long = eqb-true _ _ b.1;
-      arrived_long = eqb-true _ _ a.1;
+      cells_long_lem = l.cells_long_lem;
+      links_long = l.links_long;
+      calendar_long = l.calendar_long;
+      words_long = l.words_long;
+      bits_long = l.bits_long;
+      arrived_long = l.arrived_long;
     }

@@ -1,7 +1,7 @@
 -- The burst's loop: what is left of the sizes gives the rest of what all of them give.
 use Prim.Native.Nat.{ℕ, ◌+◌, ◌≤◌, ◌<◌}
-use mathlib.Core.Path.{◌≡◌, refl, sym, ◌∙◌, ap}
-use mathlib.Core.List.{List, []}
+use mathlib.Core.Path.{◌≡◌, sym, ◌∙◌, ap}
+use mathlib.Core.List.{List}
 use native.Mathlib.Omega.{arith}
 use native.Mathlib.Nat.{add-sub_cancel_left}
 use lib.ListN.{length, take, drop, get_or, drop_of_length-le}
@@ -14,9 +14,10 @@ use Rattle.call_burst.specs.Way.{Shaped}
 use Rattle.call_burst.proofs.TurnLaws.{slots_on, slots_counted, slot_kept}
 
 -- the part that is lent to slot i, as its ends give it
-pub lent_part : (arrivals : List ℕ) (i size : ℕ) → take (53 * i + size - 53 * i) (drop (53 * i) arrivals) ≡ cell_lent arrivals i size
+pub lent_part : (arrivals : List ℕ) (i size long : ℕ) → long ≡ size
+    → take (53 * i + long - 53 * i) (drop (53 * i) arrivals) ≡ cell_lent arrivals i size
 unfolding cell_lent
-lent_part arrivals i size = rw add-sub_cancel_left
+lent_part arrivals i size long e = rw (e, add-sub_cancel_left)
 
 -- a turn that was not stopped
 module _ (arrivals sizes : List ℕ) (b : Stretch) (low : b.done < length sizes) (s : State) (departures answers : List ℕ) (number done : ℕ) (e : stretch_of s departures answers number done ≡ one_slot arrivals (get_or sizes b.done 0) b) (z : number ≡ 0) where
@@ -42,19 +43,11 @@ abbrev pub reached : BurstEnd → List ℕ → List ℕ → List ℕ → List �
 reached r cells links calendar words bits arrived departures answers =
     stretch_of (state_of r.ctl cells links calendar words bits arrived) departures answers 0 r.done
 
--- where the loop began (₀), and where it is
+-- where the loop is, end₀ being what it began with
 pub record Turning (arrivals sizes cells₀ links₀ calendar₀ words₀ bits₀ arrived₀ departures₀ answers₀ : List ℕ) (end₀ : BurstEnd) (cells links calendar words bits arrived departures answers : List ℕ) (end : BurstEnd) : Type 0 where
   pub going : end.number ≡ 0
   pub low : end.done ≤ length sizes
   pub shaped : Shaped end.ctl cells links calendar words bits arrived
-  pub cells_kept : length cells ≡ length cells₀
-  pub links_kept : length links ≡ length links₀
-  pub calendar_kept : length calendar ≡ length calendar₀
-  pub words_kept : length words ≡ length words₀
-  pub bits_kept : length bits ≡ length bits₀
-  pub arrived_kept : length arrived ≡ length arrived₀
-  pub departures_kept : length departures ≡ length departures₀
-  pub answers_kept : length answers ≡ length answers₀
   pub rest : slots arrivals (drop end.done sizes) (reached end cells links calendar words bits arrived departures answers)
       ≡ slots arrivals sizes (reached end₀ cells₀ links₀ calendar₀ words₀ bits₀ arrived₀ departures₀ answers₀)
 

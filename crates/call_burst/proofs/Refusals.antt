@@ -9,13 +9,13 @@ use native.Mathlib.Nat.{div-add-mod, mul-mod_right, mul-div_cancel_left}
 use native.Mathlib.Decide.{ℕ_discrete}
 use borrow.Author.Tests.{eq-eqb, ne_eqb, eqb-true}
 use lib.ListN.{length}
-use Rattle.meaning.specs.Plain.{when◌then◌else◌, ◌=?◌}
+use Rattle.meaning.specs.Plain.{◌=?◌}
 use Rattle.meaning.specs.Numbers.{ranges_hold, octets, per_entry, words_in, bit_words}
 use Rattle.meaning.specs.State.{State}
 use Rattle.leaf_refusal.specs.Order.{refuse_of, first_of}
 use Rattle.leaf_refusal.proofs.Two.{two_given, two_none}
 use Rattle.burst_out.specs.Handout.{answer_long}
-use Rattle.call_burst.specs.Burst.{Stretch, stretch_of, stopped, slots, lengths_fit, burst}
+use Rattle.call_burst.specs.Burst.{stretch_of, stopped, slots, lengths_fit, burst}
 use Rattle.call_burst.specs.Promise.{BurstLent}
 use Rattle.slot_steps.proofs.EndLaws.{both_true}
 
@@ -67,14 +67,12 @@ worked_of s arrivals sizes departures answers =
     worked (not (ranges_hold s.ctl.n s.ctl.v)) (not (fit_of s arrivals sizes departures answers))
 
 -- from its parts
-pub worked_out : (s : State) (arrivals sizes departures answers : List ℕ) (ranges fit : Bool) (one two k : ℕ)
-    → ranges ≡ ranges_hold s.ctl.n s.ctl.v
+pub worked_out : (s : State) (arrivals sizes departures answers : List ℕ) (fit : Bool) (k : ℕ)
     → fit ≡ fit_of s arrivals sizes departures answers
-    → one ≡ refuse_of 1 (not ranges)
-    → two ≡ refuse_of 2 (not fit)
-    → k ≡ first_of one two
+    → k ≡ worked (not (ranges_hold s.ctl.n s.ctl.v)) (not fit)
     → k ≡ worked_of s arrivals sizes departures answers
-worked_out s arrivals sizes departures answers ranges fit one two k r f p q e = rw (e, p, q, r, f)
+worked_out s arrivals sizes departures answers fit k f e =
+    e ∙ ap (λ (b : Bool). worked (not (ranges_hold s.ctl.n s.ctl.v)) (not b)) f
 
 -- a burst that is refused, and one that is not
 module _ (s : State) (arrivals sizes departures answers : List ℕ) (k : ℕ) (e : k ≡ worked_of s arrivals sizes departures answers) where

@@ -1,14 +1,13 @@
 -- What a served slot leaves to be shown, and how many octets of a cell are lent to it.
-use Prim.Native.Nat.{ℕ, ◌+◌, ◌*◌, ◌≤◌, ◌<◌}
-use mathlib.Core.Path.{◌≡◌, refl, sym, ◌∙◌, ap}
-use mathlib.Core.Logic.{◌≢◌}
-use mathlib.Core.Bool.{Bool, true, false, not, ◌&&◌, ◌||◌}
+use Prim.Native.Nat.{ℕ, ◌*◌, ◌≤◌}
+use mathlib.Core.Path.{◌≡◌, refl, ◌∙◌}
+use mathlib.Core.Bool.{Bool, true, false, ◌&&◌, ◌||◌}
 use mathlib.Core.List.{List}
 use native.Mathlib.Omega.{arith}
 use borrow.Author.Tests.{eqb-true, leb-true}
 use lib.ListN.{length}
 use Rattle.meaning.specs.Plain.{◌≤?◌, ◌=?◌}
-use Rattle.meaning.specs.Numbers.{ranges_hold, octets, per_entry, bit_words, empty, most_n, least_v, most_v}
+use Rattle.meaning.specs.Numbers.{ranges_hold, octets, per_entry, bit_words, most_n, least_v, most_v}
 use Rattle.meaning.specs.State.{State, lengths_hold, words_length}
 use Rattle.meaning.specs.Work.{Work}
 use Rattle.burst_out.specs.Handout.{Shows}

@@ -2,8 +2,8 @@
 -- of a burst is served, or stops it with one of these.
 use Prim.Native.Nat.{ℕ, ◌+◌, ◌*◌, ◌≤◌}
 use mathlib.Core.Path.{◌≡◌, refl, sym, ◌∙◌, subst}
-use mathlib.Core.Logic.{◌≢◌, ◌⊎◌, inl, inr, ⊎_elim}
-use mathlib.Core.Bool.{Bool, true, false, not, ◌&&◌, ◌||◌, true≢false}
+use mathlib.Core.Logic.{◌⊎◌, inl, inr, ⊎_elim}
+use mathlib.Core.Bool.{Bool, true, false, not, ◌&&◌, ◌||◌}
 use mathlib.Core.List.{List, [], ◌∷◌}
 use native.Mathlib.Omega.{arith}
 use borrow.Author.Tests.{eq-eqb, ne_eqb, eqb-true}
@@ -19,7 +19,6 @@ use Rattle.base_hec.specs.Modes.{Arriving, arriving, arriving_fits}
 use Rattle.slot_steps.proofs.EndLaws.{AllOut, both_true, Ended, begun, five_ended}
 use Rattle.call_slot.specs.Back.{back}
 use Rattle.call_slot.proofs.Front.{by_unchecked}
-use Rattle.call_slot.proofs.Answered.{slot_answered}
 use Rattle.call_burst.specs.Burst.{Stretch, stretch_of, size_fits, cell_lent, served, stopped, slot_done, one_slot, slots, lengths_fit, burst}
 use Rattle.call_burst.proofs.LengthLaws.{Long, five_long}
 
@@ -32,7 +31,7 @@ pub record Fit (s : State) : Type 0 where
 abbrev pub ServedOr3 : Work → Type 0
 ServedOr3 w = ((w.answer.number ≡ 0) × Fit w.state) ⊎ (w.answer.number ≡ 3)
 
-lengths_plain : (s : State) → lengths_hold s.ctl.n s.ctl.v s.cells s.links s.calendar s.words s.bits s.arrived ≡ true
+pub lengths_plain : (s : State) → lengths_hold s.ctl.n s.ctl.v s.cells s.links s.calendar s.words s.bits s.arrived ≡ true
     → Long s.ctl.n s.ctl.v (work_of s (bare_answer 0))
 unfolding lengths_hold words_length
 lengths_plain s e =
@@ -127,11 +126,11 @@ unfolding size_fits
 fits_either size e =
     ⊎_elim (λ z. inl (eqb-true size 0 z)) (λ f. inr (eqb-true size 53 f)) (either (size =? 0) (size =? octets) e)
 
-lent_long : (arrivals : List ℕ) (i size : ℕ) → 53 * i + 53 ≤ length arrivals → size ≤ 53 → length (cell_lent arrivals i size) ≡ size
+pub lent_long : (arrivals : List ℕ) (i size : ℕ) → 53 * i + 53 ≤ length arrivals → size ≤ 53 → length (cell_lent arrivals i size) ≡ size
 unfolding cell_lent
 lent_long arrivals i size room most = simp (length-take, length-drop) (omega arith)
 
-second : (a b : Bool) → b ≡ true → a || b ≡ true
+pub second : (a b : Bool) → b ≡ true → a || b ≡ true
 second true b e = refl
 second false b e = e
 

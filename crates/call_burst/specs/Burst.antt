@@ -1,6 +1,6 @@
 -- A burst: slots one after the other, each followed by showing its line cell. "Since a space that was given back may be
 -- taken again within the burst, each slot's departing cell is copied into its own 53 octets of departures."
-use Rattle.std.specs.Prelude.{ℕ, ◌+◌, ◌*◌, Bool, not, ◌&&◌, ◌||◌, List, [], ◌∷◌, length, get_or, take, drop}
+use Rattle.std.specs.Prelude.{ℕ, ◌+◌, ◌*◌, Bool, not, ◌&&◌, ◌||◌, List, [], ◌∷◌, length, take, drop}
 use Rattle.meaning.specs.Plain.{when◌then◌else◌, ◌=?◌}
 use Rattle.meaning.specs.Numbers.{ranges_hold, octets, per_entry, words_in, bit_words, cell_start}
 use Rattle.meaning.specs.State.{State}

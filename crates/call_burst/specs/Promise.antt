@@ -1,11 +1,10 @@
 -- What a burst promises of its answer and of every lent octet, number and word afterwards; and what its parts are lent.
-use Rattle.std.specs.Prelude.{ℕ, ◌+◌, ◌*◌, ◌/◌, ◌≤◌, ◌<◌, ◌≡◌, ◌≢◌, true, List, length}
-use Rattle.meaning.specs.Numbers.{octets, cell_start, empty}
+use Rattle.std.specs.Prelude.{ℕ, ◌+◌, ◌*◌, ◌≤◌, ◌≡◌, List, length}
+use Rattle.meaning.specs.Numbers.{octets, cell_start}
 use Rattle.meaning.specs.State.{State}
 use Rattle.meaning.specs.Lent.{Lent, LentMut}
-use Rattle.meaning.specs.Line.{cells_allowed}
 use Rattle.burst_out.specs.Handout.{answer_long}
-use Rattle.call_burst.specs.Burst.{Stretch, stretch_of, burst}
+use Rattle.call_burst.specs.Burst.{stretch_of, burst}
 use Rattle.call_burst.specs.declared.BurstEnd.{BurstEnd}
 
 -- s' is the state afterwards

@@ -6,7 +6,7 @@
 --   Held w ..         == what every slot keeps; T and rotation may stand at N and V + 256, where a run has ended
 --   Room w words k    == a run of k slots: neither T nor rotation steps round before it ends, nor does rotation come from the VCs to
 --                        the paths; and a record that is no connection's, its first at most, is not open
-use Rattle.std.specs.Prelude.{ℕ, ◌+◌, ◌-◌, ◌*◌, ◌≤◌, ◌<◌, ◌≡◌, ◌⊎◌, true, List, length, get_or, drop}
+use Rattle.std.specs.Prelude.{ℕ, ◌+◌, ◌*◌, ◌≤◌, ◌<◌, ◌≡◌, ◌⊎◌, true, List, length, get_or, drop}
 use Rattle.meaning.specs.declared.Record.{Record}
 use Rattle.meaning.specs.Numbers.{most_n, least_v, most_v, octets, per_entry, connection_place, connections_in, unused, words_in, bit_words, kind_in_range, slot_numbers}
 use Rattle.meaning.specs.Bits.{spaces_fit}

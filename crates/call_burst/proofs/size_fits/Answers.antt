@@ -1,12 +1,12 @@
--- `call_burst::size_fits` meets its contract: the two tests, one after the other.
-use borrow.Author.Tests.{eq-eqb, ne_eqb}
+-- `call_burst::size_fits` meets its contract: each of the two sizes fits, and no other.
+use Rattle.std.proofs.Common.{rules}
 use Rattle.call_burst.specs.Burst.{size_fits}
 use Rattle.call_burst.proofs.size_fits.Goals as goal
 
-pub returns-then-size-eq0 : goal.returns-then-size-eq0
+pub returns-in-0 : goal.returns-in-0
 unfolding size_fits
-returns-then-size-eq0 c = simp (eq-eqb c.args.size 0 c.if-size-eq0.true)
+returns-in-0 c = search rules
 
-pub returns : goal.returns
+pub returns-in_default : goal.returns-in_default
 unfolding size_fits
-returns c = simp (ne_eqb c.args.size 0 c.if-size-eq0.false)
+returns-in_default c = search rules
