@@ -4,7 +4,6 @@ use mathlib.Core.Path.{◌≡◌, refl, sym, ◌∙◌, ap, subst}
 use mathlib.Core.Bool.{Bool, true, false, not}
 use mathlib.Core.List.{List}
 use native.Mathlib.Omega.{arith}
-use borrow.Author.Tests.{eqb-false, not-true}
 use lib.ListN.{length, get_or, set, take, drop}
 use Rattle.meaning.specs.declared.Record.{Record}
 use Rattle.meaning.specs.declared.Answer.{Answer}
@@ -21,7 +20,7 @@ use Rattle.meaning.specs.Slot.{step4, step5}
 use Rattle.meaning.proofs.BitsLaws.{taken_length, taken_fits, given_fits}
 use Rattle.meaning.proofs.TaggedLaws.{sent_length}
 use Rattle.meaning.proofs.MarksLaws.{marked_length, marked_free, marked_fits}
-use Rattle.meaning.proofs.ListsLaws.{fit_head, fit_tail}
+use Rattle.meaning.proofs.ListsLaws.{fit_head}
 use Rattle.slot_arrive.specs.declared.Fall.{Fall}
 use Rattle.slot_arrive.specs.declared.Judged.{Judged}
 use Rattle.slot_arrive.specs.Arrival.{one_less}
@@ -30,7 +29,6 @@ use Rattle.mem_lists.specs.declared.Seat.{Seat}
 use Rattle.mem_lists.specs.Spaces.{ends_of, linked}
 use Rattle.slot_plan.specs.Plan.{output_ends, rotated, accept_work, seat_ends, left_by}
 use Rattle.slot_plan.specs.Facts.{Seated, OffStored}
-use Rattle.slot_plan.proofs.Found.{no}
 use Rattle.slot_plan.proofs.AcceptCases.{accept_marked_goes, accept_output_goes, accept_shows, seated_marked, seated_output, seated_none}
 use Rattle.slot_plan.proofs.Ends.{accept_served, accept_left_lem}
 use Rattle.burst_out.specs.Handout.{write_answer}
@@ -42,10 +40,11 @@ use Rattle.burst_arrive.specs.Arriving.{seat_at}
 use Rattle.burst_arrive.proofs.SpotLaws.{entry_below}
 use Rattle.burst_depart.specs.declared.Leave.{Leave}
 use Rattle.burst_depart.specs.Leaving.{Goes, OffThen, off_at}
-use Rattle.burst_likely.specs.Served.{Ready, Spotted, Done, words_filled}
+use Rattle.std.specs.Prelude.{IfSome}
+use Rattle.burst_likely.specs.Served.{Ready, Spotted, Done, followed, words_filled}
 use Rattle.burst_likely.proofs.ClearLaws.{clear_length, clear_free, clear_fits}
 use Rattle.burst_likely.proofs.StoreLaws.{stored_long}
-use Rattle.burst_likely.proofs.EitherLaws.{allowed_long, linked_same, ends_with}
+use Rattle.burst_likely.proofs.EitherLaws.{allowed_long, followed_joined, followed_none, follows_low, ends_with}
 
 module _ (w : Way) (b : Fall) (j : Judged) (p : Spot) (cell cells links calendar words bits arrived : List ℕ) (ready : Ready w cells links calendar words bits arrived)
     (spot : Spotted (slot_record w) j calendar words bits cell p) where
@@ -148,7 +147,7 @@ module _ (w : Way) (b : Fall) (j : Judged) (p : Spot) (cell cells links calendar
       stored joins e x is = rw (← spot.of_connection_lem) is
 
       abbrev links₄ : List ℕ
-      links₄ = linked o.follows w.outtail o.head links₃
+      links₄ = followed o.follows w.outtail links₃
 
       abbrev calendar₄ : List ℕ
       calendar₄ = when o.marked then write_entry calendar₃ w.turn empty_list else calendar₃
@@ -160,10 +159,9 @@ module _ (w : Way) (b : Fall) (j : Judged) (p : Spot) (cell cells links calendar
       marked_goes m =
           let g = goes.marked m in
           seated_marked k b j a cell cells links calendar words bits arrived entry.head entry.tail refl refl entry_fits ready.output_fits g.0
-          ∙ accept_marked_goes k b j a cell cells links calendar words bits arrived ready.sized spot.is_accepted_lem is_seated entry (off_at o) (stored _ _ _ g.3) refl goes.not_free
+          ∙ accept_marked_goes k b j a cell cells links calendar words bits arrived ready.sized spot.is_accepted_lem is_seated entry (off_at o) (stored _ _ _ g.2) refl goes.not_free
           ∙ ap (λ (l : List ℕ). next (left_by work l (write_entry calendar₃ w.turn empty_list) (unmarked bits₃ w.turn) (off_at o)))
-          (linked_same (not (w.outhead =? empty)) o.follows w.outtail entry.head o.head links₃ (sym g.1)
-          (λ q. sym (g.2 (g.1 ∙ q))))
+          (sym (followed_joined k entry links₃ o.follows g.1))
 
       output_goes : o.marked ≡ false → (step4 work and_then step5) ≡ next (left_by work links₄ calendar₃ bits₃ (off_at o))
       output_goes m =
@@ -172,7 +170,7 @@ module _ (w : Way) (b : Fall) (j : Judged) (p : Spot) (cell cells links calendar
           ∙ accept_output_goes k b j a cell cells links calendar words bits arrived ready.sized spot.is_accepted_lem is_seated
           (fit_head w.n (output_ends k) ready.output_fits g.1) (off_at o) (stored _ _ _ g.3) refl goes.not_free
           ∙ ap (λ (l : List ℕ). next (left_by work l calendar₃ bits₃ (off_at o)))
-          (linked_same false o.follows w.outtail 0 o.head links₃ (sym g.2) (λ q. no q))
+          (sym (followed_none k entry links₃ o.follows g.2))
 
       leave_goes : (step4 work and_then step5) ≡ next (left_by work links₄ calendar₄ bits₄ (off_at o))
       leave_goes = go o.marked refl
@@ -189,22 +187,16 @@ module _ (w : Way) (b : Fall) (j : Judged) (p : Spot) (cell cells links calendar
         where
           go : (m : Bool) → o.marked ≡ m → (o.vci < connections_in w.v) × (1 ≤ get_or words₃ (waiting_place o.vci) 0)
           go true m =
-              accept_shows k b j a cell cells links calendar words bits arrived ready.sized spot.is_accepted_lem is_seated (not (w.outhead =? empty)) entry (off_at o) (stored _ _ _ (goes.marked m).3) refl
+              accept_shows k b j a cell cells links calendar words bits arrived ready.sized spot.is_accepted_lem is_seated (not (w.outhead =? empty)) entry (off_at o) (stored _ _ _ (goes.marked m).2) refl
           go false m =
               accept_shows k b j a cell cells links calendar words bits arrived ready.sized spot.is_accepted_lem is_seated false (ends_of 0 w.outtail) (off_at o) (stored _ _ _ (goes.unmarked m).3) refl
 
-      pub follows_low : o.follows ≡ true → (w.outtail < w.n) × (o.head < w.n)
-      follows_low f = go o.marked refl
+      pub follow_low : IfSome o.follows (λ head. (w.outtail < w.n) × (head < w.n))
+      follow_low = go o.marked refl
         where
-          go : (m : Bool) → o.marked ≡ m → (w.outtail < w.n) × (o.head < w.n)
-          go true m =
-              let g = goes.marked m in
-              let low = fit_head w.n entry entry_fits g.0 in
-              let same = g.2 f in (
-                fit_tail w.n (output_ends k) ready.output_fits (eqb-false w.outhead empty (not-true _ (sym g.1 ∙ f))),
-                omega (arith, low, same),
-              )
-          go false m = no (sym (goes.unmarked m).2 ∙ f)
+          go : (m : Bool) → o.marked ≡ m → IfSome o.follows (λ head. (w.outtail < w.n) × (head < w.n))
+          go true m = let g = goes.marked m in follows_low k entry o.follows g.1 ready.output_fits entry_fits g.0
+          go false m = rw (goes.unmarked m).2 tt
 
       -- the space that departs is given back, and the words fit again
       again : w.free - 1 + 1 ≡ w.free
@@ -229,7 +221,7 @@ module _ (w : Way) (b : Fall) (j : Judged) (p : Spot) (cell cells links calendar
           → w' ≡ way_with w w.t w.turn w.rotation w.free o.next o.tail
           → cells' ≡ write_cell cells p.x (sent_as j.verdict cell)
           → links₁ ≡ links₃
-          → links' ≡ linked o.follows w.outtail o.head links₁
+          → links' ≡ followed o.follows w.outtail links₁
           → calendar₁ ≡ calendar₃
           → calendar' ≡ (when o.marked then write_entry calendar₁ w.turn empty_list else calendar₁)
           → words₁ ≡ words₃
@@ -251,7 +243,7 @@ module _ (w : Way) (b : Fall) (j : Judged) (p : Spot) (cell cells links calendar
                 (accept_left_lem k b j a (off_at o) cell cells links calendar words bits arrived served cells' links₄ links' calendar₄ calendar' words₁ words' bits₄ (when o.marked then unmarked bits₁ w.turn else bits₁) bits' arrived'
                 spot.seats.some_free
                 (ends_with w w' _ _ _ way, refl) c
-                (l ∙ ap (λ (x : List ℕ). linked o.follows w.outtail o.head x) l₁)
+                (l ∙ ap (λ (x : List ℕ). followed o.follows w.outtail x) l₁)
                 (d ∙ ap (λ (x : List ℕ). when o.marked then write_entry x w.turn empty_list else x) d₁) f₁ f
                 (ap (λ (x : List ℕ). when o.marked then unmarked x w.turn else x) g₁) g h));
             shown = shown ∙ sym (shown_cell departures i inside cells' (cells_allowed_lem cells' c) o.space low);

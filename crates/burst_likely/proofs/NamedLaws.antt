@@ -1,25 +1,28 @@
 -- Slot i's cell and its name: where step 3 finds its words in range, the cell has 0 or 53 octets, a raw policer's is clean, and what
 -- was judged by the name is what document 01 says of the cell.
-use Prim.Native.Nat.{ℕ, ◌+◌, ◌*◌, ◌^◌, ◌≤◌}
+use Prim.Native.Nat.{ℕ, ◌+◌, ◌*◌, ◌≤◌, ◌<◌}
 use mathlib.Core.Path.{◌≡◌, refl, sym, ◌∙◌, ap}
 use mathlib.Core.Logic.{◌≢◌, ◌⊎◌, inl, inr}
 use mathlib.Core.Bool.{Bool, true, false}
 use mathlib.Core.List.{List, []}
 use native.Mathlib.Omega.{arith}
 use native.Mathlib.Nat.{add-zero}
-use borrow.Author.Tests.{eq-eqb, ne_eqb, eqb-true, eqb-false}
+use borrow.Author.Tests.{eq-eqb, ne_eqb, eqb-true}
 use lib.ListN.{length, get_or, take, drop}
 use Rattle.base_hec.specs.Check.{check_of, head_of}
 use Rattle.meaning.specs.Plain.{when◌then◌else◌, ◌=?◌}
-use Rattle.meaning.specs.Numbers.{most_v, lets_in}
+use Rattle.meaning.specs.Numbers.{most_v, connections_in, excess, lets_in}
 use Rattle.meaning.specs.Header.{header_at, clp_in}
-use Rattle.leaf_header.specs.Name.{no_name, name_at, word_at, number_for, Reads}
+use Rattle.leaf_header.specs.Name.{no_name, name_at, word_at, Reads}
 use Rattle.leaf_header.proofs.NameLaws.{number_no_name}
 use Rattle.slot_arrive.specs.declared.Judged.{Judged}
-use Rattle.slot_arrive.specs.Arrival.{judged_name, judged_of, cell_name}
+use Rattle.slot_arrive.specs.Arrival.{judged_name, judged_of}
 use Rattle.slot_arrive.proofs.JudgedLaws.{judged_cell}
-use Rattle.slot_plan.proofs.Found.{no}
-use Rattle.burst_arrive.proofs.ArriveLaws.{octet, name_is, reads_is}
+use Rattle.slot_plan.specs.Facts.{Accepted}
+use Rattle.slot_plan.proofs.Found.{no, judged_shows}
+use Rattle.burst_way.specs.declared.Way.{Way}
+use Rattle.burst_way.specs.Way.{slot_record}
+use Rattle.burst_arrive.proofs.ArriveLaws.{octet, name_is, reads_is, cell_long}
 use Rattle.burst_likely.specs.Served.{likely_name, Clean}
 
 -- a name that no header has is never in range
@@ -144,3 +147,43 @@ module _ (N z t raw kind : ℕ) (words arrivals : List ℕ) (i : ℕ) (inside : 
       go : (size ≡ 0) ⊎ (size ≡ 53) → size ≡ 53
       go (inl e) = no (sym (ap (λ (y : Judged). lets_in y.verdict) (judged ∙ ap (λ (x : ℕ). judged_name N z t words x (clp_in (take 53 (drop (53 * i) arrivals)))) (taken.empty e))) ∙ v)
       go (inr e) = e
+
+-- what is known of slot i's cell once its words are in range; and of one that is let in
+pub record Known (w : Way) (words arrivals : List ℕ) (i size : ℕ) (j : Judged) : Type 0 where
+  pub fits : (size ≡ 0) ⊎ (size ≡ 53)
+  pub clean : (w.raw ≡ 0) ⊎ ((size ≡ 0) ⊎ Clean (take size (drop (53 * i) arrivals)))
+  pub judged : j ≡ judged_of w.n w.v w.kind w.t words (take size (drop (53 * i) arrivals))
+  pub excess_low : j.verdict =? excess ≡ true → j.vci < connections_in w.v
+  pub whole : lets_in j.verdict ≡ true → size ≡ 53
+  pub judged_whole : lets_in j.verdict ≡ true → j ≡ judged_of w.n w.v w.kind w.t words (take 53 (drop (53 * i) arrivals))
+  pub accepted : lets_in j.verdict ≡ true → Accepted (slot_record w) j (take 53 (drop (53 * i) arrivals)) words
+
+pub known : (w : Way) (words arrivals : List ℕ) (i size name : ℕ) (j : Judged) → 53 * i + 53 ≤ length arrivals → w.v ≤ most_v
+    → name ≡ likely_name w.raw w.kind arrivals size i
+    → (size ≡ 53 → name ≢ no_name → Reads w.kind (header_at w.kind arrivals (53 * i)) name)
+    → j ≡ judged_name w.n w.v w.t words name (clp_in (take 53 (drop (53 * i) arrivals)))
+    → j.ok ≡ true
+    → Known w words arrivals i size j
+known w words arrivals i size name j inside few is reads by_name ok =
+    record { fits = cell_fits w.n w.v w.t w.raw w.kind words arrivals i inside few size name is reads j by_name ok; clean = cell_clean w.n w.v w.t w.raw w.kind words arrivals i inside few size name is reads j by_name ok; judged = own; excess_low = excess_low; whole = whole; judged_whole = own_whole; accepted = accepted }
+  where
+    own : j ≡ judged_of w.n w.v w.kind w.t words (take size (drop (53 * i) arrivals))
+    own = cell_judged w.n w.v w.t w.raw w.kind words arrivals i inside few size name is reads j by_name ok
+
+    excess_low : j.verdict =? excess ≡ true → j.vci < connections_in w.v
+    excess_low x =
+        rw (ap (λ (y : Judged). y.vci) own)
+        ((judged_shows (slot_record w) (take size (drop (53 * i) arrivals)) words).excess_is (ap (λ (y : Judged). y.ok) (sym own) ∙ ok)
+        (ap (λ (y : Judged). y.verdict) (sym own) ∙ eqb-true _ _ x))
+
+    whole : lets_in j.verdict ≡ true → size ≡ 53
+    whole v = let_in_whole w.n w.v w.t w.raw w.kind words arrivals i inside few size name is reads j by_name ok v
+
+    own_whole : lets_in j.verdict ≡ true → j ≡ judged_of w.n w.v w.kind w.t words (take 53 (drop (53 * i) arrivals))
+    own_whole v = own ∙ ap (λ (n : ℕ). judged_of w.n w.v w.kind w.t words (take n (drop (53 * i) arrivals))) (whole v)
+
+    accepted : lets_in j.verdict ≡ true → Accepted (slot_record w) j (take 53 (drop (53 * i) arrivals)) words
+    accepted v =
+        rw (own_whole v)
+        ((judged_shows (slot_record w) (take 53 (drop (53 * i) arrivals)) words).accepted_is (λ ne. cell_long arrivals i inside)
+        (ap (λ (y : Judged). y.ok) (sym (own_whole v)) ∙ ok) (ap (λ (y : Judged). lets_in y.verdict) (sym (own_whole v)) ∙ v))

@@ -6,7 +6,7 @@ use mathlib.Core.Logic.{◌≢◌}
 use mathlib.Core.Bool.{Bool, true, false, not}
 use mathlib.Core.List.{List}
 use native.Mathlib.Omega.{arith}
-use borrow.Author.Tests.{ne_eqb, eqb-false, not-true}
+use borrow.Author.Tests.{ne_eqb}
 use lib.ListN.{length, get_or, take, drop}
 use Rattle.meaning.specs.declared.Record.{Record}
 use Rattle.meaning.specs.declared.Served.{Served}
@@ -19,7 +19,6 @@ use Rattle.meaning.specs.Work.{Work, work_of, answer_of}
 use Rattle.meaning.specs.Slot.{step4, step5}
 use Rattle.meaning.specs.Line.{cells_allowed}
 use Rattle.meaning.proofs.BitsLaws.{given_fits}
-use Rattle.meaning.proofs.ListsLaws.{fit_head, fit_tail}
 use Rattle.slot_arrive.specs.declared.Fall.{Fall}
 use Rattle.slot_arrive.specs.declared.Judged.{Judged}
 use Rattle.slot_arrive.specs.Arrival.{one_less}
@@ -30,17 +29,16 @@ use Rattle.slot_plan.proofs.Cases.{marked, output, none, quiet_kept}
 use Rattle.slot_plan.proofs.QuietCases.{quiet_served, marked_goes, output_goes}
 use Rattle.slot_plan.proofs.Ends.{quiet_left_lem}
 use Rattle.slot_plan.proofs.Off.{off_shows}
-use Rattle.slot_plan.proofs.Found.{no}
 use Rattle.burst_out.specs.Handout.{write_answer}
 use Rattle.burst_out.proofs.ShowLaws.{shown_cell, shown_none}
 use Rattle.burst_way.specs.declared.Way.{Way}
 use Rattle.burst_way.specs.Way.{way_with, slot_record}
 use Rattle.burst_depart.specs.declared.Leave.{Leave}
 use Rattle.burst_depart.specs.Leaving.{Goes, off_at, OffHere}
-use Rattle.burst_likely.specs.declared.Went.{Went}
-use Rattle.burst_likely.specs.Served.{Ready, HandedTo, Done, went_way, words_fallen}
+use Rattle.std.specs.Prelude.{IfSome}
+use Rattle.burst_likely.specs.Served.{Ready, HandedTo, Done, went_way, followed, words_fallen}
 use Rattle.burst_likely.proofs.ClearLaws.{clear_length, clear_free, clear_fits}
-use Rattle.burst_likely.proofs.EitherLaws.{allowed_long, linked_same}
+use Rattle.burst_likely.proofs.EitherLaws.{allowed_long, followed_joined, followed_none, follows_low}
 
 -- a departing space is below N
 pub below_long : (N long x : ℕ) → long ≡ 53 * N → x < N → x < long / 53
@@ -83,13 +81,12 @@ module _ (w : Way) (b : Fall) (j : Judged) (cells links calendar words bits arri
   unfolding with_ends record_with
   same_ends = refl
 
-  pub none_done : (g : Went) (words' answers' : List ℕ) → ends_fit w.n entry ≡ true → (entry.head ≡ empty) × (w.outhead ≡ empty)
-      → g ≡ record { ok = true; free = w.free; outhead = w.outhead; outtail = w.outtail }
+  pub none_done : (words' answers' : List ℕ) → ends_fit w.n entry ≡ true → (entry.head ≡ empty) × (w.outhead ≡ empty)
       → words' ≡ falling
       → answers' ≡ write_answer answers i (answer_of 0 j.verdict j.vci 0 65535 0)
-      → Done k (step4 work and_then step5) (went_way w g) cells links calendar words' bits arrived departures departures answers answers' i
-  none_done g words' answers' fits e same written told =
-      rw same (record {
+      → Done k (step4 work and_then step5) (went_way w (record { free = w.free; outhead = w.outhead; outtail = w.outtail })) cells links calendar words' bits arrived departures departures answers answers' i
+  none_done words' answers' fits e written told =
+      record {
         answer = answer_of 0 j.verdict j.vci 0 65535 0;
         number = refl;
         is = none_is fits e.0 e.1
@@ -101,7 +98,7 @@ module _ (w : Way) (b : Fall) (j : Judged) (cells links calendar words bits arri
         ends = same_ends;
         spaces_fit_lem = ready.spaces_fit_lem;
         output_fits = ready.output_fits;
-      })
+      }
 
   -- o departs
   module _ (o : Leave) (fits : ends_fit w.n entry ≡ true) (goes : Goes k bits entry o (OffHere k cells links words)) where
@@ -109,7 +106,7 @@ module _ (w : Way) (b : Fall) (j : Judged) (cells links calendar words bits arri
     left = ends_of o.next o.tail
 
     abbrev linking : List ℕ
-    linking = linked o.follows w.outtail o.head links
+    linking = followed o.follows w.outtail links
 
     unmarked_off : OffHere k cells links words false (ends_of 0 k.outtail) (off_at o) → k.outhead ≢ empty
         → off_at o ≡ off_of k.n k.v k.kind cells links words k.outhead k.outtail
@@ -122,23 +119,19 @@ module _ (w : Way) (b : Fall) (j : Judged) (cells links calendar words bits arri
     off_low = go o.marked refl
       where
         go : (m : Bool) → o.marked ≡ m → (o.vci < connections_in w.v) × (1 ≤ get_or words (waiting_place o.vci) 0)
-        go true e = off_facts k.n k.v k.kind cells _ words _ _ (off_at o) (goes.marked e).3 refl
+        go true e = off_facts k.n k.v k.kind cells _ words _ _ (off_at o) (goes.marked e).2 refl
         go false e = off_facts k.n k.v k.kind cells _ words _ _ (off_at o) (goes.unmarked e).3 refl
 
     pub less_waits : 1 ≤ get_or falling (waiting_place o.vci) 0
     less_waits = rw ((quiet_kept k b j cells links calendar words bits arrived).waiting o.vci) off_low.1
 
     -- the links that are written are there
-    pub follow_low : o.follows ≡ true → (w.outtail < w.n) × (o.head < w.n)
-    follow_low f = go o.marked refl
+    pub follow_low : IfSome o.follows (λ head. (w.outtail < w.n) × (head < w.n))
+    follow_low = go o.marked refl
       where
-        go : (m : Bool) → o.marked ≡ m → (w.outtail < w.n) × (o.head < w.n)
-        go true e =
-            let g = goes.marked e in (
-              fit_tail w.n (output_ends k) ready.output_fits (eqb-false w.outhead empty (not-true _ (sym g.1 ∙ f))),
-              (rw (g.2 f) (fit_head w.n entry fits g.0)),
-            )
-        go false e = no (sym (goes.unmarked e).2 ∙ f)
+        go : (m : Bool) → o.marked ≡ m → IfSome o.follows (λ head. (w.outtail < w.n) × (head < w.n))
+        go true e = let g = goes.marked e in follows_low k entry o.follows g.1 ready.output_fits fits g.0
+        go false e = rw (goes.unmarked e).2 tt
 
     -- its space may be freed
     may_free : may_be_freed k.n k.free bits o.space ≡ true
@@ -193,10 +186,10 @@ module _ (w : Way) (b : Fall) (j : Judged) (cells links calendar words bits arri
             → (step4 work and_then step5) ≡ next (gone linking (when m then write_entry calendar k.turn empty_list else calendar) (when m then unmarked bits k.turn else bits))
         go true e =
             let g = goes.marked e in
-            marked_is g.0 g.3 linking (linked_same o.follows (not (k.outhead =? empty)) k.outtail o.head entry.head links g.1 g.2)
+            marked_is g.0 g.2 linking (followed_joined k entry links o.follows g.1)
         go false e =
             let g = goes.unmarked e in
-            output_is g.0 g.1 g.3 linking (linked_same o.follows false k.outtail o.head 0 links g.2 (λ f. no (sym g.2 ∙ f)))
+            output_is g.0 g.1 g.3 linking (followed_none k entry links o.follows g.2)
 
     given_fit : spaces_fit w.n (w.free + 1) (given (when o.marked then unmarked bits w.turn else bits) o.space) ≡ true
     given_fit =

@@ -5,6 +5,7 @@ use mathlib.Core.Logic.{◌≢◌}
 use mathlib.Core.Bool.{Bool, true, false}
 use mathlib.Core.List.{List}
 use native.Mathlib.Omega.{arith}
+use native.Mathlib.Decide.{ℕ_discrete}
 use lib.ListN.{length, get_or}
 use Rattle.meaning.specs.declared.Record.{Record}
 use Rattle.meaning.specs.Plain.{when◌then◌else◌, ◌=?◌}
@@ -18,7 +19,7 @@ use Rattle.slot_arrive.specs.declared.Judged.{Judged}
 use Rattle.mem_lists.specs.declared.Seat.{Seat}
 use Rattle.mem_lists.specs.Spaces.{ends_of, seat_as, no_seat, seat_at, entry_of, seat_of}
 use Rattle.slot_plan.specs.Plan.{seat_ends}
-use Rattle.slot_plan.proofs.Found.{no}
+use Rattle.slot_plan.proofs.Found.{no as never}
 use Rattle.burst_arrive.specs.declared.Spot.{Spot}
 use Rattle.burst_arrive.specs.Arriving.{seat_at as at_place}
 use Rattle.burst_arrive.proofs.SpotLaws.{entry_below}
@@ -44,7 +45,7 @@ module _ (N : ℕ) (calendar : List ℕ) (T D x : ℕ) where
           → (let s = when f then seat_as true x e (entry_at calendar e) else no_seat in
           s.ok ≡ true → (s.head ≡ get_or calendar (2 * s.e) 0) × (s.tail ≡ get_or calendar (2 * s.e + 1) 0))
       go true = λ ok. (refl, refl)
-      go false = λ ok. no ok
+      go false = λ ok. never ok
 
   pub seat_reads : (a : Seat) → a ≡ seat_of N calendar T D x → a.ok ≡ true
       → (a.head ≡ get_or calendar (2 * a.e) 0) × (a.tail ≡ get_or calendar (2 * a.e + 1) 0)
@@ -53,7 +54,7 @@ module _ (N : ℕ) (calendar : List ℕ) (T D x : ℕ) where
 -- ---- the likely way's own
 module _ (k : Record) (j : Judged) (calendar words bits cell : List ℕ) (p : Spot) (spotted : Spotted k j calendar words bits cell p) where
   reads : (p.head ≡ get_or calendar (2 * p.e) 0) × (p.tail ≡ get_or calendar (2 * p.e + 1) 0)
-  reads = seat_reads k.n calendar k.turn p.d (lowest_free bits) (at_place p) spotted.seats.seat spotted.ok
+  reads = seat_reads k.n calendar k.turn p.d (lowest_free bits) (at_place p) spotted.seats.seat refl
 
   pub head_read : p.head ≡ get_or calendar (2 * p.e) 0
   head_read = reads.0
@@ -65,6 +66,13 @@ module _ (k : Record) (j : Judged) (calendar words bits cell : List ℕ) (p : Sp
 
   pub head_low : p.head ≢ empty → p.head < k.n
   head_low ne = fit_head k.n (ends_of p.head p.tail) spotted.seats.entry_fits ne
+
+  pub head_most : k.n ≤ 1024 → p.head ≤ 65535
+  head_most few = go (ℕ_discrete p.head empty)
+    where
+      go : Dec (p.head ≡ empty) → p.head ≤ 65535
+      go (yes e) = omega (arith, e)
+      go (no ne) = let low = head_low ne in omega (arith, low)
 
   pub entry_writes : (calendar' : List ℕ)
       → calendar' ≡ write_entry calendar p.e (ends_of p.x (when p.head =? empty then p.x else get_or calendar (2 * p.e + 1) 0))

@@ -6,9 +6,10 @@
 --   went_way w g         == the policer after a slot that was served
 --   Done ..             == the slot is served: its answer, the memories, the departing cell and the six numbers
 --   Either ..           == that, or everything as it came
+--   followed f i l      == the links l, with link i naming what f has, where it has something
 --   likely_name ..       == the name of slot i's cell, or none that a header has where the likely ways can't take it
 --   Clean ..            == of a raw policer's cell: its octet 5 is the right one
-use Rattle.std.specs.Prelude.{ℕ, ◌+◌, ◌-◌, ◌*◌, ◌≤◌, ◌<◌, ◌≡◌, ◌⊎◌, true, false, List, length, get_or, take, drop}
+use Rattle.std.specs.Prelude.{ℕ, ◌+◌, ◌*◌, ◌≤◌, ◌<◌, ◌≡◌, ◌⊎◌, true, false, Option, Some, None, IfSome, MatchOption, List, length, get_or, set, take, drop}
 use Rattle.base_hec.specs.Check.{check_of, head_of}
 use Rattle.meaning.specs.declared.Record.{Record}
 use Rattle.meaning.specs.declared.Answer.{Answer}
@@ -49,7 +50,6 @@ pub record Ready (w : Way) (cells links calendar words bits arrived : List ℕ) 
 pub record Spotted (k : Record) (j : Judged) (calendar words bits cell : List ℕ) (p : Spot) : Type 0 where
   pub is_accepted_lem : Accepted k j cell words
   pub seats : Seats k calendar bits p
-  pub ok : p.ok ≡ true
   pub of_connection_lem : p.vci ≡ j.vci
   pub of_delay : p.d ≡ j.d
 
@@ -74,10 +74,16 @@ pub record Done (k : Record) (target : Out Work) (w' : Way) (cells' links' calen
   pub spaces_fit_lem : spaces_fit k.n free bits' ≡ true
   pub output_fits : ends_fit k.n output ≡ true
 
-pub record Either (w : Way) (target : Out Work) (g : Went) (cells links calendar words bits arrived departures answers cells' links' calendar' words' bits' arrived' departures' answers' : List ℕ) (i : ℕ) : Type 0 where
-  pub went : g.ok ≡ true → Done (slot_record w) target (went_way w g) cells' links' calendar' words' bits' arrived' departures departures' answers answers' i
-  pub stayed : g.ok ≡ false
-      → (cells' ≡ cells) × (links' ≡ links) × (calendar' ≡ calendar) × (words' ≡ words) × (bits' ≡ bits) × (arrived' ≡ arrived) × (departures' ≡ departures) × (answers' ≡ answers)
+abbrev pub Either : Way → Out Work → Option Went → List ℕ → List ℕ → List ℕ → List ℕ → List ℕ → List ℕ → List ℕ → List ℕ → List ℕ → List ℕ → List ℕ → List ℕ → List ℕ → List ℕ → List ℕ → List ℕ → ℕ → Type 0
+Either w target found cells links calendar words bits arrived departures answers cells' links' calendar' words' bits' arrived' departures' answers' i =
+    MatchOption found
+    ((cells' ≡ cells) × (links' ≡ links) × (calendar' ≡ calendar) × (words' ≡ words) × (bits' ≡ bits) × (arrived' ≡ arrived) × (departures' ≡ departures) × (answers' ≡ answers))
+    (λ g. Done (slot_record w) target (went_way w g) cells' links' calendar' words' bits' arrived' departures departures' answers answers' i)
+
+-- the links once the chain of entry T has followed the old tail of the Output List, where it does
+abbrev pub followed : Option ℕ → ℕ → List ℕ → List ℕ
+followed None tail links = links
+followed (Some head) tail links = set links tail head
 
 -- ---- slot i's cell
 unfoldable pub likely_name : ℕ → ℕ → List ℕ → ℕ → ℕ → ℕ
@@ -109,7 +115,7 @@ abbrev pub MayLeave : Way → Leave → Slice → SliceMut → SliceMut → Slic
 MayLeave w o cells links calendar words bits =
     (HasConnection o.vci words.now) × (o.vci < connections_in most_v) × (1 ≤ get_or words.now (waiting_place o.vci) 0)
     × (w.turn < most_n) × (2 * w.turn + 2 ≤ length calendar.now)
-    × (o.follows ≡ true → (w.outtail < length links.now) × (o.head ≤ empty))
+    × IfSome o.follows (λ head. (w.outtail < length links.now) × (w.outtail ≤ empty) × (head ≤ empty))
     × (o.space < most_n) × (length bits.now ≡ bit_words) × (is_free_space bits.now o.space ≡ false) × (cell_start o.space + octets ≤ length cells.now)
 
 -- steps 2 to 5 of the memories as they came
@@ -126,23 +132,23 @@ abbrev pub accept_from : Way → Fall → Judged → Spot → List ℕ → LentM
 accept_from w b j p cell cells links calendar words bits arrived =
     last_steps (accept_of (state_of (slot_record w) cells.entry.now links.entry.now calendar.entry.now words.entry.now bits.entry.now arrived.entry.now) b j (seat_at p) cell)
 
--- served: s is the way that follows
-abbrev pub ServedBy : Way → Out Work → Way → Lent → LentMut → LentMut → LentMut → LentMut → LentMut → LentMut → LentMut → ℕ → Type 0
-ServedBy w target s cells links calendar words bits arrived departures answers i =
-    Done (slot_record w) target s
+-- served: g is what is handed on
+abbrev pub ServedBy : Way → Out Work → Went → Lent → LentMut → LentMut → LentMut → LentMut → LentMut → LentMut → LentMut → ℕ → Type 0
+ServedBy w target g cells links calendar words bits arrived departures answers i =
+    Done (slot_record w) target (went_way w g)
     cells.exit.now links.exit.now calendar.exit.now words.exit.now bits.exit.now arrived.exit.now
     departures.entry.now departures.exit.now answers.entry.now answers.exit.now i
 
-abbrev pub ServedOrLeft : Way → Out Work → Went → LentMut → LentMut → LentMut → LentMut → LentMut → LentMut → LentMut → LentMut → ℕ → Type 0
-ServedOrLeft w target g cells links calendar words bits arrived departures answers i =
-    Either w target g
+abbrev pub ServedOrLeft : Way → Out Work → Option Went → LentMut → LentMut → LentMut → LentMut → LentMut → LentMut → LentMut → LentMut → ℕ → Type 0
+ServedOrLeft w target found cells links calendar words bits arrived departures answers i =
+    Either w target found
     cells.entry.now links.entry.now calendar.entry.now words.entry.now bits.entry.now arrived.entry.now departures.entry.now answers.entry.now
     cells.exit.now links.exit.now calendar.exit.now words.exit.now bits.exit.now arrived.exit.now departures.exit.now answers.exit.now i
 
 -- the same where no cell is accepted, so that the cells are only read
-abbrev pub QuietServedOrLeft : Way → Out Work → Went → Lent → LentMut → LentMut → LentMut → LentMut → LentMut → LentMut → LentMut → ℕ → Type 0
-QuietServedOrLeft w target g cells links calendar words bits arrived departures answers i =
-    Either w target g
+abbrev pub QuietServedOrLeft : Way → Out Work → Option Went → Lent → LentMut → LentMut → LentMut → LentMut → LentMut → LentMut → LentMut → ℕ → Type 0
+QuietServedOrLeft w target found cells links calendar words bits arrived departures answers i =
+    Either w target found
     cells.entry.now links.entry.now calendar.entry.now words.entry.now bits.entry.now arrived.entry.now departures.entry.now answers.entry.now
     cells.exit.now links.exit.now calendar.exit.now words.exit.now bits.exit.now arrived.exit.now departures.exit.now answers.exit.now i
 

@@ -2,13 +2,13 @@
 // leaves the likely way before anything is written, and the slot is then served as the call has it: nothing here refuses.
 #![tactic(auto)]
 
-ghost use Rattle.std.specs.Prelude.{◌≡◌, true, false, not, ◌⊎◌, ◌+◌, ◌-◌, ◌*◌, ◌≤◌, ◌<◌, length, get_or, set, take, drop};
+ghost use Rattle.std.specs.Prelude.{◌≡◌, true, false, not, ◌⊎◌, ◌+◌, ◌-◌, ◌*◌, ◌≤◌, ◌<◌, IfSome, length, get_or, set, take, drop};
 ghost use Rattle.meaning.specs.Plain.{when◌then◌else◌, ◌=?◌};
-ghost use Rattle.meaning.specs.Numbers.{most_n, most_v, connections_in, empty, excess, waiting_place, octets, cell_start, words_in, bit_words};
-ghost use Rattle.meaning.specs.Bits.{is_free_space, taken, given, marked, unmarked};
+ghost use Rattle.meaning.specs.Numbers.{most_n, most_v, connections_in, empty, excess, octets, cell_start, words_in};
+ghost use Rattle.meaning.specs.Bits.{taken, given, marked, unmarked};
 ghost use Rattle.meaning.specs.State.{write_cell, HasConnection};
 ghost use Rattle.meaning.specs.Header.{header_at, clp_in};
-ghost use Rattle.meaning.specs.Lists.{empty_list, entry_at, write_entry};
+ghost use Rattle.meaning.specs.Lists.{empty_list, entry_at, ends_fit, write_entry};
 ghost use Rattle.meaning.specs.Arrival.{sent_as};
 ghost use Rattle.meaning.specs.Work.{answer_of};
 ghost use Rattle.leaf_header.specs.Name.{no_name, Reads};
@@ -16,59 +16,29 @@ ghost use Rattle.slot_arrive.specs.Arrival.{one_less, judged_name};
 ghost use Rattle.mem_lists.specs.Spaces.{ends_of, linked};
 ghost use Rattle.slot_plan.specs.Plan.{seat_ends};
 ghost use Rattle.burst_out.specs.Handout.{write_answer};
-ghost use Rattle.burst_way.specs.Way.{way_with, slot_record, NamesBy};
+ghost use Rattle.burst_way.specs.Way.{slot_record, NamesBy};
 ghost use Rattle.burst_arrive.specs.Arriving.{seat_at};
-ghost use Rattle.burst_depart.specs.Leaving.{Leaves, OffHere};
+ghost use Rattle.burst_depart.specs.Leaving.{Goes, OffHere};
 ghost use Rattle.burst_likely.specs.Served.{HandedTo, ReadyIn, SpottedIn, MayLeave, CleanIn, likely_name, cell_before, words_fallen, words_filled};
-ghost use Rattle.burst_likely.specs.Served.{from_here, quiet_from, accept_from, ServedBy, ServedOrLeft, QuietServedOrLeft};
+ghost use Rattle.burst_likely.specs.Served.{followed, from_here, quiet_from, accept_from, ServedBy, ServedOrLeft, QuietServedOrLeft};
 
 use burst_arrive::Spot;
 use burst_depart::Leave;
 use burst_way::Way;
-use meaning::{AT_WAITING, Answer, WORDS_PER_CONNECTION};
+use meaning::Answer;
 use slot_arrive::{Fall, Judged};
 
-// A slot on a likely way: served, or left as it came. Of the policer only these three differ then: handed on as a whole it would
-// be moved field by field in each slot.
+// A slot served on a likely way. Of the policer only these three differ then: handed on as a whole it would be moved field by field in
+// each slot.
 #[derive(Clone, Copy)]
 pub struct Went {
-    pub ok: bool,
     pub free: usize,
     pub outhead: usize,
     pub outtail: usize,
 }
 
-// Waiting of a connection falls by one.
-fn put_less(words: &mut [u32], vci: usize)
-    requires { (HasConnection vci words.old) × (1 ≤ get_or words.old (waiting_place vci) 0) }
-    ensures { words.new ≡ one_less vci words.old }
-{
-    let b = WORDS_PER_CONNECTION * vci;
-    words[b + AT_WAITING] = words[b + AT_WAITING] - 1;
-}
-
-// An entry emptied, where on.
-fn clear_entry(calendar: &mut [u16], on: bool, e: usize)
-    requires { 2 * e + 2 ≤ length calendar.old }
-    ensures { calendar.new ≡ (when on then write_entry calendar.old e empty_list else calendar.old) }
-{
-    if on {
-        calendar[2 * e] = 65535;
-        calendar[2 * e + 1] = 65535;
-    }
-}
-
-// One link, where on.
-fn put_link(links: &mut [u16], on: bool, i: usize, x: usize)
-    requires { on ≡ true → (i < length links.old) × (x ≤ 65535) }
-    ensures { links.new ≡ linked on i x links.old }
-{
-    if on {
-        links[i] = x as u16;
-    }
-}
-
-// The cell's entry: at the head, and at the tail where it was empty.
+// The cell's entry: at the head, and at the tail where it was empty. Where it was not its tail is not written: one store fewer than
+// mem_lists::put_entry.
 fn put_entry(calendar: &mut [u16], e: usize, x: usize, head: usize)
     requires { (2 * e + 2 ≤ length calendar.old) × (x ≤ 65535) × (head ≡ get_or calendar.old (2 * e) 0) }
     ensures { calendar.new
@@ -88,52 +58,6 @@ fn put_cell(verdict: u16, cells: &mut [u8], x: usize, arrivals: &[u8], i: usize)
     let from = 53 * i;
     let to = from + 53;
     slot_store::put_sent(verdict, cells, x as u16, &arrivals[from..to]);
-}
-
-// Its arrival slot beside it.
-fn put_arrived(arrived: &mut [u32], x: usize, t: u32)
-    requires { x < length arrived.old }
-    ensures { arrived.new ≡ set arrived.old x t }
-{
-    arrived[x] = t;
-}
-
-// A cell takes space x and joins entry e.
-fn take_up(bits: &mut [u64], x: usize, e: usize)
-    requires { (x < most_n) × (length bits.old ≡ bit_words) × (is_free_space bits.old x ≡ true) × (e < most_n) }
-    ensures { bits.new ≡ marked (taken bits.old x) e }
-{
-    mem_bits::occupy(bits, x as u16, e as u16);
-}
-
-// A cell leaves space x; where on, entry e was emptied before.
-fn give_back(bits: &mut [u64], x: usize, on: bool, e: usize)
-    requires { (x < most_n) × (length bits.old ≡ bit_words) × (is_free_space bits.old x ≡ false) × (e < most_n) }
-    ensures { bits.new ≡ given (when on then unmarked bits.old e else bits.old) x }
-{
-    mem_bits::release(bits, x as u16, on, e as u16);
-}
-
-fn odd() -> Went
-    ensures { result.ok ≡ false }
-{
-    Went {
-        ok: false,
-        free: 0,
-        outhead: 0,
-        outtail: 0,
-    }
-}
-
-fn gone(w: Way) -> Went
-    ensures { result ≡ record { ok = true; free = w.free; outhead = w.outhead; outtail = w.outtail } }
-{
-    Went {
-        ok: true,
-        free: w.free,
-        outhead: w.outhead,
-        outtail: w.outtail,
-    }
 }
 
 // Steps 2 and 3 in the words where no cell is let in.
@@ -167,6 +91,52 @@ fn quiet_none(w: Way, b: Fall, j: Judged, words: &mut [u32], answers: &mut [u16]
     );
 }
 
+// What is written where o departs, d being the delay of the cell that was let in, or 0. Laid in place in both cases that call it.
+#[inline(always)]
+fn leave(
+    w: Way,
+    j: Judged,
+    d: u16,
+    o: Leave,
+    cells: &[u8],
+    links: &mut [u16],
+    calendar: &mut [u16],
+    words: &mut [u32],
+    bits: &mut [u64],
+    departures: &mut [u8],
+    answers: &mut [u16],
+    i: usize,
+)
+    requires may_leave { MayLeave w o cells links calendar words bits }
+    requires handed_to { HandedTo departures.old answers.old i }
+    ensures links { links.new ≡ followed o.follows w.outtail links.old }
+    ensures calendar { calendar.new ≡ (when o.marked then write_entry calendar.old w.turn empty_list else calendar.old) }
+    ensures words { words.new ≡ one_less o.vci words.old }
+    ensures bits { bits.new ≡ given (when o.marked then unmarked bits.old w.turn else bits.old) o.space }
+    ensures shown { departures.new ≡ write_cell departures.old i (take 53 (drop (53 * o.space) cells.now)) }
+    ensures told { answers.new ≡ write_answer answers.old i (answer_of 0 j.verdict j.vci d o.space o.vci) }
+{
+    slot_arrive::put_less(words, o.vci as u16);
+    slot_depart::clear_entry(calendar, o.marked, w.turn as u16);
+    if let Some(head) = o.follows {
+        mem_lists::put_link(links, true, w.outtail as u16, head as u16);
+    }
+    mem_bits::release(bits, o.space as u16, o.marked, w.turn as u16);
+    burst_out::copy_departure(departures, i, cells, o.space);
+    burst_out::put_answer(
+        answers,
+        i,
+        Answer {
+            number: 0,
+            verdict: j.verdict,
+            vci: j.vci,
+            d,
+            space: o.space as u16,
+            departing: o.vci as u16,
+        },
+    );
+}
+
 // No cell is let in, and o departs: all writes.
 fn quiet_leave(
     w: Way,
@@ -182,33 +152,23 @@ fn quiet_leave(
     departures: &mut [u8],
     answers: &mut [u16],
     i: usize,
-) -> Way
+) -> Went
     requires ready_in { ReadyIn w cells.now links.old calendar.old words.old bits.old arrived.old }
     requires vci_bound { j.verdict =? excess ≡ true → j.vci < connections_in w.v }
-    requires none_value { (o.none ≡ false) × Leaves (slot_record w) bits.old (entry_at calendar.old w.turn) o (OffHere (slot_record w) cells.now links.old words.old) }
+    requires entry_fits { ends_fit w.n (entry_at calendar.old w.turn) ≡ true }
+    requires goes { Goes (slot_record w) bits.old (entry_at calendar.old w.turn) o (OffHere (slot_record w) cells.now links.old words.old) }
     requires handed_to { HandedTo departures.old answers.old i }
-    ensures way { result ≡ way_with w w.t w.turn w.rotation (w.free + 1) o.next o.tail }
-    ensures is { ServedBy w (quiet_from w b j cells links calendar words bits arrived) result cells links calendar words bits arrived departures answers i }
+    ensures { ServedBy w (quiet_from w b j cells links calendar words bits arrived) result cells links calendar words bits arrived departures answers i }
 {
     words_fall(w, b, j, words);
-    put_less(words, o.vci);
-    clear_entry(calendar, o.marked, w.turn);
-    put_link(links, o.follows, w.outtail, o.head);
-    give_back(bits, o.space, o.marked, w.turn);
-    burst_out::copy_departure(departures, i, cells, o.space);
-    burst_out::put_answer(
-        answers,
-        i,
-        Answer {
-            number: 0,
-            verdict: j.verdict,
-            vci: j.vci,
-            d: 0,
-            space: o.space as u16,
-            departing: o.vci as u16,
-        },
+    leave(
+        w, j, 0, o, cells, links, calendar, words, bits, departures, answers, i,
     );
-    burst_way::with_ends(w, w.free + 1, o.next, o.tail)
+    Went {
+        free: w.free + 1,
+        outhead: o.next,
+        outtail: o.tail,
+    }
 }
 
 // No cell is let in: none arrived, or an idle one, one of no open connection, or one that is excess.
@@ -225,24 +185,24 @@ fn quiet(
     departures: &mut [u8],
     answers: &mut [u16],
     i: usize,
-) -> Went
+) -> Option<Went>
     requires ready_in { ReadyIn w cells.now links.old calendar.old words.old bits.old arrived.old }
     requires vci_bound { j.verdict =? excess ≡ true → j.vci < connections_in w.v }
     requires handed_to { HandedTo departures.old answers.old i }
     ensures { QuietServedOrLeft w (quiet_from w b j cells links calendar words bits arrived) result cells links calendar words bits arrived departures answers i }
 {
-    let o = burst_depart::off_quiet(w, cells, links, calendar, words, bits);
-    if !o.ok {
-        return odd();
-    }
-    if o.none {
+    let Some(o) = burst_depart::off_quiet(w, cells, links, calendar, words, bits)? else {
         quiet_none(w, b, j, words, answers, i);
-        return gone(w);
-    }
-    let after = quiet_leave(
+        return Some(Went {
+            free: w.free,
+            outhead: w.outhead,
+            outtail: w.outtail,
+        });
+    };
+    let went = quiet_leave(
         w, b, j, o, cells, links, calendar, words, bits, arrived, departures, answers, i,
     );
-    gone(after)
+    Some(went)
 }
 
 // A cell that is let in: what steps 2 and 3 write; its space is free no longer, and its entry is marked. Called once, before it is
@@ -274,75 +234,10 @@ fn store(
     slot_arrive::put_fall(words, b.on, w.rotation as u16, b.s, b.second, w.t);
     slot_arrive::put_fill(words, j.vci, j.s, j.second, w.t, j.waiting);
     put_cell(j.verdict, cells, p.x, arrivals, i);
-    put_arrived(arrived, p.x, w.t);
-    put_link(links, p.head != 65535, p.x, p.head);
+    arrived[p.x] = w.t;
+    mem_lists::put_link(links, p.head != 65535, p.x as u16, p.head as u16);
     put_entry(calendar, p.e, p.x, p.head);
-    take_up(bits, p.x, p.e);
-}
-
-// A cell is let in and stored, and o departs: one space is taken and one given back, so their number stays.
-fn accept_leave(
-    w: Way,
-    j: Judged,
-    o: Leave,
-    cells: &[u8],
-    links: &mut [u16],
-    calendar: &mut [u16],
-    words: &mut [u32],
-    bits: &mut [u64],
-    departures: &mut [u8],
-    answers: &mut [u16],
-    i: usize,
-) -> Way
-    requires may_leave { MayLeave w o cells links calendar words bits }
-    requires handed_to { HandedTo departures.old answers.old i }
-    ensures way { result ≡ way_with w w.t w.turn w.rotation w.free o.next o.tail }
-    ensures links { links.new ≡ linked o.follows w.outtail o.head links.old }
-    ensures calendar { calendar.new ≡ (when o.marked then write_entry calendar.old w.turn empty_list else calendar.old) }
-    ensures words { words.new ≡ one_less o.vci words.old }
-    ensures bits { bits.new ≡ given (when o.marked then unmarked bits.old w.turn else bits.old) o.space }
-    ensures shown { departures.new ≡ write_cell departures.old i (take 53 (drop (53 * o.space) cells.now)) }
-    ensures told { answers.new ≡ write_answer answers.old i (answer_of 0 j.verdict j.vci j.d o.space o.vci) }
-{
-    put_less(words, o.vci);
-    clear_entry(calendar, o.marked, w.turn);
-    put_link(links, o.follows, w.outtail, o.head);
-    give_back(bits, o.space, o.marked, w.turn);
-    burst_out::copy_departure(departures, i, cells, o.space);
-    burst_out::put_answer(
-        answers,
-        i,
-        Answer {
-            number: 0,
-            verdict: j.verdict,
-            vci: j.vci,
-            d: j.d,
-            space: o.space as u16,
-            departing: o.vci as u16,
-        },
-    );
-    burst_way::with_ends(w, w.free, o.next, o.tail)
-}
-
-// A cell is let in and stored, and nothing departs.
-fn accept_none(w: Way, j: Judged, answers: &mut [u16], i: usize) -> Way
-    requires { (1 ≤ w.free) × (6 * i + 6 ≤ length answers.old) }
-    ensures way { result ≡ way_with w w.t w.turn w.rotation (w.free - 1) w.outhead w.outtail }
-    ensures told { answers.new ≡ write_answer answers.old i (answer_of 0 j.verdict j.vci j.d 65535 0) }
-{
-    burst_out::put_answer(
-        answers,
-        i,
-        Answer {
-            number: 0,
-            verdict: j.verdict,
-            vci: j.vci,
-            d: j.d,
-            space: 65535,
-            departing: 0,
-        },
-    );
-    burst_way::with_ends(w, w.free - 1, w.outhead, w.outtail)
+    mem_bits::occupy(bits, p.x as u16, p.e as u16);
 }
 
 // A cell is let in: accepted, or tagged.
@@ -361,27 +256,44 @@ fn accept(
     departures: &mut [u8],
     answers: &mut [u16],
     i: usize,
-) -> Went
+) -> Option<Went>
     requires ready_in { ReadyIn w cells.old links.old calendar.old words.old bits.old arrived.old }
     requires spotted_in { SpottedIn w j p calendar words bits arrivals i }
     requires octets_in_bounds { (cell_start i + octets ≤ length arrivals.now) × HandedTo departures.old answers.old i }
     ensures { ServedOrLeft w (accept_from w b j p (cell_before arrivals i) cells links calendar words bits arrived) result cells links calendar words bits arrived departures answers i }
 {
-    let o = burst_depart::off_accept(w, p, cells, links, calendar, words, bits);
-    if !o.ok {
-        return odd();
-    }
+    let leaves = burst_depart::off_accept(w, p, cells, links, calendar, words, bits)?;
     store(
         w, b, j, p, cells, links, calendar, words, bits, arrived, arrivals, i,
     );
-    if o.none {
-        let after = accept_none(w, j, answers, i);
-        return gone(after);
-    }
-    let after = accept_leave(
-        w, j, o, cells, links, calendar, words, bits, departures, answers, i,
+    let Some(o) = leaves else {
+        burst_out::put_answer(
+            answers,
+            i,
+            Answer {
+                number: 0,
+                verdict: j.verdict,
+                vci: j.vci,
+                d: j.d,
+                space: 65535,
+                departing: 0,
+            },
+        );
+        return Some(Went {
+            free: w.free - 1,
+            outhead: w.outhead,
+            outtail: w.outtail,
+        });
+    };
+    // one space is taken and one given back, so their number stays
+    leave(
+        w, j, j.d, o, cells, links, calendar, words, bits, departures, answers, i,
     );
-    gone(after)
+    Some(Went {
+        free: w.free,
+        outhead: o.next,
+        outtail: o.tail,
+    })
 }
 
 // The name of slot i's cell: 0 where there is none, and none that a header has where the likely ways can't take it, since its size is
@@ -391,19 +303,17 @@ fn named(w: Way, arrivals: &[u8], size: u8, i: usize) -> u32
     ensures is { result ≡ likely_name w.raw w.kind arrivals.now size i }
     ensures reads { size ≡ 53 → (result ≡ no_name → ⊥) → Reads w.kind (header_at w.kind arrivals.now (53 * i)) result }
 {
-    if size == 0 {
-        return 0;
-    }
-    if size != 53 {
-        return 4294967295;
-    }
-    let head = leaf_header::head_at(arrivals, 53 * i);
-    if w.raw != 0 {
-        if base_hec::check_of(head) != arrivals[53 * i + 4] {
-            return 4294967295;
+    match size {
+        0 => 0,
+        53 => {
+            let head = leaf_header::head_at(arrivals, 53 * i);
+            if w.raw != 0 && base_hec::check_of(head) != arrivals[53 * i + 4] {
+                return 4294967295;
+            }
+            leaf_header::name_by(head, w.mask)
         }
+        _ => 4294967295,
     }
-    leaf_header::name_by(head, w.mask)
 }
 
 // Step 3 of slot i's cell, by its name.
@@ -413,7 +323,7 @@ fn judged(w: Way, words: &[u32], name: u32, arrivals: &[u8], i: usize) -> Judged
 {
     let at = 53 * i;
     let to = at + 53;
-    burst_arrive::judge(w.n as u16, w.v as u16, words, name, w.t, &arrivals[at..to])
+    slot_arrive::judge(w.n as u16, w.v as u16, words, name, w.t, &arrivals[at..to])
 }
 
 // Slot i of a burst on a likely way, its cell having so many octets.
@@ -430,31 +340,28 @@ pub fn slot(
     departures: &mut [u8],
     answers: &mut [u16],
     i: usize,
-) -> Went
+) -> Option<Went>
     requires ready_in { ReadyIn w cells.old links.old calendar.old words.old bits.old arrived.old }
     requires octets_in_bounds { (cell_start i + octets ≤ length arrivals.now) × HandedTo departures.old answers.old i }
-    ensures fits { result.ok ≡ true → (size ≡ 0) ⊎ (size ≡ 53) }
-    ensures clean { result.ok ≡ true → CleanIn w arrivals.now size i }
+    ensures fits { IfSome result (λ g. (size ≡ 0) ⊎ (size ≡ 53)) }
+    ensures clean { IfSome result (λ g. CleanIn w arrivals.now size i) }
     ensures is { ServedOrLeft w (from_here w (take size (drop (cell_start i) arrivals.now)) cells links calendar words bits arrived) result cells links calendar words bits arrived departures answers i }
 {
     let b = burst_rotate::turned(w, words);
     if !b.ok {
-        return odd();
+        return None;
     }
     let name = named(w, arrivals, size, i);
     let j = judged(w, words, name, arrivals, i);
     if !j.ok {
-        return odd();
+        return None;
     }
     if !meaning::lets_in(j.verdict) {
         return quiet(
             w, b, j, cells, links, calendar, words, bits, arrived, departures, answers, i,
         );
     }
-    let p = burst_arrive::seat_of(w, j.vci as usize, j.d as usize, calendar, bits);
-    if !p.ok {
-        return odd();
-    }
+    let p = burst_arrive::seat_of(w, usize::from(j.vci), usize::from(j.d), calendar, bits)?;
     accept(
         w, b, j, p, cells, links, calendar, words, bits, arrived, arrivals, departures, answers, i,
     )

@@ -176,13 +176,12 @@ fn stretch(
 {
     let mut w = from;
     for i in begin..stop {
-        let g = burst_likely::slot(
+        let Some(g) = burst_likely::slot(
             w, cells, links, calendar, words, bits, arrived, arrivals, sizes[i], departures,
             answers, i,
-        );
-        if !g.ok {
+        ) else {
             return Far { way: w, i };
-        }
+        };
         w = burst_way::stepped(burst_way::with_ends(w, g.free, g.outhead, g.outtail));
     }
     Far { way: w, i: stop }

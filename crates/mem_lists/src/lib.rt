@@ -291,6 +291,7 @@ pub fn off_after(
 }
 
 // One link, where on.
+#[inline(always)]
 pub fn put_link(links: &mut [u16], on: bool, i: u16, x: u16)
     requires { on ≡ true → i < length links.old }
     ensures { links.new ≡ linked on i x links.old }

@@ -304,6 +304,7 @@ pub fn put_fill(words: &mut [u32], vci: u16, s: u32, second: u32, t: u32, waitin
 }
 
 // Waiting of a connection falls by one.
+#[inline(always)]
 pub fn put_less(words: &mut [u32], vci: u16)
     requires { (HasConnection vci words.old) × (1 ≤ get_or words.old (waiting_place vci) 0) }
     ensures { words.new ≡ one_less vci words.old }

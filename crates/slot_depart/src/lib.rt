@@ -55,6 +55,7 @@ pub fn left(k: Record, free: u16, verdict: u16, vci: u16, d: u16, o: Off) -> Ser
 }
 
 // An entry emptied, where on.
+#[inline(always)]
 pub fn clear_entry(calendar: &mut [u16], on: bool, e: u16)
     requires { 2 * e + 2 ≤ length calendar.old }
     ensures { calendar.new ≡ (when on then write_entry calendar.old e empty_list else calendar.old) }

@@ -1,11 +1,10 @@
 -- `burst_likely::store` meets its contract: seven writes, a slice at a time, from what was found of the cell.
 use native.Mathlib.Omega.{arith}
-use mathlib.Core.Path.{◌∙◌, ap}
-use borrow.Author.Tests.{eqb-false, not-true}
+use mathlib.Core.Path.{refl, ◌∙◌, ap}
 use Rattle.slot_arrive.specs.Arrival.{filled}
 use Rattle.slot_plan.specs.Plan.{rotated}
 use Rattle.burst_way.specs.Way.{slot_record}
-use Rattle.burst_likely.proofs.StoreLaws.{head_read, entry_low, head_low, entry_writes}
+use Rattle.burst_likely.proofs.StoreLaws.{head_read, entry_low, head_most, entry_writes}
 use Rattle.burst_likely.proofs.store.Goals as goal
 
 pub overflow_cast-w : goal.overflow_cast-w
@@ -34,21 +33,27 @@ put_cell-requires c =
     let spotted = pre.spotted_in in
     (omega (arith, spotted.seats.x_low, sized.n_high), omega (arith, spotted.seats.x_low, sized.cells_long_lem), pre.octets_in_bounds)
 
-pub put_arrived-requires : goal.put_arrived-requires
-put_arrived-requires c =
+pub overflow_cast-p : goal.overflow_cast-p
+overflow_cast-p c =
+    omega (arith, c.requires.spotted_in.seats.x_low, c.requires.ready_in.sized.n_high)
+
+pub overflow_cast-p-2 : goal.overflow_cast-p-2
+overflow_cast-p-2 c =
+    let a = c.args in
+    let pre = c.requires in
+    omega (arith, head_most (slot_record a.w) a.j a.calendar.now a.words.now a.bits.now _ a.p pre.spotted_in pre.ready_in.sized.n_high)
+
+pub overflow_cast-p-4 : goal.overflow_cast-p-4
+overflow_cast-p-4 c =
     let a = c.args in
     let pre = c.requires in
     let sized = pre.ready_in.sized in
-    let spotted = pre.spotted_in in
-    omega (arith, spotted.seats.x_low, sized.arrived_long)
+    omega (arith, entry_low (slot_record a.w) a.j a.calendar.now a.words.now a.bits.now _ a.p pre.spotted_in sized.turn_low, sized.n_high)
 
 pub put_link-requires : goal.put_link-requires
 put_link-requires c =
-    let a = c.args in
     let pre = c.requires in
-    let sized = pre.ready_in.sized in
-    let spotted = pre.spotted_in in
-    λ e. (omega (arith, spotted.seats.x_low, sized.links_long), omega (arith, head_low (slot_record a.w) a.j a.calendar.now a.words.now a.bits.now _ a.p spotted (eqb-false _ _ (not-true _ e)), sized.n_high))
+    λ e. omega (arith, pre.spotted_in.seats.x_low, pre.ready_in.sized.links_long)
 
 pub put_entry-requires : goal.put_entry-requires
 put_entry-requires c =
@@ -58,13 +63,12 @@ put_entry-requires c =
     let spotted = pre.spotted_in in
     (omega (arith, entry_low (slot_record a.w) a.j a.calendar.now a.words.now a.bits.now _ a.p spotted sized.turn_low, sized.calendar_long), omega (arith, spotted.seats.x_low, sized.n_high), head_read (slot_record a.w) a.j a.calendar.now a.words.now a.bits.now _ a.p spotted)
 
-pub take_up-requires : goal.take_up-requires
-take_up-requires c =
+pub occupy-requires : goal.occupy-requires
+occupy-requires c =
     let a = c.args in
     let pre = c.requires in
     let sized = pre.ready_in.sized in
     let spotted = pre.spotted_in in (
-      omega (arith, spotted.seats.x_low, sized.n_high),
       sized.bits_long,
       spotted.seats.is_free,
       omega (arith, entry_low (slot_record a.w) a.j a.calendar.now a.words.now a.bits.now _ a.p spotted sized.turn_low, sized.n_high),
@@ -83,6 +87,6 @@ returns c =
       calendar = entry_writes (slot_record a.w) a.j a.calendar.now a.words.now a.bits.now _ a.p spotted _ c.put_entry.ensures;
       words = c.put_fill.ensures
           ∙ ap (filled a.j.vci a.j.s a.j.second a.w.t a.j.waiting) c.put_fall.ensures;
-      bits = c.take_up.ensures;
-      arrived = c.put_arrived.ensures;
+      bits = c.occupy.ensures;
+      arrived = refl;
     }

@@ -2,7 +2,6 @@
 -- began.
 use mathlib.Core.Path.{◌≡◌, refl, ◌∙◌}
 use native.Mathlib.Omega.{arith}
-use borrow.Author.Tests.{not-true, not-false}
 use Rattle.call_burst.specs.Burst.{cell_lent}
 use Rattle.call_burst.proofs.LikelyLaws.{before_step, next_held, next_room, next_rest, odd_held, odd_rest}
 use Rattle.call_burst.proofs.stretch.Goals as goal
@@ -12,8 +11,8 @@ loop-i-init c =
     let pre = c.requires in
     record { held = pre.held_in; room = pre.begin_le_stop.2; rest = refl }
 
-pub slot-g-requires : goal.slot-g-requires
-slot-g-requires c =
+pub slot-requires : goal.slot-requires
+slot-requires c =
     let at = c.loop-i in
     let inv = at.invariant in
     let h = inv.held in
@@ -35,11 +34,11 @@ slot-g-requires c =
       );
     }
 
-pub returns-then-not-g : goal.returns-then-not-g
-returns-then-not-g c =
+pub returns-in_default : goal.returns-in_default
+returns-in_default c =
     let at = c.loop-i in
     let a = c.args in
-    let stay = c.slot-g.ensures.is.stayed (not-true _ c.if-not-g.true) in
+    let stay = c.in_default.ensures.is in
     record { held = odd_held a.arrivals.now a.sizes.now at.i at.w at.cells at.links at.calendar at.words at.bits at.arrived at.departures at.answers _ _ _ _ _ _ _ _ stay at.invariant.held; far = (at.auto.i, omega (arith, c.loop-i-test.true)); rest = odd_rest a.arrivals.now a.sizes.now at.i at.w at.cells at.links at.calendar at.words at.bits at.arrived at.departures at.answers _ _ _ _ _ _ _ _ stay ∙ at.invariant.rest }
 
 pub stepped-w-requires : goal.stepped-w-requires
@@ -48,21 +47,19 @@ stepped-w-requires c =
     let at = c.loop-i in
     let a = c.args in
     let pre = c.requires in
-    let ok = not-false _ c.if-not-g.false in
-    let went = c.slot-g.result in
-    let e = c.slot-g.ensures in
-    rw c.with_ends.ensures (before_step a.arrivals.now a.sizes.now a.stop at.i at.w at.cells at.links at.calendar at.words at.bits at.arrived at.departures at.answers went.free went.outhead went.outtail _ _ _ _ _ _ _ _ at.invariant.held at.invariant.room c.loop-i-test.true pre.begin_le_stop.1 pre.burst_lent.arrivals_long (e.fits ok) (e.clean ok) (e.is.went ok))
+    let went = c.in-Some.g in
+    let e = c.in-Some.ensures in
+    rw c.with_ends.ensures (before_step a.arrivals.now a.sizes.now a.stop at.i at.w at.cells at.links at.calendar at.words at.bits at.arrived at.departures at.answers went.free went.outhead went.outtail _ _ _ _ _ _ _ _ at.invariant.held at.invariant.room c.loop-i-test.true pre.begin_le_stop.1 pre.burst_lent.arrivals_long e.fits e.clean e.is)
 
 pub loop-i-preserved : goal.loop-i-preserved
 unfolding cell_lent
 loop-i-preserved c =
     let at = c.loop-i in
     let a = c.args in
-    let ok = not-false _ c.if-not-g.false in
-    let d = c.slot-g.ensures.is.went ok in
-    let fits = c.slot-g.ensures.fits ok in
-    let clean = c.slot-g.ensures.clean ok in
-    let went = c.slot-g.result in
+    let d = c.in-Some.ensures.is in
+    let fits = c.in-Some.ensures.fits in
+    let clean = c.in-Some.ensures.clean in
+    let went = c.in-Some.g in
     let low = c.loop-i-test.true in
     let most = c.requires.begin_le_stop.1 in
     let long = c.requires.burst_lent.arrivals_long in
