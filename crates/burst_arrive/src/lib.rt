@@ -2,9 +2,7 @@
 // is then served as the call has it: so nothing here refuses.
 #![tactic(auto)]
 
-ghost use Rattle.std.specs.Prelude.{◌≡◌, ◌≤◌};
-ghost use Rattle.meaning.specs.Lists.{ends_fit};
-ghost use Rattle.mem_lists.specs.Spaces.{ends_of};
+ghost use Rattle.std.specs.Prelude.{◌≡◌};
 ghost use Rattle.slot_plan.specs.Plan.{seat_now};
 ghost use Rattle.burst_way.specs.Way.{slot_record};
 ghost use Rattle.burst_arrive.specs.Arriving.{spot_of, MaySeat};
@@ -30,12 +28,12 @@ pub fn seat_of(w: Way, vci: usize, d: usize, calendar: &[u16], bits: &[u64]) -> 
     if w.free == 0 {
         return None;
     }
-    let x = mem_bits::lowest(bits) as usize;
+    let x = usize::from(mem_bits::lowest(bits));
     let far = w.turn + d;
     let e = if far < w.n { far } else { far - w.n };
-    let head = calendar[2 * e] as usize;
-    let tail = calendar[2 * e + 1] as usize;
-    if !fits(w.n, head, tail) {
+    let head = calendar[2 * e];
+    let tail = calendar[2 * e + 1];
+    if !mem_lists::pair(w.n as u16, head, tail) {
         return None;
     }
     Some(Spot {
@@ -43,21 +41,7 @@ pub fn seat_of(w: Way, vci: usize, d: usize, calendar: &[u16], bits: &[u64]) -> 
         d,
         vci,
         e,
-        head,
-        tail,
+        head: usize::from(head),
+        tail: usize::from(tail),
     })
-}
-
-// "a head and tail are both below N or both 65,535"
-fn fits(n: usize, head: usize, tail: usize) -> bool
-    requires { n ≤ 1024 }
-    ensures { result ≡ ends_fit n (ends_of head tail) }
-{
-    if head == 65535 {
-        return tail == 65535;
-    }
-    if head >= n {
-        return false;
-    }
-    tail < n
 }

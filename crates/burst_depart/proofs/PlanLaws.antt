@@ -1,6 +1,6 @@
 -- The tests that find what departs: the connection that a header names, a link once another is written, and the Output List once entry
 -- T has joined it.
-use Prim.Native.Nat.{ℕ, ◌≤◌, ◌<◌}
+use Prim.Native.Nat.{ℕ, ◌+◌, ◌*◌, ◌≤◌, ◌<◌}
 use mathlib.Core.Path.{◌≡◌, refl, sym, ◌∙◌, ap, subst}
 use mathlib.Core.Logic.{◌≢◌}
 use mathlib.Core.Bool.{true, false}
@@ -13,10 +13,10 @@ use lib.Seq.{get_or-set_same, get_or-set_other}
 use Rattle.meaning.specs.declared.Record.{Record}
 use Rattle.meaning.specs.Numbers.{empty}
 use Rattle.meaning.specs.State.{Ends}
-use Rattle.mem_lists.specs.Spaces.{linked}
+use Rattle.mem_lists.specs.Spaces.{ends_of, linked}
 use Rattle.mem_lists.specs.Leaver.{may_go, goes_as}
 use Rattle.slot_plan.specs.Plan.{joined_links, joined_head}
-use Rattle.meaning.specs.Lists.{ends_fit}
+use Rattle.meaning.specs.Lists.{ends_fit, entry_at}
 use Rattle.burst_depart.specs.declared.Leave.{Leave}
 use Rattle.burst_depart.specs.Leaving.{Left, PlannedUnmarked, PlannedMarked, Planned, Linked}
 
@@ -71,6 +71,12 @@ module _ (k : Record) (entry : Ends) where
     pub rest_joins : (x tail next tail' : ℕ) → k.outhead ≢ empty → Left k.n (set links k.outtail entry.head) x tail next tail'
         → Left k.n (joined_links k entry links) x tail next tail'
     rest_joins x tail next tail' ne l = subst (λ (m : List ℕ). Left k.n m x tail next tail') (links_joined ne) l
+
+-- ---- an entry by its two numbers
+pub entry_by : (calendar : List ℕ) (T h t : ℕ) → h ≡ get_or calendar (2 * T) 0 → t ≡ get_or calendar (2 * T + 1) 0
+    → entry_at calendar T ≡ ends_of h t
+unfolding entry_at
+entry_by calendar T h t e q = rw (e, q) refl
 
 -- ---- where the likely way is left, the lists are not linked
 module _ (k : Record) (links : List ℕ) (entry : Ends) where

@@ -26,6 +26,10 @@ use Rattle.burst_arrive.specs.declared.Spot.{Spot}
 use Rattle.burst_arrive.specs.Arriving.{seat_at}
 use Rattle.burst_depart.specs.declared.Leave.{Leave}
 
+-- a connection's number; 0 is no connection's
+abbrev pub unless_zero : ℕ → Option ℕ
+unless_zero u = when u =? 0 then None else Some u
+
 -- what is left of a list from x to tail once x has gone
 pub record Left (N : ℕ) (links : List ℕ) (x tail next tail' : ℕ) : Type 0 where
   pub one : x ≡ tail → (next ≡ empty) × (tail' ≡ empty)

@@ -14,7 +14,7 @@ ghost use Rattle.slot_plan.specs.Facts.{SizedWith};
 ghost use Rattle.burst_way.specs.Way.{slot_record, NamesBy};
 ghost use Rattle.burst_arrive.specs.Arriving.{seat_at, Seats};
 ghost use Rattle.burst_depart.specs.Leaving.{Left, PlannedUnmarked, PlannedMarked, Linked, Planned, Leaves, Regular};
-ghost use Rattle.burst_depart.specs.Leaving.{RegularNow, RegularThen, OffHereIn, OffThenIn, entry_then, MayRead};
+ghost use Rattle.burst_depart.specs.Leaving.{unless_zero, RegularNow, RegularThen, OffHereIn, OffThenIn, entry_then, MayRead};
 
 use burst_arrive::Spot;
 use burst_way::Way;
@@ -32,30 +32,26 @@ pub struct Leave {
     pub follows: Option<usize>,
 }
 
-// The connection whose cell is in space x, if that cell may depart, else 0.
-fn seen(w: Way, cells: &[u8], words: &[u32], x: usize) -> usize
+// The connection whose cell is in space x, if that cell may depart.
+fn seen(w: Way, cells: &[u8], words: &[u32], x: usize) -> Option<usize>
     requires n_le_most_n { (w.n ≤ most_n) × (w.v ≤ most_v) × (cell_start x + octets ≤ length cells.now) × (length words.now ≡ words_in w.v) }
     requires names_by { NamesBy w }
-    ensures { result ≡ leaver_of w.n w.v w.kind cells.now words.now x }
+    ensures { result ≡ unless_zero (leaver_of w.n w.v w.kind cells.now words.now x) }
 {
     let head = leaf_header::head_at(cells, 53 * x);
     let name = leaf_header::name_by(head, w.mask);
-    let u = leaf_header::number_for(w.v as u16, name) as usize;
+    let u = usize::from(leaf_header::number_for(w.v as u16, name));
     if u == 0 {
-        return 0;
+        return None;
     }
     let b = WORDS_PER_CONNECTION * u;
     if words[b] != 1 {
-        return 0;
+        return None;
     }
-    let waiting = words[b + AT_WAITING];
-    if waiting == 0 {
-        return 0;
+    if (1..=w.n as u32).contains(&words[b + AT_WAITING]) {
+        return Some(u);
     }
-    if waiting > w.n as u32 {
-        return 0;
-    }
-    u
+    None
 }
 
 // What is left of a list from x to tail once x has gone.
@@ -76,7 +72,7 @@ fn rest_of(links: &[u16], x: usize, tail: usize) -> Option<Rest>
             tail: 65535,
         });
     }
-    let next = links[x] as usize;
+    let next = usize::from(links[x]);
     if next < links.len() {
         return Some(Rest { next, tail });
     }
@@ -92,15 +88,19 @@ fn rest_joined(links: &[u16], x: usize, old: usize, head: usize, tail: usize) ->
     if x == tail {
         return None;
     }
-    let next = if x == old { head } else { links[x] as usize };
+    let next = if x == old {
+        head
+    } else {
+        usize::from(links[x])
+    };
     if next < links.len() {
         return Some(Rest { next, tail });
     }
     None
 }
 
-// Steps 4 and 5 but for the departing connection, where entry T is not marked. None leaves the likely way, and where nothing departs
-// there is none in it.
+// Steps 4 and 5 but for the departing connection, where entry T is not marked. None leaves the likely way, as everywhere here; Some(None)
+// says that nothing departs.
 fn plan_unmarked(w: Way, links: &[u16]) -> Option<Option<Leave>>
     requires { (w.n ≤ most_n) × (length links.now ≡ w.n) × (ends_fit w.n (ends_of w.outhead w.outtail) ≡ true) }
     ensures { MatchOption result ((w.outhead ≢ empty) × (w.outhead ≢ w.outtail) × (w.n ≤ get_or links.now w.outhead 0))
@@ -120,7 +120,7 @@ fn plan_unmarked(w: Way, links: &[u16]) -> Option<Option<Leave>>
     }))
 }
 
-// The same where it is marked, from head to tail.
+// The same where it is marked, from head to tail. Something departs then, but as an Option of it a slot costs three in a hundred more.
 fn plan_marked(w: Way, links: &[u16], head: usize, tail: usize) -> Option<Option<Leave>>
     requires { (w.n ≤ most_n) × (length links.now ≡ w.n) × (ends_fit w.n (ends_of w.outhead w.outtail) ≡ true) × (head < w.n) × (tail < w.n) }
     ensures { MatchOption result (Linked (slot_record w) links.now (ends_of head tail) → ⊥)
@@ -154,8 +154,8 @@ fn plan(w: Way, links: &[u16], calendar: &[u16]) -> Option<Option<Leave>>
     ensures { MatchOption result (Linked (slot_record w) links.now (entry_at calendar.now w.turn) → ⊥)
         (λ found. Planned (slot_record w) links.now (entry_at calendar.now w.turn) found) }
 {
-    let head = calendar[2 * w.turn] as usize;
-    let tail = calendar[2 * w.turn + 1] as usize;
+    let head = usize::from(calendar[2 * w.turn]);
+    let tail = usize::from(calendar[2 * w.turn + 1]);
     if head == 65535 {
         if tail != 65535 {
             return None;
@@ -192,10 +192,7 @@ pub fn off_quiet(
     if mem_bits::is_free(bits, o.space as u16) {
         return None;
     }
-    let vci = seen(w, cells, words, o.space);
-    if vci == 0 {
-        return None;
-    }
+    let vci = seen(w, cells, words, o.space)?;
     Some(Some(Leave { vci, ..o }))
 }
 
@@ -235,10 +232,7 @@ fn off_now(
     }
     let tail = if p.head == 65535 { p.x } else { p.tail };
     let r = rest_joined(links, w.outhead, w.outtail, p.x, tail)?;
-    let vci = seen(w, cells, words, w.outhead);
-    if vci == 0 {
-        return None;
-    }
+    let vci = seen(w, cells, words, w.outhead)?;
     Some(Some(Leave {
         space: w.outhead,
         vci,
@@ -272,10 +266,7 @@ fn off_later(
     if mem_bits::is_free(bits, o.space as u16) {
         return None;
     }
-    let vci = seen(w, cells, words, o.space);
-    if vci == 0 {
-        return None;
-    }
+    let vci = seen(w, cells, words, o.space)?;
     Some(Some(Leave { vci, ..o }))
 }
 

@@ -1,6 +1,6 @@
 -- The clock of a policer on its way: the record before the slot to come has that slot's record as its clocked one, a slot
 -- that is over becomes the record before the next, and stepping round changes neither.
-use Rattle.std.proofs.Common.{◌≡◌, ℕ, ◌+◌, ◌-◌, ◌%◌, ◌<◌, ◌≤◌, Bool, true, false, sym, refl, ap, ◌∙◌, mod-eq_of_lt, arith, eq-eqb, ne_eqb, eqb-true}
+use Rattle.std.proofs.Common.{◌≡◌, ℕ, ◌+◌, ◌-◌, ◌%◌, ◌<◌, ◌≤◌, Bool, true, false, sym, refl, ap, ◌∙◌, mod-eq_of_lt, arith, ne_eqb, eqb-true}
 use native.Mathlib.Nat.{mod_self}
 use borrow.Author.Tests.{eqb-false}
 use Rattle.meaning.specs.declared.Record.{Record}

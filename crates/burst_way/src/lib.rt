@@ -30,51 +30,21 @@ pub struct Way {
     pub splitpath: u16,
 }
 
-// The same policer with another clock, another number of free spaces and another Output List: whatever else a way holds is kept here, in one place.
-fn way_with(
-    w: Way,
-    t: u32,
-    turn: usize,
-    rotation: usize,
-    free: usize,
-    outhead: usize,
-    outtail: usize,
-) -> Way
-    ensures { result ≡ way_with w t turn rotation free outhead outtail }
-{
-    Way {
-        n: w.n,
-        v: w.v,
-        t: t,
-        turn: turn,
-        rotation: rotation,
-        free: free,
-        outhead: outhead,
-        outtail: outtail,
-        raw: w.raw,
-        mode: w.mode,
-        kind: w.kind,
-        mask: w.mask,
-        splitvci: w.splitvci,
-        splitpath: w.splitpath,
-    }
-}
-
 // How many connections there are, the two that are none counted: rotation goes over all.
 pub fn connections(v: usize) -> usize
     requires { v ≤ most_v }
     ensures { result ≡ connections_in v }
 {
-    v + (PATHS as usize)
+    v + usize::from(PATHS)
 }
 
-// One more, modulo n, without a division.
+// One more, modulo n, without a division. `slot_steps::after` is the same of a record's narrow numbers: one function for both would have
+// to be generic over their sum, and no plainer.
 fn after(x: usize, n: usize) -> usize
     requires { x < n }
     ensures { result ≡ (x + 1) % n }
 {
-    let y = x + 1;
-    if y == n { 0 } else { y }
+    round(x + 1, n)
 }
 
 // One less, modulo n.
@@ -93,20 +63,20 @@ pub fn way_of(r: Record, n: usize) -> Way
     ensures last { last_record result ≡ r }
     ensures mask { result.mask ≡ mask_for result.kind }
 {
-    let v = r.v as usize;
-    let t = std::num::wrapping_add_u32(r.t, 1);
-    let turn = after(r.turn as usize, n);
+    let v = usize::from(r.v);
+    let t = r.t.wrapping_add(1);
+    let turn = after(usize::from(r.turn), n);
     let all = connections(v);
-    let rotation = after(r.rotation as usize, all);
+    let rotation = after(usize::from(r.rotation), all);
     Way {
-        n: n,
-        v: v,
-        t: t,
-        turn: turn,
-        rotation: rotation,
-        free: r.free as usize,
-        outhead: r.outhead as usize,
-        outtail: r.outtail as usize,
+        n,
+        v,
+        t,
+        turn,
+        rotation,
+        free: usize::from(r.free),
+        outhead: usize::from(r.outhead),
+        outtail: usize::from(r.outtail),
         raw: r.raw,
         mode: r.mode,
         kind: r.kind,
@@ -121,14 +91,14 @@ pub fn record_of(w: Way) -> Record
     requires { Fits w }
     ensures { result ≡ last_record w }
 {
-    let t = std::num::wrapping_sub_u32(w.t, 1);
+    let t = w.t.wrapping_sub(1);
     let turn = one_back(w.turn, w.n);
     let all = connections(w.v);
     let rotation = one_back(w.rotation, all);
     Record {
         n: w.n as u16,
         v: w.v as u16,
-        t: t,
+        t,
         turn: turn as u16,
         rotation: rotation as u16,
         free: w.free as u16,
@@ -147,10 +117,15 @@ pub fn stepped(w: Way) -> Way
     requires { (w.turn < w.n) × (w.rotation < connections_in w.v) × (w.n ≤ most_n) × (w.v ≤ most_v) }
     ensures { result ≡ stepped_way w }
 {
-    let t = std::num::wrapping_add_u32(w.t, 1);
+    let t = w.t.wrapping_add(1);
     let turn = w.turn + 1;
     let rotation = w.rotation + 1;
-    way_with(w, t, turn, rotation, w.free, w.outhead, w.outtail)
+    Way {
+        t,
+        turn,
+        rotation,
+        ..w
+    }
 }
 
 // 0 for n.
@@ -168,12 +143,21 @@ pub fn rounded(w: Way) -> Way
     let turn = round(w.turn, w.n);
     let all = connections(w.v);
     let rotation = round(w.rotation, all);
-    way_with(w, w.t, turn, rotation, w.free, w.outhead, w.outtail)
+    Way {
+        turn,
+        rotation,
+        ..w
+    }
 }
 
 // The same with another number of free spaces and another Output List.
 pub fn with_ends(w: Way, free: usize, outhead: usize, outtail: usize) -> Way
     ensures { result ≡ way_with w w.t w.turn w.rotation free outhead outtail }
 {
-    way_with(w, w.t, w.turn, w.rotation, free, outhead, outtail)
+    Way {
+        free,
+        outhead,
+        outtail,
+        ..w
+    }
 }

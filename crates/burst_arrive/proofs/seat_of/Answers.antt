@@ -12,8 +12,8 @@ returns-then-w-eq0 c =
     let a = c.args in
     ap (spot_of a.vci a.d) (spot_none (slot_record a.w) a.d a.calendar.now a.bits.now c.requires.5 c.if-w-eq0.true)
 
-pub returns-then-not-fits : goal.returns-then-not-fits
-returns-then-not-fits c =
+pub returns-then-not-pair : goal.returns-then-not-pair
+returns-then-not-pair c =
     let a = c.args in
     let w = a.w in
     ap (spot_of a.vci a.d)
@@ -22,16 +22,17 @@ returns-then-not-fits c =
       | then-far-w b ↦ b.e-is ∙ entry_near w.n w.turn a.d b.if-far-w.true
       | else-far-w b ↦ b.e-is ∙ entry_far w.n w.turn a.d b.if-far-w.false
     ])
-    c.if-w-eq0.false (sym c.fits.ensures ∙ c.if-not-fits.true))
+    c.if-w-eq0.false (sym c.pair.ensures ∙ c.if-not-pair.true))
 
 pub returns : goal.returns
 returns c =
     let a = c.args in
     let w = a.w in
-    ap (spot_of a.vci a.d)
+    rw (c.from-x.ensures, c.from.ensures, c.from-2.ensures)
+    (ap (spot_of a.vci a.d)
     (spot_seated (slot_record w) a.d a.calendar.now a.bits.now c.requires.5 c.if-far-w.e
     (elim c.if-far-w.branch [
       | then-far-w b ↦ b.e-is ∙ entry_near w.n w.turn a.d b.if-far-w.true
       | else-far-w b ↦ b.e-is ∙ entry_far w.n w.turn a.d b.if-far-w.false
     ])
-    c.if-w-eq0.false c.lowest-x.result c.lowest-x.ensures (sym c.fits.ensures ∙ c.if-not-fits.false))
+    c.if-w-eq0.false c.lowest.result c.lowest.ensures (sym c.pair.ensures ∙ c.if-not-pair.false)))

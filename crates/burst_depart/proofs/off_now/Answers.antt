@@ -1,5 +1,6 @@
 -- `burst_depart::off_now` meets its contract: the cell itself departs, or the Output List's head, entry T having joined its end.
 use Rattle.burst_depart.proofs.NowLaws.{tail_is, alone_leaves, behind_leaves}
+use Rattle.burst_depart.proofs.SeenLaws.{some_is, none_is}
 use Rattle.burst_depart.proofs.LeaveLaws.{not_held, not_named}
 use Rattle.burst_depart.proofs.PlanLaws.{low_in, left_count, joined_some, joined_unlinked}
 use Rattle.slot_plan.specs.Plan.{seat_ends}
@@ -41,8 +42,8 @@ rest_joined-requires c =
       low_in _ w.n _ c.requires.outtail_value.2 c.requires.n_le_most_n.3,
     )
 
-pub seen-vci-requires-clause-n_le_most_n : goal.seen-vci-requires-clause-n_le_most_n
-seen-vci-requires-clause-n_le_most_n c =
+pub seen-requires-clause-n_le_most_n : goal.seen-requires-clause-n_le_most_n
+seen-requires-clause-n_le_most_n c =
     let w = c.args.w in
     let sized = c.requires.n_le_most_n in
     let low = fit_head w.n (ends_of w.outhead w.outtail) c.requires.outtail_value.0 c.if-w-eq65535.false in
@@ -57,16 +58,17 @@ returns c =
     let fits = c.requires.outtail_value in
     let t = c.if-p-eq65535.tail in
     let r = c.in_ok-r.r in
+    let named = some_is _ _ c.in_ok-vci.ensures in
     behind_leaves k a.p a.cells.now a.links.now a.words.now a.bits.now sized.0 sized.3 fits.1 fits.2 fits.3 fits.5
     c.if-w-eq65535.false
     fits.0
     (sym c.is_free.ensures ∙ c.if-is_free.false)
-    t r.next r.tail c.seen-vci.result
+    t r.next r.tail c.in_ok-vci.vci
     (tail_is k a.p a.cells.now a.links.now a.words.now a.bits.now sized.0 sized.3 fits.1 fits.2 fits.3 fits.5 t
     (elim c.if-p-eq65535.branch [ then-p-eq65535 v ↦ inl (v.if-p-eq65535.true, v.tail-is) | else-p-eq65535 v ↦ inr (v.if-p-eq65535.false, v.tail-is) ]))
     (left_count (length a.links.now) w.n (set a.links.now w.outtail a.p.x) w.outhead t r.next r.tail sized.3 c.in_ok-r.ensures)
-    (sym c.seen-vci.ensures)
-    c.if-vci-eq0.false
+    named.0
+    named.1
 
 pub returns-then-is_free : goal.returns-then-is_free
 returns-then-is_free c =
@@ -78,15 +80,16 @@ returns-then-is_free c =
     (fit_head a.w.n (ends_of a.w.outhead a.w.outtail) c.requires.outtail_value.0 some) (r.other some)
     (sym c.is_free.ensures ∙ c.if-is_free.true)
 
-pub returns-then-vci-eq0 : goal.returns-then-vci-eq0
-returns-then-vci-eq0 c =
+pub returns-in_err-vci : goal.returns-in_err-vci
+returns-in_err-vci c =
     let a = c.args in
     let k = slot_record a.w in
     let some = c.if-w-eq65535.false in
-    λ r.
+    rw c.from_residual-in_err-vci.ensures
+    (λ r.
     not_named k a.cells.now a.links.now a.words.now a.bits.now (seat_ends (seat_at a.p)) a.w.outhead (sym (joined_some k (seat_ends (seat_at a.p)) some)) c.requires.n_le_most_n.0
     (fit_head a.w.n (ends_of a.w.outhead a.w.outtail) c.requires.outtail_value.0 some) (r.other some)
-    (sym c.seen-vci.ensures ∙ c.if-vci-eq0.true)
+    (none_is _ c.in_err-vci.ensures))
 
 pub returns-in_err-r : goal.returns-in_err-r
 unfolding seat_ends

@@ -1,4 +1,5 @@
 -- `burst_depart::off_quiet` meets its contract: the plan, whose space is not free, and the connection that the header there names.
+use Rattle.burst_depart.proofs.SeenLaws.{some_is, none_is}
 use Rattle.burst_depart.proofs.LeaveLaws.{quiet_leaves, plan_low, plan_head, not_held, not_named}
 use Rattle.burst_depart.specs.declared.Leave.{Leave}
 use Rattle.burst_depart.specs.Leaving.{Planned}
@@ -15,10 +16,11 @@ returns c =
     let entry = entry_at a.calendar.now a.w.turn in
     let o = c.in-Some.o in
     let plan = subst (λ (found : Option Leave). Planned k a.links.now entry found) c.in-Some.is c.in_ok-o.ensures in
-    quiet_leaves k a.cells.now a.links.now a.words.now a.bits.now entry o c.seen-vci.result plan
+    let named = some_is _ _ c.in_ok-vci.ensures in
+    quiet_leaves k a.cells.now a.links.now a.words.now a.bits.now entry o c.in_ok-vci.vci plan
     (sym c.is_free.ensures ∙ c.if-is_free.false)
-    (sym c.seen-vci.ensures)
-    c.if-vci-eq0.false
+    named.0
+    named.1
 
 pub returns-then-is_free : goal.returns-then-is_free
 returns-then-is_free c =
@@ -32,14 +34,15 @@ returns-then-is_free c =
     (plan_low k a.links.now entry o plan) r
     (sym c.is_free.ensures ∙ c.if-is_free.true)
 
-pub returns-then-vci-eq0 : goal.returns-then-vci-eq0
-returns-then-vci-eq0 c =
+pub returns-in_err-vci : goal.returns-in_err-vci
+returns-in_err-vci c =
     let a = c.args in
     let k = slot_record a.w in
     let entry = entry_at a.calendar.now a.w.turn in
     let o = c.in-Some.o in
     let plan = subst (λ (found : Option Leave). Planned k a.links.now entry found) c.in-Some.is c.in_ok-o.ensures in
-    λ r.
+    rw c.from_residual-in_err-vci.ensures
+    (λ r.
     not_named k a.cells.now a.links.now a.words.now a.bits.now entry o.space (plan_head k a.links.now entry o plan) c.requires.sized_with.1.n_high
     (plan_low k a.links.now entry o plan) r
-    (sym c.seen-vci.ensures ∙ c.if-vci-eq0.true)
+    (none_is _ c.in_err-vci.ensures))
