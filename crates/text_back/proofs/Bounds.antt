@@ -10,10 +10,10 @@ use lib.ListN.{length, get_or, take, drop, length-drop}
 use lib.Seq.{get_or-take, get_or-drop, length-take-le}
 use Rattle.meaning.specs.Plain.{next, when◌then◌else◌, ◌<?◌, ◌≤?◌, ◌=?◌}
 use Rattle.meaning.specs.Numbers.{octets}
-use Rattle.trace_record.specs.Trace.{TraceRecord, GM, VO, VX, CA, SL, VS, PO, PX, Stands, event, finish, refusal, unreadable}
+use Rattle.trace_record.specs.Trace.{TraceRecord, GM, VO, VX, CA, SL, VS, PO, PX, Stands, event, finish, refusal}
 use Rattle.trace_record.specs.Trace.{be16, be32, whole, setup_at, open_at, sustain_at, close_at, open_path_at, close_path_at, cell_at, pause_at, first_at, later_at, stands_at}
 use Rattle.trace_record.specs.Trace.{mark_octets, mark_gm, mark_gr, mark_gn, mark_vo, mark_vx, mark_ca, mark_sl, mark_vs, mark_po, mark_px}
-use Rattle.trace_record.specs.Fits.{Fits, Allowed, stands_fits}
+use Rattle.trace_record.specs.Fits.{Fits, stands_fits}
 use Rattle.text_meaning.specs.Events.{event_of}
 use Rattle.text_meaning.specs.Grammar.{tells, line}
 use Rattle.text_print.specs.Print.{line_of}

@@ -10,13 +10,12 @@ use borrow.Author.Tests.{eqb-false, leb-true, le-leb}
 use lib.ListN.{length, take, drop, length-append, length-drop, take-append-drop}
 use lib.Seq.{drop-drop, drop-append_seam}
 use Rattle.meaning.specs.Plain.{when◌then◌else◌, ◌=?◌}
-use Rattle.meaning.specs.Numbers.{octets}
 use Rattle.trace_record.proofs.Cases.{stands_end}
 use Rattle.list_lines.specs.Put.{puts, Put}
 use Rattle.list_lines.proofs.Puts.{put_whole}
-use Rattle.text_meaning.specs.Events.{Event, told, pause, full, sl_of, octets_of, octets_all, join, merge, event_of}
-use Rattle.text_meaning.specs.Writing.{Said, good, bad, onto}
-use Rattle.text_record.specs.Record.{Given, GM, VO, VX, CA, SL, VS, PO, PX, record_octets, given_event, allowed_at, record_at}
+use Rattle.text_meaning.specs.Events.{Event, told, pause, full, octets_of, octets_all, join, merge}
+use Rattle.text_meaning.specs.Writing.{good, onto}
+use Rattle.text_record.specs.Record.{Given, GM, VO, VX, CA, SL, VS, PO, PX, record_octets, given_event, allowed_at}
 use Rattle.text_record.specs.Back.{Reads}
 use Rattle.text_record.proofs.Top.{put_reads}
 use Rattle.text_trip.specs.Reading.{read_at, read_from, read}

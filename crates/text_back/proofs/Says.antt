@@ -14,9 +14,9 @@ use Rattle.meaning.specs.Words.{second_of}
 use Rattle.trace_record.specs.declared.Head.{Head}
 use Rattle.trace_record.specs.declared.Head.TheVariants.{Gm, Gr, Gn}
 use Rattle.trace_record.specs.Trace.{head_mark, mark_gm, mark_gr, mark_gn, mark_vo, mark_vx, mark_ca, mark_sl, mark_vs, mark_po, mark_px}
-use Rattle.text_meaning.specs.Shapes.{Field, n8, n16, n32, cell, top, of16, of_field, Shape, fields, slots, find, rows_of}
-use Rattle.text_meaning.specs.Events.{Event, told, pause}
-use Rattle.text_meaning.specs.Grammar.{Number, number_of, Part, part, Told, tells, expect, digit_of, digits, within, number, nibble_of, hexes}
+use Rattle.text_meaning.specs.Shapes.{Field, n8, n16, n32, cell, top, of16, of_field, Shape, fields, find, rows_of}
+use Rattle.text_meaning.specs.Events.{told, pause}
+use Rattle.text_meaning.specs.Grammar.{Number, Part, part, Told, tells, expect, digit_of, digits, within, number, nibble_of, hexes}
 use Rattle.text_meaning.specs.Grammar.{field_at, fields_at, slots_at, shaped_line, line}
 use Rattle.text_record.specs.Record.{GM, VO, VX, CA, SL, VS, PO, PX, record_octets, allowed_at}
 use Rattle.text_back.specs.Back.{Sayable}

@@ -6,7 +6,7 @@ use mathlib.Core.Bool.{Bool, true, false, ◌&&◌}
 use mathlib.Core.List.{List, [], ◌++◌}
 use native.Mathlib.Omega.{arith}
 use Rattle.std.proofs.Common.{Ok, Err}
-use Rattle.text_meaning.specs.declared.WriteError.TheVariants.{Unreadable, TooShort}
+use Rattle.text_meaning.specs.declared.WriteError.TheVariants.{TooShort}
 use borrow.Author.Tests.{leb-true, ne_eqb}
 use lib.ListN.{length, take, drop, length-drop}
 use lib.Seq.{take_at}
