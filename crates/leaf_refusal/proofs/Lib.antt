@@ -1,4 +1,3 @@
-pub mod Two
 pub mod Ranges
 pub mod Within
 pub mod Numbers

@@ -4,7 +4,6 @@
 ghost use Rattle.std.specs.Prelude.{◌≡◌, ◌&&◌, ◌*◌};
 ghost use Rattle.meaning.specs.Plain.{when◌then◌else◌, ◌=?◌};
 ghost use Rattle.meaning.specs.Numbers.{ranges_hold, kind_in_range, octets, per_entry, words_in, bit_words, splits_hold};
-ghost use Rattle.leaf_refusal.specs.Order.{refuse_of, first_of};
 ghost use Rattle.leaf_refusal.specs.Refusals.{number_of, given_number};
 
 use meaning::{PATHS, WORDS_PER_CONNECTION};
@@ -102,18 +101,4 @@ pub fn lengths_hold(
         && words == words_in(v)
         && bits == 32
         && arrived == n
-}
-
-// The number of a refusal, or 0 where it isn't given.
-pub fn refuse(number: u16, given: bool) -> u16
-    ensures { result ≡ refuse_of number given }
-{
-    if given { number } else { 0 }
-}
-
-// The first of two refusals that is given: in a call's order the one comes before the other.
-pub fn first(one: u16, other: u16) -> u16
-    ensures { result ≡ first_of one other }
-{
-    if one == 0 { other } else { one }
 }
