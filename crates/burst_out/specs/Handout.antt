@@ -1,6 +1,6 @@
 -- What a slot of a burst hands out. "Since a space that was given back may be taken again within the burst, each slot's
 -- departing cell is copied into its own 53 octets of departures."
-use Rattle.std.specs.Prelude.{ℕ, ◌+◌, ◌*◌, ◌/◌, ◌≤◌, ◌<◌, ◌≡◌, ◌≢◌, true, List, length, take, drop, set}
+use Rattle.std.specs.Prelude.{ℕ, ◌+◌, ◌*◌, ◌/◌, ◌<◌, ◌≡◌, ◌≢◌, true, List, length, take, drop, set}
 use Rattle.meaning.specs.declared.Answer.{Answer}
 use Rattle.meaning.specs.Numbers.{octets, cell_start, empty}
 use Rattle.meaning.specs.State.{write_cell}

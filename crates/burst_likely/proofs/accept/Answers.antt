@@ -14,18 +14,6 @@ use Rattle.burst_likely.proofs.EitherLaws.{low_most}
 use Rattle.burst_likely.proofs.AcceptLaws.{none_done, leave_shows, follow_low, still_held, leave_done}
 use Rattle.burst_likely.proofs.accept.Goals as goal
 
-pub off_accept-requires : goal.off_accept-requires
-off_accept-requires c =
-    let pre = c.requires in
-    let spotted = pre.spotted_in in
-    let acc = spotted.is_accepted_lem in
-    record { sized_with = (c.args.arrived.now, pre.ready_in.sized); outtail_value = pre.ready_in.output_fits; seats = spotted.seats; d_lt_n = (omega (arith, acc.near, spotted.of_delay), omega (arith, acc.vci_low, spotted.of_connection_lem), omega (arith, acc.vci_high, spotted.of_connection_lem)); names_by = pre.ready_in.names }
-
-pub store-requires : goal.store-requires
-store-requires c =
-    let pre = c.requires in
-    record { ready_in = pre.ready_in; spotted_in = pre.spotted_in; octets_in_bounds = pre.octets_in_bounds.0 }
-
 pub returns-in_default : goal.returns-in_default
 returns-in_default c =
     let a = c.args in

@@ -12,15 +12,15 @@ use borrow.Author.Rules.{rules}
 use Rattle.burst_likely.proofs.named.Goals as goal
 use Rattle.burst_likely.proofs.named.Goals.{else-w-ne0-via-then-w-ne0+else-check_of-arrivals, else-w-ne0-via-else-w-ne0}
 
-pub returns-in-0 : goal.returns-in-0
-returns-in-0 c =
+pub returns-in-0-clause-is : goal.returns-in-0-clause-is
+returns-in-0-clause-is c =
     let a = c.args in
-    record { is = likely_none a.w.raw a.w.kind a.arrivals.now a.size a.i c.in-0.is; reads = λ e. λ ne. let z = c.in-0.is in absurd (omega (arith, z, e)) }
+    likely_none a.w.raw a.w.kind a.arrivals.now a.size a.i c.in-0.is
 
-pub returns-in_default : goal.returns-in_default
-returns-in_default c =
+pub returns-in_default-clause-is : goal.returns-in_default-clause-is
+returns-in_default-clause-is c =
     let a = c.args in
-    record { is = likely_odd a.w.raw a.w.kind a.arrivals.now a.size a.i (λ e. omega (arith, e)) (λ e. omega (arith, e)); reads = λ e. λ ne. absurd (ne refl) }
+    likely_odd a.w.raw a.w.kind a.arrivals.now a.size a.i (λ e. omega (arith, e)) (λ e. omega (arith, e))
 
 pub returns-then-check_of-arrivals : goal.returns-then-check_of-arrivals
 returns-then-check_of-arrivals c =

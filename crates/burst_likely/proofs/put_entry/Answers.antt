@@ -1,11 +1,6 @@
 -- `burst_likely::put_entry` meets its contract: two stores, the second where the entry was empty; else its tail stays.
-use lib.ListN.{length-set}
-use native.Mathlib.Omega.{arith}
 use Rattle.burst_likely.proofs.WriteLaws.{entry_empty, entry_marked}
 use Rattle.burst_likely.proofs.put_entry.Goals as goal
-
-pub bounds-calendar-e-then-head-eq65535 : goal.bounds-calendar-e-then-head-eq65535
-bounds-calendar-e-then-head-eq65535 c = simp length-set (omega arith)
 
 pub returns-then-head-eq65535 : goal.returns-then-head-eq65535
 returns-then-head-eq65535 c = entry_empty _ _ _ _ c.if-head-eq65535.true

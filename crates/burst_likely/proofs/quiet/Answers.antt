@@ -1,6 +1,5 @@
 -- `burst_likely::quiet` meets its contract: nothing is written, or what steps 4 and 5 leave where no cell is let in.
 use mathlib.Core.Path.{subst}
-use native.Mathlib.Omega.{arith}
 use Rattle.std.specs.Prelude.{Option}
 use Rattle.meaning.specs.Lists.{entry_at}
 use Rattle.burst_way.specs.Way.{slot_record}
@@ -8,17 +7,6 @@ use Rattle.burst_depart.specs.declared.Leave.{Leave}
 use Rattle.burst_depart.specs.Leaving.{Leaves, OffHere}
 use Rattle.burst_likely.proofs.QuietLaws.{none_done}
 use Rattle.burst_likely.proofs.quiet.Goals as goal
-
-pub off_quiet-requires : goal.off_quiet-requires
-off_quiet-requires c =
-    let pre = c.requires in
-    record { sized_with = (c.args.arrived.now, pre.ready_in.sized); outtail_value = pre.ready_in.output_fits; names_by = pre.ready_in.names }
-
-pub quiet_none-requires : goal.quiet_none-requires
-quiet_none-requires c =
-    let pre = c.requires in
-    let sized = pre.ready_in.sized in
-    record { rotation_bound = (omega (arith, sized.rotation_low, sized.v_high), omega (arith, sized.words_long, sized.rotation_low), λ e. let h = pre.vci_bound e in omega (arith, h, sized.words_long)); i_in_bounds = pre.handed_to.answer }
 
 pub returns-in_default : goal.returns-in_default
 returns-in_default c =

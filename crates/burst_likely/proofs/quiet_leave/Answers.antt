@@ -8,12 +8,6 @@ use Rattle.burst_likely.proofs.EitherLaws.{low_most}
 use Rattle.burst_likely.proofs.QuietLaws.{off_low, less_waits, follow_low, leave_done}
 use Rattle.burst_likely.proofs.quiet_leave.Goals as goal
 
-pub words_fall-requires : goal.words_fall-requires
-words_fall-requires c =
-    let pre = c.requires in
-    let sized = pre.ready_in.sized in
-    (omega (arith, sized.rotation_low, sized.v_high), omega (arith, sized.words_long, sized.rotation_low), λ e. let h = pre.vci_bound e in omega (arith, h, sized.words_long))
-
 pub leave-requires : goal.leave-requires
 leave-requires c =
     let a = c.args in

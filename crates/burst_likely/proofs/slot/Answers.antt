@@ -15,20 +15,6 @@ use Rattle.burst_likely.proofs.EitherLaws.{either_is, if_some, from_whole}
 use Rattle.burst_likely.proofs.NamedLaws.{known}
 use Rattle.burst_likely.proofs.slot.Goals as goal
 
-pub turned-b-requires : goal.turned-b-requires
-turned-b-requires c =
-    let pre = c.requires in
-    let sized = pre.ready_in.sized in
-    record { n_le_most_n = (sized.n_high, omega (arith, sized.words_long, sized.rotation_low), pre.ready_in.unused_closed); v_le_most_v = (sized.v_high, sized.rotation_low) }
-
-pub named-name-requires : goal.named-name-requires
-named-name-requires c = (c.requires.octets_in_bounds.0, c.requires.ready_in.names)
-
-pub judged-j-requires : goal.judged-j-requires
-judged-j-requires c =
-    let sized = c.requires.ready_in.sized in
-    (sized.n_high, sized.v_high, sized.words_long, c.requires.octets_in_bounds.0)
-
 pub quiet-requires : goal.quiet-requires
 quiet-requires c =
     let a = c.args in

@@ -7,36 +7,6 @@ use Rattle.burst_way.specs.Way.{slot_record}
 use Rattle.burst_likely.proofs.StoreLaws.{head_read, entry_low, head_most, entry_writes}
 use Rattle.burst_likely.proofs.store.Goals as goal
 
-pub overflow_cast-w : goal.overflow_cast-w
-overflow_cast-w c =
-    let sized = c.requires.ready_in.sized in
-    omega (arith, sized.rotation_low, sized.v_high)
-
-pub put_fall-requires : goal.put_fall-requires
-put_fall-requires c =
-    let sized = c.requires.ready_in.sized in
-    λ e. omega (arith, sized.rotation_low, sized.words_long)
-
-pub put_fill-requires : goal.put_fill-requires
-put_fill-requires c =
-    let a = c.args in
-    let pre = c.requires in
-    let sized = pre.ready_in.sized in
-    let spotted = pre.spotted_in in
-    omega (arith, spotted.is_accepted_lem.vci_high, sized.words_long, c.put_fall.auto)
-
-pub put_cell-requires : goal.put_cell-requires
-put_cell-requires c =
-    let a = c.args in
-    let pre = c.requires in
-    let sized = pre.ready_in.sized in
-    let spotted = pre.spotted_in in
-    (omega (arith, spotted.seats.x_low, sized.n_high), omega (arith, spotted.seats.x_low, sized.cells_long_lem), pre.octets_in_bounds)
-
-pub overflow_cast-p : goal.overflow_cast-p
-overflow_cast-p c =
-    omega (arith, c.requires.spotted_in.seats.x_low, c.requires.ready_in.sized.n_high)
-
 pub overflow_cast-p-2 : goal.overflow_cast-p-2
 overflow_cast-p-2 c =
     let a = c.args in
@@ -49,11 +19,6 @@ overflow_cast-p-4 c =
     let pre = c.requires in
     let sized = pre.ready_in.sized in
     omega (arith, entry_low (slot_record a.w) a.j a.calendar.now a.words.now a.bits.now _ a.p pre.spotted_in sized.turn_low, sized.n_high)
-
-pub put_link-requires : goal.put_link-requires
-put_link-requires c =
-    let pre = c.requires in
-    λ e. omega (arith, pre.spotted_in.seats.x_low, pre.ready_in.sized.links_long)
 
 pub put_entry-requires : goal.put_entry-requires
 put_entry-requires c =

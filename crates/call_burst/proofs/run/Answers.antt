@@ -12,12 +12,6 @@ use Rattle.call_burst.proofs.run.Goals as goal
 pub loop-end-init : goal.loop-end-init
 loop-end-init c = record { going = refl; low = omega arith; shaped = c.requires.shaped; rest = refl }
 
-pub try_likely-far-requires : goal.try_likely-far-requires
-try_likely-far-requires c =
-    let at = c.loop-end in
-    let lent = c.requires.burst_lent in
-    record { burst_lent = record { arrivals_long = lent.arrivals_long; departures_long = omega (arith, lent.departures_long, at.auto.departures); answers_long = omega (arith, lent.answers_long, at.auto.answers) }; shaped_2 = at.invariant.shaped; begin_in_bounds = at.invariant.low }
-
 pub returns-then-i-sizes : goal.returns-then-i-sizes
 returns-then-i-sizes c =
     let at = c.loop-end in
@@ -28,21 +22,6 @@ returns-then-i-sizes c =
     ∙ slots_end a.arrivals.now a.sizes.now b (omega (arith, c.if-i-sizes.true))
     ∙ far.ensures.rest
     ∙ at.invariant.rest
-
-pub bounds-sizes-i : goal.bounds-sizes-i
-bounds-sizes-i c = let far = c.try_likely-far.ensures.far in omega (arith, far.1, c.if-i-sizes.false)
-
-pub turn-end-requires : goal.turn-end-requires
-turn-end-requires c =
-    let at = c.loop-end in
-    let lent = c.requires.burst_lent in
-    let far = c.try_likely-far.ensures.far in
-    let ne = c.if-i-sizes.false in
-    record {
-      arrival = omega (arith, lent.arrivals_long, far.1, ne);
-      departure = omega (arith, lent.departures_long, at.auto.departures, far.1, ne);
-      answer = omega (arith, lent.answers_long, at.auto.answers, far.1, ne);
-    }
 
 pub returns-then-end-ne0 : goal.returns-then-end-ne0
 returns-then-end-ne0 c =

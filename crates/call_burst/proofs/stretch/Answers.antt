@@ -1,15 +1,10 @@
 -- `call_burst::stretch` meets its contract. The invariant: the sizes that are left give, from here, what they give from where the run
 -- began.
-use mathlib.Core.Path.{◌≡◌, refl, ◌∙◌}
+use mathlib.Core.Path.{◌≡◌, ◌∙◌}
 use native.Mathlib.Omega.{arith}
 use Rattle.call_burst.specs.Burst.{cell_lent}
 use Rattle.call_burst.proofs.LikelyLaws.{before_step, next_held, next_room, next_rest, odd_held, odd_rest}
 use Rattle.call_burst.proofs.stretch.Goals as goal
-
-pub loop-i-init : goal.loop-i-init
-loop-i-init c =
-    let pre = c.requires in
-    record { held = pre.held_in; room = pre.begin_le_stop.2; rest = refl }
 
 pub slot-requires : goal.slot-requires
 slot-requires c =

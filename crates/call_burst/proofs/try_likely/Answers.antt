@@ -1,26 +1,11 @@
 -- `call_burst::try_likely` meets its contract: a record that may not be tried stays; from one that may, the runs lead on, and back to a record.
 use mathlib.Core.Path.{refl, ◌∙◌, ap}
-use native.Mathlib.Omega.{arith}
 use Rattle.meaning.specs.declared.Record.{Record}
 use Rattle.meaning.specs.State.{state_of}
 use Rattle.call_burst.specs.Burst.{stretch_of, slots}
 use Rattle.call_burst.proofs.LikelyLaws.{way_low, way_held, held_fits, last_shaped}
 use lib.ListN.{drop}
 use Rattle.call_burst.proofs.try_likely.Goals as goal
-
-pub returns-then-not-may_try : goal.returns-then-not-may_try
-returns-then-not-may_try c =
-    record {
-      far = (omega arith, c.requires.begin_in_bounds, refl);
-      shaped = c.requires.shaped_2;
-      rest = refl;
-    }
-
-pub way_of-from-requires : goal.way_of-from-requires
-way_of-from-requires c =
-    let z = c.requires.shaped_2 in
-    let t = c.may_try.ensures c.if-not-may_try.false in
-    (c.from.ensures, z.n_high, z.v_high, t.turn_low, t.rotation_low)
 
 pub advance-f-requires : goal.advance-f-requires
 advance-f-requires c =

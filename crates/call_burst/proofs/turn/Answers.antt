@@ -37,9 +37,6 @@ show-requires c =
     let e = c.slot.ensures ∙ ap (slot s) (lent_part a.arrivals.now a.i a.size _ c.from-2.ensures) in
     record { octets_in_bounds = omega (arith, c.requires.departure); shows = slot_shows s _ _ (answered a.arrivals.now a.size s a.departures.now a.answers.now a.i f _ e) c.if-number-ne0.false (search rules) }
 
-pub put_answer-requires : goal.put_answer-requires
-put_answer-requires c = omega (arith, c.requires.answer)
-
 pub returns : goal.returns
 returns c =
     let a = c.args in
