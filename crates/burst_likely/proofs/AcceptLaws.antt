@@ -40,13 +40,13 @@ use Rattle.burst_arrive.specs.Arriving.{seat_at}
 use Rattle.burst_arrive.proofs.SpotLaws.{entry_below}
 use Rattle.burst_depart.specs.declared.Leave.{Leave}
 use Rattle.burst_depart.specs.Leaving.{Goes, OffThen, off_at}
-use Rattle.std.specs.Prelude.{IfSome}
+use Rattle.std.specs.Prelude.{Option, Some, IfSome}
 use Rattle.burst_likely.specs.Served.{Ready, Spotted, Done, followed, words_filled}
 use Rattle.burst_likely.proofs.ClearLaws.{clear_length, clear_free, clear_fits}
 use Rattle.burst_likely.proofs.StoreLaws.{stored_long}
 use Rattle.burst_likely.proofs.EitherLaws.{allowed_long, followed_joined, followed_none, follows_low, ends_with}
 
-module _ (w : Way) (b : Fall) (j : Judged) (p : Spot) (cell cells links calendar words bits arrived : List ℕ) (ready : Ready w cells links calendar words bits arrived)
+module _ (w : Way) (b : Option Fall) (j : Judged) (p : Spot) (cell cells links calendar words bits arrived : List ℕ) (ready : Ready w cells links calendar words bits arrived)
     (spot : Spotted (slot_record w) j calendar words bits cell p) where
   abbrev k : Record
   k = slot_record w
@@ -143,7 +143,7 @@ module _ (w : Way) (b : Fall) (j : Judged) (p : Spot) (cell cells links calendar
     -- ---- o departs
     module _ (o : Leave) (goes : Goes k (taken bits p.x) entry o (OffThen k p cells links words)) where
       -- the departing cell's connection is the one that step 3 found
-      stored : (joins : Bool) (e : Ends) (x : Off) → OffThen k p cells links words joins e x → OffStored k j a cells links words joins e x
+      stored : (joins : Bool) (e : Ends) (x : Off) → OffThen k p cells links words joins e x → OffStored k j a cells links words joins e (Some x)
       stored joins e x is = rw (← spot.of_connection_lem) is
 
       abbrev links₄ : List ℕ
@@ -159,7 +159,7 @@ module _ (w : Way) (b : Fall) (j : Judged) (p : Spot) (cell cells links calendar
       marked_goes m =
           let g = goes.marked m in
           seated_marked k b j a cell cells links calendar words bits arrived entry.head entry.tail refl refl entry_fits ready.output_fits g.0
-          ∙ accept_marked_goes k b j a cell cells links calendar words bits arrived ready.sized spot.is_accepted_lem is_seated entry (off_at o) (stored _ _ _ g.2) refl goes.not_free
+          ∙ accept_marked_goes k b j a cell cells links calendar words bits arrived ready.sized spot.is_accepted_lem is_seated entry (Some (off_at o)) (stored _ _ _ g.2) (off_at o) refl goes.not_free
           ∙ ap (λ (l : List ℕ). next (left_by work l (write_entry calendar₃ w.turn empty_list) (unmarked bits₃ w.turn) (off_at o)))
           (sym (followed_joined k entry links₃ o.follows g.1))
 
@@ -168,7 +168,7 @@ module _ (w : Way) (b : Fall) (j : Judged) (p : Spot) (cell cells links calendar
           let g = goes.unmarked m in
           seated_output k b j a cell cells links calendar words bits arrived entry.head entry.tail refl refl entry_fits ready.output_fits g.0 g.1
           ∙ accept_output_goes k b j a cell cells links calendar words bits arrived ready.sized spot.is_accepted_lem is_seated
-          (fit_head w.n (output_ends k) ready.output_fits g.1) (off_at o) (stored _ _ _ g.3) refl goes.not_free
+          (fit_head w.n (output_ends k) ready.output_fits g.1) (Some (off_at o)) (stored _ _ _ g.3) (off_at o) refl goes.not_free
           ∙ ap (λ (l : List ℕ). next (left_by work l calendar₃ bits₃ (off_at o)))
           (sym (followed_none k entry links₃ o.follows g.2))
 
@@ -187,9 +187,9 @@ module _ (w : Way) (b : Fall) (j : Judged) (p : Spot) (cell cells links calendar
         where
           go : (m : Bool) → o.marked ≡ m → (o.vci < connections_in w.v) × (1 ≤ get_or words₃ (waiting_place o.vci) 0)
           go true m =
-              accept_shows k b j a cell cells links calendar words bits arrived ready.sized spot.is_accepted_lem is_seated (not (w.outhead =? empty)) entry (off_at o) (stored _ _ _ (goes.marked m).2) refl
+              accept_shows k b j a cell cells links calendar words bits arrived ready.sized spot.is_accepted_lem is_seated (not (w.outhead =? empty)) entry (off_at o) (stored _ _ _ (goes.marked m).2)
           go false m =
-              accept_shows k b j a cell cells links calendar words bits arrived ready.sized spot.is_accepted_lem is_seated false (ends_of 0 w.outtail) (off_at o) (stored _ _ _ (goes.unmarked m).3) refl
+              accept_shows k b j a cell cells links calendar words bits arrived ready.sized spot.is_accepted_lem is_seated false (ends_of 0 w.outtail) (off_at o) (stored _ _ _ (goes.unmarked m).3)
 
       pub follow_low : IfSome o.follows (λ head. (w.outtail < w.n) × (head < w.n))
       follow_low = go o.marked refl

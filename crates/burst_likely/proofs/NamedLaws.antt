@@ -9,14 +9,16 @@ use native.Mathlib.Omega.{arith}
 use native.Mathlib.Nat.{add-zero}
 use borrow.Author.Tests.{eq-eqb, ne_eqb, eqb-true}
 use lib.ListN.{length, get_or, take, drop}
+use Rattle.std.specs.Prelude.{Some, None}
+use Rattle.std.proofs.lemmas.Option.{none-some, same_Some}
 use Rattle.base_hec.specs.Check.{check_of, head_of}
 use Rattle.meaning.specs.Plain.{when◌then◌else◌, ◌=?◌}
-use Rattle.meaning.specs.Numbers.{most_v, connections_in, excess, lets_in}
+use Rattle.meaning.specs.Numbers.{most_v, connections_in, nothing, excess, lets_in}
 use Rattle.meaning.specs.Header.{header_at, clp_in}
 use Rattle.leaf_header.specs.Name.{no_name, name_at, word_at, Reads}
 use Rattle.leaf_header.proofs.NameLaws.{number_no_name}
 use Rattle.slot_arrive.specs.declared.Judged.{Judged}
-use Rattle.slot_arrive.specs.Arrival.{judged_name, judged_of}
+use Rattle.slot_arrive.specs.Arrival.{judged_as, judged_name, judged_of}
 use Rattle.slot_arrive.proofs.JudgedLaws.{judged_cell}
 use Rattle.slot_plan.specs.Facts.{Accepted}
 use Rattle.slot_plan.proofs.Found.{no, judged_shows}
@@ -26,7 +28,7 @@ use Rattle.burst_arrive.proofs.ArriveLaws.{octet, name_is, reads_is, cell_long}
 use Rattle.burst_likely.specs.Served.{likely_name, Clean}
 
 -- a name that no header has is never in range
-judged_unread : (N z t : ℕ) (words : List ℕ) (clp : ℕ) → z ≤ most_v → (judged_name N z t words no_name clp).ok ≡ false
+judged_unread : (N z t : ℕ) (words : List ℕ) (clp : ℕ) → z ≤ most_v → judged_name N z t words no_name clp ≡ None
 unfolding judged_name
 judged_unread N z t words clp few = rw (number_no_name z few)
 
@@ -115,9 +117,9 @@ module _ (raw kind : ℕ) (arrivals : List ℕ) (size i : ℕ) where
 -- the cell as it was judged by its name
 module _ (N z t raw kind : ℕ) (words arrivals : List ℕ) (i : ℕ) (inside : 53 * i + 53 ≤ length arrivals) (few : z ≤ most_v) (size name : ℕ)
     (is : name ≡ likely_name raw kind arrivals size i) (reads : size ≡ 53 → name ≢ no_name → Reads kind (header_at kind arrivals (53 * i)) name) (j : Judged)
-    (judged : j ≡ judged_name N z t words name (clp_in (take 53 (drop (53 * i) arrivals)))) (ok : j.ok ≡ true) where
+    (judged : Some j ≡ judged_name N z t words name (clp_in (take 53 (drop (53 * i) arrivals)))) where
   some : name ≢ no_name
-  some e = no (sym (ap (λ (y : Judged). y.ok) judged ∙ ap (λ (x : ℕ). (judged_name N z t words x (clp_in (take 53 (drop (53 * i) arrivals)))).ok) e ∙ judged_unread N z t words _ few) ∙ ok)
+  some e = none-some j (sym (judged ∙ ap (λ (x : ℕ). judged_name N z t words x (clp_in (take 53 (drop (53 * i) arrivals)))) e ∙ judged_unread N z t words _ few))
 
   taken : Takes raw kind arrivals i inside size name
   taken = takes raw kind arrivals i inside size name is some
@@ -128,10 +130,10 @@ module _ (N z t raw kind : ℕ) (words arrivals : List ℕ) (i : ℕ) (inside : 
   pub cell_clean : (raw ≡ 0) ⊎ ((size ≡ 0) ⊎ Clean (take size (drop (53 * i) arrivals)))
   cell_clean = taken.clean
 
-  pub cell_judged : j ≡ judged_of N z kind t words (take size (drop (53 * i) arrivals))
+  pub cell_judged : Some j ≡ judged_of N z kind t words (take size (drop (53 * i) arrivals))
   cell_judged = go cell_fits
     where
-      go : (size ≡ 0) ⊎ (size ≡ 53) → j ≡ judged_of N z kind t words (take size (drop (53 * i) arrivals))
+      go : (size ≡ 0) ⊎ (size ≡ 53) → Some j ≡ judged_of N z kind t words (take size (drop (53 * i) arrivals))
       go (inl e) = judged ∙ rw (e, taken.empty e) (judged_nothing N z t words _ kind)
       go (inr e) =
           judged
@@ -145,45 +147,42 @@ module _ (N z t raw kind : ℕ) (words arrivals : List ℕ) (i : ℕ) (inside : 
   let_in_whole v = go cell_fits
     where
       go : (size ≡ 0) ⊎ (size ≡ 53) → size ≡ 53
-      go (inl e) = no (sym (ap (λ (y : Judged). lets_in y.verdict) (judged ∙ ap (λ (x : ℕ). judged_name N z t words x (clp_in (take 53 (drop (53 * i) arrivals)))) (taken.empty e))) ∙ v)
+      go (inl e) =
+          let is = same_Some j (judged_as nothing 0 0 0 0 0) (judged ∙ ap (λ (x : ℕ). judged_name N z t words x (clp_in (take 53 (drop (53 * i) arrivals)))) (taken.empty e)) in
+          no (sym (ap (λ (y : Judged). lets_in y.verdict) is) ∙ v)
       go (inr e) = e
 
 -- what is known of slot i's cell once its words are in range; and of one that is let in
 pub record Known (w : Way) (words arrivals : List ℕ) (i size : ℕ) (j : Judged) : Type 0 where
   pub fits : (size ≡ 0) ⊎ (size ≡ 53)
   pub clean : (w.raw ≡ 0) ⊎ ((size ≡ 0) ⊎ Clean (take size (drop (53 * i) arrivals)))
-  pub judged : j ≡ judged_of w.n w.v w.kind w.t words (take size (drop (53 * i) arrivals))
+  pub judged : Some j ≡ judged_of w.n w.v w.kind w.t words (take size (drop (53 * i) arrivals))
   pub excess_low : j.verdict =? excess ≡ true → j.vci < connections_in w.v
   pub whole : lets_in j.verdict ≡ true → size ≡ 53
-  pub judged_whole : lets_in j.verdict ≡ true → j ≡ judged_of w.n w.v w.kind w.t words (take 53 (drop (53 * i) arrivals))
+  pub judged_whole : lets_in j.verdict ≡ true → Some j ≡ judged_of w.n w.v w.kind w.t words (take 53 (drop (53 * i) arrivals))
   pub accepted : lets_in j.verdict ≡ true → Accepted (slot_record w) j (take 53 (drop (53 * i) arrivals)) words
 
 pub known : (w : Way) (words arrivals : List ℕ) (i size name : ℕ) (j : Judged) → 53 * i + 53 ≤ length arrivals → w.v ≤ most_v
     → name ≡ likely_name w.raw w.kind arrivals size i
     → (size ≡ 53 → name ≢ no_name → Reads w.kind (header_at w.kind arrivals (53 * i)) name)
-    → j ≡ judged_name w.n w.v w.t words name (clp_in (take 53 (drop (53 * i) arrivals)))
-    → j.ok ≡ true
+    → Some j ≡ judged_name w.n w.v w.t words name (clp_in (take 53 (drop (53 * i) arrivals)))
     → Known w words arrivals i size j
-known w words arrivals i size name j inside few is reads by_name ok =
-    record { fits = cell_fits w.n w.v w.t w.raw w.kind words arrivals i inside few size name is reads j by_name ok; clean = cell_clean w.n w.v w.t w.raw w.kind words arrivals i inside few size name is reads j by_name ok; judged = own; excess_low = excess_low; whole = whole; judged_whole = own_whole; accepted = accepted }
+known w words arrivals i size name j inside few is reads by_name =
+    record { fits = cell_fits w.n w.v w.t w.raw w.kind words arrivals i inside few size name is reads j by_name; clean = cell_clean w.n w.v w.t w.raw w.kind words arrivals i inside few size name is reads j by_name; judged = own; excess_low = excess_low; whole = whole; judged_whole = own_whole; accepted = accepted }
   where
-    own : j ≡ judged_of w.n w.v w.kind w.t words (take size (drop (53 * i) arrivals))
-    own = cell_judged w.n w.v w.t w.raw w.kind words arrivals i inside few size name is reads j by_name ok
+    own : Some j ≡ judged_of w.n w.v w.kind w.t words (take size (drop (53 * i) arrivals))
+    own = cell_judged w.n w.v w.t w.raw w.kind words arrivals i inside few size name is reads j by_name
 
     excess_low : j.verdict =? excess ≡ true → j.vci < connections_in w.v
     excess_low x =
-        rw (ap (λ (y : Judged). y.vci) own)
-        ((judged_shows (slot_record w) (take size (drop (53 * i) arrivals)) words).excess_is (ap (λ (y : Judged). y.ok) (sym own) ∙ ok)
-        (ap (λ (y : Judged). y.verdict) (sym own) ∙ eqb-true _ _ x))
+        (judged_shows (slot_record w) (take size (drop (53 * i) arrivals)) words).excess_is j (sym own) (eqb-true _ _ x)
 
     whole : lets_in j.verdict ≡ true → size ≡ 53
-    whole v = let_in_whole w.n w.v w.t w.raw w.kind words arrivals i inside few size name is reads j by_name ok v
+    whole v = let_in_whole w.n w.v w.t w.raw w.kind words arrivals i inside few size name is reads j by_name v
 
-    own_whole : lets_in j.verdict ≡ true → j ≡ judged_of w.n w.v w.kind w.t words (take 53 (drop (53 * i) arrivals))
+    own_whole : lets_in j.verdict ≡ true → Some j ≡ judged_of w.n w.v w.kind w.t words (take 53 (drop (53 * i) arrivals))
     own_whole v = own ∙ ap (λ (n : ℕ). judged_of w.n w.v w.kind w.t words (take n (drop (53 * i) arrivals))) (whole v)
 
     accepted : lets_in j.verdict ≡ true → Accepted (slot_record w) j (take 53 (drop (53 * i) arrivals)) words
     accepted v =
-        rw (own_whole v)
-        ((judged_shows (slot_record w) (take 53 (drop (53 * i) arrivals)) words).accepted_is (λ ne. cell_long arrivals i inside)
-        (ap (λ (y : Judged). y.ok) (sym (own_whole v)) ∙ ok) (ap (λ (y : Judged). lets_in y.verdict) (sym (own_whole v)) ∙ v))
+        (judged_shows (slot_record w) (take 53 (drop (53 * i) arrivals)) words).accepted_is (λ ne. cell_long arrivals i inside) j (sym (own_whole v)) v

@@ -22,7 +22,6 @@ use Rattle.meaning.proofs.BitsLaws.{given_fits}
 use Rattle.slot_arrive.specs.declared.Fall.{Fall}
 use Rattle.slot_arrive.specs.declared.Judged.{Judged}
 use Rattle.slot_arrive.specs.Arrival.{one_less}
-use Rattle.mem_lists.specs.declared.Off.{Off}
 use Rattle.mem_lists.specs.Spaces.{ends_of, linked, off_of}
 use Rattle.slot_plan.specs.Plan.{with_ends, output_ends, rotated, quiet_work, may_be_freed, joined_links, joined_head}
 use Rattle.slot_plan.proofs.Cases.{marked, output, none, quiet_kept}
@@ -35,7 +34,7 @@ use Rattle.burst_way.specs.declared.Way.{Way}
 use Rattle.burst_way.specs.Way.{way_with, slot_record}
 use Rattle.burst_depart.specs.declared.Leave.{Leave}
 use Rattle.burst_depart.specs.Leaving.{Goes, off_at, OffHere}
-use Rattle.std.specs.Prelude.{IfSome}
+use Rattle.std.specs.Prelude.{Option, Some, IfSome}
 use Rattle.burst_likely.specs.Served.{Ready, HandedTo, Done, went_way, followed, words_fallen}
 use Rattle.burst_likely.proofs.ClearLaws.{clear_length, clear_free, clear_fits}
 use Rattle.burst_likely.proofs.EitherLaws.{allowed_long, followed_joined, followed_none, follows_low}
@@ -44,14 +43,7 @@ use Rattle.burst_likely.proofs.EitherLaws.{allowed_long, followed_joined, follow
 pub below_long : (N long x : ℕ) → long ≡ 53 * N → x < N → x < long / 53
 below_long N long x e low = omega (arith, e, low)
 
--- the departing connection
-pub off_facts : (N z kind : ℕ) (cells links words : List ℕ) (x tail : ℕ) (o : Off) → o ≡ off_of N z kind cells links words x tail
-    → o.ok ≡ true
-    → (o.vci < connections_in z) × (1 ≤ get_or words (waiting_place o.vci) 0)
-off_facts N z kind cells links words x tail o is ok =
-    rw is (off_shows N z kind cells links words x tail (ap (λ (y : Off). y.ok) (sym is) ∙ ok))
-
-module _ (w : Way) (b : Fall) (j : Judged) (cells links calendar words bits arrived departures answers : List ℕ) (i : ℕ)
+module _ (w : Way) (b : Option Fall) (j : Judged) (cells links calendar words bits arrived departures answers : List ℕ) (i : ℕ)
     (ready : Ready w cells links calendar words bits arrived) (lent : HandedTo departures answers i) where
   abbrev k : Record
   k = slot_record w
@@ -109,7 +101,7 @@ module _ (w : Way) (b : Fall) (j : Judged) (cells links calendar words bits arri
     linking = followed o.follows w.outtail links
 
     unmarked_off : OffHere k cells links words false (ends_of 0 k.outtail) (off_at o) → k.outhead ≢ empty
-        → off_at o ≡ off_of k.n k.v k.kind cells links words k.outhead k.outtail
+        → Some (off_at o) ≡ off_of k.n k.v k.kind cells links words k.outhead k.outtail
     unfolding linked joined_head
     unmarked_off is ne =
         is ∙ ap (λ (x : ℕ). off_of k.n k.v k.kind cells links words x k.outtail) (simp (ne_eqb k.outhead empty ne))
@@ -119,8 +111,8 @@ module _ (w : Way) (b : Fall) (j : Judged) (cells links calendar words bits arri
     off_low = go o.marked refl
       where
         go : (m : Bool) → o.marked ≡ m → (o.vci < connections_in w.v) × (1 ≤ get_or words (waiting_place o.vci) 0)
-        go true e = off_facts k.n k.v k.kind cells _ words _ _ (off_at o) (goes.marked e).2 refl
-        go false e = off_facts k.n k.v k.kind cells _ words _ _ (off_at o) (goes.unmarked e).3 refl
+        go true e = off_shows k.n k.v k.kind cells _ words _ _ (off_at o) (sym (goes.marked e).2)
+        go false e = off_shows k.n k.v k.kind cells _ words _ _ (off_at o) (sym (goes.unmarked e).3)
 
     pub less_waits : 1 ≤ get_or falling (waiting_place o.vci) 0
     less_waits = rw ((quiet_kept k b j cells links calendar words bits arrived).waiting o.vci) off_low.1
@@ -155,7 +147,7 @@ module _ (w : Way) (b : Fall) (j : Judged) (cells links calendar words bits arri
     unfolding quiet_work joined_links
     marked_is ne is links₁ e =
         marked work entry entry_is fits ready.output_fits ne
-        ∙ marked_goes k b j cells links calendar words bits arrived entry.head entry.tail (off_at o) is refl may_free
+        ∙ marked_goes k b j cells links calendar words bits arrived entry.head entry.tail (Some (off_at o)) is (off_at o) refl may_free
         ∙ ap next
         (sym (quiet_left_lem k b j (off_at o) cells links calendar words bits arrived leaver _ links₁ (write_entry calendar k.turn empty_list) falling _ _ _
         (refl, refl)
@@ -170,7 +162,7 @@ module _ (w : Way) (b : Fall) (j : Judged) (cells links calendar words bits arri
     unfolding quiet_work
     output_is q ne is links₁ e =
         output work entry entry_is fits ready.output_fits q ne
-        ∙ output_goes k b j cells links calendar words bits arrived (off_at o) (unmarked_off is ne) refl may_free
+        ∙ output_goes k b j cells links calendar words bits arrived (Some (off_at o)) (unmarked_off is ne) (off_at o) refl may_free
         ∙ ap next
         (sym (quiet_left_lem k b j (off_at o) cells links calendar words bits arrived leaver _ links₁ calendar falling _ _ _
         (refl, refl)

@@ -7,6 +7,8 @@ use mathlib.Core.List.{List}
 use native.Mathlib.Omega.{arith}
 use native.Mathlib.Decide.{ℕ_discrete}
 use lib.ListN.{length, get_or}
+use Rattle.std.specs.Prelude.{Some, None}
+use Rattle.std.proofs.lemmas.Option.{none-some, same_Some}
 use Rattle.meaning.specs.declared.Record.{Record}
 use Rattle.meaning.specs.Plain.{when◌then◌else◌, ◌=?◌}
 use Rattle.meaning.specs.Numbers.{empty}
@@ -17,9 +19,8 @@ use Rattle.meaning.proofs.ListsLaws.{fit_head}
 use Rattle.meaning.proofs.CellsLaws.{cell_length}
 use Rattle.slot_arrive.specs.declared.Judged.{Judged}
 use Rattle.mem_lists.specs.declared.Seat.{Seat}
-use Rattle.mem_lists.specs.Spaces.{ends_of, seat_as, no_seat, seat_at, entry_of, seat_of}
+use Rattle.mem_lists.specs.Spaces.{ends_of, seat_as, seat_at, entry_of, seat_of}
 use Rattle.slot_plan.specs.Plan.{seat_ends}
-use Rattle.slot_plan.proofs.Found.{no as never}
 use Rattle.burst_arrive.specs.declared.Spot.{Spot}
 use Rattle.burst_arrive.specs.Arriving.{seat_at as at_place}
 use Rattle.burst_arrive.proofs.SpotLaws.{entry_below}
@@ -35,26 +36,20 @@ module _ (N : ℕ) (calendar : List ℕ) (T D x : ℕ) where
   abbrev e : ℕ
   e = entry_of N T D
 
-  entry_reads : (seat_of N calendar T D x).ok ≡ true
-      → ((seat_of N calendar T D x).head ≡ get_or calendar (2 * (seat_of N calendar T D x).e) 0)
-      × ((seat_of N calendar T D x).tail ≡ get_or calendar (2 * (seat_of N calendar T D x).e + 1) 0)
-  unfolding seat_of seat_at entry_at
-  entry_reads = go (ends_fit N (entry_at calendar e))
-    where
-      go : (f : Bool)
-          → (let s = when f then seat_as true x e (entry_at calendar e) else no_seat in
-          s.ok ≡ true → (s.head ≡ get_or calendar (2 * s.e) 0) × (s.tail ≡ get_or calendar (2 * s.e + 1) 0))
-      go true = λ ok. (refl, refl)
-      go false = λ ok. never ok
-
-  pub seat_reads : (a : Seat) → a ≡ seat_of N calendar T D x → a.ok ≡ true
+  pub seat_reads : (a : Seat) → Some a ≡ seat_of N calendar T D x
       → (a.head ≡ get_or calendar (2 * a.e) 0) × (a.tail ≡ get_or calendar (2 * a.e + 1) 0)
-  seat_reads a is ok = rw is (entry_reads (ap (λ (s : Seat). s.ok) (sym is) ∙ ok))
+  unfolding seat_of seat_at entry_at
+  seat_reads a = go (ends_fit N (entry_at calendar e))
+    where
+      go : (f : Bool) → Some a ≡ (when f then Some (seat_as x e (entry_at calendar e)) else None)
+          → (a.head ≡ get_or calendar (2 * a.e) 0) × (a.tail ≡ get_or calendar (2 * a.e + 1) 0)
+      go true is = rw (same_Some _ _ is) (refl, refl)
+      go false is = absurd (none-some a (sym is))
 
 -- ---- the likely way's own
 module _ (k : Record) (j : Judged) (calendar words bits cell : List ℕ) (p : Spot) (spotted : Spotted k j calendar words bits cell p) where
   reads : (p.head ≡ get_or calendar (2 * p.e) 0) × (p.tail ≡ get_or calendar (2 * p.e + 1) 0)
-  reads = seat_reads k.n calendar k.turn p.d (lowest_free bits) (at_place p) spotted.seats.seat refl
+  reads = seat_reads k.n calendar k.turn p.d (lowest_free bits) (at_place p) spotted.seats.seat
 
   pub head_read : p.head ≡ get_or calendar (2 * p.e) 0
   head_read = reads.0

@@ -124,11 +124,11 @@ from_here w cell cells links calendar words bits arrived =
     from2 (slot_record w) cell cells.entry.now links.entry.now calendar.entry.now words.entry.now bits.entry.now arrived.entry.now
 
 -- steps 4 and 5 once b and j were found: where no cell is let in, and where one is, with its seat
-abbrev pub quiet_from : Way → Fall → Judged → Lent → LentMut → LentMut → LentMut → LentMut → LentMut → Out Work
+abbrev pub quiet_from : Way → Option Fall → Judged → Lent → LentMut → LentMut → LentMut → LentMut → LentMut → Out Work
 quiet_from w b j cells links calendar words bits arrived =
     last_steps (quiet_of (state_of (slot_record w) cells.entry.now links.entry.now calendar.entry.now words.entry.now bits.entry.now arrived.entry.now) b j)
 
-abbrev pub accept_from : Way → Fall → Judged → Spot → List ℕ → LentMut → LentMut → LentMut → LentMut → LentMut → LentMut → Out Work
+abbrev pub accept_from : Way → Option Fall → Judged → Spot → List ℕ → LentMut → LentMut → LentMut → LentMut → LentMut → LentMut → Out Work
 accept_from w b j p cell cells links calendar words bits arrived =
     last_steps (accept_of (state_of (slot_record w) cells.entry.now links.entry.now calendar.entry.now words.entry.now bits.entry.now arrived.entry.now) b j (seat_at p) cell)
 
@@ -153,8 +153,8 @@ QuietServedOrLeft w target found cells links calendar words bits arrived departu
     cells.exit.now links.exit.now calendar.exit.now words.exit.now bits.exit.now arrived.exit.now departures.exit.now answers.exit.now i
 
 -- the words once steps 2 and 3 have written what they found: where no cell is let in, and where one is
-abbrev pub words_fallen : Way → Fall → Judged → List ℕ → List ℕ
+abbrev pub words_fallen : Way → Option Fall → Judged → List ℕ → List ℕ
 words_fallen w b j words = fallen (j.verdict =? excess) j.vci j.s j.second w.t (rotated (slot_record w) b words)
 
-abbrev pub words_filled : Way → Fall → Judged → List ℕ → List ℕ
+abbrev pub words_filled : Way → Option Fall → Judged → List ℕ → List ℕ
 words_filled w b j words = filled j.vci j.s j.second w.t j.waiting (rotated (slot_record w) b words)

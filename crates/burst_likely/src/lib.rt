@@ -14,7 +14,7 @@ ghost use Rattle.meaning.specs.Work.{answer_of};
 ghost use Rattle.leaf_header.specs.Name.{no_name, Reads};
 ghost use Rattle.slot_arrive.specs.Arrival.{one_less, judged_name};
 ghost use Rattle.mem_lists.specs.Spaces.{ends_of, linked};
-ghost use Rattle.slot_plan.specs.Plan.{seat_ends};
+ghost use Rattle.slot_plan.specs.Plan.{seat_ends, rotated};
 ghost use Rattle.burst_out.specs.Handout.{write_answer};
 ghost use Rattle.burst_way.specs.Way.{slot_record, NamesBy};
 ghost use Rattle.burst_arrive.specs.Arriving.{seat_at};
@@ -60,17 +60,30 @@ fn put_cell(verdict: u16, cells: &mut [u8], x: usize, arrivals: &[u8], i: usize)
     slot_store::put_sent(verdict, cells, x as u16, &arrivals[from..to]);
 }
 
+// Step 2 in the words. Laid in place in both that call it.
+#[inline(always)]
+fn words_turned(w: Way, b: Option<Fall>, words: &mut [u32])
+    requires { (w.rotation < connections_in most_v) × (HasConnection w.rotation words.old) }
+    ensures { words.new ≡ rotated (slot_record w) b words.old }
+{
+    if let Some(f) = b {
+        slot_arrive::put_fall(words, w.rotation as u16, f.s, f.second, w.t);
+    }
+}
+
 // Steps 2 and 3 in the words where no cell is let in.
-fn words_fall(w: Way, b: Fall, j: Judged, words: &mut [u32])
+fn words_fall(w: Way, b: Option<Fall>, j: Judged, words: &mut [u32])
     requires { (w.rotation < connections_in most_v) × (HasConnection w.rotation words.old) × (j.verdict =? excess ≡ true → HasConnection j.vci words.old) }
     ensures { words.new ≡ words_fallen w b j words.old }
 {
-    slot_arrive::put_fall(words, b.on, w.rotation as u16, b.s, b.second, w.t);
-    slot_arrive::put_fall(words, j.verdict == 2, j.vci, j.s, j.second, w.t);
+    words_turned(w, b, words);
+    if j.verdict == 2 {
+        slot_arrive::put_fall(words, j.vci, j.s, j.second, w.t);
+    }
 }
 
 // No cell is let in, and nothing departs.
-fn quiet_none(w: Way, b: Fall, j: Judged, words: &mut [u32], answers: &mut [u16], i: usize)
+fn quiet_none(w: Way, b: Option<Fall>, j: Judged, words: &mut [u32], answers: &mut [u16], i: usize)
     requires rotation_bound { (w.rotation < connections_in most_v) × (HasConnection w.rotation words.old) × (j.verdict =? excess ≡ true → HasConnection j.vci words.old) }
     requires i_in_bounds { 6 * i + 6 ≤ length answers.old }
     ensures words { words.new ≡ words_fallen w b j words.old }
@@ -140,7 +153,7 @@ fn leave(
 // No cell is let in, and o departs: all writes.
 fn quiet_leave(
     w: Way,
-    b: Fall,
+    b: Option<Fall>,
     j: Judged,
     o: Leave,
     cells: &[u8],
@@ -174,7 +187,7 @@ fn quiet_leave(
 // No cell is let in: none arrived, or an idle one, one of no open connection, or one that is excess.
 fn quiet(
     w: Way,
-    b: Fall,
+    b: Option<Fall>,
     j: Judged,
     cells: &[u8],
     links: &mut [u16],
@@ -209,7 +222,7 @@ fn quiet(
 // known whether something departs: called in both cases it would not be laid in place.
 fn store(
     w: Way,
-    b: Fall,
+    b: Option<Fall>,
     j: Judged,
     p: Spot,
     cells: &mut [u8],
@@ -231,7 +244,7 @@ fn store(
     ensures bits { bits.new ≡ marked (taken bits.old p.x) p.e }
     ensures arrived { arrived.new ≡ set arrived.old p.x w.t }
 {
-    slot_arrive::put_fall(words, b.on, w.rotation as u16, b.s, b.second, w.t);
+    words_turned(w, b, words);
     slot_arrive::put_fill(words, j.vci, j.s, j.second, w.t, j.waiting);
     put_cell(j.verdict, cells, p.x, arrivals, i);
     arrived[p.x] = w.t;
@@ -243,7 +256,7 @@ fn store(
 // A cell is let in: accepted, or tagged.
 fn accept(
     w: Way,
-    b: Fall,
+    b: Option<Fall>,
     j: Judged,
     p: Spot,
     cells: &mut [u8],
@@ -317,7 +330,7 @@ fn named(w: Way, arrivals: &[u8], size: u8, i: usize) -> u32
 }
 
 // Step 3 of slot i's cell, by its name.
-fn judged(w: Way, words: &[u32], name: u32, arrivals: &[u8], i: usize) -> Judged
+fn judged(w: Way, words: &[u32], name: u32, arrivals: &[u8], i: usize) -> Option<Judged>
     requires { (w.n ≤ most_n) × (w.v ≤ most_v) × (length words.now ≡ words_in w.v) × (cell_start i + octets ≤ length arrivals.now) }
     ensures { result ≡ judged_name w.n w.v w.t words.now name (clp_in (cell_before arrivals i)) }
 {
@@ -347,15 +360,9 @@ pub fn slot(
     ensures clean { IfSome result (λ g. CleanIn w arrivals.now size i) }
     ensures is { ServedOrLeft w (from_here w (take size (drop (cell_start i) arrivals.now)) cells links calendar words bits arrived) result cells links calendar words bits arrived departures answers i }
 {
-    let b = burst_rotate::turned(w, words);
-    if !b.ok {
-        return None;
-    }
+    let b = burst_rotate::turned(w, words)?;
     let name = named(w, arrivals, size, i);
-    let j = judged(w, words, name, arrivals, i);
-    if !j.ok {
-        return None;
-    }
+    let j = judged(w, words, name, arrivals, i)?;
     if !meaning::lets_in(j.verdict) {
         return quiet(
             w, b, j, cells, links, calendar, words, bits, arrived, departures, answers, i,

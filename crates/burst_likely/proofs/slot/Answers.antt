@@ -4,12 +4,10 @@ use Prim.Native.Nat.{ℕ, ◌*◌}
 use mathlib.Core.Path.{refl, sym, ◌∙◌, ap}
 use native.Mathlib.Omega.{arith}
 use lib.ListN.{take, drop}
-use borrow.Author.Tests.{not-false}
 use Rattle.meaning.specs.Bits.{lowest_free}
 use Rattle.slot_plan.specs.Plan.{seat_now}
 use Rattle.slot_plan.proofs.Steps.{arriving_accepted, arriving_quiet, now_goes}
 use Rattle.burst_way.specs.Way.{slot_record}
-use Rattle.burst_arrive.specs.declared.Spot.{Spot}
 use Rattle.burst_arrive.proofs.SpotLaws.{spotted, spot_shows}
 use Rattle.burst_likely.proofs.EitherLaws.{either_is, if_some, from_whole}
 use Rattle.burst_likely.proofs.NamedLaws.{known}
@@ -19,7 +17,7 @@ pub quiet-requires : goal.quiet-requires
 quiet-requires c =
     let a = c.args in
     let pre = c.requires in
-    let cell = known a.w a.words.now a.arrivals.now a.i a.size _ _ pre.octets_in_bounds.0 pre.ready_in.sized.v_high c.named-name.ensures.is c.named-name.ensures.reads c.judged-j.ensures (not-false _ c.if-not-j.false) in
+    let cell = known a.w a.words.now a.arrivals.now a.i a.size _ _ pre.octets_in_bounds.0 pre.ready_in.sized.v_high c.named-name.ensures.is c.named-name.ensures.reads c.in_ok-j.ensures in
     record { ready_in = pre.ready_in; vci_bound = cell.excess_low; handed_to = pre.octets_in_bounds.1 }
 
 pub returns-then-not-lets_in : goal.returns-then-not-lets_in
@@ -27,13 +25,12 @@ returns-then-not-lets_in c =
     let a = c.args in
     let pre = c.requires in
     let sized = pre.ready_in.sized in
-    let ok = not-false _ c.if-not-j.false in
-    let cell = known a.w a.words.now a.arrivals.now a.i a.size _ _ pre.octets_in_bounds.0 sized.v_high c.named-name.ensures.is c.named-name.ensures.reads c.judged-j.ensures ok in
+    let cell = known a.w a.words.now a.arrivals.now a.i a.size _ _ pre.octets_in_bounds.0 sized.v_high c.named-name.ensures.is c.named-name.ensures.reads c.in_ok-j.ensures in
     record {
       fits = if_some c.quiet.result cell.fits;
       clean = if_some c.quiet.result cell.clean;
       is = either_is _ _ _ _ _ _ _ _ _ _ _ _ _ _ _ _ _ _ _ _ _
-          (arriving_quiet (slot_record a.w) (lowest_free a.bits.now) (take a.size (drop (53 * a.i) a.arrivals.now)) a.cells.now a.links.now a.calendar.now a.words.now a.bits.now a.arrived.now _ c.turned-b.ensures _ cell.judged (omega (arith, sized.rotation_low, sized.words_long)) (not-false _ c.if-not-b.false) ok (sym c.lets_in.ensures ∙ c.if-not-lets_in.true))
+          (arriving_quiet (slot_record a.w) (lowest_free a.bits.now) (take a.size (drop (53 * a.i) a.arrivals.now)) a.cells.now a.links.now a.calendar.now a.words.now a.bits.now a.arrived.now _ c.in_ok-b.ensures _ cell.judged (omega (arith, sized.rotation_low, sized.words_long)) _ refl (sym c.lets_in.ensures ∙ c.if-not-lets_in.true))
           c.quiet.ensures;
     }
 
@@ -42,7 +39,7 @@ seat_of-requires c =
     let a = c.args in
     let pre = c.requires in
     let sized = pre.ready_in.sized in
-    let cell = known a.w a.words.now a.arrivals.now a.i a.size _ _ pre.octets_in_bounds.0 sized.v_high c.named-name.ensures.is c.named-name.ensures.reads c.judged-j.ensures (not-false _ c.if-not-j.false) in
+    let cell = known a.w a.words.now a.arrivals.now a.i a.size _ _ pre.octets_in_bounds.0 sized.v_high c.named-name.ensures.is c.named-name.ensures.reads c.in_ok-j.ensures in
     let accepted = cell.accepted (sym c.lets_in.ensures ∙ c.if-not-lets_in.false) in
     (sized.n_high, sized.calendar_long, sized.bits_long, sized.turn_low, omega (arith, accepted.near, c.from-2.ensures), pre.ready_in.spaces_fit_lem)
 
@@ -50,16 +47,16 @@ pub accept-requires : goal.accept-requires
 accept-requires c =
     let a = c.args in
     let pre = c.requires in
-    let cell = known a.w a.words.now a.arrivals.now a.i a.size _ _ pre.octets_in_bounds.0 pre.ready_in.sized.v_high c.named-name.ensures.is c.named-name.ensures.reads c.judged-j.ensures (not-false _ c.if-not-j.false) in
+    let cell = known a.w a.words.now a.arrivals.now a.i a.size _ _ pre.octets_in_bounds.0 pre.ready_in.sized.v_high c.named-name.ensures.is c.named-name.ensures.reads c.in_ok-j.ensures in
     let p = c.in_ok-p.p in
-    let is = (spotted _ _ _ p c.in_ok-p.ensures).is in
+    let spot = spotted _ _ _ p c.in_ok-p.ensures in
     record {
       ready_in = pre.ready_in;
       spotted_in = record {
         is_accepted_lem = cell.accepted (sym c.lets_in.ensures ∙ c.if-not-lets_in.false);
         seats = spot_shows (slot_record a.w) _ a.calendar.now a.bits.now pre.ready_in.spaces_fit_lem _ p c.in_ok-p.ensures;
-        of_connection_lem = ap (λ (q : Spot). q.vci) is ∙ c.from.ensures;
-        of_delay = ap (λ (q : Spot). q.d) is ∙ c.from-2.ensures;
+        of_connection_lem = spot.vci_is ∙ c.from.ensures;
+        of_delay = spot.d_is ∙ c.from-2.ensures;
       };
       octets_in_bounds = pre.octets_in_bounds;
     }
@@ -69,18 +66,17 @@ returns c =
     let a = c.args in
     let pre = c.requires in
     let sized = pre.ready_in.sized in
-    let ok = not-false _ c.if-not-j.false in
     let v = sym c.lets_in.ensures ∙ c.if-not-lets_in.false in
     let k = slot_record a.w in
-    let found = known a.w a.words.now a.arrivals.now a.i a.size _ _ pre.octets_in_bounds.0 sized.v_high c.named-name.ensures.is c.named-name.ensures.reads c.judged-j.ensures ok in
+    let found = known a.w a.words.now a.arrivals.now a.i a.size _ _ pre.octets_in_bounds.0 sized.v_high c.named-name.ensures.is c.named-name.ensures.reads c.in_ok-j.ensures in
     let cell = take 53 (drop (53 * a.i) a.arrivals.now) in
-    let seat = (spotted _ _ _ c.in_ok-p.p c.in_ok-p.ensures).seat ∙ ap (λ (d : ℕ). seat_now k d a.calendar.now a.bits.now) c.from-2.ensures in
+    let seat = sym (spotted _ _ _ c.in_ok-p.p c.in_ok-p.ensures).is ∙ ap (λ (d : ℕ). seat_now k d a.calendar.now a.bits.now) c.from-2.ensures in
     record {
       fits = if_some c.accept.result found.fits;
       clean = if_some c.accept.result found.clean;
       is = either_is _ _ _ _ _ _ _ _ _ _ _ _ _ _ _ _ _ _ _ _ _
           (from_whole k a.size (drop (53 * a.i) a.arrivals.now) a.cells.now a.links.now a.calendar.now a.words.now a.bits.now a.arrived.now (found.whole v)
-          ∙ arriving_accepted k (lowest_free a.bits.now) cell a.cells.now a.links.now a.calendar.now a.words.now a.bits.now a.arrived.now _ c.turned-b.ensures _ (found.judged_whole v) (omega (arith, sized.rotation_low, sized.words_long)) (not-false _ c.if-not-b.false) ok v
-          ∙ now_goes k _ cell a.cells.now a.links.now a.calendar.now _ a.bits.now a.arrived.now sized.turn_low (found.accepted v).near _ seat refl)
+          ∙ arriving_accepted k (lowest_free a.bits.now) cell a.cells.now a.links.now a.calendar.now a.words.now a.bits.now a.arrived.now _ c.in_ok-b.ensures _ (found.judged_whole v) (omega (arith, sized.rotation_low, sized.words_long)) _ refl v
+          ∙ now_goes k _ cell a.cells.now a.links.now a.calendar.now _ a.bits.now a.arrived.now sized.turn_low (found.accepted v).near _ seat _ refl)
           c.accept.ensures;
     }

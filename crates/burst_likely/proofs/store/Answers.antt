@@ -2,7 +2,6 @@
 use native.Mathlib.Omega.{arith}
 use mathlib.Core.Path.{refl, ◌∙◌, ap}
 use Rattle.slot_arrive.specs.Arrival.{filled}
-use Rattle.slot_plan.specs.Plan.{rotated}
 use Rattle.burst_way.specs.Way.{slot_record}
 use Rattle.burst_likely.proofs.StoreLaws.{head_read, entry_low, head_most, entry_writes}
 use Rattle.burst_likely.proofs.store.Goals as goal
@@ -40,7 +39,6 @@ occupy-requires c =
     )
 
 pub returns : goal.returns
-unfolding rotated
 returns c =
     let a = c.args in
     let pre = c.requires in
@@ -51,7 +49,7 @@ returns c =
       links = c.put_link.ensures;
       calendar = entry_writes (slot_record a.w) a.j a.calendar.now a.words.now a.bits.now _ a.p spotted _ c.put_entry.ensures;
       words = c.put_fill.ensures
-          ∙ ap (filled a.j.vci a.j.s a.j.second a.w.t a.j.waiting) c.put_fall.ensures;
+          ∙ ap (filled a.j.vci a.j.s a.j.second a.w.t a.j.waiting) c.words_turned.ensures;
       bits = c.occupy.ensures;
       arrived = refl;
     }
