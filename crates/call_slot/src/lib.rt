@@ -165,6 +165,7 @@ pub fn checked(
 }
 
 // "One slot, in this order", of a cell of 0 or 53 octets. raw is read only where a cell is lent, mode only where raw is 1.
+#[inline(always)]
 pub fn slot(
     r: Record,
     cells: &mut [u8],
