@@ -9,13 +9,12 @@ use native.Mathlib.Nat.{div-add-mod, mul-mod_right, mul-div_cancel_left}
 use native.Mathlib.Decide.{ℕ_discrete}
 use borrow.Author.Tests.{eq-eqb, ne_eqb, eqb-true}
 use lib.ListN.{length}
-use Rattle.meaning.specs.Plain.{◌=?◌}
+use Rattle.meaning.specs.Plain.{when◌then◌else◌, ◌=?◌}
 use Rattle.meaning.specs.Numbers.{ranges_hold, octets, per_entry, words_in, bit_words}
 use Rattle.meaning.specs.State.{State}
 use Rattle.leaf_refusal.specs.Order.{refuse_of, first_of}
-use Rattle.leaf_refusal.proofs.Two.{two_given, two_none}
 use Rattle.burst_out.specs.Handout.{answer_long}
-use Rattle.call_burst.specs.Burst.{stretch_of, stopped, slots, lengths_fit, burst}
+use Rattle.call_burst.specs.Burst.{Stretch, stretch_of, stopped, slots, lengths_fit, burst}
 use Rattle.call_burst.specs.Promise.{BurstLent}
 use Rattle.slot_steps.proofs.EndLaws.{both_true}
 
@@ -76,16 +75,32 @@ worked_out s arrivals sizes departures answers fit k f e =
 
 -- a burst that is refused, and one that is not
 module _ (s : State) (arrivals sizes departures answers : List ℕ) (k : ℕ) (e : k ≡ worked_of s arrivals sizes departures answers) where
+  -- the two tests one after the other
+  abbrev in_order : Bool → Bool → Stretch
+  in_order a b =
+      when not a then stretch_of s departures answers 1 0
+      else when not b then stretch_of s departures answers 2 0
+      else slots arrivals sizes (stretch_of s departures answers 0 0)
+
   pub burst_refused : k ≢ 0 → stretch_of s departures answers k 0 ≡ burst s arrivals sizes departures answers
   unfolding burst stopped
   burst_refused ne =
       ap (λ (n : ℕ). stretch_of s departures answers n 0) e
-      ∙ two_given 1 2 refl refl (λ n. stretch_of s departures answers n 0) (slots arrivals sizes (stretch_of s departures answers 0 0)) (not (ranges_hold s.ctl.n s.ctl.v)) (not (fit_of s arrivals sizes departures answers)) (λ z. ne (e ∙ z))
+      ∙ go (ranges_hold s.ctl.n s.ctl.v) (fit_of s arrivals sizes departures answers) (λ z. ne (e ∙ z))
+    where
+      go : (a b : Bool) → worked (not a) (not b) ≢ 0 → stretch_of s departures answers (worked (not a) (not b)) 0 ≡ in_order a b
+      go false b some = refl
+      go true false some = refl
+      go true true some = absurd (some refl)
 
   pub burst_goes : k ≡ 0 → slots arrivals sizes (stretch_of s departures answers 0 0) ≡ burst s arrivals sizes departures answers
   unfolding burst stopped
-  burst_goes z =
-      two_none 1 2 refl refl (λ n. stretch_of s departures answers n 0) (slots arrivals sizes (stretch_of s departures answers 0 0)) (not (ranges_hold s.ctl.n s.ctl.v)) (not (fit_of s arrivals sizes departures answers)) (sym e ∙ z)
+  burst_goes z = go (ranges_hold s.ctl.n s.ctl.v) (fit_of s arrivals sizes departures answers) (sym e ∙ z)
+    where
+      go : (a b : Bool) → worked (not a) (not b) ≡ 0 → slots arrivals sizes (stretch_of s departures answers 0 0) ≡ in_order a b
+      go true true h = refl
+      go true false h = absurd (omega arith)
+      go false b h = absurd (omega arith)
 
   pub burst_ranges : k ≡ 0 → ranges_hold s.ctl.n s.ctl.v ≡ true
   burst_ranges z = go (ranges_hold s.ctl.n s.ctl.v) (fit_of s arrivals sizes departures answers) (sym e ∙ z)
