@@ -214,6 +214,7 @@ fn advance(
         way: from,
         i: begin,
     };
+    // no `for`: where T steps round or rotation leaves its part is found anew for each run
     'runs: loop {
         let w = burst_way::rounded(far.way);
         let stop = run_end(w, words, far.i, sizes.len());
@@ -244,32 +245,24 @@ fn try_likely(
     departures: &mut [u8],
     answers: &mut [u16],
     begin: usize,
-) -> BurstEnd
+) -> (Record, usize)
     requires burst_lent { BurstLent arrivals.now sizes.now departures.old answers.old }
     requires shaped_2 { Shaped ctl cells.old links.old calendar.old words.old bits.old arrived.old }
     requires begin_in_bounds { begin ≤ length sizes.now }
-    ensures far { (begin ≤ result.done) × (result.done ≤ length sizes.now) × (result.number ≡ 0) }
-    ensures shaped { Shaped result.ctl cells.new links.new calendar.new words.new bits.new arrived.new }
-    ensures rest { slots_from arrivals sizes result.done (stretch_after (after result.ctl cells links calendar words bits arrived) departures answers 0 result.done)
+    ensures far { (begin ≤ result.1) × (result.1 ≤ length sizes.now) }
+    ensures shaped { Shaped result.0 cells.new links.new calendar.new words.new bits.new arrived.new }
+    ensures rest { slots_from arrivals sizes result.1 (stretch_after (after result.0 cells links calendar words bits arrived) departures answers 0 result.1)
         ≡ slots_from arrivals sizes begin (stretch_before (before ctl cells links calendar words bits arrived) departures answers begin) }
 {
     if !may_try(ctl, bits) {
-        return BurstEnd {
-            ctl,
-            number: 0,
-            done: begin,
-        };
+        return (ctl, begin);
     }
     let from = burst_way::way_of(ctl, usize::from(ctl.n));
     let f = advance(
         from, cells, links, calendar, words, bits, arrived, arrivals, sizes, departures, answers,
         begin,
     );
-    BurstEnd {
-        ctl: burst_way::record_of(f.way),
-        number: 0,
-        done: f.i,
-    }
+    (burst_way::record_of(f.way), f.i)
 }
 
 // All slots of a burst that was not refused: as far as the likely ways lead, then one slot as the call has it, and again.
@@ -298,16 +291,19 @@ fn run(
     };
     // no `for`: the likely ways take as many slots at a time as they lead
     while end.done < sizes.len() {
-        let far = try_likely(
+        let (ctl, i) = try_likely(
             end.ctl, cells, links, calendar, words, bits, arrived, arrivals, sizes, departures,
             answers, end.done,
         );
-        let i = far.done;
         if i == sizes.len() {
-            return far;
+            return BurstEnd {
+                ctl,
+                number: 0,
+                done: i,
+            };
         }
         end = turn(
-            far.ctl, cells, links, calendar, words, bits, arrived, arrivals, sizes[i], departures,
+            ctl, cells, links, calendar, words, bits, arrived, arrivals, sizes[i], departures,
             answers, i,
         );
         if end.number != 0 {

@@ -16,10 +16,9 @@ pub returns-then-i-sizes : goal.returns-then-i-sizes
 returns-then-i-sizes c =
     let at = c.loop-end in
     let a = c.args in
-    let far = c.try_likely-far in
-    let b = reached far.result _ _ _ _ _ _ _ _ in
-    ap (λ (k : ℕ). stretch_of b.state b.departures b.answers k b.done) far.ensures.far.2
-    ∙ slots_end a.arrivals.now a.sizes.now b (omega (arith, c.if-i-sizes.true))
+    let far = c.try_likely-i in
+    let b = reached (record { ctl = far.result.0; number = 0; done = far.result.1 }) _ _ _ _ _ _ _ _ in
+    slots_end a.arrivals.now a.sizes.now b (omega (arith, c.if-i-sizes.true))
     ∙ far.ensures.rest
     ∙ at.invariant.rest
 
@@ -27,18 +26,18 @@ pub returns-then-end-ne0 : goal.returns-then-end-ne0
 returns-then-end-ne0 c =
     let at = c.loop-end in
     let a = c.args in
-    let far = c.try_likely-far in
-    let b = reached far.result _ _ _ _ _ _ _ _ in
-    slots_stop a.arrivals.now a.sizes.now far.result.done (omega (arith, far.ensures.far.1, c.if-i-sizes.false)) b _ c.turn-end.ensures c.if-end-ne0.true
+    let far = c.try_likely-i in
+    let b = reached (record { ctl = far.result.0; number = 0; done = far.result.1 }) _ _ _ _ _ _ _ _ in
+    slots_stop a.arrivals.now a.sizes.now far.result.1 (omega (arith, far.ensures.far.1, c.if-i-sizes.false)) b _ c.turn-end.ensures c.if-end-ne0.true
     ∙ far.ensures.rest
     ∙ at.invariant.rest
 
 pub loop-end-smaller : goal.loop-end-smaller
 loop-end-smaller c =
     let a = c.args in
-    let far = c.try_likely-far in
-    let low : far.result.done < length a.sizes.now = omega (arith, far.ensures.far.1, c.if-i-sizes.false) in
-    let b = reached far.result _ _ _ _ _ _ _ _ in
+    let far = c.try_likely-i in
+    let low : far.result.1 < length a.sizes.now = omega (arith, far.ensures.far.1, c.if-i-sizes.false) in
+    let b = reached (record { ctl = far.result.0; number = 0; done = far.result.1 }) _ _ _ _ _ _ _ _ in
     let more = turn_counted a.arrivals.now a.sizes.now b low _ _ _ _ _ c.turn-end.ensures c.if-end-ne0.false in
     omega (arith, c.loop-end-test.true, far.ensures.far.0, more)
 
@@ -46,9 +45,9 @@ pub loop-end-preserved : goal.loop-end-preserved
 loop-end-preserved c =
     let at = c.loop-end in
     let a = c.args in
-    let far = c.try_likely-far in
-    let low : far.result.done < length a.sizes.now = omega (arith, far.ensures.far.1, c.if-i-sizes.false) in
-    let b = reached far.result _ _ _ _ _ _ _ _ in
+    let far = c.try_likely-i in
+    let low : far.result.1 < length a.sizes.now = omega (arith, far.ensures.far.1, c.if-i-sizes.false) in
+    let b = reached (record { ctl = far.result.0; number = 0; done = far.result.1 }) _ _ _ _ _ _ _ _ in
     let e = c.turn-end.ensures in
     let more = turn_counted a.arrivals.now a.sizes.now b low _ _ _ _ _ e c.if-end-ne0.false in
     record {

@@ -1,5 +1,5 @@
 -- `call_burst::try_likely` meets its contract: a record that may not be tried stays; from one that may, the runs lead on, and back to a record.
-use mathlib.Core.Path.{refl, ◌∙◌, ap}
+use mathlib.Core.Path.{◌∙◌, ap}
 use Rattle.meaning.specs.declared.Record.{Record}
 use Rattle.meaning.specs.State.{state_of}
 use Rattle.call_burst.specs.Burst.{stretch_of, slots}
@@ -26,7 +26,7 @@ returns c =
     let far = c.advance-f.ensures.far in
     let r = c.record_of.ensures in
     record {
-      far = (far.0, far.1, refl);
+      far = far;
       shaped = rw r (last_shaped _ _ _ _ _ _ _ c.advance-f.ensures.held);
       rest = rw r
           (c.advance-f.ensures.rest
