@@ -1,5 +1,4 @@
--- The tests that find what departs: the connection that a header names, a link once another is written, and the Output List once entry
--- T has joined it.
+-- The tests that find what departs: the connection that a header names, and the Output List once entry T has joined it.
 use Prim.Native.Nat.{ℕ, ◌+◌, ◌*◌, ◌≤◌, ◌<◌}
 use mathlib.Core.Path.{◌≡◌, refl, sym, ◌∙◌, ap, subst}
 use mathlib.Core.Logic.{◌≢◌}
@@ -8,8 +7,8 @@ use mathlib.Core.List.{List}
 use Rattle.std.specs.Prelude.{Option, Some, None, MatchOption}
 use native.Mathlib.Omega.{arith}
 use borrow.Author.Tests.{eq-eqb, ne_eqb}
-use lib.ListN.{length, get_or, set}
-use lib.Seq.{get_or-set_same, get_or-set_other}
+use lib.ListN.{get_or, set}
+use lib.Seq.{get_or-set_other}
 use Rattle.meaning.specs.declared.Record.{Record}
 use Rattle.meaning.specs.Numbers.{empty}
 use Rattle.meaning.specs.State.{Ends}
@@ -33,10 +32,6 @@ module _ (N : ℕ) (words : List ℕ) (c : ℕ) where
   pub goes_goes : c ≢ 0 → may_go N words c ≡ true → c ≡ goes_as N words c
   unfolding goes_as
   goes_goes ne e = simp (ne_eqb c 0 ne, e)
-
--- ---- a link once it is written
-pub link_own : (l : List ℕ) (i y x : ℕ) → x ≡ i → x < length l → y ≡ get_or (set l i y) x 0
-link_own l i y x e low = sym (rw (← e) (get_or-set_same l x y 0 low))
 
 pub low_in : (a n m : ℕ) → a < n → m ≡ n → a < m
 low_in a n m low e = omega arith

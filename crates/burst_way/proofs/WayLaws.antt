@@ -143,7 +143,3 @@ way_records r n t turn rotation all mask n_is t_is turn_is all-is rotation_is lo
       (rotation_is ∙ ap (λ (k : ℕ). (r.rotation + 1) % k) all-is) low₁ (omega (arith, n_is, low₂)) low₃
       ∙ rw n_is,
 )
-
--- one less on the clock that wraps, as the subtraction gives it
-pub t_back : (r t : ℕ) → r < 4294967296 → (r + 1) % 4294967296 ≡ t → r ≡ (t + 4294967295) % 4294967296
-t_back r t low e = omega (arith, e)
