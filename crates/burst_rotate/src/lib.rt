@@ -33,10 +33,10 @@ pub fn turned(w: Way, words: &[u32]) -> Option<Option<Fall>>
     if o == 1 {
         let c = words[b + AT_C];
         if leaf_bucket::obeys_rules(w.n as u16, words[b + AT_M], words[b + AT_F], c) {
-            if words[b + AT_S] | words[b + AT_SECOND_M] | words[b + AT_SECOND_F] == 0 {
-                if words[b + AT_SECOND_C] | words[b + AT_SECOND_S] | words[b + AT_TAG] == 0 {
-                    return Some(Some(Fall { s: 0, second: 0 }));
-                }
+            if words[b + AT_S] | words[b + AT_SECOND_M] | words[b + AT_SECOND_F] == 0
+                && words[b + AT_SECOND_C] | words[b + AT_SECOND_S] | words[b + AT_TAG] == 0
+            {
+                return Some(Some(Fall { s: 0, second: 0 }));
             }
             if words[b + AT_S] <= c {
                 let fall = bring_at(w, words, b)?;
@@ -54,10 +54,10 @@ fn bring_at(w: Way, words: &[u32], b: usize) -> Option<Fall>
     ensures { result ≡ brought_both w.t (connection_at words.now w.rotation) (connection_now w.t (connection_at words.now w.rotation)).bucket.S }
 {
     let s = leaf_bucket::fallen_to(words[b + AT_S], words[b + AT_M], words[b + AT_LAST], w.t);
-    if words[b + AT_SECOND_M] | words[b + AT_SECOND_F] | words[b + AT_SECOND_C] == 0 {
-        if words[b + AT_SECOND_S] | words[b + AT_TAG] == 0 {
-            return Some(Fall { s, second: 0 });
-        }
+    if words[b + AT_SECOND_M] | words[b + AT_SECOND_F] | words[b + AT_SECOND_C] == 0
+        && words[b + AT_SECOND_S] | words[b + AT_TAG] == 0
+    {
+        return Some(Fall { s, second: 0 });
     }
     slot_arrive::bring_both(words, w.rotation as u16, w.t, s)
 }
