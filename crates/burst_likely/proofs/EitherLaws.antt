@@ -8,7 +8,7 @@ use mathlib.Core.List.{List}
 use native.Mathlib.Omega.{arith}
 use borrow.Author.Tests.{eq-eqb, eqb-false, le-leb}
 use lib.ListN.{take}
-use Rattle.std.specs.Prelude.{Option, Some, None, IfSome}
+use Rattle.std.specs.Prelude.{Option, Some, None, IfSome, IfNone}
 use Rattle.meaning.specs.declared.Record.{Record}
 use Rattle.meaning.specs.Plain.{when◌then◌else◌, ◌=?◌, Out}
 use Rattle.meaning.specs.Numbers.{empty}
@@ -91,6 +91,16 @@ either_is w target target' found cells links calendar words bits arrived departu
 pub if_some : {A : Type 0} {P : Type 0} (found : Option A) → P → IfSome found (λ g. P)
 if_some None p = tt
 if_some (Some g) p = p
+
+-- what holds anyway holds where nothing is handed on
+pub if_left : {A : Type 0} {P : Type 0} (found : Option A) → P → IfNone found P
+if_left None p = p
+if_left (Some g) p = tt
+
+-- what is known where nothing is handed on, said otherwise
+pub if_none : {A : Type 0} {P Q : Type 0} (found : Option A) → (P → Q) → IfNone found P → IfNone found Q
+if_none None f p = f p
+if_none (Some g) f p = tt
 
 -- the five steps of a cell of so many octets
 pub from_whole : (k : Record) (size : ℕ) (octets cells links calendar words bits arrived : List ℕ) → size ≡ 53

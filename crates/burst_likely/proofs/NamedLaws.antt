@@ -9,7 +9,7 @@ use native.Mathlib.Omega.{arith}
 use native.Mathlib.Nat.{add-zero}
 use borrow.Author.Tests.{eq-eqb, ne_eqb, eqb-true}
 use lib.ListN.{length, get_or, take, drop}
-use Rattle.std.specs.Prelude.{Some, None}
+use Rattle.std.specs.Prelude.{Option, Some, None}
 use Rattle.std.proofs.lemmas.Option.{none-some, same_Some}
 use Rattle.base_hec.specs.Check.{check_of, head_of}
 use Rattle.meaning.specs.Plain.{when◌then◌else◌, ◌=?◌}
@@ -25,7 +25,9 @@ use Rattle.slot_plan.proofs.Found.{no, judged_shows}
 use Rattle.burst_way.specs.declared.Way.{Way}
 use Rattle.burst_way.specs.Way.{slot_record}
 use Rattle.burst_arrive.proofs.ArriveLaws.{octet, name_is, reads_is, cell_long}
-use Rattle.burst_likely.specs.Served.{likely_name, Clean}
+use Rattle.slot_plan.specs.Plan.{seat_now}
+use Rattle.burst_arrive.specs.Arriving.{spot_of}
+use Rattle.burst_likely.specs.Served.{likely_name, likely_judged, likely_spot, Clean}
 
 -- a name that no header has is never in range
 judged_unread : (N z t : ℕ) (words : List ℕ) (clp : ℕ) → z ≤ most_v → judged_name N z t words no_name clp ≡ None
@@ -186,3 +188,14 @@ known w words arrivals i size name j inside few is reads by_name =
     accepted : lets_in j.verdict ≡ true → Accepted (slot_record w) j (take 53 (drop (53 * i) arrivals)) words
     accepted v =
         (judged_shows (slot_record w) (take 53 (drop (53 * i) arrivals)) words).accepted_is (λ ne. cell_long arrivals i inside) j (sym (own_whole v)) v
+
+-- what was found of slot i's cell, and its seat, by its size and octets alone
+pub judged_likely : (w : Way) (words arrivals : List ℕ) (size i name : ℕ) (found : Option Judged) → name ≡ likely_name w.raw w.kind arrivals size i
+    → found ≡ judged_name w.n w.v w.t words name (clp_in (take 53 (drop (53 * i) arrivals)))
+    → found ≡ likely_judged w words arrivals size i
+judged_likely w words arrivals size i name found is e =
+    e ∙ ap (λ (x : ℕ). judged_name w.n w.v w.t words x (clp_in (take 53 (drop (53 * i) arrivals)))) is
+
+pub spot_likely : (w : Way) (calendar bits : List ℕ) (j : Judged) (vci d : ℕ) → vci ≡ j.vci → d ≡ j.d
+    → spot_of vci d (seat_now (slot_record w) d calendar bits) ≡ likely_spot w j calendar bits
+spot_likely w calendar bits j vci d e f = rw (e, f) refl

@@ -9,31 +9,35 @@
 --   followed f i l      == the links l, with link i naming what f has, where it has something
 --   likely_name ..       == the name of slot i's cell, or none that a header has where the likely ways can't take it
 --   Clean ..            == of a raw policer's cell: its octet 5 is the right one
-use Rattle.std.specs.Prelude.{ℕ, ◌+◌, ◌*◌, ◌≤◌, ◌<◌, ◌≡◌, ◌⊎◌, true, false, Option, Some, None, IfSome, MatchOption, List, length, get_or, set, take, drop}
+--   likely_judged ..    == what step 3 finds of slot i's cell, by that name
+--   Keeps ..            == all is in range and the lists are regular: the likely way is kept
+use Rattle.std.specs.Prelude.{ℕ, ◌+◌, ◌*◌, ◌≤◌, ◌<◌, ◌≡◌, ◌≢◌, ◌⊎◌, true, false, Option, Some, None, IfSome, MatchOption, List, length, get_or, set, take, drop}
 use Rattle.base_hec.specs.Check.{check_of, head_of}
 use Rattle.meaning.specs.declared.Record.{Record}
 use Rattle.meaning.specs.declared.Answer.{Answer}
 use Rattle.meaning.specs.Plain.{when◌then◌else◌, ◌=?◌, Out, next, ◌and_then◌}
-use Rattle.meaning.specs.Numbers.{most_n, octets, cell_start, unused, connection_place, connections_in, most_v, empty, excess, waiting_place, bit_words}
+use Rattle.meaning.specs.Numbers.{lets_in, most_n, octets, cell_start, unused, connection_place, connections_in, most_v, empty, excess, waiting_place, bit_words}
 use Rattle.meaning.specs.Bits.{is_free_space, spaces_fit, lowest_free}
 use Rattle.meaning.specs.State.{Ends, state_of, HasConnection}
-use Rattle.meaning.specs.Lists.{ends_fit}
+use Rattle.meaning.specs.Header.{clp_in}
+use Rattle.meaning.specs.Lists.{ends_fit, entry_at}
 use Rattle.meaning.specs.Work.{Work, work_of, bare_answer}
 use Rattle.meaning.specs.Slot.{step2, step3, step4, step5}
 use Rattle.meaning.specs.Lent.{Slice, SliceMut, Lent, LentMut}
 use Rattle.leaf_header.specs.Name.{no_name, name_at, word_at}
 use Rattle.slot_arrive.specs.declared.Fall.{Fall}
 use Rattle.slot_arrive.specs.declared.Judged.{Judged}
-use Rattle.slot_arrive.specs.Arrival.{fallen, filled}
-use Rattle.slot_plan.specs.Plan.{with_ends, output_ends, rotated}
+use Rattle.slot_arrive.specs.Arrival.{brought_of, judged_name, fallen, filled}
+use Rattle.slot_plan.specs.Plan.{with_ends, output_ends, rotated, seat_now}
 use Rattle.slot_plan.specs.Works.{quiet_of, accept_of, last_steps}
 use Rattle.slot_plan.specs.Facts.{Sized, Accepted}
 use Rattle.burst_out.specs.Handout.{shown_into, answer_long, write_answer}
 use Rattle.burst_way.specs.declared.Way.{Way}
 use Rattle.burst_way.specs.Way.{way_with, slot_record, NamesBy}
 use Rattle.burst_arrive.specs.declared.Spot.{Spot}
-use Rattle.burst_arrive.specs.Arriving.{seat_at, Seats}
+use Rattle.burst_arrive.specs.Arriving.{seat_at, spot_of, Seats}
 use Rattle.burst_depart.specs.declared.Leave.{Leave}
+use Rattle.burst_depart.specs.Leaving.{Regular, RegularThen}
 use Rattle.burst_likely.specs.declared.Went.{Went}
 
 abbrev pub from2 : Record → List ℕ → List ℕ → List ℕ → List ℕ → List ℕ → List ℕ → List ℕ → Out Work
@@ -95,6 +99,24 @@ likely_name raw kind arrivals size i =
 
 abbrev pub Clean : List ℕ → Type 0
 Clean cell = check_of (head_of cell) ≡ get_or cell 4 0
+
+abbrev pub likely_judged : Way → List ℕ → List ℕ → ℕ → ℕ → Option Judged
+likely_judged w words arrivals size i =
+    judged_name w.n w.v w.t words (likely_name w.raw w.kind arrivals size i) (clp_in (take octets (drop (cell_start i) arrivals)))
+
+-- the seat of a cell that is let in, j being what was found of it
+abbrev pub likely_spot : Way → Judged → List ℕ → List ℕ → Option Spot
+likely_spot w j calendar bits = spot_of j.vci j.d (seat_now (slot_record w) j.d calendar bits)
+
+-- Rotation's connection and the cell's are in range; the lists are regular where no cell is let in, and where one is with its seat. A cell
+-- that the likely ways can't take, by its size or its header, is never in range.
+pub record Keeps (w : Way) (cells links calendar words bits arrivals : List ℕ) (size i : ℕ) : Type 0 where
+  pub rotates : brought_of w.n w.v w.t words w.rotation ≢ None
+  pub judges : likely_judged w words arrivals size i ≢ None
+  pub quiet : (j : Judged) → likely_judged w words arrivals size i ≡ Some j → lets_in j.verdict ≡ false
+      → Regular (slot_record w) cells links words bits (entry_at calendar w.turn)
+  pub seated : (j : Judged) → likely_judged w words arrivals size i ≡ Some j → lets_in j.verdict ≡ true
+      → MatchOption (likely_spot w j calendar bits) ⊥ (λ p. RegularThen (slot_record w) p cells links calendar words bits)
 
 -- ---- the same of lent memories and buffers, for contracts: w is the policer in slot i, cell what is lent to it
 abbrev pub CleanIn : Way → List ℕ → ℕ → ℕ → Type 0

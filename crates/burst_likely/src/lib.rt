@@ -2,7 +2,7 @@
 // leaves the likely way before anything is written, and the slot is then served as the call has it: nothing here refuses.
 #![tactic(auto)]
 
-ghost use Rattle.std.specs.Prelude.{◌≡◌, true, false, not, ◌⊎◌, ◌+◌, ◌-◌, ◌*◌, ◌≤◌, ◌<◌, IfSome, length, get_or, set, take, drop};
+ghost use Rattle.std.specs.Prelude.{◌≡◌, true, false, not, ◌⊎◌, ◌+◌, ◌-◌, ◌*◌, ◌≤◌, ◌<◌, IfSome, IfNone, length, get_or, set, take, drop};
 ghost use Rattle.meaning.specs.Plain.{when◌then◌else◌, ◌=?◌};
 ghost use Rattle.meaning.specs.Numbers.{most_n, most_v, connections_in, empty, excess, octets, cell_start, words_in};
 ghost use Rattle.meaning.specs.Bits.{taken, given, marked, unmarked};
@@ -18,9 +18,9 @@ ghost use Rattle.slot_plan.specs.Plan.{seat_ends, rotated};
 ghost use Rattle.burst_out.specs.Handout.{write_answer};
 ghost use Rattle.burst_way.specs.Way.{slot_record, NamesBy};
 ghost use Rattle.burst_arrive.specs.Arriving.{seat_at};
-ghost use Rattle.burst_depart.specs.Leaving.{Goes, OffHere};
+ghost use Rattle.burst_depart.specs.Leaving.{Goes, OffHere, Regular, RegularThen};
 ghost use Rattle.burst_likely.specs.Served.{HandedTo, ReadyIn, SpottedIn, MayLeave, CleanIn, likely_name, cell_before, words_fallen, words_filled};
-ghost use Rattle.burst_likely.specs.Served.{followed, from_here, quiet_from, accept_from, ServedBy, ServedOrLeft, QuietServedOrLeft};
+ghost use Rattle.burst_likely.specs.Served.{followed, Keeps, from_here, quiet_from, accept_from, ServedBy, ServedOrLeft, QuietServedOrLeft};
 
 use burst_arrive::Spot;
 use burst_depart::Leave;
@@ -202,7 +202,8 @@ fn quiet(
     requires ready_in { ReadyIn w cells.now links.old calendar.old words.old bits.old arrived.old }
     requires vci_bound { j.verdict =? excess ≡ true → j.vci < connections_in w.v }
     requires handed_to { HandedTo departures.old answers.old i }
-    ensures { QuietServedOrLeft w (quiet_from w b j cells links calendar words bits arrived) result cells links calendar words bits arrived departures answers i }
+    ensures served { QuietServedOrLeft w (quiet_from w b j cells links calendar words bits arrived) result cells links calendar words bits arrived departures answers i }
+    ensures kept { IfNone result (Regular (slot_record w) cells.now links.old words.old bits.old (entry_at calendar.old w.turn) → ⊥) }
 {
     let Some(o) = burst_depart::off_quiet(w, cells, links, calendar, words, bits)? else {
         quiet_none(w, b, j, words, answers, i);
@@ -273,7 +274,9 @@ fn accept(
     requires ready_in { ReadyIn w cells.old links.old calendar.old words.old bits.old arrived.old }
     requires spotted_in { SpottedIn w j p calendar words bits arrivals i }
     requires octets_in_bounds { (cell_start i + octets ≤ length arrivals.now) × HandedTo departures.old answers.old i }
-    ensures { ServedOrLeft w (accept_from w b j p (cell_before arrivals i) cells links calendar words bits arrived) result cells links calendar words bits arrived departures answers i }
+    ensures served { ServedOrLeft w (accept_from w b j p (cell_before arrivals i) cells links calendar words bits arrived)
+        result cells links calendar words bits arrived departures answers i }
+    ensures kept { IfNone result (RegularThen (slot_record w) p cells.old links.old calendar.old words.old bits.old → ⊥) }
 {
     let leaves = burst_depart::off_accept(w, p, cells, links, calendar, words, bits)?;
     store(
@@ -358,7 +361,9 @@ pub fn slot(
     requires octets_in_bounds { (cell_start i + octets ≤ length arrivals.now) × HandedTo departures.old answers.old i }
     ensures fits { IfSome result (λ g. (size ≡ 0) ⊎ (size ≡ 53)) }
     ensures clean { IfSome result (λ g. CleanIn w arrivals.now size i) }
-    ensures is { ServedOrLeft w (from_here w (take size (drop (cell_start i) arrivals.now)) cells links calendar words bits arrived) result cells links calendar words bits arrived departures answers i }
+    ensures is { ServedOrLeft w (from_here w (take size (drop (cell_start i) arrivals.now)) cells links calendar words bits arrived)
+        result cells links calendar words bits arrived departures answers i }
+    ensures kept { IfNone result (Keeps w cells.old links.old calendar.old words.old bits.old arrivals.now size i → ⊥) }
 {
     let b = burst_rotate::turned(w, words)?;
     let name = named(w, arrivals, size, i);

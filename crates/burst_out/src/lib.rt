@@ -31,7 +31,7 @@ pub fn show(departures: &mut [u8], i: usize, cells: &[u8], space: u16)
     if space == 65535 {
         return;
     }
-    copy_departure(departures, i, cells, space as usize);
+    copy_departure(departures, i, cells, usize::from(space));
 }
 
 // The six numbers of slot i's answer.

@@ -14,8 +14,8 @@ use Rattle.burst_likely.proofs.EitherLaws.{low_most}
 use Rattle.burst_likely.proofs.AcceptLaws.{none_done, leave_shows, follow_low, still_held, leave_done}
 use Rattle.burst_likely.proofs.accept.Goals as goal
 
-pub returns-in_default : goal.returns-in_default
-returns-in_default c =
+pub returns-in_default-clause-served : goal.returns-in_default-clause-served
+returns-in_default-clause-served c =
     let a = c.args in
     let pre = c.requires in
     let k = slot_record a.w in
@@ -54,8 +54,8 @@ leave-requires c =
       handed_to = pre.octets_in_bounds.1;
     }
 
-pub returns : goal.returns
-returns c =
+pub returns-clause-served : goal.returns-clause-served
+returns-clause-served c =
     let a = c.args in
     let pre = c.requires in
     let k = slot_record a.w in

@@ -8,8 +8,8 @@ use Rattle.burst_depart.specs.Leaving.{Leaves, OffHere}
 use Rattle.burst_likely.proofs.QuietLaws.{none_done}
 use Rattle.burst_likely.proofs.quiet.Goals as goal
 
-pub returns-in_default : goal.returns-in_default
-returns-in_default c =
+pub returns-in_default-clause-served : goal.returns-in_default-clause-served
+returns-in_default-clause-served c =
     let a = c.args in
     let pre = c.requires in
     let k = slot_record a.w in

@@ -7,4 +7,4 @@ pub returns-then-space-eq65535 : goal.returns-then-space-eq65535
 returns-then-space-eq65535 c = let a = c.args in let p = c.requires in sym (shown_none a.departures.now a.i p.octets_in_bounds a.cells.now p.shows.allowed a.space c.if-space-eq65535.true)
 
 pub returns : goal.returns
-returns c = let a = c.args in let p = c.requires in c.copy_departure.ensures ∙ sym (shown_cell a.departures.now a.i p.octets_in_bounds a.cells.now p.shows.allowed a.space (p.shows.low c.if-space-eq65535.false))
+returns c = let a = c.args in let p = c.requires in (rw c.from.ensures at c.copy_departure.ensures) ∙ sym (shown_cell a.departures.now a.i p.octets_in_bounds a.cells.now p.shows.allowed a.space (p.shows.low c.if-space-eq65535.false))
