@@ -4,18 +4,11 @@
 // after its end, ends the program with nothing written; a write that fails ends it there.
 #![tactic(auto)]
 
-use std::io::Read;
-
 fn main(rt: HostRuntime) {
-    let mut from = rt.stdin();
     let mut input = [0u8; 65537];
-    let long = input_read::read_full(&mut from, &mut input);
-    if long < 65537 {
-        let mut next = [0u8; 1];
-        if !matches!(from.read(&mut next), Ok(0)) {
-            return;
-        }
-    }
+    let Some(long) = input_read::read_whole(&mut rt.stdin(), &mut input) else {
+        return;
+    };
     let mut cells = [0u8; 54272];
     let mut links = [0u16; 1024];
     let mut calendar = [0u16; 2048];

@@ -6,18 +6,11 @@
 // write that fails ends it there.
 #![tactic(auto)]
 
-use std::io::Read;
-
 fn main(rt: HostRuntime) {
-    let mut from = rt.stdin();
     let mut input = [0u8; 524289];
-    let long = input_read::read_full(&mut from, &mut input);
-    if long < 524289 {
-        let mut next = [0u8; 1];
-        if !matches!(from.read(&mut next), Ok(0)) {
-            return;
-        }
-    }
+    let Some(long) = input_read::read_whole(&mut rt.stdin(), &mut input) else {
+        return;
+    };
     let mut out = [0u8; 65536];
     text_show::show(&mut rt.stdout(), &mut rt.stderr(), &input[..long], &mut out);
 }
