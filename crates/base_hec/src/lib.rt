@@ -44,6 +44,7 @@ pub fn check_of(head: u32) -> u8
 }
 
 // The header with one bit changed.
+// bit is a place of forty, and none stands for no bit: an enum of head and octet 5 would only split one number in two.
 pub fn mended(bit: u8, head: u32, fifth: u8) -> Checked
     requires { bit < 40 }
     ensures { result ≡ mended_word bit head fifth }

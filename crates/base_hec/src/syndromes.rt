@@ -18,6 +18,7 @@ const WRONG_BITS: [u8; 256] = [
 ];
 
 // The one bit that is wrong, where the syndrome names one.
+// By a table of numbers, which theorem base_hec/TableRule.table_rule holds entry by entry against the search of the forty bits.
 pub fn wrong_bit(syndrome: u8) -> Option<u8>
     ensures { result ≡ named (wrong_bit syndrome) }
 {

@@ -21,6 +21,7 @@ pub struct Spot {
 }
 
 // The seat of a cell that is let in, in the lowest free space. The words fit, as the caller knows, so no bit is counted here.
+// Its entry is (T+D) modulo N, which one comparison gives, and `%` by a division.
 pub fn seat_of(w: Way, vci: usize, d: usize, calendar: &[u16], bits: &[u64]) -> Option<Spot>
     requires { MaySeat w calendar bits d }
     ensures { result ≡ spot_of vci d (seat_now (slot_record w) d calendar.now bits.now) }

@@ -271,6 +271,7 @@ fn off_later(
 }
 
 // Steps 4 and 5 where a cell is accepted.
+// D 0 or above is one test: with D 0 the cell itself has joined entry T, which need not be read again.
 pub fn off_accept(
     w: Way,
     p: Spot,

@@ -343,6 +343,7 @@ fn judged(w: Way, words: &[u32], name: u32, arrivals: &[u8], i: usize) -> Option
 }
 
 // Slot i of a burst on a likely way, its cell having so many octets.
+// Whether it is let in is one test of the verdict: `quiet` needs no seat, and `accept` is handed one.
 pub fn slot(
     w: Way,
     cells: &mut [u8],

@@ -48,6 +48,7 @@ fn after(x: usize, n: usize) -> usize
 }
 
 // One less, modulo n.
+// By one test: `checked_sub` with n - 1 for none would say no more.
 fn one_back(x: usize, n: usize) -> usize
     requires { (x ≤ n) × (1 ≤ n) }
     ensures is { result ≡ one_back x n }
@@ -129,6 +130,7 @@ pub fn stepped(w: Way) -> Way
 }
 
 // 0 for n.
+// By one test, as its promise has it: `%` would divide.
 fn round(x: usize, n: usize) -> usize
     ensures { result ≡ (when x =? n then 0 else x) }
 {

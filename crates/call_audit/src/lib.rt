@@ -141,6 +141,7 @@ fn shaped(
 }
 
 // Do the clauses of the audit hold? Linear in N + V: each list is walked once, and no space twice. What the arrival slots say is free.
+// There is no heap: each budget is an array for the highest N or V. They stay apart, since mem_walks::stored takes them so.
 pub fn audit(
     r: Record,
     cells: &[u8],

@@ -130,6 +130,7 @@ fn part_end(w: Way) -> usize
 
 // Where a run from slot i ends: with the burst, or where T steps round, or where rotation leaves its part. Records 0 and V are
 // not read in rotation's turn, so a run begins with one only where its open word is 0, as that of a closed connection.
+// An open word is a number in the memory that C lends, and any may stand there: so it is asked whether it is 0.
 fn run_end(w: Way, words: &[u32], i: usize, long: usize) -> usize
     requires { (w.turn < w.n) × (w.rotation < connections_in w.v) × (w.v ≤ most_v) × (words_in w.v ≡ length words.now) × (i ≤ long) }
     ensures { (i ≤ result) × (result ≤ long) × Room w words.now (result - i) }

@@ -1,5 +1,6 @@
 // Opening and closing a connection: a VC by its VCI, or a path by its VPI. One way for both; only the name differs. Each call is
 // made as one of the two operators, `owner`: 0 the first, 1 the second.
+// owner is any number that C hands over: one that is neither 0 nor 1 owns nothing (`Operators.owns`), so it is no enum here.
 #![tactic(auto)]
 
 ghost use Rattle.std.specs.Prelude.{◌≡◌, true, ◌≤◌, IfOk, IfErr};
@@ -109,6 +110,7 @@ fn connection_of(ctl: Record, words: &[u32], owner: u16, name: Name) -> Result<u
 }
 
 // Open's own refusals, 5, 6 and 11, in this order.
+// opened is the open word as it stands in the memory that C lends, a number: connection_of has judged that it is 0 or 1.
 fn own_refusal(n: u16, opened: u32, peak: Peak, second: Second) -> Result<(), Refusal>
     ensures { given_number result ≡ own_refusal n opened peak.m peak.f peak.c (second_in second) }
 {

@@ -36,6 +36,7 @@ fn free_all(n: u16, bits: &mut [u64])
 }
 
 // "Order: setup 1, 2", 1 also for a split out of its range, and "13, line kind unknown, after 1": the first of them.
+// kind is any number that clurimoon_setup is handed, so refusal 13 judges it here, and no enum of the two kinds comes in.
 fn setup_refusal(
     n: u16,
     v: u16,
@@ -60,6 +61,7 @@ fn setup_refusal(
 
 // "Setup clears all lent memory, then chains spaces 0 to N-1 into the Free List in that order and empties the calendar"; now they are
 // free by their bits.
+// raw and kind are as clurimoon_setup, which C calls, is handed them: setup_promise says what any kind gives.
 pub fn setup(
     n: u16,
     v: u16,

@@ -12,6 +12,7 @@ use base_hec::Checked;
 use meaning::{Answer, Record, Served, record_in_mode};
 
 // A refused slot gives the record back as it came, in its old mode. "A dropped cell: verdict 4, H".
+// Refused is told by the answer's number, which is C's: a `Result` of Served was tried, and goes through memory once more.
 fn back_to(r: Record, c: Checked, s: Served) -> Served
     ensures { result ≡ back_served r (is_dropped c) s }
 {
@@ -84,6 +85,7 @@ fn mended_slot(
 }
 
 // A slot of a policer that is raw, its mode in range, with a cell. A clean header is the common case.
+// It promises what the whole call does, and so do `checked` and `slot`: each of the three answers a slot from its beginning.
 fn raw_slot(
     r: Record,
     cells: &mut [u8],
@@ -138,6 +140,7 @@ fn unfit_slot(
 }
 
 // Whether the header check comes in front: the policer is raw, and a cell arrived.
+// raw is the number in C's record: here it is only asked whether it is 0, and `checked` refuses one above 1.
 pub fn is_checked(raw: u16, octets: usize) -> bool
     ensures { result ≡ is_checked raw octets }
 {
@@ -145,6 +148,7 @@ pub fn is_checked(raw: u16, octets: usize) -> bool
 }
 
 // A slot with the check in front. It is not laid in place, unlike the few lines that choose it.
+// raw and mode are the numbers in C's record, so any may come, and one above 1 is refused: `slot_promise` speaks of all of them.
 pub fn checked(
     r: Record,
     cells: &mut [u8],
@@ -165,6 +169,7 @@ pub fn checked(
 }
 
 // "One slot, in this order", of a cell of 0 or 53 octets. raw is read only where a cell is lent, mode only where raw is 1.
+// Which of two ways a slot goes is one test, is_checked: an `if` says it.
 #[inline(always)]
 pub fn slot(
     r: Record,

@@ -72,6 +72,7 @@ fn one_slot(
 }
 
 // Slot i, and the tally after it: where it was served, it takes what the slot answered.
+// How the slot ended is told by a number, 0 where it was served: call_burst::burst answers `BurstEnd`, which is C's struct.
 fn one_tallied(
     tally: &mut Tally,
     connection: u16,
@@ -115,6 +116,7 @@ fn one_tallied(
 }
 
 // All slots of a burst that was not refused, one by one. (A contract doesn't know by itself that a lent tally has 64 bins.)
+// A slot that was not served ends it by the number of its `BurstEnd`, which is C's struct and no `Result`.
 fn run(
     tally: &mut Tally,
     connection: u16,

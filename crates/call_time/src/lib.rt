@@ -95,6 +95,7 @@ fn state_of(tat: u64, arrival: u64) -> Tat
 }
 
 // The rule for a cell that arrives in this slot, at now in parts of 1/L slot.
+// number 0 is no refusal, verdict 1 conforming and 2 nonconforming: `Timed` is C's struct, and C reads the numbers.
 fn judge(state: Tat, f: u32, c: u32, arrival: u64, now: u64) -> Timed
     requires { (f ≤ c) × (now < 2 ^ 48) × (state.tat < 2 ^ 48) }
     ensures { result ≡ scheduled f c arrival now state.tat }
@@ -137,6 +138,7 @@ fn expected(tat: Tat, arrival: u64, now: u64) -> Tat
 }
 
 // One cell. A refused one leaves the state as it came.
+// Its verdict is 0 then, as include/clurimoon.h has it of clurimoon_timed.
 pub fn time(tat: Tat, n: u16, m: u8, f: u32, c: u32, arrival: u64) -> Timed
     ensures { result ≡ timed tat n m f c arrival }
 {

@@ -23,6 +23,7 @@ pub fn obeys_rules(n: u16, m: u32, f: u32, c: u32) -> bool
 }
 
 // A second bucket: "m (0 to 15), F (1 to 2^24), C (F to 2^30)", a flag of 0 or 1; or none, of which all are 0.
+// No `Option`: clurimoon_open_sustained hands over 0, 0, 0 and 0 for none, and they are stored so (`Words.second_obeys`).
 pub fn obeys_second(m: u32, f: u32, c: u32, tag: u32) -> bool
     ensures { result ≡ second_obeys (bucket_of m f c 0) tag }
 {

@@ -103,6 +103,7 @@ pub fn is_marked(bits: &[u64], e: u16) -> bool
 }
 
 // Space x, which is free, is taken.
+// That x is free is asked of the caller, here and in `occupy`: `lowest` answers 1,024 where none is, so it alone does not tell.
 pub fn take(bits: &mut [u64], x: u16)
     requires { (length bits.old ≡ bit_words) × (is_free_space bits.old x ≡ true) }
     ensures { bits.new ≡ taken bits.old x }

@@ -1,6 +1,7 @@
 // Lists of spaces walked under two budgets, which say how often each space, and each connection, may still be met. The walk takes
 // one off for each space and each queued cell and fails at 0; at the end nothing may be left. So no count can overflow,
 // and a head, link or header out of range fails by itself.
+// The budgets are handed on apart, in no struct: `Stored.StoredIn` and what `stored` says is left speak of each by itself.
 #![tactic(auto)]
 
 ghost use Rattle.std.specs.Prelude.{◌≡◌, true, ℕ, ◌<◌, get_or};

@@ -7,6 +7,7 @@
 
 fn main(rt: HostRuntime) {
     let mut from = rt.stdin();
+    // There is no heap: an array takes what is kept of the input, and `long` says how much of it was read.
     let mut input = [0u8; 524288];
     let long = input_read::read_full(&mut from, &mut input);
     let Ok(total) = mend_write::count_on(&mut from, long) else {

@@ -7,6 +7,7 @@
 #![tactic(auto)]
 
 fn main(rt: HostRuntime) {
+    // There is no heap: an array takes the longest input and one octet more, and `long` says how much of it was read.
     let mut input = [0u8; 524289];
     let Some(long) = input_read::read_whole(&mut rt.stdin(), &mut input) else {
         return;

@@ -52,6 +52,7 @@ fn off_stored(
 
 // Whether space y is free once space x, which is free, is taken. Taking keeps the words and their number as they fit, so that of a
 // departing space only this is judged again.
+// That x is free is asked of the caller, who knows it of the seat (`Facts.Seated`).
 fn free_after(bits: &[u64], x: u16, y: u16) -> bool
     requires { (length bits.now ≡ bit_words) × (is_free_space bits.now x ≡ true) × (y < most_n) }
     ensures { result ≡ is_free_space (taken bits.now x) y }

@@ -1,4 +1,6 @@
 // A slot in which a cell is accepted: its seat, then steps 4 and 5, are read and judged, then all is written.
+// A refusal is a Served with its number: a `Result` of Served was tried, costs a slot more, and goes through memory once more.
+// So r, the record as it came, goes beside k, in which the clock has moved: a refusal gives it back.
 #![tactic(auto)]
 
 ghost use Rattle.std.specs.Prelude.{◌≡◌, true, ◌-◌, ◌*◌, ◌≤◌, ◌<◌, length};
@@ -120,6 +122,7 @@ fn seat_now(k: Record, d: u16, calendar: &[u16], bits: &[u64]) -> Option<Seat>
 }
 
 // A cell was judged, and is let in.
+// The Output List's ends are tested one after the other, as slot_quiet::quiet_unmarked does, and for the same reason.
 pub fn accept(
     r: Record,
     k: Record,

@@ -30,6 +30,7 @@ pub fn refuse(r: Record, number: u16) -> Served
 }
 
 // The head of a list that has grown at its end by a list that begins at x.
+// head is a stored number, 65,535 where the list is empty (`Numbers.empty`), so this is no `Option::or`.
 pub fn first_of(head: u16, x: u16) -> u16
     ensures { result ≡ (when head =? empty then x else head) }
 {

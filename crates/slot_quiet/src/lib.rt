@@ -1,4 +1,6 @@
 // A slot in which no cell is accepted: steps 4 and 5 are read and judged, then all is written.
+// A refusal is a Served with its number: a `Result` of Served was tried, costs a slot more, and goes through memory once more.
+// So r, the record as it came, goes beside k, in which the clock has moved: a refusal gives it back.
 #![tactic(auto)]
 
 ghost use Rattle.std.specs.Prelude.{◌≡◌, true, false, List, ℕ, ◌+◌, ◌*◌, ◌≤◌, ◌<◌, length};

@@ -1,5 +1,7 @@
 // One slot without the header check: all that it reads is read and judged first, as numbers; then each case writes, so that a refusal leaves
 // everything as it came.
+// A refusal is a Served with its number: a `Result` of Served was tried, costs a slot more, and goes through memory once more.
+// So r, the record as it came, goes beside k, in which the clock has moved: a refusal gives it back.
 #![tactic(auto)]
 
 ghost use Rattle.std.specs.Prelude.{◌≡◌, ◌+◌, ◌%◌, ◌<◌, ◌≤◌, length, ◌≢◌};
@@ -32,6 +34,7 @@ fn clock(r: Record) -> Record
 }
 
 // Steps 2 to 5, the clock having moved.
+// Which way it goes is one test of the verdict: only a cell that is let in is stored, so only accept is lent arrived.
 fn steps(
     r: Record,
     k: Record,

@@ -31,6 +31,7 @@ fn words_fill(k: Record, b: Option<Fall>, j: Judged, words: &mut [u32])
 }
 
 // The cell as it is stored: with CLP 1 where it is tagged.
+// One test of the verdict, which is C's number: 5 is tagged, and `Arrival.sent_as` asks the same.
 pub fn put_sent(verdict: u16, cells: &mut [u8], x: u16, cell: &[u8])
     requires { (cell_start x + octets ≤ length cells.old) × (length cell.now ≡ 53) }
     ensures { cells.new ≡ write_cell cells.old x (sent_as verdict cell.now) }
@@ -51,6 +52,7 @@ fn put_arrived(arrived: &mut [u32], x: u16, t: u32)
 }
 
 // The tail of an entry that a cell has joined at the head.
+// A seat's ends are as the calendar stores them, 65,535 for none, and the tail goes back so: no `Option` in between.
 pub fn tail_of(a: Seat) -> u16
     ensures { result ≡ (seat_ends a).tail }
 {

@@ -5,10 +5,12 @@
 #![tactic(auto)]
 
 fn main(rt: HostRuntime) {
+    // There is no heap: an array takes the longest input and one octet more, and `long` says how much of it was read.
     let mut input = [0u8; 65537];
     let Some(long) = input_read::read_whole(&mut rt.stdin(), &mut input) else {
         return;
     };
+    // There is no heap: each memory is an array for the highest N and V, and list_write::list takes them one by one.
     let mut cells = [0u8; 54272];
     let mut links = [0u16; 1024];
     let mut calendar = [0u16; 2048];
