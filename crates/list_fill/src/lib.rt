@@ -1,4 +1,5 @@
 // A run over a trace: its lines go into a lent buffer, one fill after the other.
+// Run, buffer and place stay apart, as `RanLent` has them: a struct with the buffer in it adds two clauses (see `list_lines`).
 #![tactic(auto)]
 
 ghost use Rattle.std.specs.Prelude.{◌≡◌, Bool, false, ◌+◌, ◌*◌, ◌≤◌, length};
@@ -69,6 +70,7 @@ fn advance(
 }
 
 // Steps until the run is done or a step's lines might not fit.
+// There is no heap: the buffer is lent, and `FillOf` says how much of it is used.
 fn fill_trace(trace: &[u8], more: bool, run: Run, memory: &mut Memory, out: &mut [u8]) -> Filled
     requires { length trace.now ≤ limit }
     ensures fill { FillLent more trace.now run memory out result }
@@ -89,6 +91,7 @@ fn fill_trace(trace: &[u8], more: bool, run: Run, memory: &mut Memory, out: &mut
 }
 
 // Fills the buffer from its start with what comes next of the listing.
+// What is read and where it goes are two parameters. There is no heap: `out` is lent, and `FillPromise` says how much is used.
 pub fn fill(input: &[u8], run: Run, memory: &mut Memory, out: &mut [u8]) -> Filled
     ensures filled { FilledLent input run memory out result }
     ensures same { SameMemory memory.old memory.new }
@@ -112,6 +115,7 @@ pub fn start() -> Run
 }
 
 // N and V of the record that was found, where they are in their ranges.
+// No Option: 0 and 0 where there are none, as `list_whole/Fill.sizes_at` has it.
 fn sizes_at(found: Found) -> Sizes
     ensures { result ≡ sizes_at (said_of found) }
 {
@@ -129,6 +133,7 @@ fn sizes_at(found: Found) -> Sizes
 }
 
 // N and V for which memory is to be lent: those of the first record.
+// No Option here either: `list_whole/Fill.sizes_of` has 0 and 0 where there are none.
 pub fn sizes_of(input: &[u8]) -> Sizes
     ensures value { result ≡ sizes_of input.now }
     ensures n_le_most_n { (result.n ≤ most_n) × (result.v ≤ most_v) }

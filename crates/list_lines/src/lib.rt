@@ -1,4 +1,5 @@
 // The lines of the listing, each put into a lent buffer at a place. Every function answers the place behind its text.
+// A struct of buffer and place was tried: each contract then has two clauses more, that the buffer stays the same and as long.
 #![tactic(auto)]
 
 ghost use Rattle.std.specs.Prelude.{◌≡◌, [], ◌∷◌, ◌++◌, ◌+◌, ◌≤◌, length};
@@ -98,6 +99,7 @@ pub fn slot_line(out: &mut [u8], at: usize, t: u32, a: Answer) -> usize
     ensures put { Put out.old at (slot_line t a) out.new result }
     ensures upper_bound { result ≤ at + 64 }
 {
+    // `Answer` is C's struct: its number tells a served slot from a refused one, and no Result does
     if a.number == 0 {
         served_line(out, at, t, a)
     } else {

@@ -1,4 +1,5 @@
 // A connection's opening and closing in a run, a VC's or a path's, each with its line; the run then stands at the next record.
+// Run, buffer and place stay apart, as `DidWords` has them: a struct with the buffer in it adds two clauses (see `list_lines`).
 ghost use Rattle.std.specs.Prelude.{◌≡◌, ◌+◌, ◌≤◌, false, length};
 ghost use Rattle.meaning.specs.Header.{number_in};
 ghost use Rattle.call_connection.specs.Names.{name_of};
@@ -44,6 +45,7 @@ pub(crate) fn open_connection(
     ensures { DidWords (λ (w : World). called w (open_connection (name_of name) peak.m peak.f peak.c (second_in second)) next 0) room run words out used result }
 {
     let number = listed_number(run.ctl.v, name);
+    // 1 is the second operator: `call_connection::open` takes the number that C gives
     let opened = call_connection::open(run.ctl, words, 1, name, peak, second);
     let line = list_lines::open_line(out, used, number, leaf_refusal::given_number(opened));
     Filled {
@@ -65,6 +67,7 @@ pub(crate) fn close_connection(
     ensures { DidWords (λ (w : World). called w (close_connection (name_of name)) next 0) room run words out used result }
 {
     let number = listed_number(run.ctl.v, name);
+    // 1 is the second operator: `call_connection::close` takes the number that C gives
     let closed = call_connection::close(run.ctl, words, 1, name);
     let line = list_lines::close_line(out, used, number, leaf_refusal::given_number(closed));
     Filled {

@@ -1,4 +1,5 @@
 // One step of a run with what it writes: a slot, or one record of the trace, or the end.
+// Run, buffer and place stay apart, as `DidLent` has them: a struct with the buffer in it adds two clauses (see `list_lines`).
 #![tactic(auto)]
 
 ghost use Rattle.std.specs.Prelude.{◌≡◌, ◌+◌, ◌≤◌, true, false, [], length};
@@ -96,6 +97,7 @@ fn is_raw(head: Head) -> bool
 }
 
 // The line kind that it chooses: 0 UNI, 1 NNI.
+// It is a number, as `clurimoon_setup` takes it from C, and `call_setup::setup` with it.
 fn line_kind(head: Head) -> u16
     ensures { result ≡ kind_number (head_options head).kind }
 {
@@ -144,6 +146,7 @@ fn set_up(
         done: false,
         tally: Tally::default(),
     };
+    // `Fresh` is C's struct: its number tells a good setup from a refused one, and no Result does
     if fresh.number == 0 {
         return Filled { run, used: line };
     }
@@ -187,6 +190,7 @@ fn stop_run(run: Run, place: u32, out: &mut [u8], used: usize) -> Filled
 }
 
 // One record: its call with its line, or a pause that begins.
+// One `match` on the event chooses the call, and nothing plainer does.
 fn happen(
     trace: &[u8],
     run: Run,

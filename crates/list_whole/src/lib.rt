@@ -24,6 +24,7 @@ pub struct Filled {
 }
 
 // N and V for which memory is to be lent.
+// No Option: `Fill.sizes_at` has 0 and 0 where a trace names none, and `LentFor` says what is lent for these as for any others.
 #[derive(Clone, Copy)]
 pub struct Sizes {
     pub n: u16,

@@ -1,5 +1,7 @@
 // The listing of an input, handed to a writer one buffer after the other. What is handed over, in which order and
 // what is left in the lent memories is promised; whether the operating system takes it is outside every contract.
+// `Written` is what `list` promises its caller: each function hands on what the next one promises, so all four state it.
+// Input and buffer are two parameters: the one is read, the other is where the listing goes.
 #![tactic(auto)]
 
 ghost use Rattle.std.specs.Prelude.{◌≤◌, length};
@@ -12,6 +14,7 @@ use meaning::{PATHS, WORDS_PER_CONNECTION};
 use std::io::Write;
 
 // Fills the buffer and writes it out, until the listing is whole, or until a write fails.
+// There is no heap: one lent buffer is filled again and again, and each fill says how much of it is used.
 fn write_fills<W: Write>(to: &mut W, input: &[u8], memory: &mut Memory, out: &mut [u8]) -> bool
     requires lent_for { LentFor (sizes_of input.now) (world_in start_run memory.old) }
     requires room_in_bounds { room ≤ length out.old }

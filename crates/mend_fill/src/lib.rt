@@ -53,6 +53,7 @@ fn number(text: &mut [u8], at: usize, n: usize, after: u8) -> usize
 }
 
 // `FIRST LENGTH`
+// Text and place stay apart: a struct of both adds two clauses to each contract (see `list_lines`).
 fn stretch_line(text: &mut [u8], at: usize, first: usize, long: usize) -> usize
     requires { at + line_room ≤ length text.old }
     ensures put { Put text.old at (stretch_line first long) text.new result }

@@ -14,6 +14,7 @@ pub enum Stride {
 }
 
 // Whether a salvage resumes at q: a whole readable record, directly followed by a known mark or the end of the input.
+// No `Reader`: `Salvage.meets_rule` asks of any place, and a reader would be made for that one alone.
 fn meets_rule(trace: &[u8], total: usize, q: usize) -> bool
     ensures { result ≡ meets_rule trace.now total q }
 {
@@ -24,6 +25,7 @@ fn meets_rule(trace: &[u8], total: usize, q: usize) -> bool
 }
 
 // The least place after p that meets the rule, or the input's end: each place is tried once.
+// No `Reader`, which stays where nothing can be read: `Salvage.resume` tries every place.
 fn resume_after(trace: &[u8], total: usize, p: usize) -> usize
     ensures { result ≡ resume trace.now total p }
 {
@@ -53,6 +55,7 @@ pub fn step(trace: &[u8], total: usize, at: usize) -> Stride
 }
 
 // One step: at or past the input's end nothing is taken.
+// No `Reader`, which doesn't go on over a stretch: `Salvage.taken_at` is of every trace, total and place.
 pub fn take_piece(trace: &[u8], total: usize, at: usize) -> Option<Stride>
     ensures { result ≡ taken_at trace.now total at }
 {

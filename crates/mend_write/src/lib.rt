@@ -12,6 +12,7 @@ use mend_fill::{LINE_ROOM, RECORD_ROOM};
 use std::io::{Read, Write};
 
 // Fills both buffers and writes them out, until the input's end is reached, or until a write fails.
+// There is no heap: both buffers are lent, and each fill says how much of them is used.
 fn hand_over<M: Write, L: Write>(
     mended: &mut M,
     list: &mut L,

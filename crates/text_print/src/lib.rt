@@ -1,4 +1,5 @@
 // The text of a trace, a line a record: lines go into a lent buffer, one fill after the other.
+// Buffer and place stay apart, as `Put` has them: a struct of both adds two clauses to each contract (see `list_lines`).
 #![tactic(auto)]
 
 ghost use Rattle.std.specs.Prelude.{◌≡◌, List, [], ◌∷◌, ◌++◌, ℕ, ◌+◌, ◌≤◌, ◌<◌, length, take, drop};
@@ -148,6 +149,7 @@ fn cell_text(trace: &[u8], start: usize, out: &mut [u8], at: usize) -> usize
 }
 
 // The line of a record.
+// One `match` on the event chooses it, and nothing plainer does.
 fn line_text(trace: &[u8], event: Event, out: &mut [u8], at: usize) -> usize
     requires { (CellWithin trace.now (record_of event)) × (at + line_room ≤ length out.old) }
     ensures put { Put out.old at (line_of trace.now (record_of event)) out.new result }

@@ -1,5 +1,6 @@
 // Writing a trace, one record at a time: each function writes its record at a place of a lent output, and answers where the next
 // record starts. What the reader would refuse there is 10 at the place, a record that doesn't fit 14.
+// Output and place stay apart, as `WritePromise` has them: a struct of both adds two clauses to each contract (see `list_lines`).
 #![tactic(auto)]
 
 ghost use Rattle.std.specs.Prelude.{◌≡◌, true, [], ◌∷◌, ◌++◌};

@@ -1,6 +1,7 @@
 // A text of limited length written as a trace, with the line that says why it wasn't, and both handed to two writers
 // one buffer after the other. What is handed over, in which order and what is left in the lent buffers is promised; whether
 // the operating system takes it is outside every contract.
+// Input and buffers are apart: the one is read, and what comes of it goes into the others.
 #![tactic(auto)]
 
 ghost use Rattle.std.specs.Prelude.{◌≡◌, true, ◌≤◌, ◌<◌, length};
@@ -32,6 +33,7 @@ fn write_within(input: &[u8], out: &mut [u8]) -> Result<usize, WriteError>
 
 // So many octets of the trace of a text, and nothing in the line; or nothing of the trace, and so many octets of the line
 // `stop 10 PLACE` or `stop 14`.
+// There is no heap: both buffers are lent, and the answer says how much of the one or the other is used.
 fn scribe(input: &[u8], out: &mut [u8], line: &mut [u8]) -> Result<usize, usize>
     requires { line_room ≤ length line.old }
     ensures scribe_promise { ScribePromise input.now out.old line.old result out.new line.new }
@@ -45,6 +47,7 @@ fn scribe(input: &[u8], out: &mut [u8], line: &mut [u8]) -> Result<usize, usize>
 }
 
 // Fills the buffer with what comes next and writes it out, until all is handed over, or until a write fails.
+// There is no heap: the buffer is lent, and `Fills` says of each fill what it puts there and how much of it is used.
 fn pass<W: Write>(to: &mut W, all: &[u8], out: &mut [u8]) -> bool
     requires { 0 < length out.old }
     ensures passed { Passed all.now out.old result out.new }
@@ -60,6 +63,7 @@ fn pass<W: Write>(to: &mut W, all: &[u8], out: &mut [u8]) -> bool
 }
 
 // Makes the one or the other, and hands it over.
+// There is no heap: either stands in the front of a lent buffer, as long as `scribe` says.
 fn hand<W: Write, E: Write>(
     trace: &mut W,
     error: &mut E,

@@ -28,6 +28,7 @@ fn stands(trace: &[u8], at: usize) -> bool
 }
 
 // Fills the buffer and writes it out, until no record stands there: where the lines end. None where a write failed.
+// There is no heap: the buffer is lent, and `Printed` says how much of it is used.
 fn hand_over<W: Write>(to: &mut W, trace: &[u8], out: &mut [u8]) -> Option<usize>
     requires { line_room ≤ length out.old }
     ensures handed { HandedTo trace.now out.old result out.new }
@@ -54,6 +55,7 @@ fn at_end(at: usize, total: usize) -> bool
 }
 
 // The lines of a trace, then `stop 10 PLACE` where they end before the input of `total` octets does.
+// There is no heap: the refusal's line is made in the lent buffer too, and is as long as `stop_line` says.
 fn tell<W: Write, E: Write>(
     to: &mut W,
     beside: &mut E,
@@ -78,6 +80,7 @@ fn tell<W: Write, E: Write>(
 
 // Hands the text of an input to one writer, and to another `stop 10 PLACE` where a record can't be read. Of an input that
 // is longer than 524,288 octets only those are read. Answers whether all of it was written.
+// Input and buffer are two parameters: the one is read, the other is where the text goes.
 pub fn show<W: Write, E: Write>(to: &mut W, beside: &mut E, input: &[u8], out: &mut [u8]) -> bool
     ensures promise { ShowPromise input.now out.old result out.new }
     ensures written { result ≡ true → Taken (take limit input.now) (length input.now) (W.contents to.old) (W.contents to.new)

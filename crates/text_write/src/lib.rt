@@ -1,4 +1,5 @@
 // A whole text written as a trace: everything is judged before the first octet is written.
+// Output and place stay apart, as `Put` has them: a struct of both adds two clauses to each contract (see `list_lines`).
 #![tactic(auto)]
 
 ghost use Rattle.std.specs.Prelude.{◌≡◌, ◌+◌, ◌*◌, ◌≤◌, ◌<◌, length, IsOk};
@@ -25,6 +26,7 @@ fn less(room: Option<usize>, n: usize) -> Option<usize>
 }
 
 // A rest of slots takes one record, or none.
+// Told by an `if`: four times a truth value would be no plainer.
 fn rest_long(rest: usize) -> usize
     ensures { (result ≡ rest_long rest) × (result ≤ 4) }
 {
@@ -135,6 +137,7 @@ fn lay(text: &[u8], out: &mut [u8])
     let mut at = 0usize;
     let mut rest = 0usize;
     let mut p = 0usize;
+    // No iterator of lines: each line says where the next one starts.
     while let Some((line, next)) = text_line::line_at(text, p, &mut rec) {
         at = put_line(out, at, rest, line, &rec);
         rest = leaves(rest, line);

@@ -77,6 +77,7 @@ pub enum Event {
 }
 
 // What stands at a place: a record, and where the next one starts; the end; or nothing that can be read (10).
+// An enum of its own, and no Result of an Option: document 01 has let .. else take the reader's enum answer apart.
 #[derive(Clone, Copy)]
 pub enum Found {
     Read { event: Event, next: usize },
