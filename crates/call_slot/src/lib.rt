@@ -9,6 +9,7 @@ ghost use Rattle.meaning.specs.Lent.{before, seen, served_after};
 ghost use Rattle.call_slot.specs.Back.{is_checked, mode_after, is_dropped, back_served, back_from, unfit_in};
 
 use base_hec::Checked;
+use leaf_refusal::Refusal;
 use meaning::{Answer, Record, Served, record_in_mode};
 
 // A refused slot gives the record back as it came, in its old mode. "A dropped cell: verdict 4, H".
@@ -134,8 +135,8 @@ fn unfit_slot(
     ensures { result ≡ unfit_in (seen r cells links calendar words bits arrived) }
 {
     match slot_steps::shape(r, cells, links, calendar, words, bits, arrived, cell) {
-        0 => slot_depart::refuse(r, 3),
-        number => slot_depart::refuse(r, number),
+        Ok(()) => slot_depart::refuse(r, Refusal::Stored),
+        Err(why) => slot_depart::refuse(r, why),
     }
 }
 

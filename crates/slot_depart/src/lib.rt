@@ -6,20 +6,22 @@ ghost use Rattle.meaning.specs.Plain.{when◌then◌else◌, ◌=?◌};
 ghost use Rattle.meaning.specs.Numbers.{empty};
 ghost use Rattle.meaning.specs.Lists.{empty_list, write_entry};
 ghost use Rattle.meaning.specs.Work.{answer_of, bare_answer};
+ghost use Rattle.leaf_refusal.specs.Refusals.{number_of};
 ghost use Rattle.mem_lists.specs.Spaces.{ends_of};
 ghost use Rattle.slot_plan.specs.Plan.{with_ends};
 
+use leaf_refusal::Refusal;
 use meaning::{Answer, Record, Served};
 use mem_lists::Off;
 
 // "In a refusal all but the number are 0, and the space is 65,535."
-pub fn refuse(r: Record, number: u16) -> Served
-    ensures { (result.ctl ≡ r) × (result.answer ≡ bare_answer number) }
+pub fn refuse(r: Record, why: Refusal) -> Served
+    ensures { (result.ctl ≡ r) × (result.answer ≡ bare_answer (number_of why)) }
 {
     Served {
         ctl: r,
         answer: Answer {
-            number: number,
+            number: u16::from(why),
             verdict: 0,
             vci: 0,
             d: 0,

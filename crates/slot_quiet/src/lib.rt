@@ -16,6 +16,7 @@ ghost use Rattle.slot_plan.specs.Works.{last_steps};
 ghost use Rattle.slot_plan.specs.Facts.{SizedWith};
 ghost use Rattle.slot_quiet.specs.Quiet.{EndsWith, GivesWith, AllWith, KeepsWith, MayEnd};
 
+use leaf_refusal::Refusal;
 use meaning::{Answer, Record, Served};
 use mem_lists::Off;
 use slot_arrive::{Fall, Judged};
@@ -112,10 +113,10 @@ fn quiet_marked(
     ensures { (arrived : List ℕ) → AllWith arrived r k b j (λ w. leaving_marked w (ends_of head tail)) result cells links calendar words bits }
 {
     let Some(o) = off_marked(k, head, tail, cells, links, words) else {
-        return slot_depart::refuse(r, 3);
+        return slot_depart::refuse(r, Refusal::Stored);
     };
     if !may_free(k.n, k.free, bits, o.space) {
-        return slot_depart::refuse(r, 3);
+        return slot_depart::refuse(r, Refusal::Stored);
     }
     slot_depart::clear_entry(calendar, true, k.turn);
     quiet_end(
@@ -151,10 +152,10 @@ fn quiet_output(
 {
     let Some(o) = mem_lists::off_head(k.n, k.v, k.kind, cells, links, words, k.outhead, k.outtail)
     else {
-        return slot_depart::refuse(r, 3);
+        return slot_depart::refuse(r, Refusal::Stored);
     };
     if !may_free(k.n, k.free, bits, o.space) {
-        return slot_depart::refuse(r, 3);
+        return slot_depart::refuse(r, Refusal::Stored);
     }
     quiet_end(k, b, j, o, false, 0, false, links, words, bits)
 }
@@ -198,15 +199,15 @@ fn quiet_unmarked(
 {
     if k.outhead == 65535 {
         if k.outtail != 65535 {
-            return slot_depart::refuse(r, 3);
+            return slot_depart::refuse(r, Refusal::Stored);
         }
         return quiet_none(k, b, j, words);
     }
     if k.outhead >= k.n {
-        return slot_depart::refuse(r, 3);
+        return slot_depart::refuse(r, Refusal::Stored);
     }
     if k.outtail >= k.n {
-        return slot_depart::refuse(r, 3);
+        return slot_depart::refuse(r, Refusal::Stored);
     }
     quiet_output(r, k, b, j, cells, links, words, bits)
 }
@@ -232,18 +233,18 @@ pub fn quiet(
     let tail = calendar[at + 1];
     if head == 65535 {
         if tail != 65535 {
-            return slot_depart::refuse(r, 3);
+            return slot_depart::refuse(r, Refusal::Stored);
         }
         return quiet_unmarked(r, k, b, j, cells, links, words, bits);
     }
     if head >= k.n {
-        return slot_depart::refuse(r, 3);
+        return slot_depart::refuse(r, Refusal::Stored);
     }
     if tail >= k.n {
-        return slot_depart::refuse(r, 3);
+        return slot_depart::refuse(r, Refusal::Stored);
     }
     if !mem_lists::pair(k.n, k.outhead, k.outtail) {
-        return slot_depart::refuse(r, 3);
+        return slot_depart::refuse(r, Refusal::Stored);
     }
     quiet_marked(r, k, b, j, head, tail, cells, links, calendar, words, bits)
 }

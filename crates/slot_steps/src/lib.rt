@@ -7,10 +7,12 @@
 ghost use Rattle.std.specs.Prelude.{◌≡◌, ◌+◌, ◌%◌, ◌<◌, ◌≤◌, length, ◌≢◌};
 ghost use Rattle.meaning.specs.Numbers.{most_v, connections_in};
 ghost use Rattle.meaning.specs.Lent.{here, before, seen, served_after, Gives};
+ghost use Rattle.leaf_refusal.specs.Refusals.{given_number};
 ghost use Rattle.slot_plan.specs.Plan.{clocked};
 ghost use Rattle.slot_plan.specs.Facts.{Sized};
 ghost use Rattle.slot_steps.specs.Slot.{shape_in, later_steps, unchecked_promise};
 
+use leaf_refusal::{Refusal, refuse_unless};
 use meaning::{PATHS, Record, Served};
 
 // One more, modulo n, without a division.
@@ -51,11 +53,11 @@ fn steps(
     ensures { Gives r (later_steps (before k cells links calendar words bits arrived) cell.now) result cells links calendar words bits arrived }
 {
     let Some(b) = slot_arrive::bring(k.n, k.v, words, k.rotation, k.t) else {
-        return slot_depart::refuse(r, 3);
+        return slot_depart::refuse(r, Refusal::Stored);
     };
     let name = slot_arrive::name_of(cell, k.kind);
     let Some(j) = slot_arrive::judge(k.n, k.v, words, name, k.t, cell) else {
-        return slot_depart::refuse(r, 3);
+        return slot_depart::refuse(r, Refusal::Stored);
     };
     if meaning::lets_in(j.verdict) {
         return slot_accept::accept(
@@ -75,13 +77,11 @@ pub fn shape(
     bits: &[u64],
     arrived: &[u32],
     cell: &[u8],
-) -> u16
-    ensures { result ≡ shape_in (seen r cells links calendar words bits arrived) cell.now }
+) -> Result<(), Refusal>
+    ensures { given_number result ≡ shape_in (seen r cells links calendar words bits arrived) cell.now }
 {
-    if !leaf_refusal::ranges_hold(r.n, r.v) {
-        return 1;
-    }
-    if !leaf_refusal::lengths_hold(
+    refuse_unless(leaf_refusal::ranges_hold(r.n, r.v), Refusal::Ranges)?;
+    let long = leaf_refusal::lengths_hold(
         r.n,
         r.v,
         cells.len(),
@@ -90,16 +90,9 @@ pub fn shape(
         words.len(),
         bits.len(),
         arrived.len(),
-    ) {
-        return 2;
-    }
-    if cell.len() == 0 {
-        return 0;
-    }
-    if cell.len() == 53 {
-        return 0;
-    }
-    9
+    );
+    refuse_unless(long, Refusal::Lengths)?;
+    refuse_unless(cell.len() == 0 || cell.len() == 53, Refusal::CellSize)
 }
 
 // "One slot, in this order", of a cell of 0 or 53 octets.
@@ -115,15 +108,14 @@ pub fn slot(
 ) -> Served
     ensures { unchecked_promise (before r cells links calendar words bits arrived) cell.now (served_after result cells links calendar words bits arrived) }
 {
-    let number = shape(r, cells, links, calendar, words, bits, arrived, cell);
-    if number != 0 {
-        return slot_depart::refuse(r, number);
+    if let Err(why) = shape(r, cells, links, calendar, words, bits, arrived, cell) {
+        return slot_depart::refuse(r, why);
     }
     if r.turn >= r.n {
-        return slot_depart::refuse(r, 3);
+        return slot_depart::refuse(r, Refusal::Stored);
     }
     if r.rotation >= r.v + PATHS {
-        return slot_depart::refuse(r, 3);
+        return slot_depart::refuse(r, Refusal::Stored);
     }
     let k = clock(r);
     steps(r, k, cells, links, calendar, words, bits, arrived, cell)

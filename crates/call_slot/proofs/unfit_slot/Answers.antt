@@ -11,6 +11,8 @@ use Rattle.meaning.specs.Plain.{when◌then◌else◌}
 use Rattle.meaning.specs.Numbers.{ranges_hold}
 use Rattle.meaning.specs.State.{lengths_hold}
 use Rattle.meaning.specs.Work.{bare_answer}
+use Rattle.leaf_refusal.specs.Refusals.{given_number}
+use Rattle.leaf_refusal.proofs.Numbers.{never_0}
 use Rattle.slot_steps.specs.Slot.{shape_of}
 use Rattle.call_slot.specs.Back.{served_of, unfit_of}
 use Rattle.call_slot.proofs.unfit_slot.Goals as goal
@@ -59,12 +61,12 @@ module _ (r : Record) (cells links calendar words bits arrived cell : List ℕ) 
       (λ i. record { ctl = h.0 i; answer = h.1 i })
       ∙ ap (λ (n : ℕ). served_of r (bare_answer n)) (none p q (sym shape_is ∙ sym e ∙ z))
 
-pub returns-in-0 : goal.returns-in-0
-returns-in-0 c =
+pub returns-in-Ok : goal.returns-in-Ok
+returns-in-Ok c =
     late c.args.r c.args.cells.now c.args.links.now c.args.calendar.now c.args.words.now c.args.bits.now c.args.arrived.now
-    c.args.cell.now c.requires _ _ c.shape.ensures c.in-0.is c.refuse.ensures
+    c.args.cell.now c.requires _ _ (sym (ap given_number c.in-Ok.is) ∙ c.shape.ensures) refl c.refuse.ensures
 
-pub returns-in_default : goal.returns-in_default
-returns-in_default c =
+pub returns-in-Err : goal.returns-in-Err
+returns-in-Err c =
     early c.args.r c.args.cells.now c.args.links.now c.args.calendar.now c.args.words.now c.args.bits.now c.args.arrived.now
-    c.args.cell.now c.requires _ _ c.shape.ensures (λ e. omega (arith, e)) c.refuse-in_default.ensures
+    c.args.cell.now c.requires _ _ (sym (ap given_number c.in-Err.is) ∙ c.shape.ensures) (never_0 _) c.refuse-in-Err.ensures
