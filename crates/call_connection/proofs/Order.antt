@@ -1,4 +1,4 @@
--- Once none of the refusals that open and close share is given: the connection's words are lent, and an open one's m is in its range.
+-- The refusals that open and close share, in document 01's order; and once none of them is given: the connection's words are lent, and an open one's m is in its range.
 use Prim.Native.Nat.{ℕ, ◌≤◌}
 use mathlib.Core.Path.{◌≡◌, refl}
 use mathlib.Core.Bool.{Bool, true, false, not, ◌&&◌}
@@ -18,11 +18,34 @@ use Rattle.meaning.proofs.NamesLaws.{number_low}
 use Rattle.leaf_bucket.proofs.Rules.{both}
 use Rattle.leaf_refusal.proofs.Ranges.{ranges_facts}
 use Rattle.mem_words.proofs.Fits.{bucket_facts}
+use Rattle.leaf_refusal.specs.Order.{refuse_of, first_of}
+
+-- refusals 1, twice, 2, 4 and 16
+abbrev early : Bool → Bool → Bool → Bool → Bool → ℕ
+early a s b d o =
+    first_of (first_of (first_of (first_of (refuse_of 1 (not a)) (refuse_of 1 (not s))) (refuse_of 2 (not b))) (refuse_of 4 (not d)))
+    (refuse_of 16 (not o))
 
 -- "1, 2, 4, 16, 3"
 abbrev in_order : Bool → Bool → Bool → Bool → Bool → Bool → ℕ
 in_order a s b d o e =
     when not a then 1 else when not s then 1 else when not b then 2 else when not d then 4 else when not o then 16 else when not e then 3 else 0
+
+order_early : (a s b d o e : Bool) → (early a s b d o ≡ 0 → ⊥) → early a s b d o ≡ in_order a s b d o e
+order_early true true true true true e h = absurd (h refl)
+order_early true true true true false e h = refl
+order_early true true true false o e h = refl
+order_early true true false d o e h = refl
+order_early true false b d o e h = refl
+order_early false s b d o e h = refl
+
+order_late : (a s b d o e : Bool) → early a s b d o ≡ 0 → refuse_of 3 (not e) ≡ in_order a s b d o e
+order_late true true true true true e h = refl
+order_late true true true true false e h = absurd (omega arith)
+order_late true true true false o e h = absurd (omega arith)
+order_late true true false d o e h = absurd (omega arith)
+order_late true false b d o e h = absurd (omega arith)
+order_late false s b d o e h = absurd (omega arith)
 
 shared_zero : (a s b d o e : Bool) → in_order a s b d o e ≡ 0 → (a ≡ true) × (b ≡ true) × (d ≡ true) × (e ≡ true)
 shared_zero true true true true true true h = (refl, refl, refl, refl)
@@ -56,6 +79,18 @@ module _ (r : Record) (words : List ℕ) (who : ℕ) (name : Name) where
 
   abbrev fits : Bool
   fits = connection_fits r.n (connection_at words numbered)
+
+  -- "1, 2, 4, 3", and 16 after 4: the first of those before 3 that is given is the refusal, and 3 where none of them is
+  abbrev pub early_refusal : ℕ
+  early_refusal = early in_range split is_long is_named is_owned
+
+  pub shared_early : (early_refusal ≡ 0 → ⊥) → early_refusal ≡ shared_refusal r words who name
+  unfolding shared_refusal
+  shared_early h = order_early in_range split is_long is_named is_owned fits h
+
+  pub shared_late : early_refusal ≡ 0 → refuse_of 3 (not fits) ≡ shared_refusal r words who name
+  unfolding shared_refusal
+  shared_late h = order_late in_range split is_long is_named is_owned fits h
 
   -- V in its range and such a connection: what its number needs
   abbrev Named : Type 0

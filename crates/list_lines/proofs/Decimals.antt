@@ -1,12 +1,14 @@
 -- A number's digits as document 01 has them are the text that the library prints.
-use mathlib.Core.Path.{◌≡◌, sym, ap, ◌∙◌}
-use mathlib.Core.List.{List, [], ◌∷◌, ◌++◌}
-use mathlib.Core.Logic.{inl, inr}
+use mathlib.Core.Path.{◌≡◌, refl, sym, ap, ◌∙◌}
+use mathlib.Core.Bool.{Bool, true, false}
+use mathlib.Core.List.{List, [], ◌∷◌, ◌++◌, append_assoc}
+use mathlib.Core.Logic.{◌⊎◌, inl, inr, ⊎_elim}
 use Prim.Native.Nat.{ℕ, zero, suc, ◌+◌, ◌-◌, ◌*◌, ◌/◌, ◌%◌, ◌^◌, ◌≤◌, ◌<◌, max}
 use native.Mathlib.Nat.{pow-suc, one-le-pow, eq-zero-or-pos}
 use lib.ListN.{length, take, drop, length-append, take-append-drop}
 use native.Mathlib.Omega.{arith}
-use borrow.Author.Tests.{lt-ltb, le-ltb}
+use borrow.Author.Tests.{lt-ltb, le-ltb, ltb-true, ltb-false}
+use lib.Dec.{ltb}
 use Rattle.std.specs.Fmt.{decimal as printed}
 use Rattle.std.proofs.lemmas.Fmt.{decimal_digit, decimal_step, decimal_nonempty, length-decimal-le}
 use Rattle.list_lines.specs.Text.{decimal, decimal_of}
@@ -61,3 +63,49 @@ put_digits {l} {l'} {i} {n} {w} {e} k s q low high f is le start written before 
     let here : s ≡ i = omega arith in
     put_between (omega (arith, ap length d)) le
     (sym (take-append-drop s l') ∙ rw (before, written, d, here))
+
+-- In groups of four: the digits of n are those of n / 10,000, and four more.
+abbrev pub four_of : ℕ → List ℕ
+four_of n = (48 + n / 100 / 10) ∷ (48 + n / 100 % 10) ∷ (48 + n % 100 / 10) ∷ (48 + n % 100 % 10) ∷ []
+
+-- a number is below another or not
+abbrev sided : (n m : ℕ) (b : Bool) → ltb n m ≡ b → (n < m) ⊎ (m ≤ n)
+sided n m true e = inl (ltb-true n m e)
+sided n m false e = inr (ltb-false n m e)
+
+-- one place more than is enough changes nothing
+decimal_fuel : (k n : ℕ) → n < 10 ^ suc k → decimal (suc k) n ≡ decimal (suc (suc k)) n
+decimal_fuel zero n h = decimal_one zero n h ∙ sym (decimal_one 1 n h)
+decimal_fuel (suc k) n h =
+    ⊎_elim
+    (λ (l : n < 10). decimal_one (suc k) n l ∙ sym (decimal_one (suc (suc k)) n l))
+    (λ (l : 10 ≤ n). decimal_more (suc k) n l ∙ ap (λ (d : List ℕ). d ++ ((48 + n % 10) ∷ [])) (decimal_fuel k (n / 10) (omega (arith, h, pow-suc 10 (suc k)))) ∙ sym (decimal_more (suc (suc k)) n l))
+    (sided n 10 (ltb n 10) refl)
+
+-- a digit more on the right
+snoc : {xs ys : List ℕ} {a b : ℕ} → xs ≡ ys → a ≡ b → xs ++ (a ∷ []) ≡ ys ++ (b ∷ [])
+snoc e f = rw (e, f)
+
+-- four digits from the right
+decimal_snocs : (k n : ℕ) → 10000 ≤ n
+    → decimal (suc (suc (suc (suc k)))) n
+    ≡ (((decimal k (n / 10000) ++ ((48 + n % 10000 / 100 / 10) ∷ [])) ++ ((48 + n % 10000 / 100 % 10) ∷ [])) ++ ((48 + n % 10000 % 100 / 10) ∷ [])) ++ ((48 + n % 10000 % 100 % 10) ∷ [])
+decimal_snocs k n h =
+    decimal_more (suc (suc (suc k))) n (omega arith)
+    ∙ snoc (decimal_more (suc (suc k)) (n / 10) (omega arith)
+    ∙ snoc (decimal_more (suc k) (n / 10 / 10) (omega arith)
+    ∙ snoc (decimal_more k (n / 10 / 10 / 10) (omega arith)
+    ∙ snoc (ap (λ (m : ℕ). decimal k m) (omega arith)) (omega arith)) (omega arith)) (omega arith)) (omega arith)
+
+decimal_four : (k n : ℕ) → 10000 ≤ n → decimal (suc (suc (suc (suc k)))) n ≡ decimal k (n / 10000) ++ four_of (n % 10000)
+decimal_four k n h = decimal_snocs k n h ∙ simp append_assoc
+
+split_digits : (n : ℕ) → 10000 ≤ n → n < 10000000000 → decimal_of n ≡ decimal_of (n / 10000) ++ four_of (n % 10000)
+unfolding decimal_of
+split_digits n l h =
+    decimal_four 6 n l
+    ∙ ap (λ (d : List ℕ). d ++ four_of (n % 10000))
+    (decimal_fuel 5 (n / 10000) (omega arith) ∙ decimal_fuel 6 (n / 10000) (omega arith) ∙ decimal_fuel 7 (n / 10000) (omega arith) ∙ decimal_fuel 8 (n / 10000) (omega arith))
+
+pub split_twice : (n : ℕ) → 100000000 ≤ n → n < 10000000000 → decimal_of n ≡ (decimal_of (n / 10000 / 10000) ++ four_of (n / 10000 % 10000)) ++ four_of (n % 10000)
+split_twice n l h = split_digits n (omega arith) h ∙ ap (λ (d : List ℕ). d ++ four_of (n % 10000)) (split_digits (n / 10000) (omega arith) (omega arith))

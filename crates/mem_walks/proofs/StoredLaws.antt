@@ -137,12 +137,14 @@ module _ (l calendar : List ℕ) (nm : ℕ → ℕ) (N : ℕ) (output : Ends) (b
   abbrev pub answer : Bool
   answer = r.ok && list_all (λ left. left =? 0) r.spaces && list_all (λ left. left =? 0) r.waits
 
+  pub stored_sound : r.ok ≡ true → Gone r.spaces → Gone r.waits → Stored l calendar nm N output b w
+  stored_sound = rw met (lists_sound l calendar nm N output b w)
+
   pub stored_yes : answer ≡ true → Stored l calendar nm N output b w
   stored_yes h =
       let p = both (r.ok && list_all (λ left. left =? 0) r.spaces) (list_all (λ left. left =? 0) r.waits) h in
       let q = both r.ok (list_all (λ left. left =? 0) r.spaces) p.0 in
-      let sound : r.ok ≡ true → Gone r.spaces → Gone r.waits → Stored l calendar nm N output b w = rw met (lists_sound l calendar nm N output b w) in
-      sound q.0 (gone_yes r.spaces q.1) (gone_yes r.waits p.1)
+      stored_sound q.0 (gone_yes r.spaces q.1) (gone_yes r.waits p.1)
 
   pub stored_no : NoMark b → Stored l calendar nm N output b w → answer ≡ true
   stored_no n s =

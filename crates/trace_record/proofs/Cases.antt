@@ -6,7 +6,7 @@ use mathlib.Core.Bool.{Bool, true, false, ◌&&◌}
 use mathlib.Core.List.{List}
 use Prim.Native.Nat.{ℕ, ◌+◌, ◌≤◌, ◌<◌}
 use lib.ListN.{length}
-use borrow.Author.Tests.{ne_eqb, eq-eqb, le-leb, lt-leb, ltb-false, le-ltb}
+use borrow.Author.Tests.{ne_eqb, eq-eqb, le-leb, lt-leb, lt-ltb, ltb-false, le-ltb}
 use native.Mathlib.Omega.{arith}
 use Rattle.std.proofs.Math.Bool.{and-false, beq}
 use Rattle.meaning.specs.Words.{second_of}
@@ -166,9 +166,9 @@ module _ (s : List ℕ) (at : ℕ) where
         go (inl e) = ap (λ (b : Bool). b && at =? length s) (lt-leb 1 at (omega (arith, e.1)))
         go (inr f) = simp (ne_eqb at (length s) f) (and-false (1 ≤? at))
 
-    stands_short : length s <? at + 2 ≡ true → unreadable at ≡ stands_at s at
+    cut_short : length s <? at + 2 ≡ true → unreadable at ≡ stands_at s at
     unfolding stands_at
-    stands_short h = simp (off, h)
+    cut_short h = simp (off, h)
 
     stands_marked : at + 2 ≤ length s → stood s at (be16 s at) (at =? 0) ≡ stands_at s at
     unfolding stands_at
@@ -178,7 +178,7 @@ module _ (s : List ℕ) (at : ℕ) where
     stands_none u = go (length s <? at + 2) refl
       where
         go : (b : Bool) → length s <? at + 2 ≡ b → unreadable at ≡ stands_at s at
-        go true t = stands_short t
+        go true t = cut_short t
         go false f =
             let h = ltb-false (length s) (at + 2) f in
             no_mark s at (be16 s at) (λ k q. u k (h, q)) (at =? 0) ∙ stands_marked h
@@ -202,3 +202,13 @@ module _ (s : List ℕ) (at : ℕ) where
 
     pub stands_later : (at ≡ 0 → ⊥) → x ≡ later_at s at m → x ≡ stands_at s at
     stands_later z q = so false (ne_eqb at 0 z) q
+
+-- a trace that is empty, and one that ends within a mark
+module _ (s : List ℕ) (at : ℕ) where
+  pub stands_empty : at ≡ length s → at ≡ 0 → unreadable at ≡ stands_at s at
+  unfolding stands_at
+  stands_empty e z = simp (lt-leb 1 at (omega arith), lt-ltb (length s) (at + 2) (omega arith))
+
+  pub stands_short : (at ≡ length s → ⊥) → length s < at + 2 → unreadable at ≡ stands_at s at
+  unfolding stands_at
+  stands_short n h = simp (ne_eqb at (length s) n, and-false (1 ≤? at), lt-ltb (length s) (at + 2) h)
