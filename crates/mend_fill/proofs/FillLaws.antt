@@ -38,6 +38,10 @@ lines_append (keeps p l ∷ xs) ys = lines_append xs ys
 lines_append (skips p l ∷ xs) ys =
     ap (λ (x : List ℕ). stretch_line p l ++ x) (lines_append xs ys) ∙ sym (append_assoc (stretch_line p l) (lines_of xs) (lines_of ys))
 
+-- a stretch that is skipped has its line
+pub skip_lists : (p next : ℕ) → lines_of (piece_of p (Skipped next) ∷ []) ≡ stretch_line p (next - p)
+skip_lists p next = append-nil (stretch_line p (next - p))
+
 -- ---- where pieces end
 
 pub end_one : (p q : ℕ) (st : Stride) (xs : List Piece) → q < next_of st → end_of p (piece_of q st ∷ xs) ≡ end_of (next_of st) xs

@@ -5,7 +5,7 @@ use mathlib.Core.Path.{◌≡◌, refl, sym, ap, ◌∙◌}
 use mathlib.Core.Bool.{Bool, true, false, ◌&&◌, ◌||◌}
 use mathlib.Core.List.{List}
 use lib.ListN.{length}
-use borrow.Author.Tests.{leb-true, eq-eqb, ne_eqb, le-leb}
+use borrow.Author.Tests.{leb-true, eq-eqb, ne_eqb, le-leb, lt-leb}
 use native.Mathlib.Omega.{arith}
 use Rattle.meaning.specs.Plain.{when◌then◌else◌, ◌≤?◌}
 use Rattle.trace_record.specs.Marks.{letters_of}
@@ -55,6 +55,10 @@ module _ (s : List ℕ) (e : ℕ) where
   none_known u true t =
       let f : (m : Mark) → be16 s e ≡ letters_of m → ⊥ = λ m q. u m (leb-true _ _ t, q) in
       mark_none (be16 s e) (f Ca) (f Sl) (f Vo) (f Vx) (f Gm) (f Gr) (f Gn) (f Vs) (f Po) (f Px)
+
+  pub known_short : length s < e + 2 → false ≡ known_mark s e
+  unfolding known_mark
+  known_short h = sym (ap (λ (b : Bool). b && is_mark (be16 s e)) (lt-leb (e + 2) (length s) h))
 
   pub mark_known : (r : Option Mark) → ((m : Mark) → (r ≡ Some m) ↔ (MarkAt s e m)) → is_some r ≡ known_mark s e
   unfolding known_mark
