@@ -144,7 +144,7 @@ module _ (s : List ℕ) (b : (i : ℕ) → get_or s i 0 < 256) where
   printed_written es output r f h =
       ap (λ (q : Said). write_said q output) (printed_events es r)
       ∙ ap (λ (o : List ℕ). laid o output) ((trip s b es r).0 f)
-      ∙ ap (λ (t : Bool). when t then wrote (Err TooShort) output else wrote (Ok (length s)) (s ++ drop (length s) output)) (le-ltb (length output) (length s) h)
+      ∙ ap (λ (t : Bool). when t then wrote (Err (TooShort 0)) output else wrote (Ok (length s)) (s ++ drop (length s) output)) (le-ltb (length output) (length s) h)
 
   -- and no other: where it gives the trace back, each SL directly followed by an SL is full
   pub written_settled : (es : List Event) (output : List ℕ) → read s ≡ good es
@@ -155,8 +155,8 @@ module _ (s : List ℕ) (b : (i : ℕ) → get_or s i 0 < 256) where
       let e : laid o output ≡ wrote (Ok (length s)) (s ++ drop (length s) output) = sym (ap (λ (q : Said). write_said q output) (printed_events es r)) ∙ w in
       (trip s b es r).1 (laid_is o output (length output <? length o) e)
     where
-      laid_is : (o output : List ℕ) (t : Bool) → (when t then wrote (Err TooShort) output else wrote (Ok (length o)) (o ++ drop (length o) output)) ≡ wrote (Ok (length s)) (s ++ drop (length s) output) → o ≡ s
-      laid_is o output true e = let z : ◌≡◌ {A = Answer} (Err TooShort) (Ok (length s)) = ap (λ (x : Wrote). x.answer) e in absurd (cc)
+      laid_is : (o output : List ℕ) (t : Bool) → (when t then wrote (Err (TooShort 0)) output else wrote (Ok (length o)) (o ++ drop (length o) output)) ≡ wrote (Ok (length s)) (s ++ drop (length s) output) → o ≡ s
+      laid_is o output true e = let z : ◌≡◌ {A = Answer} (Err (TooShort 0)) (Ok (length s)) = ap (λ (x : Wrote). x.answer) e in absurd (cc)
       laid_is o output false e =
           let z : ◌≡◌ {A = Answer} (Ok (length o)) (Ok (length s)) = ap (λ (x : Wrote). x.answer) e in
           let l : length o ≡ length s = cc in

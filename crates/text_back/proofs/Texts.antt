@@ -71,8 +71,8 @@ unfolding events
 text_begun text es e = subst (Fine 0) e (fine_from text (length text + 1) 0)
 
 -- of what was laid into an output, the octets are those that it says
-laid_front : (o output : List ℕ) (n : ℕ) (b : Bool) → (when b then wrote (Err TooShort) output else wrote (Ok (length o)) (o ++ drop (length o) output)).answer ≡ Ok n
-    → take n (when b then wrote (Err TooShort) output else wrote (Ok (length o)) (o ++ drop (length o) output)).output ≡ o
+laid_front : (o output : List ℕ) (n : ℕ) (b : Bool) → (when b then wrote (Err (TooShort 0)) output else wrote (Ok (length o)) (o ++ drop (length o) output)).answer ≡ Ok n
+    → take n (when b then wrote (Err (TooShort 0)) output else wrote (Ok (length o)) (o ++ drop (length o) output)).output ≡ o
 laid_front o output n true z = absurd (cc)
 laid_front o output n false z = let m : length o ≡ n = cc in take_at o (drop (length o) output) n m
 

@@ -57,13 +57,13 @@ Answer = Result ℕ WriteError
 abbrev pub number_in : Answer → ℕ
 number_in (Ok n) = 0
 number_in (Err (Unreadable p)) = 10
-number_in (Err TooShort) = 14
+number_in (Err (TooShort p)) = 14
 
 -- a place that is refused lies within so many octets
 abbrev pub PlaceWithin : ℕ → Answer → Type 0
 PlaceWithin long (Ok n) = 0 ≤ 0
 PlaceWithin long (Err (Unreadable p)) = p ≤ long
-PlaceWithin long (Err TooShort) = 0 ≤ 0
+PlaceWithin long (Err (TooShort p)) = 0 ≤ 0
 
 -- what a writer answers, and what it leaves in the output
 pub record Wrote : Type 0 where
@@ -76,7 +76,7 @@ wrote answer output = record { answer = answer; output = output }
 -- "after it 14, output too short"; otherwise the octets, and behind them what stood there
 unfoldable pub laid : List ℕ → List ℕ → Wrote
 laid octets output =
-    when length output <? length octets then wrote (Err TooShort) output
+    when length output <? length octets then wrote (Err (TooShort 0)) output
     else wrote (Ok (length octets)) (octets ++ drop (length octets) output)
 
 -- "Neither changes an octet of the output."

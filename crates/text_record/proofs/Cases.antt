@@ -117,7 +117,7 @@ module _ (out : List ℕ) (at : ℕ) (r : Given) where
   refused h = record { answer = simp h; output = simp h }
 
   module _ {os : List ℕ} (e : record_octets r ≡ os) (h : allowed_at at r ≡ true) where
-    pub too_short : length out < at + length os → WritePromise out at r (Err TooShort) out
+    pub too_short : length out < at + length os → WritePromise out at r (Err (TooShort at)) out
     unfolding answer_at output_at
     too_short l =
         let s = lt-leb (at + length (record_octets r)) (length out) (omega (arith, ap length e)) in record { answer = simp (h, s); output = simp (h, s) }

@@ -86,7 +86,7 @@ never_read trace at (CA cell) a q =
 
 -- the tests of an answer
 abbrev answer_by : ℕ → ℕ → Bool → Bool → Answer
-answer_by q at a b = when a then (when b then Ok q else Err TooShort) else Err (Unreadable at)
+answer_by q at a b = when a then (when b then Ok q else Err (TooShort at)) else Err (Unreadable at)
 
 tested : (q at : ℕ) (a b : Bool) {n : ℕ} → Ok n ≡ answer_by q at a b → (a ≡ true) × (b ≡ true) × (n ≡ q)
 tested q at true true h = (refl, refl, cc)
@@ -98,13 +98,23 @@ refused_test q at true true h = absurd (cc)
 refused_test q at true false h = absurd (cc)
 refused_test q at false b h = (refl, cc)
 
+-- the place beside a refusal
+abbrev pub place_in : WriteError → ℕ
+place_in (Unreadable p) = p
+place_in (TooShort p) = p
+
+refused_at : (q at : ℕ) (a b : Bool) {e : WriteError} → Err e ≡ answer_by q at a b → place_in e ≡ at
+refused_at q at true true h = absurd (cc)
+refused_at q at true false {e} h = let z : e ≡ TooShort at = cc in ap place_in z
+refused_at q at false b {e} h = let z : e ≡ Unreadable at = cc in ap place_in z
+
 allowed_test : (q at : ℕ) (a b : Bool) → (Err (Unreadable at) ≡ answer_by q at a b → ⊥) → a ≡ true
 allowed_test q at true b h = refl
 allowed_test q at false b h = absurd (h refl)
 
 not_done : (e : WriteError) → number_in (Err e) ≡ 0 → ⊥
 not_done (Unreadable p) h = omega arith
-not_done TooShort h = omega arith
+not_done (TooShort p) h = omega arith
 
 module _ (out : List ℕ) (at : ℕ) (r : Given) (w : Answer) (out' : List ℕ) (p : WritePromise out at r w out') where
   abbrev fits : Bool
@@ -135,12 +145,14 @@ module _ (out : List ℕ) (at : ℕ) (r : Given) (w : Answer) (out' : List ℕ) 
               ∙ ⊎_elim (puts_before out at (record_octets r) k) (λ b. puts_behind out at (record_octets r) k (omega (arith, b, done.2))) h;
         }
 
-  -- neither refusal changes an octet; 10 is said of the very place
-  pub refused_kept : (e : WriteError) → w ≡ Err e → out' ≡ out
-  unfolding output_at
+  -- neither refusal changes an octet, and each is said of the very place
+  pub refused_kept : (e : WriteError) → w ≡ Err e → (out' ≡ out) × (place_in e ≡ at)
+  unfolding output_at answer_at
   refused_kept e z =
-      let n : number_at out at r ≡ number_in (Err e) = ap number_in (sym p.answer ∙ z) in
-      p.output ∙ simp (ne_eqb (number_at out at r) 0 (λ k. not_done e (sym n ∙ k)))
+      let n : number_at out at r ≡ number_in (Err e) = ap number_in (sym p.answer ∙ z) in (
+        p.output ∙ simp (ne_eqb (number_at out at r) 0 (λ k. not_done e (sym n ∙ k))),
+        refused_at (at + length (record_octets r)) at (allowed_at at r) fits (sym z ∙ p.answer),
+      )
 
   -- "10 exactly when no octets at p would be read back so": where it answers 10 there are none, and otherwise there are some
   module _ (q : ℕ) (z : w ≡ Err (Unreadable q)) where

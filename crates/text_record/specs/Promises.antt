@@ -10,7 +10,7 @@ use Rattle.text_record.specs.Record.{Given, record_octets, allowed_at}
 -- the place behind the record; "Refusals: 10 .. that the reader would refuse ..; after it 14, output too short."
 unfoldable pub answer_at : List ℕ → ℕ → Given → Answer
 answer_at out at r =
-    when allowed_at at r then (when at + length (record_octets r) ≤? length out then Ok (at + length (record_octets r)) else Err TooShort)
+    when allowed_at at r then (when at + length (record_octets r) ≤? length out then Ok (at + length (record_octets r)) else Err (TooShort at))
     else Err (Unreadable at)
 
 -- 0, 10 or 14

@@ -22,7 +22,7 @@ fn put(out: &mut [u8], at: usize, octets: &[u8]) -> Result<usize, WriteError>
     ensures { (g : Given) → record_octets g ≡ octets.now → allowed_at at g ≡ true → WritePromise out.old at g result out.new }
 {
     if out.len() < octets.len() || out.len() - octets.len() < at {
-        return Err(WriteError::TooShort);
+        return Err(WriteError::TooShort { place: at });
     }
     Ok(list_lines::text(out, at, octets))
 }

@@ -45,7 +45,7 @@ goes_stop n (good es) p e = go (dec_lt 0 (length (octets_all (merge es))))
     o = octets_all (merge es)
 
     go : Dec (0 < length o) → bad n ≡ bad p
-    go (yes h) = let z : ◌≡◌ {A = Answer} (Err (Unreadable p)) (Err TooShort) = e ∙ judged_short 0 o h in absurd (cc)
+    go (yes h) = let z : ◌≡◌ {A = Answer} (Err (Unreadable p)) (Err (TooShort 0)) = e ∙ judged_short 0 o h in absurd (cc)
     go (no h) = let z : ◌≡◌ {A = Answer} (Err (Unreadable p)) (Ok (length o)) = e ∙ judged_fits 0 o (omega arith) in absurd (cc)
 
 goes_good : (n : ℕ) (s : Said) (a : Answer) → a ≡ judged 0 (merged s) → ((p : ℕ) → a ≡ Err (Unreadable p) → ⊥) → goes_further n s ≡ bad n
@@ -99,7 +99,7 @@ module _ (out out' : List ℕ) where
   came_all (good es) n e = go (dec_lt (length out) (length (octets_all (merge es))))
     where
       go : Dec (length out < length (octets_all (merge es))) → Put out 0 (trace_of (good es) (length out)) out' n × (error_of (good es) (length out) ≡ []) × (n ≤ length out)
-      go (yes h) = let z : ◌≡◌ {A = Answer} (Ok n) (Err TooShort) = ap (λ (x : Wrote). x.answer) (e ∙ laid_short (octets_all (merge es)) out h) in absurd (cc)
+      go (yes h) = let z : ◌≡◌ {A = Answer} (Ok n) (Err (TooShort 0)) = ap (λ (x : Wrote). x.answer) (e ∙ laid_short (octets_all (merge es)) out h) in absurd (cc)
       go (no h) =
           let b : length (octets_all (merge es)) ≤ length out = omega arith in
           let f = e ∙ laid_fits (octets_all (merge es)) out b in
@@ -116,19 +116,19 @@ module _ (out out' : List ℕ) where
   came_none (good es) p e = go (dec_lt (length out) (length (octets_all (merge es))))
     where
       go : Dec (length out < length (octets_all (merge es))) → Put out 0 (trace_of (good es) (length out)) out' 0 × (error_of (good es) (length out) ≡ stop_line p)
-      go (yes h) = let z : ◌≡◌ {A = Answer} (Err (Unreadable p)) (Err TooShort) = ap (λ (x : Wrote). x.answer) (e ∙ laid_short (octets_all (merge es)) out h) in absurd (cc)
+      go (yes h) = let z : ◌≡◌ {A = Answer} (Err (Unreadable p)) (Err (TooShort 0)) = ap (λ (x : Wrote). x.answer) (e ∙ laid_short (octets_all (merge es)) out h) in absurd (cc)
       go (no h) = let z : ◌≡◌ {A = Answer} (Err (Unreadable p)) (Ok (length (octets_all (merge es)))) = ap (λ (x : Wrote). x.answer) (e ∙ laid_fits (octets_all (merge es)) out (omega arith)) in absurd (cc)
 
-  pub came_short : (s : Said) → wrote (Err TooShort) out' ≡ write_said s out → Put out 0 (trace_of s (length out)) out' 0 × (error_of s (length out) ≡ short_line)
+  pub came_short : (s : Said) (q : ℕ) → wrote (Err (TooShort q)) out' ≡ write_said s out → Put out 0 (trace_of s (length out)) out' 0 × (error_of s (length out) ≡ short_line)
   unfolding write_said
-  came_short (bad p) e = let z : ◌≡◌ {A = Answer} (Err TooShort) (Err (Unreadable p)) = ap (λ (x : Wrote). x.answer) e in absurd (cc)
-  came_short (good es) e = go (dec_lt (length out) (length (octets_all (merge es))))
+  came_short (bad p) q e = let z : ◌≡◌ {A = Answer} (Err (TooShort q)) (Err (Unreadable p)) = ap (λ (x : Wrote). x.answer) e in absurd (cc)
+  came_short (good es) q e = go (dec_lt (length out) (length (octets_all (merge es))))
     where
       go : Dec (length out < length (octets_all (merge es))) → Put out 0 (trace_of (good es) (length out)) out' 0 × (error_of (good es) (length out) ≡ short_line)
       go (yes h) =
           let t = traces_short es (length out) h in
           (unwritten (ap (λ (x : Wrote). x.output) (e ∙ laid_short (octets_all (merge es)) out h)) t.0, t.1)
-      go (no h) = let z : ◌≡◌ {A = Answer} (Err TooShort) (Ok (length (octets_all (merge es)))) = ap (λ (x : Wrote). x.answer) (e ∙ laid_fits (octets_all (merge es)) out (omega arith)) in absurd (cc)
+      go (no h) = let z : ◌≡◌ {A = Answer} (Err (TooShort q)) (Ok (length (octets_all (merge es)))) = ap (λ (x : Wrote). x.answer) (e ∙ laid_fits (octets_all (merge es)) out (omega arith)) in absurd (cc)
 
 pub short_words : short_line ≡ 115 ∷ 116 ∷ 111 ∷ 112 ∷ 32 ∷ 49 ∷ 52 ∷ 10 ∷ []
 unfolding short_line line

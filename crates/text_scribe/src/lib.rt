@@ -27,7 +27,7 @@ fn write_within(input: &[u8], out: &mut [u8]) -> Result<usize, WriteError>
     match text_write::judge(&input[..LIMIT], 0) {
         Err(WriteError::Unreadable { place }) => Err(WriteError::Unreadable { place }),
         Ok(_) => Err(WriteError::Unreadable { place: LIMIT }),
-        Err(WriteError::TooShort) => Err(WriteError::Unreadable { place: LIMIT }),
+        Err(WriteError::TooShort { .. }) => Err(WriteError::Unreadable { place: LIMIT }),
     }
 }
 
@@ -42,7 +42,7 @@ fn scribe(input: &[u8], out: &mut [u8], line: &mut [u8]) -> Result<usize, usize>
     match write_within(input, out) {
         Ok(long) => Ok(long),
         Err(WriteError::Unreadable { place }) => Err(list_lines::stop_line(line, 0, place as u32)),
-        Err(WriteError::TooShort) => Err(list_lines::text(line, 0, b"stop 14\n")),
+        Err(WriteError::TooShort { .. }) => Err(list_lines::text(line, 0, b"stop 14\n")),
     }
 }
 

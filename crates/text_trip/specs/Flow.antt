@@ -43,4 +43,4 @@ stream text = stream_from (length text + 1) text 0 (flow [] 0)
 -- 10 at the place, 14, or how many octets
 unfoldable pub judged : ℕ → Streamed → Answer
 judged room (stopped p) = Err (Unreadable p)
-judged room (whole o) = when room <? length o then Err TooShort else Ok (length o)
+judged room (whole o) = when room <? length o then Err (TooShort 0) else Ok (length o)

@@ -26,9 +26,9 @@ unfolding write_text
 final_text text out = ap (λ (x : Streamed). final_of x out) (stream_merged text) ∙ final_said (events text) out
 
 lays : List ℕ → List ℕ → Bool → Wrote
-lays o out b = when b then wrote (Err TooShort) out else wrote (Ok (length o)) (o ++ drop (length o) out)
+lays o out b = when b then wrote (Err (TooShort 0)) out else wrote (Ok (length o)) (o ++ drop (length o) out)
 
-pub laid_short : (o out : List ℕ) → length out < length o → laid o out ≡ wrote (Err TooShort) out
+pub laid_short : (o out : List ℕ) → length out < length o → laid o out ≡ wrote (Err (TooShort 0)) out
 unfolding laid lays
 laid_short o out h = ap (lays o out) (lt-ltb (length out) (length o) h)
 
@@ -51,7 +51,7 @@ accepts (stopped p) out n z = let y : ◌≡◌ {A = Answer} (Err (Unreadable p)
 accepts (whole o) out n z = go (dec_lt (length out) (length o))
   where
     go : Dec (length out < length o) → wrote (Ok n) (o ++ drop (length o) out) ≡ laid o out
-    go (yes h) = let y : ◌≡◌ {A = Answer} (Err TooShort) (Ok n) = sym (judged_short (length out) o h) ∙ z in absurd (cc)
+    go (yes h) = let y : ◌≡◌ {A = Answer} (Err (TooShort 0)) (Ok n) = sym (judged_short (length out) o h) ∙ z in absurd (cc)
     go (no h) = ap (λ (a : Answer). wrote a (o ++ drop (length o) out)) (sym z ∙ judged_fits (length out) o (omega arith)) ∙ sym (laid_fits o out (omega arith))
 
 -- the text refused: the output as it came

@@ -21,9 +21,9 @@ pub record Fit (most : ℕ) (s : Streamed) : Type 0 where
   pub fits : length octets ≤ most
 
 abbrev says : List ℕ → Bool → Answer
-says o b = when b then Err TooShort else Ok (length o)
+says o b = when b then Err (TooShort 0) else Ok (length o)
 
-pub judged_short : (most : ℕ) (o : List ℕ) → most < length o → judged most (whole o) ≡ Err TooShort
+pub judged_short : (most : ℕ) (o : List ℕ) → most < length o → judged most (whole o) ≡ Err (TooShort 0)
 unfolding judged
 judged_short most o h = ap (says o) (lt-ltb most (length o) h)
 
@@ -40,7 +40,7 @@ fit_of most (stopped p) {n} e = let z : ◌≡◌ {A = Answer} (Err (Unreadable 
 fit_of most (whole o) {n} e = go (dec_lt most (length o))
   where
     go : Dec (most < length o) → Fit most (whole o)
-    go (yes h) = let z : ◌≡◌ {A = Answer} (Err TooShort) (Ok n) = sym (judged_short most o h) ∙ e in absurd (cc)
+    go (yes h) = let z : ◌≡◌ {A = Answer} (Err (TooShort 0)) (Ok n) = sym (judged_short most o h) ∙ e in absurd (cc)
     go (no h) = record { octets = o; is = refl; fits = omega arith }
 
 octets_in : Streamed → List ℕ

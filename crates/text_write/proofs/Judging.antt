@@ -65,10 +65,10 @@ module _ {text : List ℕ} {most p rest : ℕ} {room : Option ℕ} (j : Judging 
     last_is : last ≡ room_of most (length all)
     last_is = room_more most n j.octets (rest_of rest) room last j.room_is q (g ∙ sym (rest_long_lem rest))
 
-    pub judging_short : last ≡ None → Err TooShort ≡ judged most (stream text)
+    pub judging_short : last ≡ None → Err (TooShort 0) ≡ judged most (stream text)
     judging_short o = go (dec_lt most (length all))
       where
-        go : Dec (most < length all) → Err TooShort ≡ judged most (stream text)
+        go : Dec (most < length all) → Err (TooShort 0) ≡ judged most (stream text)
         go (yes s) = sym (judged_short most all s) ∙ ap (judged most) (sym (reached_end j.reached z h))
         go (no s) = let f : None ≡ Some (most - length all) = sym o ∙ last_is ∙ room_left most (length all) (omega arith) in absurd (cc)
 

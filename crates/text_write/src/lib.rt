@@ -78,7 +78,7 @@ pub fn judge(text: &[u8], most: usize) -> Result<usize, WriteError>
     }
     match less(room, rest_long(rest)) {
         Some(left) => Ok(most - left),
-        None => Err(WriteError::TooShort),
+        None => Err(WriteError::TooShort { place: 0 }),
     }
 }
 

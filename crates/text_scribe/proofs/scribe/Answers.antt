@@ -28,5 +28,5 @@ returns-in-Err-Unreadable-clause-scribe_promise c =
 pub returns-in-Err-TooShort-clause-scribe_promise : goal.returns-in-Err-TooShort-clause-scribe_promise
 returns-in-Err-TooShort-clause-scribe_promise c =
     let a = c.args in
-    let t = came_short a.out.now c.write_within.new.out (said_of a.input.now) (ap (λ (e : WriteError). wrote (Err e) c.write_within.new.out) (sym c.in-Err-TooShort.field-0-is) ∙ c.in-Err-TooShort.ensures.out_after) in
+    let t = came_short a.out.now c.write_within.new.out (said_of a.input.now) _ (ap (λ (e : WriteError). wrote (Err e) c.write_within.new.out) (sym c.in-Err-TooShort.field-0-is) ∙ c.in-Err-TooShort.ensures.out_after) in
     record { trace = t.0; error = put_is (t.1 ∙ short_words) c.text.ensures }

@@ -37,5 +37,5 @@ returns-in-Err-TooShort-clause-out_after c =
     let a = c.args in let t = c.in-Err-TooShort in
     said_beyond a.input.now a.out.now c.if-input-le-LIMIT.false c.judge.result c.judge.ensures.value
     (λ p e.
-    let z : ◌≡◌ {A = Answer} (Err TooShort) (Err (Unreadable p)) = ap (λ (x : WriteError). Err x) (sym t.field-0-is) ∙ sym t.is ∙ e in
+    let z : ◌≡◌ {A = Answer} (Err (TooShort _)) (Err (Unreadable p)) = ap (λ (x : WriteError). Err x) (sym t.field-0-is) ∙ sym t.is ∙ e in
     absurd (cc))
