@@ -1,6 +1,18 @@
-# Counts over crates/*/src/*.rt and crates/*/proofs. Run at the top of the repository: python3 count.py WORD [..] [-v]
+# Counts over crates/*/src/*.rt and crates/*/proofs. Run at the top of the repository: python3 tools/count_places.py WORD [..] [-v]
 import difflib, glob, re, subprocess, sys
 from collections import defaultdict
+
+def parted(s, mark, opens, closes):
+    """s at each mark that stands in no bracket."""
+    depth, parts, cur = 0, [], ''
+    for ch in s:
+        depth += (ch in opens) - (ch in closes)
+        if ch == mark and depth == 0:
+            parts.append(cur)
+            cur = ''
+        else:
+            cur += ch
+    return parts + [cur]
 
 def functions():
     for path in sorted(glob.glob('crates/*/src/*.rt')):
@@ -23,15 +35,7 @@ def functions():
             sig = head[:cut.start()] if cut else head.rstrip('{ \n')
             par = sig[sig.index('(', sig.index('fn ')):]
             ret = re.search(r'\)\s*->\s*([^\n{]*)', sig)
-            depth, parts, cur = 0, [], ''
-            for ch in par[1:par.rindex(')')]:
-                depth += (ch in '<[(') - (ch in '>])')
-                if ch == ',' and depth == 0:
-                    parts.append(cur)
-                    cur = ''
-                else:
-                    cur += ch
-            parts.append(cur)
+            parts = parted(par[1:par.rindex(')')], ',', '<[(', '>])')
             yield dict(crate=path.split('/')[1], file='/'.join(path.split('/')[3:]), name=m.group(4), line=i + 1,
                        pub=bool(m.group(2)), export=bool(m.group(3)),
                        params=[tuple(x.strip() for x in p.split(':', 1)) for p in parts if ':' in p],
@@ -62,15 +66,7 @@ def atoms(s):
                 return i
     while s.startswith('(') and closes(s) == len(s) - 1:
         s = s[1:-1].strip()
-    parts, d, cur = [], 0, ''
-    for ch in s:
-        d += (ch in '([{') - (ch in ')]}')
-        if ch == '×' and d == 0:
-            parts.append(cur)
-            cur = ''
-        else:
-            cur += ch
-    parts.append(cur)
+    parts = parted(s, '×', '([{', ')]}')
     return [s] if len(parts) == 1 and s else [a for p in parts if len(parts) > 1 for a in atoms(p)]
 
 def plain(a):
