@@ -8,8 +8,9 @@ In README.md, docs/ARCHITECTURE.md, docs/COVERAGE.md, docs/ARGUMENT.md and docs/
   crate/edit_in_words         crates/crate/must-fail/edit_in_words.edit, or crates/crate/by-hand/edit_in_words.edit
   path/to/file.antt           below crates/, or from the top
 and every must-fail edit must be cited in docs/COVERAGE.md, which also says how many public functions have a `requires`;
-every public function must have an `ensures`. Every edit must still apply: each of its `old:` texts stands once in its file. (The gate
-tries those of must-fail/; check/edits those of by-hand/.) Prints what is missing; the exit status is 0 where nothing is.
+every public function, methods and exports too, must have an `ensures`. Every edit must still apply: each of its `old:` texts stands
+once in its file. (The gate tries those of must-fail/; check/edits those of by-hand/.) Prints what is missing; the exit status is 0
+where nothing is.
 """
 import glob
 import os
@@ -90,7 +91,10 @@ gate, by_hand = glob.glob('crates/*/must-fail/*.edit'), glob.glob('crates/*/by-h
 missing += [f'{f}: {applies(f)}' for f in sorted(gate + by_hand) if applies(f)]
 edits = sorted(f'{f.split("/")[1]}/{os.path.basename(f)[:-5]}' for f in gate + by_hand)
 missing += [f'docs/COVERAGE.md does not cite the edit {e}' for e in edits if e not in cited]
-public = [h for c in sorted(crates) for h in re.findall(r'(?ms)^pub (?:extern "C" )?fn .*?\{$', code(c))]
+# by grep, all of them and those with a `requires`:
+#   grep -hE '^ *pub (extern "C" )?fn ' crates/*/src/*.rt | wc -l
+#   cat crates/*/src/*.rt | grep -Pzo '(?ms)^ *pub (extern "C" )?fn ((?!\{$).)*?^ *requires ' | grep -ac requires
+public = [h for c in sorted(crates) for h in re.findall(r'(?ms)^ *pub (?:extern "C" )?fn .*?\{$', code(c))]
 count = f'{sum("requires" in h for h in public)} of {len(public)} public functions have a `requires`'
 if count not in text('docs/COVERAGE.md'):
     missing.append(f'docs/COVERAGE.md does not say: {count}')
