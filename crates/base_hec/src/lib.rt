@@ -67,7 +67,7 @@ pub fn check(mode: u16, head: u32, fifth: u8) -> Checked
     if syndrome == 0 {
         return Checked::Clean;
     }
-    match syndromes::wrong_bit(syndrome) {
+    match syndromes::named_bit(syndrome) {
         Some(bit) if mode == 0 => mended(bit, head, fifth),
         _ => Checked::Dropped,
     }

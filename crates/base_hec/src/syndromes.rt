@@ -17,11 +17,18 @@ const WRONG_BITS: [u8; 256] = [
     41, 41, 41, 41, 41, 41, 41, 41, 41, 41, 41, 41, 41, 41, 41, 41,
 ];
 
+// What the syndrome says is wrong, as a number: by the table, each entry of which this contract holds against the search of the forty
+// bits (theorem base_hec/TableRule.table_rule).
+pub fn wrong_bit(syndrome: u8) -> u8
+    ensures { result ≡ wrong_bit syndrome }
+{
+    WRONG_BITS[usize::from(syndrome)]
+}
+
 // The one bit that is wrong, where the syndrome names one.
-// By a table of numbers, which theorem base_hec/TableRule.table_rule holds entry by entry against the search of the forty bits.
-pub fn wrong_bit(syndrome: u8) -> Option<u8>
+pub fn named_bit(syndrome: u8) -> Option<u8>
     ensures { result ≡ named (wrong_bit syndrome) }
 {
-    let bit = WRONG_BITS[usize::from(syndrome)];
+    let bit = wrong_bit(syndrome);
     if bit < 40 { Some(bit) } else { None }
 }

@@ -14,7 +14,7 @@ pub returns-in-Some : goal.returns-in-Some
 returns-in-Some c =
     let k = c.check_of in
     let a = c.args in
-    let bit = named_some _ c.in-Some.bit (sym c.in-Some.is ∙ c.wrong_bit.ensures) in
+    let bit = named_some _ c.in-Some.bit (sym c.in-Some.is ∙ c.named_bit.ensures) in
     c.mended.ensures
     ∙ erred_mended a.mode a.head a.fifth c.in-Some.bit c.if-mode-eq0.true bit.1
     ∙ ap (erred_word a.mode a.head a.fifth) (sym bit.0)
@@ -31,5 +31,5 @@ pub returns-in_default-2 : goal.returns-in_default-2
 returns-in_default-2 c =
     let k = c.check_of in
     let a = c.args in
-    erred_several a.mode a.head a.fifth _ (named_none _ (sym c.in_default.is ∙ c.wrong_bit.ensures))
+    erred_several a.mode a.head a.fifth _ (named_none _ (sym c.in_default.is ∙ c.named_bit.ensures))
     ∙ checked_erred a.mode a.head a.fifth k.result k.ensures c.if-syndrome-eq0.false
