@@ -3,17 +3,19 @@
 use Prim.Native.Nat.{ℕ, ◌≤◌, ◌<◌}
 use mathlib.Core.Path.{◌≡◌, refl, sym, ap, ◌∙◌}
 use mathlib.Core.Logic.{◌≢◌}
-use mathlib.Core.Bool.{Bool, true, false, not, ◌&&◌}
+use mathlib.Core.Bool.{Bool, true, false, not, cond, ◌&&◌}
 use mathlib.Core.List.{List, []}
 use native.Mathlib.Decide.{ℕ_discrete}
 use native.Mathlib.Omega.{arith}
 use borrow.Author.Tests.{eqb-true, eqb-false, not-true, not-false, ne_eqb, le-leb, lt-leb}
-use lib.Dec.{eqb}
+use lib.Dec.{eqb, ltb}
 use lib.ListN.{length}
+use Rattle.base_hec.specs.Check.{syndrome_of}
+use Rattle.base_hec.specs.WrongBit.{no_error, wrong_bit, flipped}
 use Rattle.base_hec.specs.declared.Checked.{Checked}
 use Rattle.base_hec.specs.declared.Checked.TheVariants.{Clean, Mended, Dropped}
 use Rattle.base_hec.specs.Word.{arriving_of}
-use Rattle.base_hec.specs.Modes.{Arriving, checked, arriving, arriving_fits}
+use Rattle.base_hec.specs.Modes.{correction, detection, Arriving, passes, drops, checked, arriving, arriving_fits}
 use Rattle.meaning.specs.declared.Record.{Record}
 use Rattle.meaning.specs.declared.Served.{Served}
 use Rattle.meaning.specs.Plain.{when◌then◌else◌, ◌=?◌, Out, refused, next, ◌and_then◌}
@@ -118,6 +120,20 @@ arriving_raw raw mode cell e l = rw (e, l)
 pub fits_raw : (raw mode : ℕ) (cell : List ℕ) → raw ≡ 1 → mode ≤ 1 → length cell ≡ 53 → arriving_fits raw mode cell ≡ true
 unfolding arriving_fits
 fits_raw raw mode cell e m l = rw (e, l, le-leb mode 1 m)
+
+clean_by : (a b : Bool) (bit : ℕ) (cell : List ℕ)
+    → (cond a (passes cell correction) (cond b (passes (flipped bit cell) detection) (drops detection))).mode ≡ 0
+    → cond a (passes cell correction) (cond b (passes (flipped bit cell) detection) (drops detection)) ≡ passes cell 0
+clean_by true b bit cell e = refl
+clean_by false true bit cell e = absurd (omega (arith, e))
+clean_by false false bit cell e = absurd (omega (arith, e))
+
+-- only a clean header leads to correction
+pub clean_leads_back : (mode : ℕ) (cell : List ℕ) → (checked mode cell).mode ≡ 0 → checked mode cell ≡ passes cell 0
+unfolding checked
+clean_leads_back mode cell =
+    let bit = wrong_bit (syndrome_of cell) in
+    clean_by (eqb bit no_error) (eqb mode correction && ltb bit no_error) bit cell
 
 -- what the check answers says what is let through
 pub clean_is : (c : Checked) (cell : List ℕ) → c ≡ Clean
