@@ -67,7 +67,7 @@ fn words_turned(w: Way, b: Option<Fall>, words: &mut [u32])
     ensures { words.new ≡ rotated (slot_record w) b words.old }
 {
     if let Some(f) = b {
-        slot_arrive::put_fall(words, w.rotation as u16, f.s, f.second, w.t);
+        slot_arrive::put_fallen(words, w.rotation as u16, f.s, f.second, w.t);
     }
 }
 
@@ -77,9 +77,7 @@ fn words_fall(w: Way, b: Option<Fall>, j: Judged, words: &mut [u32])
     ensures { words.new ≡ words_fallen w b j words.old }
 {
     words_turned(w, b, words);
-    if j.verdict == 2 {
-        slot_arrive::put_fall(words, j.vci, j.s, j.second, w.t);
-    }
+    slot_arrive::put_fall(words, j.verdict == 2, j.vci, j.s, j.second, w.t);
 }
 
 // No cell is let in, and nothing departs.

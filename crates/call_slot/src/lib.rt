@@ -135,8 +135,8 @@ fn unfit_slot(
     ensures { result ≡ unfit_in (seen r cells links calendar words bits arrived) }
 {
     match slot_steps::shape(r, cells, links, calendar, words, bits, arrived, cell) {
-        Ok(()) => slot_depart::refuse(r, Refusal::Stored),
-        Err(why) => slot_depart::refuse(r, why),
+        Ok(()) => slot_depart::refuse_for(r, Refusal::Stored),
+        Err(why) => slot_depart::refuse_for(r, why),
     }
 }
 

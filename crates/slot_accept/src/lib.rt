@@ -94,7 +94,7 @@ fn accept_seated(
     ensures { Gives r (last_steps (accept_of (before k cells links calendar words bits arrived) b j a cell.now)) result cells links calendar words bits arrived }
 {
     let Some(departs) = departure::going(k, j, a, cells, links, calendar, words, bits) else {
-        return slot_depart::refuse(r, Refusal::Stored);
+        return slot_depart::refuse_for(r, Refusal::Stored);
     };
     slot_store::store(
         k, b, j, a, cells, links, calendar, words, bits, arrived, cell,
@@ -142,18 +142,18 @@ pub fn accept(
     ensures { Gives r (seating_of (before k cells links calendar words bits arrived) b j cell.now and_then step4 and_then step5) result cells links calendar words bits arrived }
 {
     let Some(a) = seat_now(k, j.d, calendar, bits) else {
-        return slot_depart::refuse(r, Refusal::Stored);
+        return slot_depart::refuse_for(r, Refusal::Stored);
     };
     if k.outhead == 65535 {
         if k.outtail != 65535 {
-            return slot_depart::refuse(r, Refusal::Stored);
+            return slot_depart::refuse_for(r, Refusal::Stored);
         }
     } else {
         if k.outhead >= k.n {
-            return slot_depart::refuse(r, Refusal::Stored);
+            return slot_depart::refuse_for(r, Refusal::Stored);
         }
         if k.outtail >= k.n {
-            return slot_depart::refuse(r, Refusal::Stored);
+            return slot_depart::refuse_for(r, Refusal::Stored);
         }
     }
     accept_seated(

@@ -279,9 +279,20 @@ pub fn judge(n: u16, v: u16, words: &[u32], name: u32, t: u32, cell: &[u8]) -> O
     Some(no_connection((name % 65536) as u16))
 }
 
+// Writes of both S and last, where on. Who holds a `Fall` calls `put_fallen`.
+#[tactic(auto, unfolding(crate::specs::Arrival::fallen))]
+pub fn put_fall(words: &mut [u32], on: bool, vci: u16, s: u32, second: u32, t: u32)
+    requires { on ≡ true → HasConnection vci words.old }
+    ensures { words.new ≡ fallen on vci s second t words.old }
+{
+    if on {
+        put_fallen(words, vci, s, second, t);
+    }
+}
+
 // Writes of both S and last.
 #[tactic(auto, unfolding(crate::specs::Arrival::fallen))]
-pub fn put_fall(words: &mut [u32], vci: u16, s: u32, second: u32, t: u32)
+pub fn put_fallen(words: &mut [u32], vci: u16, s: u32, second: u32, t: u32)
     requires { HasConnection vci words.old }
     ensures { words.new ≡ fallen true vci s second t words.old }
 {

@@ -14,14 +14,14 @@ use leaf_refusal::Refusal;
 use meaning::{Answer, Record, Served};
 use mem_lists::Off;
 
-// "In a refusal all but the number are 0, and the space is 65,535."
-pub fn refuse(r: Record, why: Refusal) -> Served
-    ensures { (result.ctl ≡ r) × (result.answer ≡ bare_answer (number_of why)) }
+// "In a refusal all but the number are 0, and the space is 65,535." The number may be any.
+pub fn refuse(r: Record, number: u16) -> Served
+    ensures { (result.ctl ≡ r) × (result.answer ≡ bare_answer number) }
 {
     Served {
         ctl: r,
         answer: Answer {
-            number: u16::from(why),
+            number: number,
             verdict: 0,
             vci: 0,
             d: 0,
@@ -29,6 +29,13 @@ pub fn refuse(r: Record, why: Refusal) -> Served
             departing: 0,
         },
     }
+}
+
+// The same with why: the number is the reason's own.
+pub fn refuse_for(r: Record, why: Refusal) -> Served
+    ensures { (result.ctl ≡ r) × (result.answer ≡ bare_answer (number_of why)) }
+{
+    refuse(r, u16::from(why))
 }
 
 // The head of a list that has grown at its end by a list that begins at x.

@@ -28,11 +28,9 @@ fn words_fall(k: Record, b: Option<Fall>, j: Judged, words: &mut [u32])
     ensures { words.new ≡ fallen (j.verdict =? excess) j.vci j.s j.second k.t (rotated k b words.old) }
 {
     if let Some(f) = b {
-        slot_arrive::put_fall(words, k.rotation, f.s, f.second, k.t);
+        slot_arrive::put_fallen(words, k.rotation, f.s, f.second, k.t);
     }
-    if j.verdict == 2 {
-        slot_arrive::put_fall(words, j.vci, j.s, j.second, k.t);
-    }
+    slot_arrive::put_fall(words, j.verdict == 2, j.vci, j.s, j.second, k.t);
 }
 
 // Space x may be freed: the words of free spaces and their number fit, and it is not free.
@@ -113,10 +111,10 @@ fn quiet_marked(
     ensures { (arrived : List ℕ) → AllWith arrived r k b j (λ w. leaving_marked w (ends_of head tail)) result cells links calendar words bits }
 {
     let Some(o) = off_marked(k, head, tail, cells, links, words) else {
-        return slot_depart::refuse(r, Refusal::Stored);
+        return slot_depart::refuse_for(r, Refusal::Stored);
     };
     if !may_free(k.n, k.free, bits, o.space) {
-        return slot_depart::refuse(r, Refusal::Stored);
+        return slot_depart::refuse_for(r, Refusal::Stored);
     }
     slot_depart::clear_entry(calendar, true, k.turn);
     quiet_end(
@@ -152,10 +150,10 @@ fn quiet_output(
 {
     let Some(o) = mem_lists::off_head(k.n, k.v, k.kind, cells, links, words, k.outhead, k.outtail)
     else {
-        return slot_depart::refuse(r, Refusal::Stored);
+        return slot_depart::refuse_for(r, Refusal::Stored);
     };
     if !may_free(k.n, k.free, bits, o.space) {
-        return slot_depart::refuse(r, Refusal::Stored);
+        return slot_depart::refuse_for(r, Refusal::Stored);
     }
     quiet_end(k, b, j, o, false, 0, false, links, words, bits)
 }
@@ -199,15 +197,15 @@ fn quiet_unmarked(
 {
     if k.outhead == 65535 {
         if k.outtail != 65535 {
-            return slot_depart::refuse(r, Refusal::Stored);
+            return slot_depart::refuse_for(r, Refusal::Stored);
         }
         return quiet_none(k, b, j, words);
     }
     if k.outhead >= k.n {
-        return slot_depart::refuse(r, Refusal::Stored);
+        return slot_depart::refuse_for(r, Refusal::Stored);
     }
     if k.outtail >= k.n {
-        return slot_depart::refuse(r, Refusal::Stored);
+        return slot_depart::refuse_for(r, Refusal::Stored);
     }
     quiet_output(r, k, b, j, cells, links, words, bits)
 }
@@ -233,18 +231,18 @@ pub fn quiet(
     let tail = calendar[at + 1];
     if head == 65535 {
         if tail != 65535 {
-            return slot_depart::refuse(r, Refusal::Stored);
+            return slot_depart::refuse_for(r, Refusal::Stored);
         }
         return quiet_unmarked(r, k, b, j, cells, links, words, bits);
     }
     if head >= k.n {
-        return slot_depart::refuse(r, Refusal::Stored);
+        return slot_depart::refuse_for(r, Refusal::Stored);
     }
     if tail >= k.n {
-        return slot_depart::refuse(r, Refusal::Stored);
+        return slot_depart::refuse_for(r, Refusal::Stored);
     }
     if !mem_lists::pair(k.n, k.outhead, k.outtail) {
-        return slot_depart::refuse(r, Refusal::Stored);
+        return slot_depart::refuse_for(r, Refusal::Stored);
     }
     quiet_marked(r, k, b, j, head, tail, cells, links, calendar, words, bits)
 }

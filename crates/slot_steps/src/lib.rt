@@ -53,11 +53,11 @@ fn steps(
     ensures { Gives r (later_steps (before k cells links calendar words bits arrived) cell.now) result cells links calendar words bits arrived }
 {
     let Some(b) = slot_arrive::bring(k.n, k.v, words, k.rotation, k.t) else {
-        return slot_depart::refuse(r, Refusal::Stored);
+        return slot_depart::refuse_for(r, Refusal::Stored);
     };
     let name = slot_arrive::name_of(cell, k.kind);
     let Some(j) = slot_arrive::judge(k.n, k.v, words, name, k.t, cell) else {
-        return slot_depart::refuse(r, Refusal::Stored);
+        return slot_depart::refuse_for(r, Refusal::Stored);
     };
     if meaning::lets_in(j.verdict) {
         return slot_accept::accept(
@@ -109,13 +109,13 @@ pub fn slot(
     ensures { unchecked_promise (before r cells links calendar words bits arrived) cell.now (served_after result cells links calendar words bits arrived) }
 {
     if let Err(why) = shape(r, cells, links, calendar, words, bits, arrived, cell) {
-        return slot_depart::refuse(r, why);
+        return slot_depart::refuse_for(r, why);
     }
     if r.turn >= r.n {
-        return slot_depart::refuse(r, Refusal::Stored);
+        return slot_depart::refuse_for(r, Refusal::Stored);
     }
     if r.rotation >= r.v + PATHS {
-        return slot_depart::refuse(r, Refusal::Stored);
+        return slot_depart::refuse_for(r, Refusal::Stored);
     }
     let k = clock(r);
     steps(r, k, cells, links, calendar, words, bits, arrived, cell)

@@ -25,7 +25,7 @@ fn words_fill(k: Record, b: Option<Fall>, j: Judged, words: &mut [u32])
     ensures { words.new ≡ filled j.vci j.s j.second k.t j.waiting (rotated k b words.old) }
 {
     if let Some(f) = b {
-        slot_arrive::put_fall(words, k.rotation, f.s, f.second, k.t);
+        slot_arrive::put_fallen(words, k.rotation, f.s, f.second, k.t);
     }
     slot_arrive::put_fill(words, j.vci, j.s, j.second, k.t, j.waiting);
 }

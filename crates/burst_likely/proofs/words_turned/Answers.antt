@@ -5,7 +5,7 @@ use Rattle.burst_likely.proofs.words_turned.Goals as goal
 
 pub returns-in-Some : goal.returns-in-Some
 unfolding rotated
-returns-in-Some c = rw c.in-Some.is c.put_fall.ensures
+returns-in-Some c = rw c.in-Some.is c.put_fallen.ensures
 
 pub returns-in_default : goal.returns-in_default
 unfolding rotated

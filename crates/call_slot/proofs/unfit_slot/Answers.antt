@@ -64,9 +64,9 @@ module _ (r : Record) (cells links calendar words bits arrived cell : List ℕ) 
 pub returns-in-Ok : goal.returns-in-Ok
 returns-in-Ok c =
     late c.args.r c.args.cells.now c.args.links.now c.args.calendar.now c.args.words.now c.args.bits.now c.args.arrived.now
-    c.args.cell.now c.requires _ _ (sym (ap given_number c.in-Ok.is) ∙ c.shape.ensures) refl c.refuse.ensures
+    c.args.cell.now c.requires _ _ (sym (ap given_number c.in-Ok.is) ∙ c.shape.ensures) refl c.refuse_for.ensures
 
 pub returns-in-Err : goal.returns-in-Err
 returns-in-Err c =
     early c.args.r c.args.cells.now c.args.links.now c.args.calendar.now c.args.words.now c.args.bits.now c.args.arrived.now
-    c.args.cell.now c.requires _ _ (sym (ap given_number c.in-Err.is) ∙ c.shape.ensures) (never_0 _) c.refuse-in-Err.ensures
+    c.args.cell.now c.requires _ _ (sym (ap given_number c.in-Err.is) ∙ c.shape.ensures) (never_0 _) c.refuse_for-in-Err.ensures

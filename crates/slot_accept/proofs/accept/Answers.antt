@@ -18,7 +18,7 @@ pub returns-in_default : goal.returns-in_default
 returns-in_default c =
     let a = c.args in
     let pre = c.requires in
-    as_came a.r a.cells.now a.links.now a.calendar.now a.words.now a.bits.now a.arrived.now _ _ c.refuse.ensures
+    as_came a.r a.cells.now a.links.now a.calendar.now a.words.now a.bits.now a.arrived.now _ _ c.refuse_for.ensures
     (now_none a.k a.j a.cell.now a.cells.now a.links.now a.calendar.now
     (rotated a.k a.b a.words.now) a.bits.now a.arrived.now pre.sized.turn_low pre.accepted.near c.seat_now.result
     c.seat_now.ensures c.in_default.is)
@@ -28,7 +28,7 @@ returns-then-k-ne65535 c =
     let a = c.args in
     let pre = c.requires in
     output_unfit a.r a.k a.b a.j c.in-Some.a a.cell.now a.cells.now a.links.now
-    a.calendar.now a.words.now a.bits.now a.arrived.now _ c.refuse-then-k-ne65535.ensures pre.sized pre.accepted _ c.seat_now.ensures c.in-Some.is
+    a.calendar.now a.words.now a.bits.now a.arrived.now _ c.refuse_for-then-k-ne65535.ensures pre.sized pre.accepted _ c.seat_now.ensures c.in-Some.is
     (tail_left _ _ _ pre.sized.n_high c.if-k-eq65535.true c.if-k-ne65535.true)
 
 pub returns-then-k : goal.returns-then-k
@@ -36,7 +36,7 @@ returns-then-k c =
     let a = c.args in
     let pre = c.requires in
     output_unfit a.r a.k a.b a.j c.in-Some.a a.cell.now a.cells.now a.links.now
-    a.calendar.now a.words.now a.bits.now a.arrived.now _ c.refuse-then-k.ensures pre.sized pre.accepted _ c.seat_now.ensures c.in-Some.is
+    a.calendar.now a.words.now a.bits.now a.arrived.now _ c.refuse_for-then-k.ensures pre.sized pre.accepted _ c.seat_now.ensures c.in-Some.is
     (head_high _ _ _ c.if-k-eq65535.false c.if-k.true)
 
 pub returns-then-k-2 : goal.returns-then-k-2
@@ -44,7 +44,7 @@ returns-then-k-2 c =
     let a = c.args in
     let pre = c.requires in
     output_unfit a.r a.k a.b a.j c.in-Some.a a.cell.now a.cells.now a.links.now
-    a.calendar.now a.words.now a.bits.now a.arrived.now _ c.refuse-then-k-2.ensures pre.sized pre.accepted _ c.seat_now.ensures c.in-Some.is
+    a.calendar.now a.words.now a.bits.now a.arrived.now _ c.refuse_for-then-k-2.ensures pre.sized pre.accepted _ c.seat_now.ensures c.in-Some.is
     (tail_high _ _ _ pre.sized.n_high c.if-k.false c.if-k-2.true)
 
 pub accept_seated-requires : goal.accept_seated-requires

@@ -25,7 +25,7 @@ returns-in_default c =
     let a = c.args in
     let pre = c.requires in
     let says = going_says a.k a.b a.j a.a a.cell.now a.cells.now a.links.now a.calendar.now a.words.now a.bits.now a.arrived.now pre.sized pre.accepted pre.seated pre.outtail_value _ c.going.ensures in
-    as_came a.r a.cells.now a.links.now a.calendar.now a.words.now a.bits.now a.arrived.now _ _ c.refuse.ensures
+    as_came a.r a.cells.now a.links.now a.calendar.now a.words.now a.bits.now a.arrived.now _ _ c.refuse_for.ensures
     (says.refuses c.in_default.is)
 
 pub store-requires : goal.store-requires

@@ -16,7 +16,7 @@ unfolding quiet_work
 returns-then-tail c =
     λ arrived.
     let a = c.args in
-    as_came a.r a.cells.now a.links.now a.calendar.now a.words.now a.bits.now arrived _ _ c.refuse.ensures
+    as_came a.r a.cells.now a.links.now a.calendar.now a.words.now a.bits.now arrived _ _ c.refuse_for.ensures
     (unfit_entry (quiet_work_lem a.k a.b a.j a.cells.now a.links.now a.calendar.now a.words.now a.bits.now arrived) _
     (quiet_entry a.k a.b a.j a.cells.now a.links.now a.calendar.now a.words.now a.bits.now arrived)
     (tail_left _ _ _ c.requires.sized_with.1.n_high c.if-head.true c.if-tail.true))
@@ -42,7 +42,7 @@ unfolding quiet_work
 returns-then-head-k c =
     λ arrived.
     let a = c.args in
-    as_came a.r a.cells.now a.links.now a.calendar.now a.words.now a.bits.now arrived _ _ c.refuse-then-head-k.ensures
+    as_came a.r a.cells.now a.links.now a.calendar.now a.words.now a.bits.now arrived _ _ c.refuse_for-then-head-k.ensures
     (unfit_entry (quiet_work_lem a.k a.b a.j a.cells.now a.links.now a.calendar.now a.words.now a.bits.now arrived) _
     (quiet_entry a.k a.b a.j a.cells.now a.links.now a.calendar.now a.words.now a.bits.now arrived)
     (head_high _ _ _ c.if-head.false c.if-head-k.true))
@@ -52,7 +52,7 @@ unfolding quiet_work
 returns-then-tail-k c =
     λ arrived.
     let a = c.args in
-    as_came a.r a.cells.now a.links.now a.calendar.now a.words.now a.bits.now arrived _ _ c.refuse-then-tail-k.ensures
+    as_came a.r a.cells.now a.links.now a.calendar.now a.words.now a.bits.now arrived _ _ c.refuse_for-then-tail-k.ensures
     (unfit_entry (quiet_work_lem a.k a.b a.j a.cells.now a.links.now a.calendar.now a.words.now a.bits.now arrived) _
     (quiet_entry a.k a.b a.j a.cells.now a.links.now a.calendar.now a.words.now a.bits.now arrived)
     (tail_high _ _ _ c.requires.sized_with.1.n_high c.if-head-k.false c.if-tail-k.true))
@@ -62,7 +62,7 @@ unfolding quiet_work
 returns-then-not-pair c =
     λ arrived.
     let a = c.args in
-    as_came a.r a.cells.now a.links.now a.calendar.now a.words.now a.bits.now arrived _ _ c.refuse-then-not-pair.ensures
+    as_came a.r a.cells.now a.links.now a.calendar.now a.words.now a.bits.now arrived _ _ c.refuse_for-then-not-pair.ensures
     (unfit_output (quiet_work_lem a.k a.b a.j a.cells.now a.links.now a.calendar.now a.words.now a.bits.now arrived) _
     (quiet_entry a.k a.b a.j a.cells.now a.links.now a.calendar.now a.words.now a.bits.now arrived)
     (not_shown _ _ c.pair.ensures (ap not c.if-not-pair.true)))

@@ -12,7 +12,7 @@ pub returns-in_default : goal.returns-in_default
 returns-in_default c =
     λ calendar arrived.
     let a = c.args in
-    as_came a.r a.cells.now a.links.now calendar a.words.now a.bits.now arrived _ _ c.refuse.ensures
+    as_came a.r a.cells.now a.links.now calendar a.words.now a.bits.now arrived _ _ c.refuse_for.ensures
     (output_none a.k a.b a.j a.cells.now a.links.now calendar a.words.now a.bits.now arrived _
     c.off_head.ensures c.in_default.is)
 
@@ -26,7 +26,7 @@ pub returns-then-not-may_free : goal.returns-then-not-may_free
 returns-then-not-may_free c =
     λ calendar arrived.
     let a = c.args in
-    as_came a.r a.cells.now a.links.now calendar a.words.now a.bits.now arrived _ _ c.refuse-then-not-may_free.ensures
+    as_came a.r a.cells.now a.links.now calendar a.words.now a.bits.now arrived _ _ c.refuse_for-then-not-may_free.ensures
     (output_unfit a.k a.b a.j a.cells.now a.links.now calendar a.words.now a.bits.now arrived _
     c.off_head.ensures _ c.in-Some.is (not_shown _ _ c.may_free.ensures (ap not c.if-not-may_free.true)))
 

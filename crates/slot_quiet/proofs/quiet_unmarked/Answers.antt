@@ -14,7 +14,7 @@ unfolding quiet_work
 returns-then-k-ne65535 c =
     λ calendar arrived.
     let a = c.args in
-    as_came a.r a.cells.now a.links.now calendar a.words.now a.bits.now arrived _ _ c.refuse.ensures
+    as_came a.r a.cells.now a.links.now calendar a.words.now a.bits.now arrived _ _ c.refuse_for.ensures
     (unmarked_unfit (quiet_work_lem a.k a.b a.j a.cells.now a.links.now calendar a.words.now a.bits.now arrived)
     (tail_left _ _ _ c.requires.n_le_most_n.0 c.if-k-eq65535.true c.if-k-ne65535.true))
 
@@ -37,7 +37,7 @@ unfolding quiet_work
 returns-then-k c =
     λ calendar arrived.
     let a = c.args in
-    as_came a.r a.cells.now a.links.now calendar a.words.now a.bits.now arrived _ _ c.refuse-then-k.ensures
+    as_came a.r a.cells.now a.links.now calendar a.words.now a.bits.now arrived _ _ c.refuse_for-then-k.ensures
     (unmarked_unfit (quiet_work_lem a.k a.b a.j a.cells.now a.links.now calendar a.words.now a.bits.now arrived)
     (head_high _ _ a.k.outtail c.if-k-eq65535.false c.if-k.true))
 
@@ -46,7 +46,7 @@ unfolding quiet_work
 returns-then-k-2 c =
     λ calendar arrived.
     let a = c.args in
-    as_came a.r a.cells.now a.links.now calendar a.words.now a.bits.now arrived _ _ c.refuse-then-k-2.ensures
+    as_came a.r a.cells.now a.links.now calendar a.words.now a.bits.now arrived _ _ c.refuse_for-then-k-2.ensures
     (unmarked_unfit (quiet_work_lem a.k a.b a.j a.cells.now a.links.now calendar a.words.now a.bits.now arrived)
     (tail_high _ _ _ c.requires.n_le_most_n.0 c.if-k.false c.if-k-2.true))
 

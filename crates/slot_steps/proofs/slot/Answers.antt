@@ -12,12 +12,12 @@ pub returns-in-Err : goal.returns-in-Err
 returns-in-Err c =
     let a = c.args in
     slot_refused a.r a.cell.now a.cells.now a.links.now a.calendar.now a.words.now a.bits.now a.arrived.now _ _
-    (sym (ap given_number c.in-Err.is) ∙ c.shape.ensures) (never_0 _) c.refuse.ensures
+    (sym (ap given_number c.in-Err.is) ∙ c.shape.ensures) (never_0 _) c.refuse_for.ensures
 
 pub returns-then-r : goal.returns-then-r
 returns-then-r c =
     let a = c.args in
-    as_came a.r a.cells.now a.links.now a.calendar.now a.words.now a.bits.now a.arrived.now _ _ c.refuse-then-r.ensures
+    as_came a.r a.cells.now a.links.now a.calendar.now a.words.now a.bits.now a.arrived.now _ _ c.refuse_for-then-r.ensures
     (clock_turn a.r a.cell.now a.cells.now a.links.now a.calendar.now a.words.now a.bits.now a.arrived.now
     c.if-r.true) ∙ sym (slot_goes a.r a.cell.now a.cells.now a.links.now a.calendar.now
     a.words.now a.bits.now a.arrived.now _ c.shape.ensures (ap given_number c.in_default.is))
@@ -38,7 +38,7 @@ clock-k-requires c =
 pub returns-then-r-2 : goal.returns-then-r-2
 returns-then-r-2 c =
     let a = c.args in
-    as_came a.r a.cells.now a.links.now a.calendar.now a.words.now a.bits.now a.arrived.now _ _ c.refuse-then-r-2.ensures
+    as_came a.r a.cells.now a.links.now a.calendar.now a.words.now a.bits.now a.arrived.now _ _ c.refuse_for-then-r-2.ensures
     (clock_rotation a.r a.cell.now a.cells.now a.links.now a.calendar.now a.words.now a.bits.now a.arrived.now
     c.if-r.false c.if-r-2.true) ∙ sym (slot_goes a.r a.cell.now a.cells.now a.links.now
     a.calendar.now a.words.now a.bits.now a.arrived.now _ c.shape.ensures (ap given_number c.in_default.is))

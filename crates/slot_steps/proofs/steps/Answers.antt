@@ -13,7 +13,7 @@ use Rattle.slot_steps.proofs.steps.Goals as goal
 pub returns-in_default : goal.returns-in_default
 returns-in_default c =
     let a = c.args in
-    as_came a.r a.cells.now a.links.now a.calendar.now a.words.now a.bits.now a.arrived.now _ _ c.refuse.ensures
+    as_came a.r a.cells.now a.links.now a.calendar.now a.words.now a.bits.now a.arrived.now _ _ c.refuse_for.ensures
     (rotating_none a.k (lowest_free a.bits.now) a.cell.now a.cells.now a.links.now a.calendar.now a.words.now a.bits.now a.arrived.now
     (sym c.in_default.is ∙ c.bring.ensures))
 
@@ -21,7 +21,7 @@ pub returns-in_default-judge : goal.returns-in_default-judge
 returns-in_default-judge c =
     let a = c.args in
     let pre = c.requires in
-    as_came a.r a.cells.now a.links.now a.calendar.now a.words.now a.bits.now a.arrived.now _ _ c.refuse-in_default-judge.ensures
+    as_came a.r a.cells.now a.links.now a.calendar.now a.words.now a.bits.now a.arrived.now _ _ c.refuse_for-in_default-judge.ensures
     (arriving_none a.k (lowest_free a.bits.now) a.cell.now a.cells.now a.links.now a.calendar.now a.words.now a.bits.now a.arrived.now
     c.in-Some.b (sym c.in-Some.is ∙ c.bring.ensures) _ (c.judge.ensures
     ∙ judged_cell a.k.n a.k.v a.k.kind a.k.t a.words.now a.cell.now _ (omega (arith, pre.sized.v_high))

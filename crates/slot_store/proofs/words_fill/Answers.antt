@@ -11,7 +11,7 @@ returns c =
     let k = c.args.k in
     let j = c.args.j in
     let rotates : c.match-b.words ≡ rotated k c.args.b c.args.words.now = elim c.match-b.branch [
-      | in-Some w ↦ rotated_some k c.args.b _ c.args.words.now _ w.in-Some.is (w.words-is ∙ w.put_fall.ensures)
+      | in-Some w ↦ rotated_some k c.args.b _ c.args.words.now _ w.in-Some.is (w.words-is ∙ w.put_fallen.ensures)
       | in_default w ↦ rotated_none k c.args.b c.args.words.now _ w.in_default.is w.words-is
     ] in
     c.put_fill.ensures ∙ ap (filled j.vci j.s j.second k.t j.waiting) rotates
