@@ -7,7 +7,7 @@ ghost use Rattle.meaning.specs.Numbers.{most_n, most_v};
 ghost use Rattle.trace_record.specs.Trace.{said_of};
 ghost use Rattle.list_meaning.specs.Trace.{limit};
 ghost use Rattle.list_whole.specs.Fill.{room, start_run, sizes_at, sizes_of};
-ghost use Rattle.list_whole.specs.Lent.{SameMemory, RanLent, AdvancedLent, FillLent, FilledLent};
+ghost use Rattle.list_whole.specs.Lent.{SameMemory, RanLent, AdvancedLent, FillLent, FilledLent, FilledParts};
 
 use list_meaning::Tally;
 use list_whole::{Filled, Memory, Run, Sizes};
@@ -37,7 +37,7 @@ fn pause(
     let mut now = run;
     let mut end = used;
     for _ in 0..count {
-        let f = list_step::serve(now, now.at, now.left - 1, memory, none, out, end);
+        let f = list_step::serve_with(now, now.at, now.left - 1, memory, none, out, end);
         end = f.used;
         now = f.run;
     }
@@ -65,7 +65,7 @@ fn advance(
         let count = usize::from(run.left).min((out.len() - used - 96) / 64);
         pause(trace, run, memory, out, used, count)
     } else {
-        list_step::one(trace, more, run, memory, out, used)
+        list_step::one_with(trace, more, run, memory, out, used)
     }
 }
 
@@ -92,13 +92,38 @@ fn fill_trace(trace: &[u8], more: bool, run: Run, memory: &mut Memory, out: &mut
 
 // Fills the buffer from its start with what comes next of the listing.
 // What is read and where it goes are two parameters. There is no heap: `out` is lent, and `FillPromise` says how much is used.
-pub fn fill(input: &[u8], run: Run, memory: &mut Memory, out: &mut [u8]) -> Filled
+pub fn fill_with(input: &[u8], run: Run, memory: &mut Memory, out: &mut [u8]) -> Filled
     ensures filled { FilledLent input run memory out result }
     ensures same { SameMemory memory.old memory.new }
 {
     let end = input.len().min(LIMIT);
     let more = LIMIT < input.len();
     fill_trace(&input[..end], more, run, memory, out)
+}
+
+// The same with the memory part by part, so that who lends a part of a larger slice knows afterwards what that part holds.
+pub fn fill(
+    input: &[u8],
+    run: Run,
+    cells: &mut [u8],
+    links: &mut [u16],
+    calendar: &mut [u16],
+    words: &mut [u32],
+    bits: &mut [u64],
+    arrived: &mut [u32],
+    out: &mut [u8],
+) -> Filled
+    ensures { FilledParts input run cells links calendar words bits arrived out result }
+{
+    let mut memory = Memory {
+        cells,
+        links,
+        calendar,
+        words,
+        bits,
+        arrived,
+    };
+    fill_with(input, run, &mut memory, out)
 }
 
 // Where a run begins.

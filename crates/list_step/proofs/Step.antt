@@ -8,10 +8,12 @@ use Rattle.trace_record.specs.declared.Found.{Found}
 use Rattle.trace_record.specs.declared.Found.TheVariants.{Read, End, Unreadable}
 use Rattle.trace_record.specs.Trace.{CA, SL, finish, refusal, record_of, said_of}
 use Rattle.list_lines.proofs.Puts.{put_is, put_none, put_once}
+use Rattle.list_whole.specs.declared.Memory.{Memory}
 use Rattle.list_whole.specs.declared.Run.{Run}
 use Rattle.list_meaning.specs.Trace.{serve, cell_of}
 use Rattle.list_whole.specs.Run.{World, Step, onward, world_of, called, paused, ended, record_step, stands_step}
 use Rattle.list_whole.specs.Fill.{room, Did, CellWithin}
+use Rattle.list_whole.specs.Lent.{world_in}
 
 -- what is neither a record nor unreadable is the end
 pub end_said : (f : Found) → ((e : Event) (next : ℕ) → f ≡ Read e next → ⊥) → ((place : ℕ) → f ≡ Unreadable place → ⊥) → finish ≡ said_of f
@@ -70,3 +72,10 @@ pub did_pause : (trace : List ℕ) (run run' : Run) (next slots used : ℕ) (cel
 unfolding record_step paused
 did_pause trace run run' next slots used cells links calendar words bits arrived out e =
     record { world = ap (λ (x : Run). world_of x cells links calendar words bits arrived) e; put = put_none out used; few = omega arith }
+
+-- a step that was made with the parts in a struct, where each part ended as the struct has it
+pub did_back : {s : Step} {most used used' : ℕ} {out out' : List ℕ} {run : Run} (m : Memory) {c l k w g a : List ℕ}
+    → c ≡ m.cells.now → l ≡ m.links.now → k ≡ m.calendar.now → w ≡ m.words.now → g ≡ m.bits.now → a ≡ m.arrived.now
+    → Did s most out used (world_in run m) out' used'
+    → Did s most out used (world_of run c l k w g a) out' used'
+did_back m e1 e2 e3 e4 e5 e6 d = rw (e1, e2, e3, e4, e5, e6) d

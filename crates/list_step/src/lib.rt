@@ -14,7 +14,7 @@ ghost use Rattle.list_whole.specs.Run.{World, onward, counted_if, called, ended,
 ghost use Rattle.list_whole.specs.declared.Run.{Run as AnyRun};
 ghost use Rattle.list_whole.specs.Run.{counted as Run·counted};
 ghost use Rattle.list_whole.specs.Fill.{room, CellWithin};
-ghost use Rattle.list_whole.specs.Lent.{world_in, SameMemory, DidLent, DidAlone};
+ghost use Rattle.list_whole.specs.Lent.{world_in, world_before, SameMemory, DidLent, DidParts, DidAlone};
 
 mod connection;
 
@@ -43,7 +43,7 @@ fn counted(t: Tally, a: Answer) -> Tally
 }
 
 // One slot with its line; the run goes on at `at`, with so many slots left of a pause.
-pub fn serve(
+pub fn serve_with(
     run: Run,
     at: u32,
     left: u16,
@@ -77,6 +77,35 @@ pub fn serve(
         },
         used: end,
     }
+}
+
+// The same with the memory part by part, so that who lends a part of a larger slice knows afterwards what that part holds.
+pub fn serve(
+    run: Run,
+    at: u32,
+    left: u16,
+    cells: &mut [u8],
+    links: &mut [u16],
+    calendar: &mut [u16],
+    words: &mut [u32],
+    bits: &mut [u64],
+    arrived: &mut [u32],
+    cell: &[u8],
+    out: &mut [u8],
+    used: usize,
+) -> Filled
+    requires { used + 64 ≤ length out.old }
+    ensures { DidParts (called (world_before run cells links calendar words bits arrived) (Trace·serve cell.now) at left) 64 cells links calendar words bits arrived out used result }
+{
+    let mut memory = Memory {
+        cells,
+        links,
+        calendar,
+        words,
+        bits,
+        arrived,
+    };
+    serve_with(run, at, left, &mut memory, cell, out, used)
 }
 
 // The end line of the counts.
@@ -230,7 +259,7 @@ fn happen(
         ),
         Event::Cell { start } => {
             let end = start + 53;
-            serve(run, next, 0, memory, &trace[start..end], out, used)
+            serve_with(run, next, 0, memory, &trace[start..end], out, used)
         }
         Event::Pause { slots } => Filled {
             run: connection::moved(run, next, slots),
@@ -289,7 +318,7 @@ fn happen(
 }
 
 // One step that is no slot of a pause.
-pub fn one(
+pub fn one_with(
     trace: &[u8],
     more: bool,
     run: Run,
@@ -312,4 +341,33 @@ pub fn one(
         };
     };
     happen(trace, run, event, next as u32, memory, out, used)
+}
+
+// The same with the memory part by part, as `serve` has it.
+pub fn one(
+    trace: &[u8],
+    more: bool,
+    run: Run,
+    cells: &mut [u8],
+    links: &mut [u16],
+    calendar: &mut [u16],
+    words: &mut [u32],
+    bits: &mut [u64],
+    arrived: &mut [u32],
+    out: &mut [u8],
+    used: usize,
+) -> Filled
+    requires room_in_bounds { (used + room ≤ length out.old) × (run.done ≡ false) }
+    requires trace_len_bound { length trace.now ≤ limit }
+    ensures { DidParts (read_step more trace.now (world_before run cells links calendar words bits arrived)) room cells links calendar words bits arrived out used result }
+{
+    let mut memory = Memory {
+        cells,
+        links,
+        calendar,
+        words,
+        bits,
+        arrived,
+    };
+    one_with(trace, more, run, &mut memory, out, used)
 }

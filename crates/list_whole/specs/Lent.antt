@@ -53,11 +53,15 @@ abbrev pub world_after : Run → (cells links calendar words bits arrived : Lent
 world_after run cells links calendar words bits arrived =
     world_of run cells.exit.now links.exit.now calendar.exit.now words.exit.now bits.exit.now arrived.exit.now
 
--- What a call that answers r promises of a step: with all memories lent; with the words alone, whatever the others hold; with
--- none.
+-- What a call that answers r promises of a step: with all memories lent, as one struct or part by part; with the words alone,
+-- whatever the others hold; with none.
 abbrev pub DidLent : Step → (most : ℕ) → (memory : MemoryMut) → (out : LentMut) → (used : ℕ) → Filled → Type 0
 DidLent s most memory out used r =
     Did s most out.entry.now used (world_in r.run memory.exit.now) out.exit.now r.used
+
+abbrev pub DidParts : Step → (most : ℕ) → (cells links calendar words bits arrived out : LentMut) → (used : ℕ) → Filled → Type 0
+DidParts s most cells links calendar words bits arrived out used r =
+    Did s most out.entry.now used (world_after r.run cells links calendar words bits arrived) out.exit.now r.used
 
 abbrev pub DidWords : (World → Step) → (most : ℕ) → Run → (words out : LentMut) → (used : ℕ) → Filled → Type 0
 DidWords s most run words out used r =
@@ -85,3 +89,9 @@ FillLent more trace run memory out r =
 abbrev pub FilledLent : (input : Lent) → Run → (memory : MemoryMut) → (out : LentMut) → Filled → Type 0
 FilledLent input run memory out r =
     FillPromise input.entry.now (world_in run memory.entry.now) out.entry.now (world_in r.run memory.exit.now) out.exit.now r.used
+
+-- the same with the memories part by part
+abbrev pub FilledParts : (input : Lent) → Run → (cells links calendar words bits arrived out : LentMut) → Filled → Type 0
+FilledParts input run cells links calendar words bits arrived out r =
+    FillPromise input.entry.now (world_before run cells links calendar words bits arrived) out.entry.now
+    (world_after r.run cells links calendar words bits arrived) out.exit.now r.used

@@ -25,7 +25,7 @@ fn write_fills<W: Write>(to: &mut W, input: &[u8], memory: &mut Memory, out: &mu
     let mut run = list_fill::start();
     // No for: how many fills there are is known only when the run is done.
     while !run.done {
-        let filled = list_fill::fill(input, run, memory, out);
+        let filled = list_fill::fill_with(input, run, memory, out);
         if to.write_all(&out[..filled.used]).is_err() {
             return false;
         }

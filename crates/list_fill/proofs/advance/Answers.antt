@@ -27,7 +27,7 @@ returns-then-run-gt0 c =
 
 pub returns-else-run-gt0 : goal.returns-else-run-gt0
 returns-else-run-gt0 c =
-    let o = c.one.ensures in
+    let o = c.one_with.ensures in
     let w = world_in c.args.run c.args.memory.now in
     let e : c.args.run.left ≡ 0 = omega (arith, c.if-run-gt0.false) in
     record {

@@ -25,13 +25,13 @@ loop-init c = record {
 pub overflow_sub-now : goal.overflow_sub-now
 overflow_sub-now c = omega (arith, c.loop.invariant.left, c.requires.count_le_left.0)
 
-pub serve-f-requires : goal.serve-f-requires
-serve-f-requires c = omega (arith, c.loop.invariant.few, c.requires.count_in_bounds, c.loop.auto.out)
+pub serve_with-f-requires : goal.serve_with-f-requires
+serve_with-f-requires c = omega (arith, c.loop.invariant.few, c.requires.count_in_bounds, c.loop.auto.out)
 
 pub loop-preserved : goal.loop-preserved
 unfolding called ends_run
 loop-preserved c =
-    let f = c.serve-f in
+    let f = c.serve_with-f in
     let h = c.loop in
     let inv = h.invariant in
     let w = world_in h.now h.memory in

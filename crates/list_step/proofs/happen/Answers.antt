@@ -9,8 +9,8 @@ pub overflow_add-end : goal.overflow_add-end
 overflow_add-end c =
     omega (arith, cell_within c.args.trace.now c.args.event _ c.in-Cell.is c.requires.cell_within)
 
-pub slice_bounds-serve-end : goal.slice_bounds-serve-end
-slice_bounds-serve-end c =
+pub slice_bounds-serve_with-end : goal.slice_bounds-serve_with-end
+slice_bounds-serve_with-end c =
     omega (arith, cell_within c.args.trace.now c.args.event _ c.in-Cell.is c.requires.cell_within)
 
 pub returns-in-Setup : goal.returns-in-Setup
@@ -26,7 +26,7 @@ unfolding record_step
 returns-in-Close c = rw c.in-Close.is (record { did = c.close_connection.ensures _ _ _ _ _; same = same_words _ _ c.close_connection.auto.words })
 
 pub returns-in-Cell : goal.returns-in-Cell
-returns-in-Cell c = rw c.in-Cell.is (record { did = did_cell _ _ _ _ _ _ _ _ _ c.serve.ensures.did; same = c.serve.ensures.same })
+returns-in-Cell c = rw c.in-Cell.is (record { did = did_cell _ _ _ _ _ _ _ _ _ c.serve_with.ensures.did; same = c.serve_with.ensures.same })
 
 pub returns-in-Pause : goal.returns-in-Pause
 returns-in-Pause c = rw c.in-Pause.is (record { did = did_pause _ _ _ _ _ _ _ _ _ _ _ _ _ c.moved.ensures; same = same_memory _ })

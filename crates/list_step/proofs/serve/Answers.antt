@@ -1,23 +1,13 @@
--- `list_step::serve` serves one slot and puts its line: the slot's promise and the line's, joined by `serve_did`.
-use Rattle.std.proofs.Common.{refl}
-use Rattle.list_step.proofs.Did.{serve_did}
+-- `list_step::serve` makes the step of a slot with the memory that it was lent, part by part: the parts are the struct's, and come back with it.
+use Rattle.std.proofs.Common.{sym}
+use borrow.Author.Rules.{rules}
+use Rattle.list_step.proofs.Step.{did_back}
 use Rattle.list_step.proofs.serve.Goals as goal
-
-pub slot_line-end-requires : goal.slot_line-end-requires
-slot_line-end-requires c = c.requires
 
 pub returns : goal.returns
 returns c =
-    let l = c.slot_line-end in
-    let s = c.slot-served in
-    record {
-      did = serve_did _ _ _ _ _ _ _ _ _ _ _ _ _ _ _ _ _ _ _ _ _ _ s.ensures c.counted.ensures l.ensures.put l.ensures.upper_bound;
-      same = record {
-        cells = record { name = refl; long = s.auto.cells };
-        links = record { name = refl; long = s.auto.links };
-        calendar = record { name = refl; long = s.auto.calendar };
-        words = record { name = refl; long = s.auto.words };
-        bits = record { name = refl; long = s.auto.bits };
-        arrived = record { name = refl; long = s.auto.arrived };
-      };
-    }
+    let o = c.serve_with in
+    let n = o.ensures.same in
+    did_back o.new.memory
+    (search (rules, sym n.cells.name)) (search (rules, sym n.links.name)) (search (rules, sym n.calendar.name))
+    (search (rules, sym n.words.name)) (search (rules, sym n.bits.name)) (search (rules, sym n.arrived.name)) o.ensures.did

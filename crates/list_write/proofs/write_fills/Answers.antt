@@ -21,41 +21,41 @@ pub loop-run-init : goal.loop-run-init
 loop-run-init g c = (record { count = 0; text = []; fills = no_fill }, Appends-nil _, same_memory _, refl)
 
 pub slice_bounds-write_all-end : goal.slice_bounds-write_all-end
-slice_bounds-write_all-end g c = omega (arith, c.fill-filled.ensures.filled.within)
+slice_bounds-write_all-end g c = omega (arith, c.fill_with-filled.ensures.filled.within)
 
 pub slice_bounds-write_all-end-in-loop-run : goal.slice_bounds-write_all-end-in-loop-run
 slice_bounds-write_all-end-in-loop-run g c =
-    let f = c.fill-filled in
+    let f = c.fill_with-filled in
     sym (length-take-le f.result.used _ (omega (arith, f.ensures.filled.within)))
 
 -- a write that fails leaves the buffer as long as it was lent
 pub shape_of-out-then-is_err : goal.shape_of-out-then-is_err
-shape_of-out-then-is_err g c = c.fill-filled.auto.out ∙ c.loop-run.invariant.3
+shape_of-out-then-is_err g c = c.fill_with-filled.auto.out ∙ c.loop-run.invariant.3
 
 pub returns-then-is_err-clause-handed : goal.returns-then-is_err-clause-handed
 returns-then-is_err-clause-handed g c =
     let a = c.args in
-    let f = c.fill-filled in
+    let f = c.fill_with-filled in
     handed a.input.now a.memory.now.cells.now a.memory.now.links.now a.memory.now.calendar.now a.memory.now.words.now a.memory.now.bits.now a.memory.now.arrived.now a.out.now
     c.start-run.result f.result.run _ _ false c.start-run.ensures c.requires.lent_for
     (more _ c.loop-run.invariant.0 (not-true _ c.loop-run-test.true) f.ensures.filled) (omega arith)
     (λ e. absurd (let z : ◌≡◌ {A = ℕ} 0 1 = cc in omega arith))
 
 pub returns-then-is_err-clause-same : goal.returns-then-is_err-clause-same
-returns-then-is_err-clause-same g c = same_then c.loop-run.invariant.2 c.fill-filled.ensures.same
+returns-then-is_err-clause-same g c = same_then c.loop-run.invariant.2 c.fill_with-filled.ensures.same
 
 pub returns-then-is_err-clause-written : goal.returns-then-is_err-clause-written
 returns-then-is_err-clause-written g c = λ e. absurd (let z : ◌≡◌ {A = ℕ} 0 1 = cc in omega arith)
 
 pub loop-run-smaller : goal.loop-run-smaller
 loop-run-smaller g c =
-    let f = c.fill-filled in
+    let f = c.fill_with-filled in
     let h = c.loop-run in
     fill_falls _ (omega (arith, h.invariant.3, c.requires.room_in_bounds)) (not-true _ c.loop-run-test.true) (omega arith) f.ensures.filled
 
 pub loop-run-preserved : goal.loop-run-preserved
 loop-run-preserved g c =
-    let f = c.fill-filled in
+    let f = c.fill_with-filled in
     let h = c.loop-run.invariant in (
       more _ h.0 (not-true _ c.loop-run-test.true) f.ensures.filled,
       Appends-trans _ _ _ _ _ h.1 (took _ _ _ c.is_err.ensures.value c.if-is_err.false c.write_all.ensures.bytes),
