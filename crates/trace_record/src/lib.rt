@@ -105,6 +105,7 @@ fn u32_at(s: &[u8], i: usize) -> u32
 
 // The record of a mark that stands at a place. It is measured before it is read: a short one is refused where it starts, and so is
 // a pause of no slots. A cell is not copied: the answer names where its octets start.
+#[inline(always)]
 fn record_at(s: &[u8], at: usize, mark: Mark) -> Found
     requires { at + mark_octets ≤ length s.now }
     ensures { said_of result ≡ record_at s.now at mark }
@@ -168,6 +169,9 @@ fn record_at(s: &[u8], at: usize, mark: Mark) -> Found
 }
 
 // What stands at a place, for every trace and every number. GM, GR or GN is first and only first.
+// It and `record_at` are inlined: a call puts all of an answer into memory, where most callers need little of it. With calls
+// `salvage` takes 20.6 million instructions for 131,070 records SL 1, and 11.5 million without.
+#[inline(always)]
 pub fn event_at(trace: &[u8], at: usize) -> Found
     ensures { event_promise trace.now at result }
 {
