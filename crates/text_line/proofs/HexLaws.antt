@@ -1,8 +1,10 @@
 -- Octets put behind others: one, and those of a number that fits its field.
-use Rattle.std.proofs.Common.{◌≡◌, ℕ, ◌+◌, ◌-◌, ◌/◌, ◌%◌, ◌<◌, ◌≤◌, Option, Bor, List, [], ◌∷◌, ◌++◌, length, take, drop, length-drop, refl, sym, ap, ◌∙◌, arith}
-use Rattle.std.specs.Int.{w32, to_be_bytes}
+use Rattle.std.proofs.Common.{◌≡◌, ℕ, ◌+◌, ◌/◌, ◌%◌, ◌<◌, ◌≤◌, Option, Bor, List, [], ◌∷◌, ◌++◌, length, take, refl, sym, ap, ◌∙◌, arith}
+use Rattle.std.specs.Int.{w16, w32, to_be_bytes}
+use borrow.Rule.Slice.PartMut.{put_mid}
+use Rattle.std.proofs.lemmas.Slice.{take-put_mid}
 use Rattle.meaning.specs.Plain.{refused, next}
-use Rattle.text_meaning.specs.Shapes.{n8, n16, n32, cell, wide, top, of_field}
+use Rattle.text_meaning.specs.Shapes.{cell, wide, top, of16, of_field}
 use Rattle.text_meaning.specs.Grammar.{number_of, number, part, hexes, field_at}
 use Rattle.text_meaning.proofs.Octets.{of32_bytes}
 use Rattle.text_line.specs.declared.field.Field.{Field as Code-Field}
@@ -11,17 +13,12 @@ use Rattle.text_line.specs.Found.{Finds, field_named}
 use native.Mathlib.Numerals.{add-one}
 use lib.ListN.{set}
 use lib.Seq.{take-suc-set}
-use Rattle.std.proofs.Math.Seq.{take-length}
 
 pub put_one : (l : List ℕ) (i a : ℕ) → i < length l → take (i + 1) (set l i a) ≡ take i l ++ (a ∷ [])
 put_one l i a h = ap (λ (k : ℕ). take k (set l i a)) (add-one i) ∙ take-suc-set l i a h
 
--- the lowest octets of a number that fits its field
-of_8 : (n : ℕ) → n ≤ 255 → of_field n8 n ≡ drop 3 (to_be_bytes w32 n)
-of_8 n h = let e : n ≡ n % 256 = omega arith in ap (λ (x : ℕ). x ∷ []) e
-
-of_16 : (n : ℕ) → n ≤ 65535 → of_field n16 n ≡ drop 2 (to_be_bytes w32 n)
-of_16 n h = let e : n / 256 ≡ n / 256 % 256 = omega arith in ap (λ (x : ℕ). x ∷ n % 256 ∷ []) e
+of16_bytes : (n : ℕ) → n ≤ 65535 → of16 n ≡ to_be_bytes w16 n
+of16_bytes n h = let e : n / 256 ≡ n / 256 % 256 = omega arith in ap (λ (x : ℕ). x ∷ n % 256 ∷ []) e
 
 -- a field that is a number
 module _ (o t : List ℕ) where
@@ -32,13 +29,13 @@ module _ (o t : List ℕ) where
   no_number N32 z e = rw e
   no_number Cell z e = absurd (z refl)
 
-  pub a_number : (kind : Code-Field) (n : ℕ) (s : List ℕ) → (field_named kind ≡ cell → ⊥) → number (top (field_named kind)) t ≡ next (number_of n s) → n ≤ top (field_named kind)
-      → field_at (field_named kind) o t ≡ next (part (o ++ drop (4 - wide (field_named kind)) (to_be_bytes w32 n)) s)
+  pub a_number : (kind : Code-Field) (n : ℕ) (s : List ℕ) → (field_named kind ≡ cell → ⊥) → number (top (field_named kind)) t ≡ next (number_of n s)
+      → field_at (field_named kind) o t ≡ next (part (o ++ of_field (field_named kind) n) s)
   unfolding field_at
-  a_number N8 n s z e h = rw e (ap (λ (l : List ℕ). next (part (o ++ l) s)) (of_8 n h))
-  a_number N16 n s z e h = rw e (ap (λ (l : List ℕ). next (part (o ++ l) s)) (of_16 n h))
-  a_number N32 n s z e h = rw e (ap (λ (l : List ℕ). next (part (o ++ l) s)) (of32_bytes n (omega arith)))
-  a_number Cell n s z e h = absurd (z refl)
+  a_number N8 n s z e = rw e refl
+  a_number N16 n s z e = rw e refl
+  a_number N32 n s z e = rw e refl
+  a_number Cell n s z e = absurd (z refl)
 
   pub a_cell : (kind : Code-Field) (rec : List ℕ) (at : ℕ) (r : Option (Bor (List ℕ))) → kind ≡ Cell → Finds (λ s. part (take (at + 53) rec) s.now) r (hexes 53 o t)
       → Finds (λ s. part (take (at + wide (field_named kind)) rec) s.now) r (field_at (field_named kind) o t)
@@ -48,18 +45,27 @@ module _ (o t : List ℕ) where
   a_cell N32 rec at r e h = absurd (cc)
   a_cell Cell rec at r e h = h
 
-pub wide_four : (kind : Code-Field) → (field_named kind ≡ cell → ⊥) → wide (field_named kind) ≤ 4
-wide_four N8 z = omega arith
-wide_four N16 z = omega arith
-wide_four N32 z = omega arith
-wide_four Cell z = absurd (z refl)
+pub only_32 : (kind : Code-Field) → (field_named kind ≡ cell → ⊥) → (kind ≡ N8 → ⊥) → (kind ≡ N16 → ⊥) → kind ≡ N32
+only_32 N8 z a b = absurd (a refl)
+only_32 N16 z a b = absurd (b refl)
+only_32 N32 z a b = refl
+only_32 Cell z a b = absurd (z refl)
 
--- what is copied from the end of four octets
-pub last_octets : (four : List ℕ) (u w n : ℕ) (new : List ℕ) → four ≡ to_be_bytes w32 n → u ≡ w → w ≤ 4 → new ≡ take (4 - (4 - u)) (drop (4 - u) four)
-    → (new ≡ drop (4 - w) (to_be_bytes w32 n)) × (length new ≡ w)
-last_octets four u w n new e f h g =
-    let d = drop (4 - u) four in
-    let k : length four ≡ 4 = ap length e in
-    let l : length d ≡ 4 - (4 - u) = omega (arith, length-drop (4 - u) four) in
-    let x : new ≡ d = g ∙ ap (λ (j : ℕ). take j d) (sym l) ∙ take-length d in
-    (x ∙ ap (λ (j : ℕ). drop (4 - j) four) f ∙ ap (drop (4 - w)) e, ap length x ∙ omega arith)
+-- a number's octets, put behind others as its field has it
+module _ (rec : List ℕ) (at n : ℕ) (kind : Code-Field) (new : List ℕ) where
+  abbrev Stands : Type 0
+  Stands = take at rec ++ of_field (field_named kind) n ≡ take (at + wide (field_named kind)) new
+
+  pub put_8 : kind ≡ N8 → at < length rec → new ≡ set rec at n → Stands
+  put_8 e h f = rw e (sym (ap (take (at + 1)) f ∙ put_one rec at n h))
+
+  put_wide : (u : ℕ) (l : List ℕ) → l ≡ of_field (field_named kind) n → length l ≡ wide (field_named kind) → at ≤ length rec → new ≡ put_mid at u rec l → Stands
+  put_wide u l e w h f =
+      ap (λ (k : List ℕ). take at rec ++ k) (sym e)
+      ∙ sym (ap (take (at + wide (field_named kind))) f ∙ take-put_mid at u rec l (at + wide (field_named kind)) (omega (arith, w)) h)
+
+  pub put_16 : (u : ℕ) (l : List ℕ) → kind ≡ N16 → n ≤ 65535 → l ≡ to_be_bytes w16 n → at ≤ length rec → new ≡ put_mid at u rec l → Stands
+  put_16 u l e k b h f = put_wide u l (rw e (b ∙ sym (of16_bytes n k))) (rw e (ap length b)) h f
+
+  pub put_32 : (u : ℕ) (l : List ℕ) → kind ≡ N32 → n < 4294967296 → l ≡ to_be_bytes w32 n → at ≤ length rec → new ≡ put_mid at u rec l → Stands
+  put_32 u l e k b h f = put_wide u l (rw e (b ∙ sym (of32_bytes n k))) (rw e (ap length b)) h f
