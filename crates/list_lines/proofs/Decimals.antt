@@ -23,6 +23,10 @@ decimal_more : (k n : ℕ) → 10 ≤ n → decimal (suc k) n ≡ decimal k (n /
 unfolding decimal
 decimal_more k n h = simp (le-ltb n 10 h)
 
+pub one_digit : (n : ℕ) → n < 10 → decimal_of n ≡ (48 + n) ∷ []
+unfolding decimal_of
+one_digit n h = decimal_one 9 n h
+
 -- where so many digits are enough
 decimal_is : (k n : ℕ) → n < 10 ^ suc k → n < 2 ^ 64 → printed n ≡ decimal (suc k) n
 decimal_is zero n h f = decimal_digit n h ∙ sym (decimal_one zero n h)

@@ -26,6 +26,12 @@ pub fn number(out: &mut [u8], at: usize, n: u32, after: u8) -> usize
     ensures put { Put out.old at (decimal_of n ++ (after ∷ [])) out.new result }
     ensures upper_bound { result ≤ at + 13 }
 {
+    // a line's answer mostly has one digit, and often its other numbers too: stored at once, one takes 8 instructions in place of 26
+    if n < 10 {
+        out[at] = b'0' + n as u8;
+        out[at + 1] = after;
+        return at + 2;
+    }
     let end = at + 1 + n.max(1).ilog10() as usize;
     itoa::write_digits(u64::from(n), out, end);
     out[end] = after;

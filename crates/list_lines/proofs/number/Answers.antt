@@ -1,9 +1,12 @@
--- `list_lines::number` puts the digits that the library writes, and one octet more.
+-- `list_lines::number` puts one digit, or the digits that the library writes, and one octet more.
 use native.Mathlib.Omega.{arith}
 use mathlib.Core.Path.{refl}
-use Rattle.list_lines.proofs.Decimals.{digits_many, put_digits}
+use Rattle.list_lines.proofs.Decimals.{one_digit, digits_many, put_digits}
 use Rattle.list_lines.proofs.Puts.{put_then, put_one}
 use Rattle.list_lines.proofs.number.Goals as goal
+
+pub returns-then-n-lt10-clause-put : goal.returns-then-n-lt10-clause-put
+returns-then-n-lt10-clause-put c = rw (one_digit _ c.if-n-lt10.true) (record { list = refl; next = refl })
 
 pub write_digits-requires : goal.write_digits-requires
 write_digits-requires c =
