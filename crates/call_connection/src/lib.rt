@@ -127,6 +127,8 @@ fn own_refusal(n: u16, opened: u32, peak: Peak, second: Second) -> Result<(), Re
 }
 
 // "Opening sets open 1, the given m, F and C, S 0, last t, waiting 0.", and so for a second bucket.
+// It is laid in place: where none is opened with a second bucket, as by `clurimoon_open`, the limits of one are not tested.
+#[inline(always)]
 pub fn open(
     ctl: Record,
     words: &mut [u32],
